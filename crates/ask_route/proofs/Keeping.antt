@@ -13,8 +13,8 @@ use Rattle.std.specs.List.{list_any}
 use Rattle.std.specs.Int.{w64, w128, to_be_bytes}
 use Rattle.std.specs.Map.{values_of}
 use Rattle.std.proofs.lemmas.Bool.{eqb-true}
-use Rattle.rpc_message.specs.Message.{Id}
-use Rattle.rpc_message.specs.ValueTexts.{IsIdText}
+use Rattle.id_rewrite.specs.rpc_message.specs.Message.{Id}
+use Rattle.id_rewrite.specs.rpc_message.specs.ValueTexts.{IsIdText}
 use Rattle.id_rewrite.specs.Forms.{form}
 use Rattle.id_rewrite.proofs.Finding.{alike, texts_same}
 use Rattle.ask_route.specs.declared.ask.Ask.{Ask}

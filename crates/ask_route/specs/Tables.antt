@@ -2,8 +2,8 @@
 use Rattle.std.specs.Prelude.{ℕ, Bool, true, false, ◌&&◌, List, [], ◌∷◌, filter, find, flat_map, nat_eq, if◌then◌else◌}
 use Rattle.std.specs.Prelude.{Option, Some, None}
 use Rattle.std.specs.List.{AllByRecursion, list_any}
-use Rattle.rpc_message.specs.Message.{Id, same_id}
-use Rattle.rpc_message.specs.ValueTexts.{IsIdText}
+use Rattle.id_rewrite.specs.rpc_message.specs.Message.{Id, same_id}
+use Rattle.id_rewrite.specs.rpc_message.specs.ValueTexts.{IsIdText}
 use Rattle.id_rewrite.specs.Forms.{same_form}
 use Rattle.ask_route.specs.declared.ask.Ask.{Ask}
 use Rattle.ask_route.specs.declared.ask.Place.{Place}

@@ -1,8 +1,8 @@
 //! The table of asks.
 ghost use Rattle.std.specs.Prelude.{◌≡◌, Some, None, ◌++◌, [], ◌∷◌, filter, find, not, option_map, IfOk, OnErr, OnOk};
 ghost use Rattle.std.specs.List.{list_any};
-ghost use Rattle.rpc_message.specs.Message.{Id};
-ghost use Rattle.rpc_message.specs.ValueTexts.{IsIdText};
+ghost use Rattle.id_rewrite.specs.rpc_message.specs.Message.{Id};
+ghost use Rattle.id_rewrite.specs.rpc_message.specs.ValueTexts.{IsIdText};
 ghost use Rattle.ask_route.specs.Tables.{AreIds, ask_of, asked, has_id, is_seated, is_under, is_with, less, numbers_of, parked, seat_in};
 
 use crate::ask::{Ask, Place, Seat, seat_of};

@@ -9,3 +9,4 @@ pub mod OnePass
 pub mod Order
 pub mod Parts
 pub mod Shown
+pub use Rattle.json_nodes.specs.json_token

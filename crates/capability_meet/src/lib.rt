@@ -15,6 +15,7 @@ mod twins;
 mod written;
 
 pub use fault::CapFault;
+pub use json_span;
 pub use laws::{
     below_members, below_reflexive, below_transitive, declared_says, declared_text_is_greatest,
     meet_is_below, meet_is_greatest, meet_says, meet_text_is_greatest,

@@ -17,8 +17,8 @@ ghost use Rattle.json_nodes.specs.Values.{doc_of};
 use crate::fault::{CapFault, read};
 use crate::parts::{name_place, write, write_comma, write_window};
 use json_nodes::Values;
+use json_nodes::json_token::spells_text;
 use json_text::Change;
-use json_token::spells_text;
 use message_body::{Body, Memory};
 use std::alloc::Global;
 

@@ -4,7 +4,7 @@ ghost use Rattle.std.specs.Str.{chars};
 ghost use Rattle.json_text.specs.String.{SpellsCharacters};
 ghost use Rattle.capability_meet.specs.OnePass.{is_left_out, spot_of};
 
-use json_token::spells_text;
+use json_nodes::json_token::spells_text;
 
 // Where a value stands in the capabilities that are declared.
 #[derive(Clone, Copy)]

@@ -8,12 +8,12 @@ use Rattle.json_text.specs.declared.kind.Kind.{Kind}
 use Rattle.json_text.specs.declared.kind.Kind.TheVariants as kind
 use Rattle.json_text.specs.Json.{Json, array, Items}
 use Rattle.json_text.specs.Named.{children}
-use Rattle.json_nodes.specs.At.{At, ChildAt, FoundChild}
-use Rattle.json_nodes.specs.Doc.{Doc}
-use Rattle.json_nodes.specs.Nodes.{kind_of}
-use Rattle.json_nodes.proofs.Members.{Inside, Follows, found_child_is, no_child, inside_more}
-use Rattle.json_nodes.proofs.Numbers.{child_at}
-use Rattle.json_nodes.proofs.Sames.{array_of}
+use Rattle.json_span.specs.json_nodes.specs.At.{At, ChildAt, FoundChild}
+use Rattle.json_span.specs.json_nodes.specs.Doc.{Doc}
+use Rattle.json_span.specs.json_nodes.specs.Nodes.{kind_of}
+use Rattle.json_span.specs.json_nodes.proofs.Members.{Inside, Follows, found_child_is, no_child, inside_more}
+use Rattle.json_span.specs.json_nodes.proofs.Numbers.{child_at}
+use Rattle.json_span.specs.json_nodes.proofs.Sames.{array_of}
 use Rattle.doc_text.specs.declared.change.ContentChange.{ContentChange}
 use Rattle.doc_text.specs.declared.fault.ChangeFault.{ChangeFault}
 use Rattle.doc_text.specs.declared.fault.ChangeFault.TheVariants.{BadShape, Memory}

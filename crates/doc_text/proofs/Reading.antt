@@ -10,10 +10,10 @@ use Rattle.json_text.specs.Json.{Json, word, number, string, array, object, valu
 use Rattle.json_text.specs.Named.{named_in}
 use Rattle.json_text.specs.String.{SpellsCharacters}
 use Rattle.json_span.proofs.Scalars.{scalar_characters, utf8_characters}
-use Rattle.json_nodes.specs.At.{At, Found}
-use Rattle.json_nodes.specs.Doc.{Doc}
-use Rattle.json_nodes.specs.Nodes.{kind_of}
-use Rattle.json_nodes.proofs.Sames.{number_of, string_of}
+use Rattle.json_span.specs.json_nodes.specs.At.{At, Found}
+use Rattle.json_span.specs.json_nodes.specs.Doc.{Doc}
+use Rattle.json_span.specs.json_nodes.specs.Nodes.{kind_of}
+use Rattle.json_span.specs.json_nodes.proofs.Sames.{number_of, string_of}
 use Rattle.doc_text.specs.declared.change.Position.{Position}
 use Rattle.doc_text.specs.declared.change.Range.{Range}
 use Rattle.doc_text.specs.declared.change.Extent.TheVariants.{Whole, Part}

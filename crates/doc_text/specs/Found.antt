@@ -3,8 +3,8 @@ use Rattle.std.specs.Prelude.{◌≡◌, ℕ, List, drop}
 use Rattle.std.specs.Prelude.{Option, Some, None, Result, Ok, Err}
 use Rattle.json_text.specs.Json.{Json}
 use Rattle.json_text.specs.Named.{children}
-use Rattle.json_nodes.specs.At.{FoundChild}
-use Rattle.json_nodes.specs.Doc.{Doc}
+use Rattle.json_span.specs.json_nodes.specs.At.{FoundChild}
+use Rattle.json_span.specs.json_nodes.specs.Doc.{Doc}
 use Rattle.doc_text.specs.declared.fault.ChangeFault.{ChangeFault}
 use Rattle.doc_text.specs.declared.fault.ChangeFault.TheVariants.{BadShape, Memory}
 

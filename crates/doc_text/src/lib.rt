@@ -12,5 +12,6 @@ mod text;
 pub use change::{ContentChange, Extent, Position, Range};
 pub use doc_text::DocText;
 pub use fault::ChangeFault;
+pub use json_span;
 pub use read::changes;
 pub use text::Text;

@@ -3,7 +3,7 @@ ghost use Rattle.std.specs.Prelude.{◌≡◌, ◌<◌, ℕ, List, length, Match
 ghost use Rattle.std.specs.Str.{chars};
 ghost use Rattle.json_text.specs.Json.{Json};
 ghost use Rattle.json_text.specs.Named.{named_in};
-ghost use Rattle.json_nodes.specs.At.{At};
+ghost use Rattle.json_span.specs.json_nodes.specs.At.{At};
 ghost use Rattle.doc_text.specs.Changes.{coordinate, position_of, position_in, range_of, extent_of, string_text, text_of, change_of, changes_of, all_changes};
 ghost use Rattle.doc_text.specs.Found.{Gives, Rest};
 

@@ -1,6 +1,6 @@
 ghost use Rattle.std.specs.Prelude.{◌≡◌, ◌<◌, ℕ, List, length, bytes_eq, IsUtf8, IfOk, OnOk, OnErr, Some, None, Err};
 ghost use Rattle.json_text.specs.Json.{Json};
-ghost use Rattle.json_nodes.specs.At.{At};
+ghost use Rattle.json_span.specs.json_nodes.specs.At.{At};
 ghost use Rattle.doc_text.specs.Changes.{text_behind};
 
 use crate::fault::ChangeFault;

@@ -9,8 +9,8 @@ use Rattle.json_text.specs.Json.{Json}
 use Rattle.json_text.specs.Tree.{tree_of}
 use Rattle.mux_history.specs.declared.out.Out.TheVariants.{ToServer}
 use Rattle.position_codec.specs.declared.Encoding.{Encoding}
-use Rattle.rpc_message.specs.Message.{message_of}
-use Rattle.doc_text.specs.Changes.{text_behind}
+use Rattle.document_model.specs.rpc_message.specs.Message.{message_of}
+use Rattle.document_model.specs.doc_text.specs.Changes.{text_behind}
 use Rattle.focus_switch.specs.declared.telling.Telling.{Telling}
 use Rattle.focus_switch.specs.declared.telling.Telling.TheVariants.{Changes, OpensAnew}
 use Rattle.document_model.specs.Opens.{Open, holder, holds_language, holds_own}

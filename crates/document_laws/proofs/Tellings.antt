@@ -6,7 +6,7 @@ use Rattle.std.proofs.lemmas.Bool.{ltb-true}
 use Rattle.json_text.specs.Json.{Json}
 use Rattle.json_text.proofs.Put.{same_name}
 use Rattle.position_codec.specs.declared.Encoding.{Encoding}
-use Rattle.rpc_message.specs.Message.{message_of}
+use Rattle.document_model.specs.rpc_message.specs.Message.{message_of}
 use Rattle.focus_switch.specs.declared.telling.Telling.{Telling}
 use Rattle.focus_switch.specs.declared.telling.Telling.TheVariants.{Opens, Changes, Closes, OpensAnew}
 use Rattle.document_model.specs.Opens.{Open, holder, holds, holds_language}

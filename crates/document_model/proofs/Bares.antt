@@ -9,7 +9,7 @@ use Rattle.json_text.specs.Json.{Json, word, number, string, array, object, Item
 use Rattle.json_text.specs.Named.{named, named_in, items_list}
 use Rattle.json_text.specs.Tree.{tree_of}
 use Rattle.json_text.proofs.Put.{named_bare}
-use Rattle.position_codec.specs.declared.Encoding.{Encoding}
+use Rattle.doc_text.specs.position_codec.specs.declared.Encoding.{Encoding}
 use Rattle.doc_text.specs.declared.change.Extent.TheVariants.{Part}
 use Rattle.doc_text.specs.Changes.{both, coordinate, position_of, position_in, range_of, extent_in, extent_of, string_text, change_of, all_changes, changes_of, changed_all, text_behind}
 use Rattle.rpc_message.specs.Message.{Id, Message, not_json, not_message, request, notification, result, error, no_name_twice, is_two, is_null, are_params, given, is_error, result_tree, id_of, request_if, notification_if, called, response_id, error_if, outcome, response_with, answered, by_method, message_in, message_of}

@@ -6,7 +6,7 @@ use Rattle.std.specs.Option.{option_and_then, option_map, option_map_or}
 use Rattle.std.proofs.lemmas.Bool.{eq-eqb}
 use Rattle.json_text.specs.Json.{Json}
 use Rattle.json_text.proofs.Put.{same_name}
-use Rattle.position_codec.specs.declared.Encoding.{Encoding}
+use Rattle.doc_text.specs.position_codec.specs.declared.Encoding.{Encoding}
 use Rattle.document_model.specs.Opens.{Open, is_open_at, put_open, drop_open}
 use Rattle.document_model.proofs.Spelt.{all_put, all_drop}
 use Rattle.document_model.specs.Sayings.{Saying, opens, changes, closes, misshapen, nothing}

@@ -8,8 +8,8 @@ use Rattle.std.proofs.lemmas.Bool.{cases_lt}
 use Rattle.std.proofs.lemmas.Str.{IsUtf8-append, IsUtf8-take, IsUtf8-drop, IsCharBoundary-start, IsCharBoundary-end}
 use Rattle.json_text.specs.Json.{Json, word, number, string, array, object, Items, no_items, item}
 use Rattle.json_text.specs.Named.{named_in, items_list}
-use Rattle.position_codec.specs.declared.Encoding.{Encoding}
-use Rattle.position_codec.proofs.Boundaries.{offset_boundary}
+use Rattle.doc_text.specs.position_codec.specs.declared.Encoding.{Encoding}
+use Rattle.doc_text.specs.position_codec.proofs.Boundaries.{offset_boundary}
 use Rattle.doc_text.specs.declared.change.Extent.{Extent}
 use Rattle.doc_text.specs.declared.change.Extent.TheVariants.{Whole, Part}
 use Rattle.doc_text.specs.declared.change.ContentChange.{ContentChange}

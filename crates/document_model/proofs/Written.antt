@@ -4,7 +4,7 @@ use Rattle.std.specs.Prelude.{bytes_eq, if◌then◌else◌}
 use Rattle.std.proofs.Math.Seq.{drop-length}
 use Rattle.json_text.specs.declared.span.Span.{Span}
 use Rattle.json_text.specs.Number.{IsNumber}
-use Rattle.position_codec.specs.declared.Encoding.{Encoding}
+use Rattle.doc_text.specs.position_codec.specs.declared.Encoding.{Encoding}
 use Rattle.doc_text.specs.Changes.{text_behind}
 use Rattle.std.proofs.lemmas.Fmt.{decimal_by_steps_wide}
 use Rattle.std.proofs.lemmas.List.Sums.{fold-append}

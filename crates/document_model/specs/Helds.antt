@@ -3,7 +3,7 @@ use Rattle.std.specs.Prelude.{ℕ, ◌+◌, ◌-◌, ◌*◌, List, fold, bytes_
 use Rattle.std.specs.Prelude.{Option, Some, None}
 use Rattle.std.specs.Option.{unwrap_or}
 use Rattle.json_text.specs.Json.{Json}
-use Rattle.position_codec.specs.declared.Encoding.{Encoding}
+use Rattle.doc_text.specs.position_codec.specs.declared.Encoding.{Encoding}
 use Rattle.document_model.specs.Sayings.{Saying, opens, changes, closes, misshapen, nothing}
 use Rattle.document_model.specs.Texts.{text_after}
 

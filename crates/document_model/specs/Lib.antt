@@ -7,3 +7,6 @@ pub mod Rows
 pub mod Sayings
 pub mod Texts
 pub mod Strings
+pub use Rattle.doc_text
+pub use Rattle.json_text
+pub use Rattle.rpc_message

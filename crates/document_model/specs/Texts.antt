@@ -3,7 +3,7 @@ use Rattle.std.specs.Prelude.{ℕ, ◌+◌, List, []}
 use Rattle.std.specs.Prelude.{Option, find}
 use Rattle.std.specs.Option.{option_and_then, option_map, option_map_or}
 use Rattle.json_text.specs.Json.{Json}
-use Rattle.position_codec.specs.declared.Encoding.{Encoding}
+use Rattle.doc_text.specs.position_codec.specs.declared.Encoding.{Encoding}
 use Rattle.doc_text.specs.Changes.{text_behind}
 use Rattle.document_model.specs.Opens.{Open, is_open_at, put_open, drop_open}
 use Rattle.document_model.specs.Sayings.{Saying, opens, changes, closes, misshapen, nothing}

@@ -7,7 +7,7 @@ ghost use Rattle.document_table.specs.Shown.{all_bytes, shown};
 
 use crate::numbers::Numbers;
 use crate::rows;
-use doc_text::Text;
+use document_model::doc_text::Text;
 use message_body::{Body, Memory};
 use std::alloc::Global;
 use std::collections::BTreeMap;

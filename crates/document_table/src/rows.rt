@@ -12,7 +12,7 @@ ghost use Rattle.document_table.specs.Shown.{all_bytes, all_numbered, shown};
 
 use crate::numbers::Numbers;
 use crate::opens::Opening;
-use doc_text::Text;
+use document_model::doc_text::Text;
 use message_body::Memory;
 use std::alloc::Global;
 use std::collections::{BTreeMap, BTreeSet};

@@ -11,3 +11,4 @@ pub mod Settings
 pub mod Spawns
 pub mod Stages
 pub mod Messages
+pub use Rattle.rpc_message

@@ -2,9 +2,9 @@
 use Rattle.std.specs.Prelude.{ℕ, Bool, false, ◌&&◌, ◌||◌, List, [], codes, is_some, if◌then◌else◌}
 use Rattle.std.specs.Prelude.{Option, Some, None}
 use Rattle.std.specs.List.{list_any}
-use Rattle.json_text.specs.Json.{Json, string, array, object}
-use Rattle.json_text.specs.Named.{named_in, items_list, named}
-use Rattle.json_text.specs.Tree.{tree_of}
+use Rattle.rpc_message.specs.json_text.specs.Json.{Json, string, array, object}
+use Rattle.rpc_message.specs.json_text.specs.Named.{named_in, items_list, named}
+use Rattle.rpc_message.specs.json_text.specs.Tree.{tree_of}
 use Rattle.rpc_message.specs.Message.{place_in, slice_of, is_integer_value, is_string_value}
 
 abbrev pub named_of : List ℕ → Option Json → Option Json

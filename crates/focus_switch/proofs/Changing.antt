@@ -8,12 +8,12 @@ use Rattle.mux_history.specs.declared.out.Out.{Out}
 use Rattle.focus_switch.specs.declared.notice.Change.{Change}
 use Rattle.focus_switch.specs.declared.telling.Telling.{Telling}
 use Rattle.focus_switch.specs.declared.telling.Telling.TheVariants.{Changes}
-use Rattle.document_model.specs.Opens.{Open, holder, holds_own, is_open_at, put_open}
-use Rattle.document_model.proofs.Holders.{find_is}
+use Rattle.document_table.specs.document_model.specs.Opens.{Open, holder, holds_own, is_open_at, put_open}
+use Rattle.document_table.specs.document_model.proofs.Holders.{find_is}
 use Rattle.focus_switch.specs.Documents.{Documents, version_held}
 use Rattle.focus_switch.specs.Holders.{change_from, is_alike, is_own, speaks_alike}
 use Rattle.focus_switch.specs.Noted.{FoundChange}
-use Rattle.document_model.specs.Notices.{DidChange, did_change, with_version}
+use Rattle.document_table.specs.document_model.specs.Notices.{DidChange, did_change, with_version}
 use Rattle.focus_switch.specs.Rows.{Step, send, touch, or_nothing, text_after, had, switch, change_row, change_sends, change_tells, changed, changed_open}
 
 pub seen : (doc : Doc) (o : Option DidChange) (c : Change) → FoundChange doc o (Some c) → (q : DidChange) × (o ≡ Some q) × FoundChange doc (Some q) (Some c)

@@ -12,9 +12,9 @@ use Rattle.json_nodes.specs.Doc.{Doc}
 use Rattle.json_nodes.specs.Nodes.{kind_of}
 use Rattle.json_nodes.specs.Puts.{put_edits}
 use Rattle.json_nodes.proofs.Sames.{number_of}
-use Rattle.rpc_message.specs.Message.{is_integer}
+use Rattle.document_table.specs.rpc_message.specs.Message.{is_integer}
 use Rattle.focus_switch.specs.declared.notice.Change.{Change}
-use Rattle.document_model.specs.Notices.{did_change, did_change_of, integer_text, uri_in, version_in, changes_in, new_version}
+use Rattle.document_table.specs.document_model.specs.Notices.{did_change, did_change_of, integer_text, uri_in, version_in, changes_in, new_version}
 use Rattle.focus_switch.specs.Noted.{FoundChange, made}
 
 -- the characters of the names

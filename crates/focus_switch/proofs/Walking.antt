@@ -6,9 +6,9 @@ use Rattle.std.specs.Option.{option_map_or}
 use Rattle.std.proofs.lemmas.Bool.{eqb-true}
 use Rattle.focus_switch.specs.declared.telling.Telling.{Telling}
 use Rattle.focus_switch.specs.declared.version.DocumentVersion.{DocumentVersion}
-use Rattle.document_model.specs.Opens.{Open, is_open_at}
-use Rattle.document_model.specs.Orderly.{Once}
-use Rattle.document_model.proofs.Orders.{IsFound, all_found}
+use Rattle.document_table.specs.document_model.specs.Opens.{Open, is_open_at}
+use Rattle.document_table.specs.document_model.specs.Orderly.{Once}
+use Rattle.document_table.specs.document_model.proofs.Orders.{IsFound, all_found}
 use Rattle.document_table.specs.Rows.{uris_of}
 use Rattle.focus_switch.specs.Documents.{Documents, version_held}
 use Rattle.focus_switch.specs.Rows.{Step, nothing, tell, send, or_nothing, each, replayed, replay_sends, replay_all, synced, sync_sends}

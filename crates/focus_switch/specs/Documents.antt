@@ -5,7 +5,7 @@ use Rattle.std.specs.Option.{option_map}
 use Rattle.std.specs.Ordering.{nat_cmp, match_ordering}
 use Rattle.std.specs.Cmp.Lexicographic.{slice_cmp}
 use Rattle.position_codec.specs.declared.Encoding.{Encoding}
-use Rattle.document_model.specs.Opens.{Open}
+use Rattle.document_table.specs.document_model.specs.Opens.{Open}
 use Rattle.focus_switch.specs.declared.held.Held.{Held}
 
 -- The start of the server that is ready, if one is; how the last one that was ready counts positions; the limit of versions; the next turn;

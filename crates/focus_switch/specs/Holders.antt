@@ -2,8 +2,8 @@
 use Rattle.std.specs.Prelude.{ℕ, ◌+◌, List, Bool, false, ◌&&◌, ◌||◌, Option, nat_eq, nat_lt, bytes_eq, if◌then◌else◌}
 use Rattle.std.specs.Option.{option_map_or}
 use Rattle.json_text.specs.Json.{Json}
-use Rattle.document_model.specs.Notices.{with_version}
-use Rattle.document_model.specs.Opens.{Open}
+use Rattle.document_table.specs.document_model.specs.Notices.{with_version}
+use Rattle.document_table.specs.document_model.specs.Opens.{Open}
 use Rattle.focus_switch.specs.Rows.{switch}
 use Rattle.focus_switch.specs.declared.telling.Telling.{Telling}
 use Rattle.focus_switch.specs.declared.telling.Telling.TheVariants.{Changes}

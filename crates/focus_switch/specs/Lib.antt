@@ -4,3 +4,4 @@ pub mod Noted
 pub mod Rows
 pub mod Versions
 pub mod Walks
+pub use Rattle.document_table

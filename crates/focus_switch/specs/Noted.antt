@@ -4,7 +4,7 @@ use Rattle.std.specs.Prelude.{Option, Some, None}
 use Rattle.json_nodes.specs.At.{At}
 use Rattle.json_nodes.specs.Doc.{Doc}
 use Rattle.focus_switch.specs.declared.notice.Change.{Change}
-use Rattle.document_model.specs.Notices.{DidChange}
+use Rattle.document_table.specs.document_model.specs.Notices.{DidChange}
 
 -- the answer is this change, by the number of its list of changes, or there is neither
 abbrev pub FoundChange : Doc → Option DidChange → Option Change → Type 0

@@ -6,17 +6,17 @@ use Rattle.json_text.specs.Json.{Json}
 use Rattle.mux_history.specs.declared.out.Out.{Out}
 use Rattle.mux_history.specs.declared.out.Out.TheVariants.{ToServer}
 use Rattle.position_codec.specs.declared.Encoding.{Encoding}
-use Rattle.doc_text.specs.Changes.{text_behind}
+use Rattle.document_table.specs.doc_text.specs.Changes.{text_behind}
 use Rattle.focus_switch.specs.declared.held.Held.{Held}
 use Rattle.focus_switch.specs.declared.agreement.Agreement.{Agreement}
 use Rattle.focus_switch.specs.declared.agreement.Agreement.TheVariants.{NotOpen, Differs, Agrees}
 use Rattle.focus_switch.specs.declared.telling.Telling.{Telling}
 use Rattle.focus_switch.specs.declared.telling.Telling.TheVariants.{Opens, Changes, Closes, OpensAnew}
 use Rattle.document_table.specs.Rows.{touched_at, uris_of}
-use Rattle.document_model.specs.Opens.{Open, is_open_at, put_open, drop_open, holder, holder_beside, holds, holds_language, holds_own}
+use Rattle.document_table.specs.document_model.specs.Opens.{Open, is_open_at, put_open, drop_open, holder, holder_beside, holds, holds_language, holds_own}
 use Rattle.focus_switch.specs.Documents.{Documents, held_of, version_held, helds_behind}
-use Rattle.document_model.specs.Notices.{DidChange, did_change, with_version}
-use Rattle.document_model.specs.Bodies.{open_text, full_text, close_text}
+use Rattle.document_table.specs.document_model.specs.Notices.{DidChange, did_change, with_version}
+use Rattle.document_table.specs.document_model.specs.Bodies.{open_text, full_text, close_text}
 
 -- the outs of a call, and the documents behind it
 pub record Step : Type 0 where

@@ -1,6 +1,6 @@
 -- The versions of an editor's documents.
 use Rattle.std.specs.Prelude.{ℕ, List, [], ◌∷◌, flat_map, nat_eq, if◌then◌else◌}
-use Rattle.document_model.specs.Opens.{Open}
+use Rattle.document_table.specs.document_model.specs.Opens.{Open}
 use Rattle.focus_switch.specs.declared.version.DocumentVersion.{DocumentVersion}
 use Rattle.focus_switch.specs.Documents.{Documents, version_held}
 

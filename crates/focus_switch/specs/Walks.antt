@@ -1,8 +1,8 @@
 -- What goes over documents by their URIs.
 use Rattle.std.specs.Prelude.{ℕ, List, [], ◌∷◌, ◌++◌, find, Option, Some, None}
 use Rattle.std.specs.Option.{option_map_or}
-use Rattle.document_model.specs.Bodies.{open_text}
-use Rattle.document_model.specs.Opens.{is_open_at, holder}
+use Rattle.document_table.specs.document_model.specs.Bodies.{open_text}
+use Rattle.document_table.specs.document_model.specs.Opens.{is_open_at, holder}
 use Rattle.focus_switch.specs.Documents.{Documents, version_held}
 use Rattle.focus_switch.specs.Rows.{Step, and_then, or_nothing, send, sync_sends}
 use Rattle.focus_switch.specs.Versions.{version_of}

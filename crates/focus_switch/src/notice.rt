@@ -6,16 +6,16 @@ ghost use Rattle.json_text.specs.Json.{Json};
 ghost use Rattle.json_text.specs.Named.{named_in};
 ghost use Rattle.json_text.specs.Replace.{Rise};
 ghost use Rattle.json_nodes.specs.At.{At, Found};
-ghost use Rattle.rpc_message.specs.Message.{is_integer};
-ghost use Rattle.doc_text.specs.Changes.{string_text};
-ghost use Rattle.document_model.specs.Notices.{did_change, document_in, edits_in, integer_text, with_version};
+ghost use Rattle.document_table.specs.rpc_message.specs.Message.{is_integer};
+ghost use Rattle.document_table.specs.doc_text.specs.Changes.{string_text};
+ghost use Rattle.document_table.specs.document_model.specs.Notices.{did_change, document_in, edits_in, integer_text, with_version};
 ghost use Rattle.focus_switch.specs.Noted.{FoundChange, made};
 
+use document_table::json_span::Tape;
+use document_table::rpc_message::is_integer;
 use json_nodes::Put;
-use json_span::Tape;
 use json_text::{Change as BodyChange, Kind, splice};
 use message_body::{Body, Memory};
-use rpc_message::is_integer;
 use std::alloc::Global;
 
 /// What a didChange says.

@@ -2,8 +2,8 @@
 ghost use Rattle.std.specs.Prelude.{◌≡◌, ◌≤◌, ◌<◌, ◌^◌, ◌+◌, ◌&&◌, bytes_eq, ℕ, List, [], Option, Some, None, IsUtf8, find, IfOk, OnOk, fold, length, map, option_map};
 ghost use Rattle.json_text.specs.Json.{Json};
 ghost use Rattle.json_nodes.specs.At.{At};
-ghost use Rattle.document_model.specs.Notices.{DidChange};
-ghost use Rattle.document_model.specs.Opens.{Open, is_open_at, put_open};
+ghost use Rattle.document_table.specs.document_model.specs.Notices.{DidChange};
+ghost use Rattle.document_table.specs.document_model.specs.Opens.{Open, is_open_at, put_open};
 ghost use Rattle.document_table.specs.Rows.{touched_at};
 ghost use Rattle.document_table.specs.Shown.{all_bytes, shown};
 ghost use Rattle.focus_switch.specs.Documents.{held_of, version_held};
@@ -19,13 +19,13 @@ use crate::notice::{Change, did_change, with_version};
 use crate::telling::{Telling, opens, switch};
 use crate::texts::close_text;
 use crate::version::DocumentVersion;
-use doc_text::{ChangeFault, Text};
+use document_table::doc_text::{ChangeFault, Text};
+use document_table::json_span::Tape;
+use document_table::rpc_message::Message;
 use document_table::{Opening, Opens};
-use json_span::Tape;
 use message_body::{Body, Memory};
 use mux_history::Outs;
 use position_codec::Encoding;
-use rpc_message::Message;
 use std::alloc::Global;
 use std::marker::Model;
 

@@ -3,11 +3,11 @@ ghost use Rattle.std.specs.Prelude.{◌≡◌, ◌^◌, ◌+◌, ◌≤◌, leng
 ghost use Rattle.mux_history.specs.declared.out.Out.TheVariants.{ToServer};
 ghost use Rattle.focus_switch.specs.Rows.{bodies_told, switch, version_told};
 ghost use Rattle.document_table.specs.Shown.{shown};
-ghost use Rattle.document_model.specs.Bodies.{full_text, open_text};
+ghost use Rattle.document_table.specs.document_model.specs.Bodies.{full_text, open_text};
 
 use crate::texts::{close_text, full_text, open_text};
-use doc_text::Text;
 use document_table::Opening;
+use document_table::doc_text::Text;
 use message_body::{Body, Memory};
 use mux_history::{Out, Outs};
 use std::alloc::Global;

@@ -1,9 +1,9 @@
 //! The notifications on a document that are written (LSP 3.17, Text Document Synchronization).
 ghost use Rattle.std.specs.Prelude.{◌≡◌, ◌++◌, ◌<◌, ◌^◌, IfOk, OnOk};
 ghost use Rattle.json.specs.Print.{quoted};
-ghost use Rattle.document_model.specs.Bodies.{close_text, full_text, open_text};
+ghost use Rattle.document_table.specs.document_model.specs.Bodies.{close_text, full_text, open_text};
 
-use json_span::quote;
+use document_table::json_span::quote;
 use message_body::{Body, Memory};
 use std::alloc::Global;
 

@@ -26,7 +26,7 @@ use Rattle.event_model.specs.Stages.{Life, life_of, is_first_result, stage_hears
 use Rattle.mux_model.specs.Documents.{Sent, held_at, sent_of}
 use Rattle.mux_model.specs.Rows.{to_start}
 use Rattle.mux_model.proofs.DocumentFolds.{outs_to_start}
-use Rattle.response_route.specs.Answers.{answer_text}
+use Rattle.group_rows.specs.response_route.specs.Answers.{answer_text}
 use Rattle.mux_facts.specs.Allowed.{is_response}
 use Rattle.mux_facts.specs.Ranges.{InRange}
 use Rattle.mux_facts.proofs.Bodies.{IsResponseTo, is_result, is_error, welcome_says, refusal_says}

@@ -4,9 +4,9 @@ use Rattle.std.specs.Prelude.{Some}
 use Rattle.rpc_message.specs.Message.{Message, request, notification, result, error, not_json, not_message, Id, message_of}
 use Rattle.rpc_message.specs.ValueTexts.{IsIdText}
 use Rattle.rpc_message.proofs.Fixed.{id_as_response}
-use Rattle.response_route.specs.Answers.{GivesFlat, Responds, answer_text}
-use Rattle.response_route.specs.Edits.{Renaming}
-use Rattle.response_route.proofs.Responding.{error_responds, result_responds}
+use Rattle.group_rows.specs.response_route.specs.Answers.{GivesFlat, Responds, answer_text}
+use Rattle.group_rows.specs.response_route.specs.Edits.{Renaming}
+use Rattle.group_rows.specs.response_route.proofs.Responding.{error_responds, result_responds}
 use Rattle.mux_facts.specs.Allowed.{is_response}
 use Rattle.mux_facts.proofs.Bodies.{IsResponseTo, is_error, is_result}
 

@@ -21,7 +21,7 @@ use Rattle.mux_facts.proofs.Words.{same_number}
 use Rattle.group_rows.specs.Forwarded.{Forwarded, Forwarding, answered_by, forwarding_behind, forwarding_of, names, no_forwarding, numbered}
 use Rattle.group_facts.specs.Built.{built_behind}
 use Rattle.group_facts.specs.Facts.{AllForwarded, Apart, IsAlone, IsForwarded, OneRequest, is_early}
-use Rattle.group_facts.specs.Why.{IsForward, WhyToServer, begins, greets, forwarded, notes, tells, shuts, cancels, responds, exits, resolves}
+use Rattle.group_facts.specs.Why.{IsForward, WhyToServer, begins, greets, forwarded, notes, tells, shuts, cancels, responds, exits, resolves, cancels_work}
 use Rattle.group_facts.proofs.Forwards.{Fewer, fewer_notified, forwarding_more, more_requests, zip_all}
 use Rattle.group_facts.proofs.Levels.{each_start}
 use Rattle.group_facts.proofs.Numbers.{forwarding_other, forwarding_sent, response_forwards}
@@ -110,7 +110,7 @@ module _ (settings : Settings) (before : List Event) (cause : Cause) (events : L
   -- an editor's request: it alone is new
   module _ (k : IsForward settings before cause events n body) where
     unfoldable pub new : Forwarded
-    new = record { number = (forwarding_of n events).next; editor = (k.sender).editor; id = (k.sender).id; cancelled = false }
+    new = record { number = (forwarding_of n events).next; editor = (k.sender).editor; id = (k.sender).id; work = (k.sender).work; partial = (k.sender).partial; cancelled = false }
 
     list_now : (forwarding_of n sent).open_requests ≡ (forwarding_of n events).open_requests ++ new ∷ []
     unfolding new
@@ -146,6 +146,7 @@ module _ (settings : Settings) (before : List Event) (cause : Cause) (events : L
   apart_sent (notes k) h = apart_fewer events sent (fewer_notified n events body k.method k.params k.says) h
   apart_sent (tells k) h = let m : Spoken (message_of body) = spoken (message_of body) k.spoken in apart_fewer events sent (fewer_notified n events body m.method m.params m.is) h
   apart_sent (cancels k) h = apart_fewer events sent (fewer_notified n events body (codes "$/cancelRequest") (Some k.params) k.says) h
+  apart_sent (cancels_work k) h = apart_fewer events sent (fewer_notified n events body (codes "window/workDoneProgress/cancel") k.params k.says) h
   apart_sent (responds k) h = apart_fewer events sent (response_fewer k.response) h
   apart_sent (resolves k) h = apart_fewer events sent (response_fewer k.response) h
   apart_sent (exits k) h = apart_fewer events sent (fewer_notified n events body (codes "exit") None k.says) h

@@ -32,7 +32,7 @@ use Rattle.group_facts.specs.Facts.{AllForwarded, IsAlone, IsAsker, IsForwarded}
 use Rattle.group_facts.proofs.Forwards.{forwarding_more, more_requests, notified_all, zip_all}
 use Rattle.group_facts.proofs.Levels.{each_start}
 use Rattle.group_facts.proofs.Numbers.{forwarding_other, forwarding_sent, response_forwards}
-use Rattle.group_facts.specs.Why.{IsForward, WhyToEditor, WhyToServer, begins, greets, forwarded, notes, tells, shuts, cancels, registers, rejects, resumes, refuses, answers, turns_away, welcomes, passes, responds, exits, asks, recalls, resolves, spreads}
+use Rattle.group_facts.specs.Why.{IsForward, WhyToEditor, WhyToServer, begins, greets, forwarded, notes, tells, shuts, cancels, registers, rejects, resumes, refuses, answers, turns_away, welcomes, passes, responds, exits, asks, recalls, resolves, spreads, cancels_work, progresses}
 
 -- An editor that got its result stays one that did
 
@@ -153,6 +153,7 @@ module _ (settings : Settings) (before : List Event) (cause : Cause) (events : L
   one_asked (notes k) h = notified k.method k.params k.says h
   one_asked (tells k) h = let m : Spoken (message_of body) = spoken (message_of body) k.spoken in notified m.method m.params m.is h
   one_asked (cancels k) h = notified (codes "$/cancelRequest") (Some k.params) k.says h
+  one_asked (cancels_work k) h = notified (codes "window/workDoneProgress/cancel") k.params k.says h
   one_asked (responds k) h = by_message (message_of body) refl (subst (λ (x : Forwarding). AllByRecursion (IsForwarded sent) x.open_requests) (sym (response_forwards (forwarding_of n events) (message_of body) k.response)) (still (forwarding_of n events).open_requests h))
   one_asked (resolves k) h = by_message (message_of body) refl (subst (λ (x : Forwarding). AllByRecursion (IsForwarded sent) x.open_requests) (sym (response_forwards (forwarding_of n events) (message_of body) k.response)) (still (forwarding_of n events).open_requests h))
   one_asked (exits k) h = notified (codes "exit") None k.says h
@@ -213,3 +214,4 @@ module _ (settings : Settings) (before : List Event) (cause : Cause) (events : L
   asked_told (registers k) h = unanswered (request (integer (decimal (next_ask n events))) k.method k.params) k.says refl h
   asked_told (spreads k) h = unanswered (notification k.method k.params) k.says refl h
   asked_told (recalls k) h = unanswered (notification (codes "$/cancelRequest") (Some k.params)) k.says refl h
+  asked_told (progresses k) h = unanswered (notification k.method k.params) k.says refl h

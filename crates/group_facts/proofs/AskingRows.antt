@@ -12,7 +12,7 @@ use Rattle.mux_history.specs.declared.out.Out.{Out}
 use Rattle.mux_history.specs.declared.out.Out.TheVariants.{ToEditor, ToServer}
 use Rattle.lsp_method.specs.Class.{class_of, goes_nowhere, is_focused, is_refresh, own_notification, own_request, server_request}
 use Rattle.lsp_method.specs.declared.variants.Class.{Class}
-use Rattle.lsp_method.specs.declared.variants.Class.TheVariants.{Broadcast, Cancel, Folders, Focused, Lowest, Refresh, Register, Unregister}
+use Rattle.lsp_method.specs.declared.variants.Class.TheVariants.{Broadcast, Cancel, Folders, Focused, Lowest, Refresh, Register, Unregister, Progress}
 use Rattle.lsp_method.specs.declared.variants.Origin.TheVariants.{Server}
 use Rattle.rpc_message.specs.Message.{Message, request, notification, result, error, not_json, not_message, Id, id_bytes, id_of, integer, integer_if, message_of}
 use Rattle.rpc_message.specs.ValueTexts.{IsIdText}
@@ -32,8 +32,8 @@ use Rattle.event_model.specs.Settings.{Settings}
 use Rattle.event_model.specs.Spawns.{group_of, start_of}
 use Rattle.event_model.specs.Stages.{Life, is_initializing, is_ready, life_of, is_first_result, stage_hears}
 use Rattle.event_model.proofs.Frames.{never}
-use Rattle.response_route.specs.Asked.{asked_text, not_applied, refusal_tree}
-use Rattle.response_route.proofs.Asking.{refusal_result, request_asks}
+use Rattle.group_rows.specs.response_route.specs.Asked.{asked_text, not_applied, refusal_tree}
+use Rattle.group_rows.specs.response_route.proofs.Asking.{refusal_result, request_asks}
 use Rattle.mux_facts.specs.Allowed.{is_response}
 use Rattle.mux_facts.proofs.Bodies.{refusal_says}
 use Rattle.mux_facts.proofs.DocumentRow.{ready_is}
@@ -47,9 +47,11 @@ use Rattle.group_words.specs.Rows.{folders_text}
 use Rattle.group_rows.specs.AskRows.{ask, ask_edit, asking_row, broadcast, cancelled_row, current_version, edited, else_first, hand_back, in_focus, is_among, is_edit, notified_row, question_row, response_at, response_row}
 use Rattle.group_rows.specs.Asks.{Ask, Asker, Asking, Parked, asked_next, asker_of, asking_next, asking_of, asks_of, first_in, goes_to_one, has_number, has_running, idle_asking, is_own_work, is_patient, is_seated, is_single, is_taken, is_under, may_wait, next_ask, parks, running_in, serves, unparked, waits_under}
 use Rattle.group_rows.specs.Forwarded.{Forwarded, forwarding_of, names}
-use Rattle.registrations.specs.declared.registration.Registration.{Registration}
-use Rattle.registrations.specs.Items.{again}
+use Rattle.group_rows.specs.registrations.specs.declared.registration.Registration.{Registration}
+use Rattle.group_rows.specs.registrations.specs.Items.{again}
 use Rattle.group_rows.specs.Leaves.{cancel_text}
+use Rattle.group_rows.specs.Tokens.{is_mark, is_told, listens, marked_text, own_token, partial_mark, progress_row, work_mark}
+use Rattle.group_rows.proofs.TokenTexts.{HasTokens, IsTokenText, marked_says, tokens_kept}
 use Rattle.group_rows.specs.Live.{is_registering, live_of, register_text, unregister_text}
 use Rattle.group_rows.specs.LiveRows.{accept, call, decline, has_some, register_row, registering, unregister_any, unregister_row}
 use Rattle.group_rows.proofs.LiveTexts.{again_written, live_written, register_says, registered_written, unregister_says}
@@ -57,7 +59,7 @@ use Rattle.group_rows.proofs.Versions.{AllMeant, current_flat}
 use Rattle.group_rows.proofs.Cancels.{cancel_says, params_tree}
 use Rattle.group_facts.specs.Built.{built_asking}
 use Rattle.group_facts.specs.Facts.{Asks, IsAsked, IsWritten, Written, asked_by}
-use Rattle.group_facts.specs.Why.{IsChange, IsRecall, IsRegistering, Registering, Resolution, Why, asks, denied, displaces, enrolled, enrols, granted, handed_back, listed, moves, recalls, registers, released, releases, resolves, spreads, unapplied, unenrolled, unreleased}
+use Rattle.group_facts.specs.Why.{IsChange, IsRecall, IsRegistering, Registering, Resolution, Why, asks, denied, displaces, enrolled, enrols, granted, handed_back, listed, moves, recalls, registers, released, releases, resolves, spreads, unapplied, unenrolled, unreleased, IsProgress, progresses}
 use Rattle.group_facts.proofs.Asks.{asked_by_more, asked_of_more, asking_more}
 use Rattle.group_facts.proofs.Forwards.{get_all, zip_all}
 use Rattle.group_facts.proofs.Nulls.{null_said}
@@ -262,6 +264,24 @@ pub unregisters_all : is_registering (codes "client/unregisterCapability") ≡ t
 unfolding server_request
 unregisters_all = refl
 
+-- S13: a token that an open request has
+
+own_written : (token : Option Json) (f : Forwarded) → HasTokens f → (text : List ℕ) → own_token token f ≡ Some text → IsTokenText text
+own_written token f tokens text h = go (is_mark token (work_mark f.number)) (is_mark token (partial_mark f.number)) h
+  where
+    go : (a b : Bool) → (if a then f.work else if b then f.partial else None) ≡ Some text → IsTokenText text
+    go true b k = tokens.work text k
+    go false true k = tokens.partial text k
+    go false false k = absurd (cc)
+
+found_test : (test : Forwarded → Bool) (f : Forwarded) (fs : List Forwarded) → find test fs ≡ Some f → test f ≡ true
+found_test test f [] h = absurd (cc)
+found_test test f (g ∷ fs) h = go (test g) refl h (λ k. found_test test f fs k)
+  where
+    go : (b : Bool) → test g ≡ b → cond b (Some g) (find test fs) ≡ Some f → (find test fs ≡ Some f → test f ≡ true) → test f ≡ true
+    go true is k rest = subst (λ z. test z ≡ true) (let same : g ≡ f = cc in same) is
+    go false is k rest = rest k
+
 -- Messages of a start that is ready
 
 module _ (settings : Settings) (before : List Event) (s : ℕ) (body : List ℕ) (stage : (life_of s before).stage ≡ Ready) where
@@ -315,6 +335,36 @@ module _ (settings : Settings) (before : List Event) (s : ℕ) (body : List ℕ)
       (by_send (spreads (record { start = s; method = method; params = params; source = record { from = refl; ready = stage; running = run.0 }; says = says; class = class })))
       (broadcast_why method params says class es (events ++ said (ToEditor e body) ∷ []) (all_still settings before events e body es run.1))
 
+  -- S13
+  progress_why : (method : List ℕ) (params : Option Json) → message_of body ≡ notification method params → class_of method Server true ≡ Progress → Because R now (progress_row s before body params)
+  progress_why method params says class = by_on (λ none. by_nothing) (λ f found. by_on (λ none. by_nothing) (λ text own. by_send (progresses (told f found text own))))
+    where
+      told : (f : Forwarded) → find (is_told before (named_of (codes "token") params)) (forwarding_of s before).open_requests ≡ Some f → (text : List ℕ) → own_token (named_of (codes "token") params) f ≡ Some text
+          → IsProgress before (FromServer s body) now f.editor (marked_text text body)
+      told f found text own =
+          let tokens : HasTokens f = found_is HasTokens (is_told before (named_of (codes "token") params)) f (forwarding_of s before).open_requests (tokens_kept s before) found in
+          let test : is_told before (named_of (codes "token") params) f ≡ true = found_test (is_told before (named_of (codes "token") params)) f (forwarding_of s before).open_requests found in
+          let made : (new : Option Json) × (message_of (marked_text text body) ≡ notification method new) = marked_says text body method params (own_written (named_of (codes "token") params) f tokens text own) says in
+          record {
+            start = s;
+            asked = body;
+            method = method;
+            given = params;
+            request = f;
+            token = text;
+            params = made.0;
+            from = refl;
+            ready = stage;
+            asks = says;
+            class = class;
+            found = found;
+            own = own;
+            editor = refl;
+            hears = ap (λ (d : Desk). listens d.phase) (desk_more f.editor before (heard (FromServer s body))) ∙ (and_parts (is_some (own_token (named_of (codes "token") params) f)) (listens (desk_of f.editor before).phase) test).1;
+            bytes = refl;
+            says = made.1;
+          }
+
   module _ (all : Asks settings before) where
     recall_why : (method : List ℕ) (params : Option Json) → message_of body ≡ notification method params → class_of method Server true ≡ Cancel → Because R now (cancelled_row settings s before params)
     recall_why method params says class = by_on (λ none. by_nothing) (λ a found. by_choose (λ runs. by_send (recalls (recall a found runs))) (λ no. by_nothing))
@@ -346,6 +396,7 @@ module _ (settings : Settings) (before : List Event) (s : ℕ) (body : List ℕ)
       where
         go : (c : Class) → class_of method Server true ≡ c → Because R now (notified_row settings s before body params c)
         go Cancel class = recall_why method params says class
+        go Progress class = progress_why method params says class
         go Broadcast class = by_on (λ none. by_nothing) (λ g home. broadcast_why method params says class (running_in settings g before) now (run_now g))
         go _ class = by_nothing
 

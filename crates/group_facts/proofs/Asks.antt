@@ -30,7 +30,7 @@ use Rattle.lsp_method.specs.declared.variants.Class.{Class}
 use Rattle.lsp_method.specs.declared.variants.Class.TheVariants.{Register, Unregister}
 use Rattle.lsp_method.specs.declared.variants.Origin.TheVariants.{Server}
 use Rattle.group_facts.specs.Facts.{AllApart, AllDiffer, AreAsks, Asks, IsAsked, IsParked, asked_by, asked_of, editor_behind, server_behind}
-use Rattle.group_facts.specs.Why.{IsAsk, IsRegistering, IsResumed, WhyToEditor, answers, asks, passes, recalls, refuses, registers, rejects, resumes, spreads, turns_away, welcomes}
+use Rattle.group_facts.specs.Why.{IsAsk, IsRegistering, IsResumed, WhyToEditor, answers, asks, passes, recalls, refuses, registers, rejects, resumes, spreads, turns_away, welcomes, progresses}
 
 -- One event more
 
@@ -554,6 +554,7 @@ module _ (settings : Settings) (events : List Event) (e : ℕ) (body : List ℕ)
   asks_told before cause (registers k) h = registering before cause k h
   asks_told before cause (spreads k) h = no_question (notification k.method k.params) k.says refl h
   asks_told before cause (recalls k) h = no_question (notification (codes "$/cancelRequest") (Some k.params)) k.says refl h
+  asks_told before cause (progresses k) h = no_question (notification k.method k.params) k.says refl h
 
 pub no_asks : (settings : Settings) → Asks settings []
 no_asks settings s = record { asked = tt; differ = tt; parked = tt; apart = tt }

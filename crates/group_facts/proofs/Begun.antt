@@ -16,13 +16,14 @@ use Rattle.rpc_message.specs.Texts.{error_text, initialized_text, ok_text, reque
 use Rattle.json_text.specs.Json.{Json}
 use Rattle.lsp_method.specs.Class.{class_of}
 use Rattle.lsp_method.specs.declared.variants.Class.{Class}
-use Rattle.lsp_method.specs.declared.variants.Class.TheVariants.{Broadcast, Cancel, Focused, Folders, Lowest, Refresh, Register, Unregister}
+use Rattle.lsp_method.specs.declared.variants.Class.TheVariants.{Broadcast, Cancel, Focused, Folders, Lowest, Refresh, Register, Unregister, Progress}
 use Rattle.lsp_method.specs.declared.variants.Origin.TheVariants.{Server}
 use Rattle.event_model.specs.declared.phase.Phase.{Phase}
 use Rattle.event_model.specs.declared.phase.Phase.TheVariants.{New, Waiting, Answered, Running, Down}
 use Rattle.event_model.specs.declared.stage.Stage.{Stage}
 use Rattle.event_model.specs.declared.stage.Stage.TheVariants.{Spawning, Initializing, Ready, Stopping}
 use Rattle.event_model.specs.Event.{Event, behind, heard, requests, said, with_cause}
+use Rattle.event_model.specs.Members.{named_of}
 use Rattle.event_model.specs.Phases.{desk_of, is_new, makes_running}
 use Rattle.event_model.specs.Row.{Row, choose, each, look, nothing, on, outs, send, ◌⨾◌}
 use Rattle.event_model.specs.Settings.{Settings}
@@ -34,7 +35,7 @@ use Rattle.mux_model.specs.Rows.{malformed_row, to_start}
 use Rattle.mux_facts.proofs.Keeps.{behind_both}
 use Rattle.mux_facts.proofs.Reasons.{Because, Reasons, by_nothing, by_send, by_then, by_choose, by_look, by_on}
 use Rattle.mux_facts.proofs.Words.{number_same, same_number}
-use Rattle.response_route.specs.Asked.{asked_text}
+use Rattle.group_rows.specs.response_route.specs.Asked.{asked_text}
 use Rattle.group_words.specs.declared.kept.Kept.{Kept}
 use Rattle.group_words.specs.declared.placed.Placed.{Placed}
 use Rattle.group_words.specs.declared.placed.Placed.TheVariants.{Joins, New as Founds, Evicts, TooMany}
@@ -42,8 +43,8 @@ use Rattle.group_words.specs.Houses.{at_group, declared_for, emptied, groups_hea
 use Rattle.group_words.specs.Placing.{busy, changed, end_where, ended, founded, is_live, with_editor, is_due}
 use Rattle.group_words.specs.Rows.{end_group, end_start, initialize_row, placed_row}
 use Rattle.group_words.proofs.Frames.{changed_length, groups_more, groups_stay, touches_groups}
-use Rattle.registrations.specs.declared.registration.Registration.{Registration}
-use Rattle.registrations.specs.Items.{again}
+use Rattle.group_rows.specs.registrations.specs.declared.registration.Registration.{Registration}
+use Rattle.group_rows.specs.registrations.specs.Items.{again}
 use Rattle.group_rows.specs.Live.{live_of, register_text, unregister_text}
 use Rattle.group_rows.specs.LiveRows.{accept, call, has_some, registering, restore, unregister_any}
 use Rattle.group_rows.specs.Cancelling.{cancelling_at, cancelling_row}
@@ -52,6 +53,7 @@ use Rattle.group_rows.specs.Leaves.{cancel, cancel_text, cancels, closings, leav
 use Rattle.group_rows.specs.AskRows.{ask, ask_edit, asking_row, broadcast, current_version, edited, notified_row, response_at, response_row, run_at, run_row}
 use Rattle.group_rows.specs.Asks.{Ask, Parked, asks_of, is_with, next_ask, parked_of, running_in}
 use Rattle.group_rows.specs.Answers.{answer_row, hand_on}
+use Rattle.group_rows.specs.Tokens.{tell_progress, work_at, work_row}
 use Rattle.group_rows.specs.Rows.{answer_error, begin_in, begun_row, closing_row, document_at, document_bodies, document_row, down_row, early_row, exit_row, first_result, from_server, gone_row, lspmux_row, message_row, named_row, notice_at, notice_row, open_row, outs_of, ready_row, replay_bodies, request_at, request_row, result_in, row_of, served_request, served_row, started, sync_bodies, taken_row, waiting_in, welcome, hasty_row, close_all, refusal, refused_row}
 use Rattle.group_rows.specs.Texts.{encoding_of, texts_of}
 use Rattle.group_rows.specs.Ticks.{due_of, overdue_of, tick_row}
@@ -168,7 +170,7 @@ module _ (settings : Settings) (before : List Event) where
   quiet_group e body events g = by_on (λ none. by_send tt) (λ s start. quiet_at e body events g s)
 
   quiet_request : (e : ℕ) (body : List ℕ) (events : List Event) → Quiet events (request_row settings before e body)
-  quiet_request e body events = by_on (λ none. by_send tt) (λ g home. quiet_group e body events g)
+  quiet_request e body events = by_choose (λ reserved. by_send tt) (λ free. by_on (λ none. by_send tt) (λ g home. quiet_group e body events g))
 
   quiet_noticed : (e : ℕ) (body : List ℕ) (events : List Event) (g s : ℕ) → Quiet events (notice_at settings before e body g s)
   quiet_noticed e body events g s = by_choose (λ ready. by_then (quiet_bodies s (sync_bodies settings.limits.versions (λ u. held_at s u before) e (texts_of settings g before).opens) events) (by_send tt)) (λ off. by_nothing)
@@ -187,6 +189,15 @@ module _ (settings : Settings) (before : List Event) where
 
   quiet_cancelling : (e : ℕ) (body : List ℕ) (params : Option Json) (events : List Event) → Quiet events (cancelling_row settings before e body params)
   quiet_cancelling e body params events = by_on (λ none. by_nothing) (λ g home. quiet_cancels e body params events g)
+
+  quiet_worked : (e : ℕ) (body : List ℕ) (params : Option Json) (events : List Event) (s : ℕ) → Quiet events (work_at before e body params s)
+  quiet_worked e body params events s = by_choose (λ ready. by_on (λ none. by_nothing) (λ f found. by_send tt)) (λ off. by_nothing)
+
+  quiet_works : (e : ℕ) (body : List ℕ) (params : Option Json) (events : List Event) (g : ℕ) → Quiet events (on (start_of g before) nothing (λ s. work_at before e body params s))
+  quiet_works e body params events g = by_on (λ none. by_nothing) (λ s start. quiet_worked e body params events s)
+
+  quiet_work : (e : ℕ) (body : List ℕ) (params : Option Json) (events : List Event) → Quiet events (work_row settings before e body params)
+  quiet_work e body params events = by_on (λ none. by_nothing) (λ g home. quiet_works e body params events g)
 
   quiet_told : (e : ℕ) (body : List ℕ) (x : Saying) (events : List Event) (g s : ℕ) → Quiet events (document_at settings before e body x g s)
   quiet_told e body x events g s = by_choose (λ ready. quiet_bodies s (document_bodies settings.limits.versions (encoding_of g before) (texts_of settings g before) (λ u. held_at s u before) e body x) events) (λ off. by_nothing)
@@ -235,7 +246,7 @@ module _ (settings : Settings) (before : List Event) where
 
   quiet_served : (e : ℕ) (body : List ℕ) (m : Message) (events : List Event) → Quiet events (served_row settings before e body m)
   quiet_served e body (request id method params) events = quiet_asked e body method events
-  quiet_served e body (notification method params) events = by_choose (λ yes. quiet_closing e events) (λ no. by_choose (λ going. quiet_notice e body events) (λ off. by_choose (λ cancels. quiet_cancelling e body params events) (λ other. quiet_document e body (saying_by method params) events)))
+  quiet_served e body (notification method params) events = by_choose (λ yes. quiet_closing e events) (λ no. by_choose (λ going. quiet_notice e body events) (λ off. by_choose (λ cancels. quiet_cancelling e body params events) (λ off. by_choose (λ works. quiet_work e body params events) (λ other. quiet_document e body (saying_by method params) events))))
   quiet_served e body (result id r) events = quiet_handed e body (result id r) events
   quiet_served e body (error id x) events = quiet_handed e body (error id x) events
   quiet_served e body not_json events = quiet_handed e body not_json events
@@ -355,9 +366,13 @@ module _ (settings : Settings) (before : List Event) where
       (λ items found. by_then (by_send tt) (quiet_calls (unregister_text (again items (live_of settings s before))) (running_in settings g before) (behind events (outs (accept s body) events))))
   quiet_asking g s body method _ events = by_nothing
 
+  quiet_tell : (body : List ℕ) (token : Option Json) (f : Forwarded) (events : List Event) → Quiet events (tell_progress body token f)
+  quiet_tell body token f events = by_on (λ none. by_nothing) (λ text own. by_send tt)
+
   quiet_notified : (s : ℕ) (body : List ℕ) (params : Option Json) (c : Class) (events : List Event) → Quiet events (notified_row settings s before body params c)
   quiet_notified s body params Cancel events = by_on (λ none. by_nothing) (λ a found. by_choose (λ runs. by_send tt) (λ no. by_nothing))
   quiet_notified s body params Broadcast events = by_on (λ none. by_nothing) (λ g home. quiet_spread body (running_in settings g before) events)
+  quiet_notified s body params Progress events = by_on (λ none. by_nothing) (λ f found. quiet_tell body (named_of (codes "token") params) f events)
   quiet_notified s body params _ events = by_nothing
 
   quiet_ready : (s : ℕ) (body : List ℕ) (m : Message) (events : List Event) → Quiet events (ready_row settings s before body m)

@@ -56,7 +56,7 @@ module _ (x : Forwarding) (method : List ℕ) (params : Option Json) where
   all_cancelled P id [] h = tt
   all_cancelled P id (f ∷ fs) h = (go (is_written id f.number) h.0, all_cancelled P id fs h.1)
     where
-      go : (b : Bool) → P f.number f.editor f.id → P (if b then record { number = f.number; editor = f.editor; id = f.id; cancelled = true } else f).number (if b then record { number = f.number; editor = f.editor; id = f.id; cancelled = true } else f).editor (if b then record { number = f.number; editor = f.editor; id = f.id; cancelled = true } else f).id
+      go : (b : Bool) → P f.number f.editor f.id → P (if b then record f { cancelled = true } else f).number (if b then record f { cancelled = true } else f).editor (if b then record f { cancelled = true } else f).id
       go true k = k
       go false k = k
 

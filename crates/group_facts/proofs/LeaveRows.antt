@@ -122,7 +122,7 @@ other_waits n k low high less (f ∷ fs) h = go (is_uncancelled k f) refl (λ e.
         let clash : n ≡ k = decimal_injective n k low high ((bytes_eq-Decides (decimal n) (decimal f.number)).0 e ∙ ap decimal is) in let never : ⊥ = omega (arith, clash, less) in never)
 
     stays : is_uncancelled k f ≡ true → is_uncancelled k (cancelled_by (Some (number nowhere (decimal n))) f) ≡ true
-    stays t = ap (λ b. is_uncancelled k (if b then record { number = f.number; editor = f.editor; id = f.id; cancelled = true } else f))
+    stays t = ap (λ b. is_uncancelled k (if b then record f { cancelled = true } else f))
         (unwritten (bytes_eq (decimal n) (decimal f.number)) refl (and_parts (nat_eq f.number k) (not f.cancelled) t).0) ∙ t
 
     go : (b : Bool) → is_uncancelled k f ≡ b → (Waits fs k → Waits (map (cancelled_by (Some (number nowhere (decimal n)))) fs) k) → (b || list_any (is_uncancelled k) fs) ≡ true → Waits (map (cancelled_by (Some (number nowhere (decimal n)))) (f ∷ fs)) k

@@ -64,3 +64,5 @@ pub mod AskSeats
 pub mod AskRest
 pub mod AskEntries
 pub mod AskLeft
+pub mod Listens
+pub mod WorkRow

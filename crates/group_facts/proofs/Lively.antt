@@ -13,14 +13,13 @@ use Rattle.mux_history.specs.declared.cause.Cause.TheVariants.{Joined, FromEdito
 use Rattle.mux_history.specs.declared.cause.Why as link
 use Rattle.mux_history.specs.declared.out.Out.{Out}
 use Rattle.mux_history.specs.declared.out.Out.TheVariants.{ToEditor, ToServer, Spawn, CloseEditor, EndServer}
-use Rattle.rpc_message.specs.Message.{Message, request, notification, result, error, not_json, not_message, Id, message_of}
+use Rattle.rpc_message.specs.Message.{Message, request, notification, result, error, not_json, not_message, message_of}
 use Rattle.event_model.specs.declared.phase.Phase.{Phase}
 use Rattle.event_model.specs.declared.phase.Phase.TheVariants.{Absent, New, Waiting, Answered, Running, Down, Closed, Gone}
 use Rattle.event_model.specs.declared.stage.Stage.{Stage}
 use Rattle.event_model.specs.declared.stage.Stage.TheVariants.{Spawning, Initializing, Ready, Stopping, Ended}
 use Rattle.event_model.specs.Event.{Event, behind, heard, requests, said, with_cause}
-use Rattle.event_model.specs.Phases.{Desk, desk_behind, desk_hears, desk_of, editors_of, is_begun, is_new, is_served, is_there, makes_running, phase_closed, phase_told}
-use Rattle.event_model.specs.Requests.{open_of}
+use Rattle.event_model.specs.Phases.{Desk, desk_behind, desk_hears, desk_of, editors_of, is_begun, is_new, is_there, makes_running, phase_closed, phase_told}
 use Rattle.event_model.specs.Settings.{Settings}
 use Rattle.event_model.specs.Spawns.{group_behind, group_of, start_behind, start_of, starts_behind, starts_of}
 use Rattle.event_model.specs.Stages.{Life, is_initializing, life_behind, life_of, stage_ending, stage_hears, stage_started, stage_told, is_first_result}
@@ -37,11 +36,11 @@ use Rattle.group_words.specs.Houses.{at_group, declared_for, groups_lose, groups
 use Rattle.group_words.specs.Placing.{end_where, ended, home_by, is_due, is_live, with_editor}
 use Rattle.group_words.proofs.Frames.{groups_more, home_more}
 use Rattle.group_rows.specs.Rows.{names_lspmux, outs_of}
-use Rattle.group_facts.specs.Built.{built_behind, built_from_editor, doubles, is_left, is_marked, is_standard}
+use Rattle.group_facts.specs.Built.{built_behind, built_from_editor, is_left, is_standard}
 use Rattle.group_facts.specs.Facts.{is_put_out, is_refusing, is_up}
 use Rattle.group_facts.specs.Lively.{IsDying, Lively, is_busy_at, is_unplaced, lives_at}
 use Rattle.group_facts.specs.Settled.{is_answered}
-use Rattle.group_facts.specs.Why.{Why, WhyEnd, WhyToServer, begins, greets, forwarded, notes, tells, shuts, cancels, exits, refused, starting, stopped, responds, resolves}
+use Rattle.group_facts.specs.Why.{Why, WhyEnd, WhyToServer, begins, greets, forwarded, notes, tells, shuts, cancels, exits, refused, starting, stopped, responds, resolves, cancels_work}
 use Rattle.group_facts.proofs.Multiplexer.{lspmux_apart}
 use Rattle.group_facts.proofs.Begun.{Begun, start_more}
 use Rattle.group_facts.proofs.Exits.{left_groups, left_over}
@@ -367,17 +366,17 @@ not_stopping method h = go (bytes_eq (codes "lspmux/stop") method) refl
     go true e = absurd (let k : is_standard (class_of (codes "lspmux/stop") Editor false) ≡ true = subst (λ m. is_standard (class_of m Editor false) ≡ true) (sym ((bytes_eq-Decides (codes "lspmux/stop") method).0 e)) h in cc)
     go false e = refl
 
-built_on : (phase : Phase) (ids : List Id) (m : Message) → built_from_editor phase ids m ≡ true → requests (codes "lspmux/stop") m ≡ false
-built_on phase ids (request id method params) built = go (names_lspmux method) refl built
+built_on : (m : Message) → built_from_editor m ≡ true → requests (codes "lspmux/stop") m ≡ false
+built_on (request id method params) built = go (names_lspmux method) refl built
   where
-    go : (b : Bool) → names_lspmux method ≡ b → (b || (is_standard (class_of method Editor false) && (doubles phase id ids || not (is_served phase && is_marked method params)))) ≡ true → bytes_eq (codes "lspmux/stop") method ≡ false
+    go : (b : Bool) → names_lspmux method ≡ b → (b || is_standard (class_of method Editor false)) ≡ true → bytes_eq (codes "lspmux/stop") method ≡ false
     go true is k = lspmux_apart (codes "lspmux/stop") method refl refl is
-    go false is k = not_stopping method (and_parts (is_standard (class_of method Editor false)) (doubles phase id ids || not (is_served phase && is_marked method params)) k).0
-built_on phase ids (notification method params) built = refl
-built_on phase ids (result id r) built = refl
-built_on phase ids (error id x) built = refl
-built_on phase ids not_json built = refl
-built_on phase ids not_message built = refl
+    go false is k = not_stopping method k
+built_on (notification method params) built = refl
+built_on (result id r) built = refl
+built_on (error id x) built = refl
+built_on not_json built = refl
+built_on not_message built = refl
 
 took : (settings : Settings) (before : List Event) (cause : Cause) → fits_behind before cause ≡ true → built_behind settings before cause ≡ true → Editors before → Editors (with_cause before cause) → Begun settings before → Lively settings before
     → Mostly settings (is_put_out settings before cause) (with_cause before cause)
@@ -390,7 +389,7 @@ took settings before (FromEditor n body) fits built absent after begun h = mostl
   where
     go : (b : Bool) → places (desk_of n before).phase (message_of body) ≡ b → Lively settings (with_cause before (FromEditor n body))
     go true here = placing settings before h n body begun here
-    go false off = heard_on settings before h n body off (ap (λ b. b && (is_there (desk_of n before).phase && not (is_doubled before n (message_of body)))) (built_on (desk_of n before).phase (open_of n before) (message_of body) built))
+    go false off = heard_on settings before h n body off (ap (λ b. b && (is_there (desk_of n before).phase && not (is_doubled before n (message_of body)))) (built_on (message_of body) built))
 took settings before (StartFailed n) fits built absent after begun h = mostly settings _ _ (failed settings before h n built)
 took settings before (ServerGone n) fits built absent after begun h = mostly settings _ _ (exited settings before h n built)
 took settings before (Tick t) fits built absent after begun h = mostly settings _ _ (ticked settings before h t)
@@ -478,6 +477,7 @@ module _ (settings : Settings) (out : ℕ → Bool) (events : List Event) (h : M
   sent before cause n body (notes k) = sends n body (λ g s same live at. ap (requests (codes "shutdown")) k.says)
   sent before cause n body (tells k) = sends n body (λ g s same live at. let x : Spoken (message_of body) = spoken (message_of body) k.spoken in ap (requests (codes "shutdown")) x.is)
   sent before cause n body (cancels k) = sends n body (λ g s same live at. ap (requests (codes "shutdown")) k.says)
+  sent before cause n body (cancels_work k) = sends n body (λ g s same live at. ap (requests (codes "shutdown")) k.says)
   sent before cause n body (responds k) = sends n body (λ g s same live at. response_asks (codes "shutdown") (message_of body) k.response)
   sent before cause n body (resolves k) = sends n body (λ g s same live at. response_asks (codes "shutdown") (message_of body) k.response)
   sent before cause n body (exits k) = sends n body (λ g s same live at. ap (requests (codes "shutdown")) k.says)

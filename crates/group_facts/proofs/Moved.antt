@@ -11,7 +11,6 @@ use Rattle.mux_history.specs.declared.cause.Cause.TheVariants.{FromEditor, FromS
 use Rattle.mux_history.specs.declared.out.Out.{Out}
 use Rattle.mux_history.specs.declared.out.Out.TheVariants.{ToEditor, ToServer, Spawn, CloseEditor, EndServer}
 use Rattle.rpc_message.specs.Message.{Message, request, notification, result, error, not_json, not_message, Id, integer, message_of}
-use Rattle.rpc_message.specs.Texts.{with_id_text}
 use Rattle.rpc_message.specs.ValueTexts.{IsIdText}
 use Rattle.event_model.specs.Event.{Event, behind, said, with_cause}
 use Rattle.event_model.specs.Phases.{Desk, desk_of, has_id, is_malformed, is_there, makes_running}
@@ -28,7 +27,8 @@ use Rattle.group_rows.specs.Asks.{next_ask}
 use Rattle.group_rows.specs.Forwarded.{Forwarded, Forwarding}
 use Rattle.group_facts.specs.Facts.{IsAlone, IsWaiting, is_early}
 use Rattle.group_facts.specs.Lively.{lives_at}
-use Rattle.group_facts.specs.Why.{IsBehindSync, IsBeside, IsQuestion, Turn, Why, WhyToEditor, WhyToServer, answers, asks, asks_something, begins, cancels, exits, forwarded, greeted, greets, is_uncancelled, notes, passes, recalls, refuses, registers, rejects, resolves, responds, resumes, shuts, spreads, stays, tells, turns_away, versions_at, welcomes}
+use Rattle.group_rows.specs.Tokens.{forwarded_text}
+use Rattle.group_facts.specs.Why.{IsBehindSync, IsBeside, IsQuestion, Turn, Why, WhyToEditor, WhyToServer, answers, asks, asks_something, begins, cancels, exits, forwarded, greeted, greets, is_uncancelled, notes, passes, recalls, refuses, registers, rejects, resolves, responds, resumes, shuts, spreads, stays, tells, turns_away, versions_at, welcomes, cancels_work, progresses}
 use Rattle.group_facts.proofs.Same.{IsBody, Same, same_behind, same_held, same_questions}
 use Rattle.group_facts.proofs.Still.{Goes, Still, goes_body}
 
@@ -109,7 +109,7 @@ module _ (settings : Settings) (before : List Event) (e : ℕ) (body : List ℕ)
       asked = k.asked;
       from = k.from;
       synced = sync_moved s (k.sender).editor k.asked k.from k.synced;
-      bytes = k.bytes ∙ ap (λ (f : Forwarding). with_id_text k.asked (decimal f.next)) (sym (S.forwarding s));
+      bytes = k.bytes ∙ ap (λ (f : Forwarding). forwarded_text f.next k.asked) (sym (S.forwarding s));
       id = k.id;
       method = k.method;
       params = k.params;
@@ -157,6 +157,21 @@ module _ (settings : Settings) (before : List Event) (e : ℕ) (body : List ℕ)
       ready = stage_of s ∙ k.ready;
       stays = k.stays;
       text = k.text;
+      says = k.says;
+    })
+    server_moved s b (cancels_work k) = cancels_work (record {
+      editor = k.editor;
+      asked = k.asked;
+      given = k.given;
+      request = k.request;
+      params = k.params;
+      from = k.from;
+      served = k.served;
+      notified = k.notified;
+      meant = k.meant;
+      ready = stage_of s ∙ k.ready;
+      stays = k.stays;
+      bytes = k.bytes;
       says = k.says;
     })
     server_moved s b (responds k) = responds (record {
@@ -215,6 +230,7 @@ module _ (settings : Settings) (before : List Event) (e : ℕ) (body : List ℕ)
     editor_moved n b goes (asks k) = none_from k.start k.asked (k.source).from
     editor_moved n b goes (spreads k) = none_from k.start b (k.source).from
     editor_moved n b goes (recalls k) = none_from k.start k.asked (k.source).from
+    editor_moved n b goes (progresses k) = none_from k.start k.asked k.from
     editor_moved n b goes (registers k) = no_question b (integer (decimal (next_ask n x))) k.method k.params goes k.says
     editor_moved n b goes (resumes k) = no_question b (integer (decimal (next_ask n x))) k.method k.params goes k.says
 

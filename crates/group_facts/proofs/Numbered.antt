@@ -32,7 +32,7 @@ use Rattle.mux_facts.specs.Allowed.{is_response}
 use Rattle.group_rows.specs.Rows.{outs_of, started}
 use Rattle.group_facts.specs.Built.{built_behind}
 use Rattle.group_facts.specs.Facts.{Housed, IsHoused, IsWritten, Unbegun, Written}
-use Rattle.group_facts.specs.Why.{IsForward, WhyToServer, begins, greets, forwarded, notes, tells, shuts, cancels, responds, IsShutting, exits, resolves}
+use Rattle.group_facts.specs.Why.{IsForward, WhyToServer, begins, greets, forwarded, notes, tells, shuts, cancels, responds, IsShutting, exits, resolves, cancels_work}
 use Rattle.group_facts.proofs.Forwards.{get_all}
 use Rattle.group_facts.proofs.Facts.{AllTied, OthersTied, Tied, TiedAt, begins_now}
 use Rattle.group_facts.proofs.Forwards.{notified_next}
@@ -138,6 +138,7 @@ module _ (settings : Settings) (cause : Cause) (events : List Event) (n : ℕ) (
     one_tied (notes k) rest h = notified k.method k.params Ready k.says k.ready refl rest h
     one_tied (tells k) rest h = let m : Spoken (message_of body) = spoken (message_of body) k.spoken in notified m.method m.params Ready m.is k.ready refl rest h
     one_tied (cancels k) rest h = notified (codes "$/cancelRequest") (Some k.params) Ready k.says k.ready refl rest h
+    one_tied (cancels_work k) rest h = notified (codes "window/workDoneProgress/cancel") k.params Ready k.says k.ready refl rest h
     one_tied (responds k) rest h = tied_by n events sent Initializing (stage_now (message_of body) refl ∙ ap (λ z. stage_told z (message_of body)) k.waiting)
         (number_sent events n body (message_of body) refl ∙ response_number (next_number n events) (message_of body) k.response)
         (ap (λ (x : Forwarding). x.next) (forwarding_sent events n body (message_of body) refl ∙ response_forwards (forwarding_of n events) (message_of body) k.response))

@@ -29,7 +29,7 @@ use Rattle.group_facts.specs.Facts.{Bounded, Unbegun, Untold, is_unready, is_up}
 use Rattle.group_facts.proofs.Facts.{Facts}
 use Rattle.group_facts.proofs.Forwards.{forwarding_more, notified_next}
 use Rattle.group_facts.proofs.Levels.{Fresh, Step, each_start, level_more, unbegun_falls, unready_falls, up_falls}
-use Rattle.group_facts.specs.Why.{IsBeginning, IsForward, WhyToServer, begins, greets, forwarded, notes, tells, shuts, cancels, IsReply, responds, exits, resolves}
+use Rattle.group_facts.specs.Why.{IsBeginning, IsForward, WhyToServer, begins, greets, forwarded, notes, tells, shuts, cancels, IsReply, responds, exits, resolves, cancels_work}
 use Rattle.mux_facts.specs.Allowed.{is_response}
 
 -- A cause leaves the numbers and the documents alone
@@ -157,6 +157,7 @@ ready_or settings before cause events s body P (notes k) f r g h = g k.ready
 ready_or settings before cause events s body P (tells k) f r g h = g k.ready
 ready_or settings before cause events s body P (shuts k) f r g h = g k.ready
 ready_or settings before cause events s body P (cancels k) f r g h = g k.ready
+ready_or settings before cause events s body P (cancels_work k) f r g h = g k.ready
 ready_or settings before cause events s body P (responds k) f r g h = r k
 ready_or settings before cause events s body P (resolves k) f r g h = g k.ready
 ready_or settings before cause events s body P (exits k) f r g h = h k.stopping
@@ -252,6 +253,7 @@ module _ (settings : Settings) where
     one_bounded (notes b) was after k = notified b.method b.params b.says k
     one_bounded (tells b) was after k = let m : Spoken (message_of body) = spoken (message_of body) b.spoken in notified m.method m.params m.is k
     one_bounded (cancels b) was after k = notified (codes "$/cancelRequest") (Some b.params) b.says k
+    one_bounded (cancels_work b) was after k = notified (codes "window/workDoneProgress/cancel") b.params b.says k
     one_bounded (responds b) was after k = bounds_by n events sent (number_sent events n body (message_of body) refl ∙ response_number (next_number n events) (message_of body) b.response)
         (ap (λ (x : Forwarding). x.next) (forwarding_sent events n body (message_of body) refl ∙ response_forwards (forwarding_of n events) (message_of body) b.response)) k
     one_bounded (resolves b) was after k = bounds_by n events sent (number_sent events n body (message_of body) refl ∙ response_number (next_number n events) (message_of body) b.response)

@@ -12,11 +12,12 @@ use Rattle.mux_history.specs.declared.cause.Cause.TheVariants.{FromEditor}
 use Rattle.mux_history.specs.declared.out.Out.{Out}
 use Rattle.mux_history.specs.declared.out.Out.TheVariants.{ToEditor, ToServer, Spawn, CloseEditor, EndServer}
 use Rattle.rpc_message.specs.Message.{Message, request, notification, result, error, not_json, not_message, Id, id_bytes, integer, message_of}
-use Rattle.rpc_message.specs.Texts.{Code, error_text, error_tree, invalid_params, invalid_request, ok_text, request_failed, with_id_text}
+use Rattle.rpc_message.specs.Texts.{Code, error_text, error_tree, invalid_params, invalid_request, ok_text, request_failed}
 use Rattle.rpc_message.proofs.Ids.{request_id_bytes}
 use Rattle.event_model.specs.declared.phase.Phase.{Phase}
 use Rattle.event_model.specs.declared.phase.Phase.TheVariants.{Absent, New, Waiting, Answered, Running, Down, Closed, Gone}
 use Rattle.event_model.specs.Event.{Event, behind, heard, requests, said, with_cause}
+use Rattle.event_model.specs.Members.{params_of}
 use Rattle.event_model.specs.Phases.{Desk, desk_hears, desk_of, has_id, is_begun, is_linked, is_new, is_there, makes_running, phase_told}
 use Rattle.event_model.specs.Requests.{answered_id, with_request, is_open, is_own, open_of, without}
 use Rattle.event_model.specs.Row.{Row, choose, nothing, on, outs, send, ◌⨾◌}
@@ -42,8 +43,9 @@ use Rattle.group_words.specs.Rows.{initialize_row}
 use Rattle.group_words.proofs.Frames.{home_more}
 use Rattle.group_rows.specs.AskRows.{response_row, run_row}
 use Rattle.group_rows.specs.Cancelling.{cancelling_at, cancelling_row}
-use Rattle.group_rows.specs.Forwarded.{Forwarding, forwarding_of, numbered}
+use Rattle.group_rows.specs.Forwarded.{Forwarding, forwarding_of, numbered, token_in}
 use Rattle.group_rows.specs.Leaves.{leave_row}
+use Rattle.group_rows.specs.Tokens.{forwarded_text, reserves, work_at, work_row}
 use Rattle.group_rows.specs.Rows.{answer_error, asks_lspmux, begun_row, can_ask, closing_row, document_at, document_bodies, document_row, early_code, early_row, exit_row, forward, from_editor, is_misplaced, lspmux_row, message_row, named_row, names_lspmux, notice_at, notice_row, open_row, outs_of, request_at, request_row, served_request, served_row, shutdown_row, status_row, sync_bodies, sync_row, taken_row, told_row, wrong_code}
 use Rattle.group_rows.specs.Status.{items_of, status_text}
 use Rattle.group_rows.proofs.Statuses.{told_tree}
@@ -199,7 +201,7 @@ module _ (settings : Settings) (before : List Event) (n : ℕ) (body : List ℕ)
           synced = behind now sync
 
           abbrev text : List ℕ
-          text = with_id_text body (decimal (forwarding_of s synced).next)
+          text = forwarded_text (forwarding_of s synced).next body
 
           abbrev gone : List Event
           gone = synced ++ said (ToServer s text) ∷ []
@@ -219,7 +221,7 @@ module _ (settings : Settings) (before : List Event) (n : ℕ) (body : List ℕ)
           forward_is : IsForward settings before (FromEditor n body) synced s text
           forward_is = is_forward settings before n body id method params says there (alone_by before (facts.steady).asked n id fresh) range (facts.base).opened late other g s start can
 
-          list_now : (forwarding_of s gone).open_requests ≡ (forwarding_of s synced).open_requests ++ numbered (Some (record { editor = n; id = id_bytes body })) (forwarding_of s synced).next
+          list_now : (forwarding_of s gone).open_requests ≡ (forwarding_of s synced).open_requests ++ numbered (Some (record { editor = n; id = id_bytes body; work = token_in (codes "workDoneToken") body; partial = token_in (codes "partialResultToken") body })) (forwarding_of s synced).next
           list_now = ap (λ (x : Forwarding). x.open_requests) (forwarding_sent synced s text (request (integer (decimal (forwarding_of s synced).next)) forward_is.method forward_is.params) forward_is.says
               ∙ ap (λ c. if c then forwarding_of s synced else more_requests (forwarding_of s synced)) forward_is.other)
               ∙ ap (λ o. (forwarding_of s synced).open_requests ++ numbered o (forwarding_of s synced).next) (synced_sender settings before n body id method params says there (alone_by before (facts.steady).asked n id fresh) range (facts.base).opened late other g s start can)
@@ -230,7 +232,7 @@ module _ (settings : Settings) (before : List Event) (n : ℕ) (body : List ℕ)
             start = s;
             home = home_did settings n synced (ToServer s text) ∙ homes_stay settings n now sync ∙ home_heard ∙ home;
             last = start_did g synced (ToServer s text) tt ∙ starts_stay g now sync quiet_sync ∙ start_took g before (FromEditor n body) ∙ start;
-            among = subst (OneOf (IsOf n id)) (sym list_now) (one_last (IsOf n id) (forwarding_of s synced).open_requests (record { number = (forwarding_of s synced).next; editor = n; id = id_bytes body; cancelled = false }) (refl, request_id_bytes body id method params says));
+            among = subst (OneOf (IsOf n id)) (sym list_now) (one_last (IsOf n id) (forwarding_of s synced).open_requests (record { number = (forwarding_of s synced).next; editor = n; id = id_bytes body; work = token_in (codes "workDoneToken") body; partial = token_in (codes "partialResultToken") body; cancelled = false }) (refl, request_id_bytes body id method params says));
           }
             where
               home_heard : home_of settings n now ≡ home_of settings n before
@@ -271,8 +273,12 @@ module _ (settings : Settings) (before : List Event) (n : ℕ) (body : List ℕ)
         by_home None home = refused no_first request_failed
         by_home (Some g) home = by_start g home (start_of g before) refl
 
+        by_token : (b : Bool) → Rests (outs (choose b (answer_error n body invalid_params) (on (home_of settings n before) (answer_error n body request_failed) (λ g. on (start_of g before) (answer_error n body request_failed) (request_at settings before n body g)))) now)
+        by_token true = refused no_first invalid_params
+        by_token false = by_home (home_of settings n before) refl
+
         request_rests : Rests (outs (request_row settings before n body) now)
-        request_rests = by_home (home_of settings n before) refl
+        request_rests = by_token (reserves (params_of body))
 
       -- E9: `shutdown` is answered, and the editor leaves
       abbrev done : List ℕ
@@ -402,6 +408,18 @@ module _ (settings : Settings) (before : List Event) (n : ℕ) (body : List ℕ)
         bodies : Because (λ places out. ToStart out) now (cancelling_row settings before n body params)
         bodies = by_on (λ none. by_nothing) (λ g home. told_group g)
 
+    work_rests : (method : List ℕ) (params : Option Json) → message_of body ≡ notification method params → Rests (outs (work_row settings before n body params) now)
+    work_rests method params says = open_bodies settings n Nobody now (outs (work_row settings before n body params) now) (all_outs ToStart now _ bodies.why) (no_request (notification method params) says refl refl)
+      where
+        told_at : (s : ℕ) → Because (λ places out. ToStart out) now (work_at before n body params s)
+        told_at s = by_choose (λ ready. by_on (λ none. by_nothing) (λ k is. by_send tt)) (λ off. by_nothing)
+
+        told_group : (g : ℕ) → Because (λ places out. ToStart out) now (on (start_of g before) nothing (λ s. work_at before n body params s))
+        told_group g = by_on (λ none. by_nothing) (λ s start. told_at s)
+
+        bodies : Because (λ places out. ToStart out) now (work_row settings before n body params)
+        bodies = by_on (λ none. by_nothing) (λ g home. told_group g)
+
     exit_rests : (method : List ℕ) (params : Option Json) → message_of body ≡ notification method params → Rests (outs (exit_row settings before n (notification method params)) now)
     exit_rests method params says = go (bytes_eq (codes "exit") method)
       where
@@ -410,14 +428,15 @@ module _ (settings : Settings) (before : List Event) (n : ℕ) (body : List ℕ)
         go false = rests_here (no_request (notification method params) says refl refl)
 
     served_rests : (method : List ℕ) (params : Option Json) → message_of body ≡ notification method params → Rests (outs (served_row settings before n body (notification method params)) now)
-    served_rests method params says = go (bytes_eq (codes "exit") method) (goes_on (class_of method Editor true)) (bytes_eq (codes "$/cancelRequest") method)
+    served_rests method params says = go (bytes_eq (codes "exit") method) (goes_on (class_of method Editor true)) (bytes_eq (codes "$/cancelRequest") method) (bytes_eq (codes "window/workDoneProgress/cancel") method)
       where
-        go : (a b c : Bool) → Rests (outs (choose a (closing_row settings before n) (choose b (notice_row settings before n body)
-            (choose c (cancelling_row settings before n body params) (document_row settings before n body (saying_by method params))))) now)
-        go true b c = closing_rests
-        go false true c = notice_rests method params says
-        go false false true = cancelling_rests method params says
-        go false false false = document_rests method params says
+        go : (a b c d : Bool) → Rests (outs (choose a (closing_row settings before n) (choose b (notice_row settings before n body)
+            (choose c (cancelling_row settings before n body params) (choose d (work_row settings before n body params) (document_row settings before n body (saying_by method params)))))) now)
+        go true b c d = closing_rests
+        go false true c d = notice_rests method params says
+        go false false true d = cancelling_rests method params says
+        go false false false true = work_rests method params says
+        go false false false false = document_rests method params says
 
     notified_rests : (method : List ℕ) (params : Option Json) → message_of body ≡ notification method params → (phase : Phase) → (phase ≡ Answered → ⊥) → Rests (outs (message_row settings before n body (notification method params) phase) now)
     notified_rests method params says phase other = subst (λ xs. Rests xs) (sym (by_single (notification method params) phase refl refl)) (go phase other)

@@ -20,9 +20,9 @@ use Rattle.event_model.specs.Requests.{answered_id}
 use Rattle.event_model.specs.Row.{outs}
 use Rattle.event_model.specs.Settings.{Settings}
 use Rattle.event_model.specs.Stages.{life_of}
-use Rattle.response_route.specs.Answers.{answer_text}
-use Rattle.response_route.specs.Asked.{asked_text}
-use Rattle.response_route.specs.Versions.{version_now}
+use Rattle.group_rows.specs.response_route.specs.Answers.{answer_text}
+use Rattle.group_rows.specs.response_route.specs.Asked.{asked_text}
+use Rattle.group_rows.specs.response_route.specs.Versions.{version_now}
 use Rattle.mux_facts.specs.Ranges.{InRange}
 use Rattle.mux_facts.proofs.Lists.{found_is}
 use Rattle.mux_facts.proofs.Reasons.{Because, Reasons, by_choose, by_look, by_nothing, by_on, by_send}

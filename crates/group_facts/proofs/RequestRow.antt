@@ -8,10 +8,9 @@ use Rattle.mux_history.specs.declared.cause.Cause.TheVariants.{FromEditor}
 use Rattle.mux_history.specs.declared.out.Out.{Out}
 use Rattle.document_model.specs.Sayings.{saying_of, speaks}
 use Rattle.rpc_message.specs.Message.{Message, request, result, Id, integer, message_of, id_bytes}
-use Rattle.rpc_message.specs.Texts.{Code, invalid_params, invalid_request, ok_text, with_id_text, request_failed, error_tree}
-use Rattle.rpc_message.proofs.Decimals.{decimal_law}
+use Rattle.rpc_message.specs.Texts.{Code, invalid_params, invalid_request, ok_text, request_failed, error_tree}
 use Rattle.rpc_message.proofs.Fixed.{id_as_response, ok_law}
-use Rattle.rpc_message.proofs.Ids.{request_with_id, request_id_bytes}
+use Rattle.rpc_message.proofs.Ids.{request_id_bytes}
 use Rattle.event_model.specs.declared.phase.Phase.{Phase}
 use Rattle.event_model.specs.declared.phase.Phase.TheVariants.{Absent, New, Waiting, Answered, Running, Down, Closed, Gone}
 use Rattle.event_model.specs.Event.{Event, heard, requests, same_id, behind, with_cause}
@@ -32,7 +31,9 @@ use Rattle.mux_facts.proofs.Waits.{AllWaiting, Waits, late_not, waits_at}
 use Rattle.mux_facts.proofs.Why.{is_early}
 use Rattle.mux_facts.proofs.Words.{id_same, same_number}
 use Rattle.group_words.specs.Houses.{server_asked}
-use Rattle.group_rows.specs.Forwarded.{Forwarding, forwarding_of, sender_of}
+use Rattle.group_rows.specs.Forwarded.{Forwarding, forwarding_of, sender_of, token_in}
+use Rattle.group_rows.specs.Tokens.{forwarded_text}
+use Rattle.group_rows.proofs.TokenTexts.{forwarded_says}
 use Rattle.group_rows.specs.Rows.{answer_error, can_ask, forward, named_row, open_row, request_at, request_row, status_row, sync_row}
 use Rattle.group_rows.specs.Status.{items_of, status_text}
 use Rattle.group_rows.proofs.Statuses.{status_deep, status_value, told_tree}
@@ -205,18 +206,18 @@ module _ (settings : Settings) (before : List Event) (e : ℕ) (body : List ℕ)
         parts = and_parts (is_ready (life_of s before).stage) (nat_lt (forwarding_of s before).next settings.limits.requests) can
 
         goes : (events : List Event) → IsBehindSync settings before events s e body → Calm settings range before (FromEditor e body) asked s events
-            → IsForward settings before (FromEditor e body) events s (with_id_text body (decimal (forwarding_of s events).next))
+            → IsForward settings before (FromEditor e body) events s (forwarded_text (forwarding_of s events).next body)
         goes events told calm = record {
-          sender = record { editor = e; id = id_bytes body };
+          sender = record { editor = e; id = id_bytes body; work = token_in (codes "workDoneToken") body; partial = token_in (codes "partialResultToken") body };
           asked = body;
           from = refl;
           synced = told;
           bytes = refl;
           id = id;
           method = method;
-          params = params;
+          params = new.0;
           at_work = calm.still.sender ∙ ap (λ (x : Forwarding). x.sender) (forwarding_more s before (heard (FromEditor e body))) ∙ ap (sender_of e body) says;
-          says = request_with_id body (decimal (forwarding_of s events).next) id (integer (decimal (forwarding_of s events).next)) method params says (decimal_law (forwarding_of s events).next low);
+          says = new.1;
           other = other;
           room = room;
           ready = calm.still.ready;
@@ -232,6 +233,9 @@ module _ (settings : Settings) (before : List Event) (e : ℕ) (body : List ℕ)
             low : (forwarding_of s events).next < 2 ^ 64
             low = let below : (forwarding_of s events).next < settings.limits.requests = ltb-true (forwarding_of s events).next settings.limits.requests room in let wide : settings.limits.requests < 2 ^ 32 = range.requests in omega (arith, below, wide)
 
+            new : (new : Option Json) × (message_of (forwarded_text (forwarding_of s events).next body) ≡ request (integer (decimal (forwarding_of s events).next)) method new)
+            new = forwarded_says (forwarding_of s events).next body id method params low says
+
         -- behind the sync
         abbrev synced : List Event
         synced = behind asked (outs (sync_row settings before g s e) asked)
@@ -239,10 +243,10 @@ module _ (settings : Settings) (before : List Event) (e : ℕ) (body : List ℕ)
         calm_there : Calm settings range before (FromEditor e body) asked s synced
         calm_there = synced_calm settings range before opened e body g s parts.0
 
-        pub synced_sender : (forwarding_of s synced).sender ≡ Some (record { editor = e; id = id_bytes body })
+        pub synced_sender : (forwarding_of s synced).sender ≡ Some (record { editor = e; id = id_bytes body; work = token_in (codes "workDoneToken") body; partial = token_in (codes "partialResultToken") body })
         synced_sender = calm_there.still.sender ∙ ap (λ (x : Forwarding). x.sender) (forwarding_more s before (heard (FromEditor e body))) ∙ ap (sender_of e body) says
 
-        pub is_forward : IsForward settings before (FromEditor e body) synced s (with_id_text body (decimal (forwarding_of s synced).next))
+        pub is_forward : IsForward settings before (FromEditor e body) synced s (forwarded_text (forwarding_of s synced).next body)
         is_forward = goes synced (behind_sync settings range before opened e body g s parts.0 start (ap (requests (codes "shutdown")) says ∙ no_shutdown method other) (ap (λ m. speaks (saying_of m)) says)) calm_there
 
         asks : Because R asked (sync_row settings before g s e ⨾ forward s body)
@@ -256,4 +260,4 @@ module _ (settings : Settings) (before : List Event) (e : ℕ) (body : List ℕ)
 
       -- E10
       pub request_why : Because R asked (request_row settings before e body)
-      request_why = by_on (λ none. fails) (λ g home. at_group g)
+      request_why = by_choose (λ reserved. late_refused invalid_params late) (λ free. by_on (λ none. fails) (λ g home. at_group g))

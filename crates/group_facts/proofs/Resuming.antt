@@ -26,7 +26,7 @@ use Rattle.group_words.specs.Houses.{groups_of, home_of, is_doubled, placed_for}
 use Rattle.group_words.proofs.Frames.{home_stays}
 use Rattle.group_rows.specs.AskRows.{ask, run_at, run_row}
 use Rattle.group_rows.specs.Asks.{Asking, Parked, asking_of, has_number, next_ask, parked_of, serves}
-use Rattle.registrations.specs.declared.registration.Registration.{Registration}
+use Rattle.group_rows.specs.registrations.specs.declared.registration.Registration.{Registration}
 use Rattle.group_rows.specs.Live.{live_of, register_text}
 use Rattle.group_rows.specs.LiveRows.{call, has_some, restore}
 use Rattle.group_rows.proofs.LiveTexts.{live_written, register_says}

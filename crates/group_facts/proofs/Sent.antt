@@ -98,7 +98,7 @@ sent_is settings events e id k =
 of_cancelled : (e : ℕ) (id : Id) (named : Option Json) (f : Forwarded) → IsOf e id f → IsOf e id (cancelled_by named f)
 of_cancelled e id named f h = go (is_written named f.number)
   where
-    go : (b : Bool) → IsOf e id (if b then record { number = f.number; editor = f.editor; id = f.id; cancelled = true } else f)
+    go : (b : Bool) → IsOf e id (if b then record f { cancelled = true } else f)
     go true = (h.0, h.1)
     go false = h
 
@@ -236,7 +236,7 @@ rising_cancelled : (low next : ℕ) (named : Option Json) (fs : List Forwarded) 
 rising_cancelled low next named [] h = h
 rising_cancelled low next named (f ∷ fs) h = go (is_written named f.number) (rising_cancelled (f.number + 1) next named fs h.1)
   where
-    go : (b : Bool) → Rising (f.number + 1) next (map (cancelled_by named) fs) → Rising low next ((if b then record { number = f.number; editor = f.editor; id = f.id; cancelled = true } else f) ∷ map (cancelled_by named) fs)
+    go : (b : Bool) → Rising (f.number + 1) next (map (cancelled_by named) fs) → Rising low next ((if b then record f { cancelled = true } else f) ∷ map (cancelled_by named) fs)
     go true k = (h.0, k)
     go false k = (h.0, k)
 

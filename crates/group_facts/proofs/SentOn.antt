@@ -21,13 +21,13 @@ use Rattle.mux_facts.specs.Ranges.{InRange}
 use Rattle.mux_facts.proofs.Lists.{all_of}
 use Rattle.mux_facts.proofs.Words.{number_same, same_number}
 use Rattle.group_rows.specs.Answers.{moment_of}
-use Rattle.group_rows.specs.Forwarded.{Forwarded, Forwarding, Sender, forwarding_behind, forwarding_of, forwards, no_forwarding, numbered, sender_of}
+use Rattle.group_rows.specs.Forwarded.{Forwarded, Forwarding, Sender, forwarding_behind, forwarding_of, forwards, no_forwarding, numbered, sender_of, token_in}
 use Rattle.group_rows.specs.Rows.{sync_bodies}
 use Rattle.group_rows.specs.Texts.{texts_of, worker_behind, worker_of}
 use Rattle.group_rows.proofs.Moments.{asks, moment_other, moment_apart, moment_quiet, moment_sent}
 use Rattle.group_facts.specs.Legal.{Legal}
 use Rattle.group_facts.specs.OwnVersions.{IsSentOn}
-use Rattle.group_facts.specs.Why.{IsForward, WhyToServer, begins, cancels, exits, forwarded, greets, notes, responds, shuts, tells, resolves}
+use Rattle.group_facts.specs.Why.{IsForward, WhyToServer, begins, cancels, exits, forwarded, greets, notes, responds, shuts, tells, resolves, cancels_work}
 use Rattle.group_facts.proofs.Apart.{fewer_said, fewer_took, new, grow, own_fewer, response_fewer}
 use Rattle.group_facts.proofs.Forwards.{Fewer, fewer_notified, forwarding_more, notified_sender, zip_all}
 use Rattle.group_facts.proofs.RestLaws.{Law, law_holds}
@@ -121,7 +121,7 @@ sender_still s events e asked xs = ap (λ (x : Forwarding). x.sender) (fold-appe
 id_at_work : (e : ℕ) (asked : List ℕ) (m : Message) (a : Sender) → sender_of e asked m ≡ Some a → id_bytes asked ≡ a.id
 id_at_work e asked (request id method params) a h = ap (λ (z : Sender). z.id) (same h)
   where
-    same : ◌≡◌ {A = Option Sender} (Some (record { editor = e; id = id_bytes asked })) (Some a) → record { editor = e; id = id_bytes asked } ≡ a
+    same : sender_of e asked (request id method params) ≡ Some a → (record { editor = e; id = id_bytes asked; work = token_in (codes "workDoneToken") asked; partial = token_in (codes "partialResultToken") asked }) ≡ a
     same h = cc
 id_at_work e asked (notification method params) a h = absurd (cc)
 id_at_work e asked (result id r) a h = absurd (cc)
@@ -237,6 +237,7 @@ module _ (settings : Settings) (before : List Event) (cause : Cause) (events : L
   one_sent (notes k) h = notified k.method k.params k.says h
   one_sent (tells k) h = let m : Spoken (message_of body) = spoken (message_of body) k.spoken in notified m.method m.params m.is h
   one_sent (cancels k) h = notified (codes "$/cancelRequest") (Some k.params) k.says h
+  one_sent (cancels_work k) h = notified (codes "window/workDoneProgress/cancel") k.params k.says h
   one_sent (responds k) h = by_message (message_of body) refl (answer_silent (message_of body) k.response) (response_fewer settings before cause events n body k.response) h
   one_sent (resolves k) h = by_message (message_of body) refl (answer_silent (message_of body) k.response) (response_fewer settings before cause events n body k.response) h
   one_sent (exits k) h = notified (codes "exit") None k.says h

@@ -1,12 +1,12 @@
 -- Rows that send the same behind what editors were asked, and that send bodies which ask nothing.
-use Rattle.std.proofs.Common.{◌≡◌, ℕ, Bool, true, false, not, ◌||◌, List, [], ◌∷◌, ◌++◌, map, codes, decimal, Option, Some, None, refl, sym, ◌∙◌, ap, ap₂, subst}
+use Rattle.std.proofs.Common.{◌≡◌, ℕ, Bool, true, false, not, ◌||◌, List, [], ◌∷◌, ◌++◌, map, codes, Option, Some, None, refl, sym, ◌∙◌, ap, ap₂, subst}
 use Rattle.std.specs.List.{AllByRecursion}
 use Rattle.json_text.specs.Json.{Json}
 use Rattle.mux_history.specs.declared.out.Out.{Out}
 use Rattle.mux_history.specs.declared.out.Out.TheVariants.{ToEditor, ToServer, Spawn, CloseEditor, EndServer}
 use Rattle.document_model.specs.Sayings.{Saying, saying_by}
 use Rattle.rpc_message.specs.Message.{Message, request, notification, result, error, not_json, not_message, Id, message_of}
-use Rattle.rpc_message.specs.Texts.{Code, invalid_request, request_failed, with_id_text}
+use Rattle.rpc_message.specs.Texts.{Code, invalid_params, invalid_request, request_failed}
 use Rattle.event_model.specs.Event.{Event, behind, notifies, requests}
 use Rattle.event_model.specs.Phases.{is_malformed, is_multiplexer_request, makes_running}
 use Rattle.event_model.specs.Row.{Row, nothing, send, after, choose, outs, on}
@@ -21,6 +21,7 @@ use Rattle.mux_facts.proofs.Lists.{all_join, all_of}
 use Rattle.group_rows.specs.AskRows.{response_at, response_row}
 use Rattle.group_rows.specs.Cancelling.{cancelling_at, cancelling_row}
 use Rattle.group_rows.specs.Forwarded.{Forwarding}
+use Rattle.group_rows.specs.Tokens.{forwarded_text, work_at, work_row}
 use Rattle.group_rows.specs.Rows.{answer_error, document_at, document_bodies, document_row, forward, notice_at, notice_row, request_at, request_row, served_row, sync_bodies, wrong_code}
 use Rattle.group_rows.specs.Texts.{encoding_of, texts_of}
 use Rattle.group_facts.specs.Why.{asks_something}
@@ -74,7 +75,7 @@ module _ (settings : Settings) (before : List Event) (e : ℕ) (body : List ℕ)
   still_start s bodies = record { same = λ x y h. outs_to_start s bodies x ∙ sym (outs_to_start s bodies y); goes = λ x. subst (AllByRecursion Goes) (sym (outs_to_start s bodies x)) (to_all s bodies) }
 
   still_forward : (s : ℕ) → Still settings (forward s body)
-  still_forward s = record { same = λ x y h. ap (λ (f : Forwarding). ToServer s (with_id_text body (decimal f.next)) ∷ []) (h.forwarding s); goes = λ x. (tt, tt) }
+  still_forward s = record { same = λ x y h. ap (λ (f : Forwarding). ToServer s (forwarded_text f.next body) ∷ []) (h.forwarding s); goes = λ x. (tt, tt) }
 
   -- a refusal of a request
   still_error : (id : Id) (method : List ℕ) (params : Option Json) → message_of body ≡ request id method params → (code : Code) → Still settings (answer_error e body code)
@@ -88,7 +89,7 @@ module _ (settings : Settings) (before : List Event) (e : ℕ) (body : List ℕ)
     request_in g = still_on (λ none. still_error id method params says request_failed) (λ s at. request_there g s)
 
     still_request : Still settings (request_row settings before e body)
-    still_request = still_on (λ none. still_error id method params says request_failed) (λ g at. request_in g)
+    still_request = still_choose (λ reserved. still_error id method params says invalid_params) (λ free. still_on (λ none. still_error id method params says request_failed) (λ g at. request_in g))
 
   notice_there : (g s : ℕ) → Still settings (notice_at settings before e body g s)
   notice_there g s = still_choose (λ ready. still_then (still_start s (sync_bodies settings.limits.versions (λ u. held_at s u before) e (texts_of settings g before).opens)) (still_send tt)) (λ off. still_nothing)
@@ -107,6 +108,15 @@ module _ (settings : Settings) (before : List Event) (e : ℕ) (body : List ℕ)
 
   still_cancel : (params : Option Json) → Still settings (cancelling_row settings before e body params)
   still_cancel params = still_on (λ none. still_nothing) (λ g at. cancel_in params g)
+
+  work_there : (params : Option Json) (s : ℕ) → Still settings (work_at before e body params s)
+  work_there params s = still_choose (λ ready. still_on (λ none. still_nothing) (λ f at. still_send tt)) (λ off. still_nothing)
+
+  work_in : (params : Option Json) (g : ℕ) → Still settings (on (start_of g before) nothing (λ s. work_at before e body params s))
+  work_in params g = still_on (λ none. still_nothing) (λ s at. work_there params s)
+
+  still_work : (params : Option Json) → Still settings (work_row settings before e body params)
+  still_work params = still_on (λ none. still_nothing) (λ g at. work_in params g)
 
   document_there : (what : Saying) (g s : ℕ) → Still settings (document_at settings before e body what g s)
   document_there what g s = still_choose (λ ready. still_start s (document_bodies settings.limits.versions (encoding_of g before) (texts_of settings g before) (λ u. held_at s u before) e body what)) (λ off. still_nothing)
@@ -148,7 +158,7 @@ module _ (settings : Settings) (before : List Event) (e : ℕ) (body : List ℕ)
   still_served (request id method params) says runs = still_choose (λ misplaced. still_error id method params says (wrong_code method invalid_request))
       (λ placed. still_choose (λ shuts. never (sym shuts ∙ unshut (request id method params) runs)) (λ on. still_request id method params says))
   still_served (notification method params) says runs = still_choose (λ ends. never (sym ends ∙ unended (notification method params) runs))
-      (λ on. still_choose (λ going. still_notice) (λ off. still_choose (λ cancels. still_cancel params) (λ other. still_document (saying_by method params))))
+      (λ on. still_choose (λ going. still_notice) (λ off. still_choose (λ cancels. still_cancel params) (λ off. still_choose (λ works. still_work params) (λ other. still_document (saying_by method params)))))
   still_served (result id r) says runs = still_response (result id r)
   still_served (error id x) says runs = still_response (error id x)
   still_served not_json says runs = still_response not_json

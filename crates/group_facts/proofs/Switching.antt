@@ -15,7 +15,7 @@ use Rattle.group_rows.specs.Rows.{sync_bodies}
 use Rattle.group_rows.specs.Texts.{is_synced, texts_of}
 use Rattle.group_facts.specs.Legal.{Legal}
 use Rattle.group_facts.specs.Switches.{AllOnSwitches, IsSwitched, OnSwitches, Switches, SwitchesFrom}
-use Rattle.group_facts.specs.Why.{AllWhy, IsBehindSync, ReasonsFrom, Why, WhyToServer, begins, cancels, exits, forwarded, greets, notes, responds, shuts, tells, resolves}
+use Rattle.group_facts.specs.Why.{AllWhy, IsBehindSync, ReasonsFrom, Why, WhyToServer, begins, cancels, exits, forwarded, greets, notes, responds, shuts, tells, resolves, cancels_work}
 use Rattle.group_facts.proofs.Asides.{answer_aside, spoken_aside, unsynced}
 use Rattle.group_facts.proofs.Everywhere.{reasons_hold}
 
@@ -31,6 +31,7 @@ module _ (settings : Settings) (before : List Event) (cause : Cause) where
   by_reason events s body (tells k) goes = never (sym goes ∙ spoken_aside (message_of body) k.spoken)
   by_reason events s body (shuts k) goes = unsynced body _ k.says refl goes
   by_reason events s body (cancels k) goes = unsynced body _ k.says refl goes
+  by_reason events s body (cancels_work k) goes = unsynced body _ k.says refl goes
   by_reason events s body (responds k) goes = never (sym goes ∙ answer_aside (message_of body) k.response)
   by_reason events s body (resolves k) goes = never (sym goes ∙ answer_aside (message_of body) k.response)
   by_reason events s body (exits k) goes = unsynced body _ k.says refl goes

@@ -47,6 +47,7 @@ use Rattle.group_facts.proofs.Resuming.{run_questions, run_why, stays_there}
 use Rattle.group_facts.proofs.SharedRows.{off_first}
 use Rattle.group_facts.proofs.Still.{still_served}
 use Rattle.group_facts.proofs.TickRow.{tick_why}
+use Rattle.group_facts.proofs.WorkRow.{work_why}
 use Rattle.group_facts.specs.Why.{Why, rejects}
 
 module _ (settings : Settings) (range : InRange settings) (before : List Event) (facts : Facts settings before) (e : ℕ) (body : List ℕ) where
@@ -84,7 +85,9 @@ module _ (settings : Settings) (range : InRange settings) (before : List Event) 
       (λ going. notice_why settings range before (facts.base).opened e body served method params says going)
       (λ off. by_choose
       (λ cancels. cancelling_why settings range before (facts.steady).bounded e body served params (says ∙ ap (λ m. notification m params) (sym ((bytes_eq-Decides (codes "$/cancelRequest") method).0 cancels))))
-      (λ other. document_why settings range before e body (facts.base).opened method params says)))
+      (λ off. by_choose
+      (λ works. work_why settings range before (facts.steady).bounded e body served params (says ∙ ap (λ m. notification m params) (sym ((bytes_eq-Decides (codes "window/workDoneProgress/cancel") method).0 works))))
+      (λ other. document_why settings range before e body (facts.base).opened method params says))))
 
   served_why : (m : Message) → message_of body ≡ m → is_served (desk_of e before).phase ≡ true → is_early (desk_of e before).phase ≡ false → is_there (desk_of e before).phase ≡ true → is_doubled before e m ≡ false → Mine (served_row settings before e body m)
   served_why (request id method params) says served late there single = asked_why id method params says late there (alone_by before (facts.steady).asked e id single)

@@ -13,7 +13,7 @@ use Rattle.json_nodes.specs.Puts.{put_edits}
 use Rattle.rpc_message.specs.Message.{is_integer_value, is_string_value, message_of}
 use Rattle.rpc_message.specs.Changed.{changed_text}
 use Rattle.rpc_message.specs.Parsed.{params_in, result_in}
-use Rattle.doc_text.specs.Changes.{string_text}
+use Rattle.document_model.specs.doc_text.specs.Changes.{string_text}
 use Rattle.document_model.specs.Helds.{HeldText}
 use Rattle.document_model.specs.Notices.{integer_text, new_version}
 use Rattle.document_model.specs.Opens.{Open}
@@ -23,11 +23,11 @@ use Rattle.document_model.proofs.ScalarTrees.{either_way}
 use Rattle.event_model.specs.Event.{Event}
 use Rattle.event_model.specs.Members.{has_version, listed, named_of}
 use Rattle.event_model.specs.Settings.{Settings}
-use Rattle.response_route.specs.Answers.{answer_text, answer_with}
-use Rattle.response_route.specs.Asked.{asked_text, documents_asked, edit_documents}
-use Rattle.response_route.specs.Edits.{Renaming, action_documents, all_edits, change_documents, document_edits, documents_of, in_front, joined, object_documents, renamed, versioned, workspace_documents}
-use Rattle.response_route.specs.Results.{documents_in, value_documents}
-use Rattle.response_route.specs.Versions.{is_held, version_now, version_then}
+use Rattle.group_rows.specs.response_route.specs.Answers.{answer_text, answer_with}
+use Rattle.group_rows.specs.response_route.specs.Asked.{asked_text, documents_asked, edit_documents}
+use Rattle.group_rows.specs.response_route.specs.Edits.{Renaming, action_documents, all_edits, change_documents, document_edits, documents_of, in_front, joined, object_documents, renamed, versioned, workspace_documents}
+use Rattle.group_rows.specs.response_route.specs.Results.{documents_in, value_documents}
+use Rattle.group_rows.specs.response_route.specs.Versions.{is_held, version_now, version_then}
 use Rattle.mux_model.specs.Documents.{held_at}
 use Rattle.mux_facts.proofs.Lists.{all_join}
 use Rattle.group_rows.specs.Answers.{agreed_version, held_version, shared_texts, stamp_at, stamped}

@@ -1,5 +1,5 @@
 -- Legal histories of two editors, worked out by the checker.
-use Rattle.std.proofs.Common.{◌≡◌, true, false, ◌&&◌, List, [], ◌∷◌, ◌++◌, codes, refl, ◌∙◌, ap}
+use Rattle.std.proofs.Common.{◌≡◌, true, false, ◌&&◌, List, [], ◌∷◌, ◌++◌, codes, None, refl, ◌∙◌, ap}
 use Rattle.std.specs.Fmt.{digits}
 use Rattle.std.proofs.lemmas.Bool.{and_parts}
 use Rattle.url.proofs.OnLiterals.{url_on_literals}
@@ -23,6 +23,7 @@ use Rattle.mux_facts.proofs.Keeps.{events_more}
 use Rattle.group_words.specs.Example.{with_groups}
 use Rattle.group_rows.specs.AsksExample.{asked_leaves, two_asked}
 use Rattle.group_rows.specs.LiveExample.{registers}
+use Rattle.group_rows.specs.TokensExample.{marking, progressing, working}
 use Rattle.group_rows.specs.Example.{all_outs, both_ask, closing, switching, two_editors, two_groups}
 use Rattle.group_rows.specs.Forwarded.{forwarding_of}
 use Rattle.group_rows.specs.Rows.{outs_of}
@@ -44,63 +45,63 @@ legal : (settings : Settings) (causes : List Cause) → taken_from settings [] c
 legal settings causes h = legal_from settings [] causes h
 
 both_ask_is_legal : Legal (with_groups 8) (played (with_groups 8) both_ask)
-unfolding computes url_on_literals message_of named no_name_twice is_integer member_bytes with_id_text escape_byte digits own_request own_notification goes_nowhere editor_request editor_notification
+unfolding computes url_on_literals message_of named no_name_twice is_integer member_bytes with_id_text id_edits escape_byte digits own_request own_notification goes_nowhere editor_request editor_notification
 both_ask_is_legal = legal (with_groups 8) both_ask refl
 
 switching_is_legal : Legal (with_groups 8) (played (with_groups 8) switching)
-unfolding computes url_on_literals message_of named no_name_twice is_integer member_bytes with_id_text escape_byte digits own_request own_notification goes_nowhere editor_request editor_notification
+unfolding computes url_on_literals message_of named no_name_twice is_integer member_bytes with_id_text id_edits escape_byte digits own_request own_notification goes_nowhere editor_request editor_notification
 switching_is_legal = legal (with_groups 8) switching refl
 
 closing_is_legal : Legal (with_groups 8) (played (with_groups 8) closing)
-unfolding computes url_on_literals message_of named no_name_twice is_integer member_bytes with_id_text escape_byte digits own_request own_notification goes_nowhere editor_request editor_notification
+unfolding computes url_on_literals message_of named no_name_twice is_integer member_bytes with_id_text id_edits escape_byte digits own_request own_notification goes_nowhere editor_request editor_notification
 closing_is_legal = legal (with_groups 8) closing refl
 
 two_groups_are_legal : Legal (with_groups 8) (played (with_groups 8) two_groups)
-unfolding computes url_on_literals message_of named no_name_twice is_integer member_bytes with_id_text escape_byte digits own_request own_notification goes_nowhere editor_request editor_notification
+unfolding computes url_on_literals message_of named no_name_twice is_integer member_bytes with_id_text id_edits escape_byte digits own_request own_notification goes_nowhere editor_request editor_notification
 two_groups_are_legal = legal (with_groups 8) two_groups refl
 
 one_group_is_legal : Legal (with_groups 1) (played (with_groups 1) one_group)
-unfolding computes url_on_literals message_of named no_name_twice is_integer member_bytes with_id_text escape_byte digits own_request own_notification goes_nowhere editor_request editor_notification
+unfolding computes url_on_literals message_of named no_name_twice is_integer member_bytes with_id_text id_edits escape_byte digits own_request own_notification goes_nowhere editor_request editor_notification
 one_group_is_legal = legal (with_groups 1) one_group refl
 
 one_refused_is_legal : Legal (with_groups 8) (played (with_groups 8) one_refused)
-unfolding computes url_on_literals message_of named no_name_twice is_integer member_bytes with_id_text escape_byte digits own_request own_notification goes_nowhere editor_request editor_notification
+unfolding computes url_on_literals message_of named no_name_twice is_integer member_bytes with_id_text id_edits escape_byte digits own_request own_notification goes_nowhere editor_request editor_notification
 one_refused_is_legal = legal (with_groups 8) one_refused refl
 
 -- Which requests are open
 
 one_waits_is_legal : Legal (with_groups 8) (played (with_groups 8) one_waits)
-unfolding computes url_on_literals message_of named no_name_twice is_integer member_bytes with_id_text escape_byte digits own_request own_notification goes_nowhere editor_request editor_notification
+unfolding computes url_on_literals message_of named no_name_twice is_integer member_bytes with_id_text id_edits escape_byte digits own_request own_notification goes_nowhere editor_request editor_notification
 one_waits_is_legal = legal (with_groups 8) one_waits refl
 
 the_first_waits : open_of 0 (events_of (played (with_groups 8) one_waits)) ≡ integer (codes "0") ∷ []
-unfolding computes url_on_literals message_of named no_name_twice is_integer member_bytes with_id_text escape_byte digits own_request own_notification goes_nowhere editor_request editor_notification
+unfolding computes url_on_literals message_of named no_name_twice is_integer member_bytes with_id_text id_edits escape_byte digits own_request own_notification goes_nowhere editor_request editor_notification
 the_first_waits = refl
 
 two_ask_are_legal : Legal (with_groups 8) (played (with_groups 8) two_ask)
-unfolding computes url_on_literals message_of named no_name_twice is_integer member_bytes with_id_text escape_byte digits own_request own_notification goes_nowhere editor_request editor_notification
+unfolding computes url_on_literals message_of named no_name_twice is_integer member_bytes with_id_text id_edits escape_byte digits own_request own_notification goes_nowhere editor_request editor_notification
 two_ask_are_legal = legal (with_groups 8) two_ask refl
 
 the_second_asks : open_of 1 (events_of (played (with_groups 8) two_ask)) ≡ integer (codes "1") ∷ []
-unfolding computes url_on_literals message_of named no_name_twice is_integer member_bytes with_id_text escape_byte digits own_request own_notification goes_nowhere editor_request editor_notification
+unfolding computes url_on_literals message_of named no_name_twice is_integer member_bytes with_id_text id_edits escape_byte digits own_request own_notification goes_nowhere editor_request editor_notification
 the_second_asks = refl
 
-both_are_sent : (forwarding_of 0 (events_of (played (with_groups 8) two_ask))).open_requests ≡ record { number = 2; editor = 0; id = codes "1"; cancelled = false } ∷ record { number = 3; editor = 1; id = codes "1"; cancelled = false } ∷ []
-unfolding computes url_on_literals message_of named no_name_twice is_integer member_bytes with_id_text escape_byte digits own_request own_notification goes_nowhere editor_request editor_notification
+both_are_sent : (forwarding_of 0 (events_of (played (with_groups 8) two_ask))).open_requests ≡ record { number = 2; editor = 0; id = codes "1"; work = None; partial = None; cancelled = false } ∷ record { number = 3; editor = 1; id = codes "1"; work = None; partial = None; cancelled = false } ∷ []
+unfolding computes url_on_literals message_of named no_name_twice is_integer member_bytes with_id_text id_edits escape_byte digits own_request own_notification goes_nowhere editor_request editor_notification
 both_are_sent = refl
 
 -- A second `initialize`
 
 asking_again_is_legal : Legal (with_groups 8) (played (with_groups 8) asking_again)
-unfolding computes url_on_literals message_of named no_name_twice is_integer member_bytes with_id_text escape_byte digits own_request own_notification goes_nowhere editor_request editor_notification
+unfolding computes url_on_literals message_of named no_name_twice is_integer member_bytes with_id_text id_edits escape_byte digits own_request own_notification goes_nowhere editor_request editor_notification
 asking_again_is_legal = legal (with_groups 8) asking_again refl
 
 it_is_refused : all_outs asking_again ≡ asking_again_outs
-unfolding computes url_on_literals message_of named no_name_twice is_integer member_bytes with_id_text escape_byte digits own_request own_notification goes_nowhere editor_request editor_notification
+unfolding computes url_on_literals message_of named no_name_twice is_integer member_bytes with_id_text id_edits escape_byte digits own_request own_notification goes_nowhere editor_request editor_notification
 it_is_refused = refl
 
 its_first_is_kept : message_of (desk_of 0 (events_of (played (with_groups 8) asking_again))).initialize ≡ message_of (codes "{\"jsonrpc\":\"2.0\",\"id\":0,\"method\":\"initialize\",\"params\":{\"rootUri\":\"file:///w\",\"capabilities\":{}}}")
-unfolding computes url_on_literals message_of named no_name_twice is_integer member_bytes with_id_text escape_byte digits own_request own_notification goes_nowhere editor_request editor_notification
+unfolding computes url_on_literals message_of named no_name_twice is_integer member_bytes with_id_text id_edits escape_byte digits own_request own_notification goes_nowhere editor_request editor_notification
 its_first_is_kept = refl
 
 -- What a start asks
@@ -116,6 +117,14 @@ asked_leaves_is_legal = legal (with_groups 8) (two_editors ++ asked_leaves) refl
 registers_is_legal : Legal (with_groups 8) (played (with_groups 8) (two_editors ++ registers))
 unfolding computes url_on_literals message_of named no_name_twice is_integer member_bytes with_id_text id_edits escape_byte digits own_request own_notification goes_nowhere editor_request editor_notification is_focused is_refresh server_notification server_request chars
 registers_is_legal = legal (with_groups 8) (two_editors ++ registers) refl
+
+marked_are_legal : Legal (with_groups 8) (played (with_groups 8) (two_editors ++ (marking ++ progressing)))
+unfolding computes url_on_literals message_of named no_name_twice is_integer member_bytes with_id_text id_edits escape_byte digits own_request own_notification goes_nowhere editor_request editor_notification is_focused is_refresh server_notification server_request chars
+marked_are_legal = legal (with_groups 8) (two_editors ++ (marking ++ progressing)) refl
+
+work_is_legal : Legal (with_groups 8) (played (with_groups 8) (two_editors ++ (marking ++ working)))
+unfolding computes url_on_literals message_of named no_name_twice is_integer member_bytes with_id_text id_edits escape_byte digits own_request own_notification goes_nowhere editor_request editor_notification is_focused is_refresh server_notification server_request chars
+work_is_legal = legal (with_groups 8) (two_editors ++ (marking ++ working)) refl
 
 a_token_is_not_built : taken_from (with_groups 8) [] (two_editors ++ FromServer 0 (codes "{\"jsonrpc\":\"2.0\",\"id\":7,\"method\":\"window/workDoneProgress/create\"}") ∷ []) ≡ false
 unfolding computes url_on_literals message_of named no_name_twice is_integer member_bytes with_id_text id_edits escape_byte digits own_request own_notification goes_nowhere editor_request editor_notification is_focused is_refresh server_notification server_request chars

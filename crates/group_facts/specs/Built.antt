@@ -1,39 +1,32 @@
 -- Which causes meet only rows of the table over several editors and groups that are built, until all are.
--- Not built of an editor: `lspmux/stop` (E6), and while it is served requests that go on with tokens (E10), and the notification that cancels the work of one (E11).
--- Not built of a start while it is ready: the classes of S8, S13 and S15. Nor the end of a program whose group lives.
+-- Not built of an editor: `lspmux/stop` (E6). Tokens are built of open requests alone, not of what a start creates (S8).
+-- Not built of a start while it is ready: the classes of S8 and S15. Nor the end of a program whose group lives.
 -- Of S2, what is read back must be what was meant: editors are shown all of the result.
-use Rattle.std.specs.Prelude.{ℕ, Bool, true, false, not, ◌&&◌, ◌||◌, List, bytes_eq, codes}
-use Rattle.std.specs.Prelude.{Option, Some}
+use Rattle.std.specs.Prelude.{ℕ, Bool, true, false, not, ◌&&◌, ◌||◌, List, bytes_eq}
+use Rattle.std.specs.Prelude.{Some}
 use Rattle.std.specs.Option.{option_map_or}
 use Rattle.mux_history.specs.declared.cause.Cause.{Cause}
 use Rattle.mux_history.specs.declared.cause.Cause.TheVariants.{Joined, FromEditor, EditorGone, Started, StartFailed, FromServer, ServerGone, Drained, Tick}
 use Rattle.mux_history.specs.declared.entry.Entry.{Entry}
-use Rattle.json_text.specs.Json.{Json}
 use Rattle.lsp_method.specs.Class.{class_of}
 use Rattle.lsp_method.specs.declared.variants.Class.{Class}
-use Rattle.lsp_method.specs.declared.variants.Class.TheVariants.{Broadcast, Cancel, Focused, Folders, Initialize, Lowest, Other, Refresh, Register, Shutdown, Unregister, Wrong}
+use Rattle.lsp_method.specs.declared.variants.Class.TheVariants.{Broadcast, Cancel, Focused, Folders, Initialize, Lowest, Other, Progress, Refresh, Register, Shutdown, Unregister, Wrong}
 use Rattle.lsp_method.specs.declared.variants.Origin.TheVariants.{Editor, Server}
-use Rattle.rpc_message.specs.Message.{Message, request, notification, result, Id, message_of, result_bytes}
+use Rattle.rpc_message.specs.Message.{Id, Message, request, notification, result, message_of, result_bytes}
 use Rattle.event_model.specs.declared.phase.Phase.{Phase}
 use Rattle.event_model.specs.declared.stage.Stage.{Stage}
 use Rattle.event_model.specs.declared.stage.Stage.TheVariants.{Initializing, Ready, Stopping, Ending}
 use Rattle.event_model.specs.Event.{Event, events_of}
-use Rattle.event_model.specs.Members.{has_token}
-use Rattle.event_model.specs.Phases.{desk_of, is_begun, is_malformed, is_served}
-use Rattle.event_model.specs.Requests.{is_open, open_of}
+use Rattle.event_model.specs.Phases.{is_begun, is_malformed}
+use Rattle.event_model.specs.Requests.{is_open}
 use Rattle.event_model.specs.Settings.{Settings}
 use Rattle.event_model.specs.Spawns.{group_of}
 use Rattle.event_model.specs.Stages.{life_of, is_first_result}
-use Rattle.mux_model.specs.Built.{is_other}
 use Rattle.group_words.specs.Houses.{groups_of}
 use Rattle.group_words.specs.Rows.{shown_of}
 use Rattle.group_rows.specs.Asks.{asking_of, is_taken}
 use Rattle.group_rows.specs.Rows.{names_lspmux}
 use Rattle.group_facts.specs.Lively.{lives_at}
-
--- E10: the request is of class Other
-abbrev pub is_plain : List ℕ → Bool
-is_plain method = is_other (class_of method Editor false)
 
 -- a method of the standard, not of the multiplexer
 abbrev pub is_standard : Class → Bool
@@ -43,30 +36,17 @@ is_standard Wrong = true
 is_standard Other = true
 is_standard _ = false
 
--- it goes on, and has a token
-abbrev pub is_marked : List ℕ → Option Json → Bool
-is_marked method params = is_plain method && has_token params
-
 -- E3: a request of the editor under this id is open
 abbrev pub doubles : Phase → Id → List Id → Bool
 doubles phase id ids = is_begun phase && is_open id ids
 
--- E3 to E5, E7, E8 and J2, and behind the answer to `initialize` E9 and E10
-abbrev pub built_request : Phase → Bool → List ℕ → Option Json → Bool
-built_request phase doubled method params = names_lspmux method || (is_standard (class_of method Editor false) && (doubled || not (is_served phase && is_marked method params)))
+-- E3 to E5, E7 to E10 and J2
+abbrev pub built_request : List ℕ → Bool
+built_request method = names_lspmux method || is_standard (class_of method Editor false)
 
--- E11: the work of a token is to be cancelled (LSP 3.17, Work Done Progress)
-abbrev pub cancels_work : List ℕ → Bool
-cancels_work method = bytes_eq (codes "window/workDoneProgress/cancel") method
-
--- all but that
-abbrev pub built_notice : Phase → List ℕ → Bool
-built_notice phase method = not (is_served phase && cancels_work method)
-
-abbrev pub built_from_editor : Phase → List Id → Message → Bool
-built_from_editor phase ids (request id method params) = built_request phase (doubles phase id ids) method params
-built_from_editor phase ids (notification method params) = built_notice phase method
-built_from_editor phase ids other = true
+abbrev pub built_from_editor : Message → Bool
+built_from_editor (request id method params) = built_request method
+built_from_editor other = true
 
 -- S2: editors are shown all of the result
 abbrev pub is_shown_whole : List ℕ → Bool
@@ -87,9 +67,10 @@ built_asking Register = true
 built_asking Unregister = true
 built_asking _ = false
 
--- S14, and what goes to each editor
+-- S13, S14, and what goes to each editor
 abbrev pub built_telling : Class → Bool
 built_telling Cancel = true
+built_telling Progress = true
 built_telling Broadcast = true
 built_telling _ = false
 
@@ -114,7 +95,7 @@ is_left settings before s = not (option_map_or (λ g. lives_at g (groups_of sett
 abbrev pub built_behind : Settings → List Event → Cause → Bool
 built_behind settings before (Joined e) = true
 built_behind settings before (Started s) = true
-built_behind settings before (FromEditor e body) = built_from_editor (desk_of e before).phase (open_of e before) (message_of body)
+built_behind settings before (FromEditor e body) = built_from_editor (message_of body)
 built_behind settings before (EditorGone e why) = true
 built_behind settings before (FromServer s body) = built_from_server settings before s (life_of s before).stage body (message_of body)
 built_behind settings before (Drained e k) = true

@@ -9,3 +9,9 @@ pub mod OwnVersions
 pub mod Settled
 pub mod Switches
 pub mod Why
+pub use Rattle.document_model
+pub use Rattle.group_rows
+pub use Rattle.mux_facts
+pub use Rattle.group_rows.specs.mux_members
+pub use Rattle.mux_model
+pub use Rattle.group_rows.specs.registrations

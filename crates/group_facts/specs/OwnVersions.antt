@@ -14,9 +14,9 @@ use Rattle.mux_history.specs.declared.out.Out.{Out}
 use Rattle.mux_history.specs.declared.out.Out.TheVariants.{ToEditor, ToServer}
 use Rattle.rpc_message.specs.Changed.{changed_text}
 use Rattle.rpc_message.specs.Message.{Message, Id, id_bytes, integer, message_of, request}
-use Rattle.rpc_message.specs.Texts.{content_modified, error_text, with_id_text}
+use Rattle.rpc_message.specs.Texts.{content_modified, error_text}
 use Rattle.rpc_message.specs.ValueTexts.{IsIdText}
-use Rattle.doc_text.specs.Changes.{string_text}
+use Rattle.document_model.specs.doc_text.specs.Changes.{string_text}
 use Rattle.document_model.specs.Helds.{HeldText}
 use Rattle.document_model.specs.Notices.{integer_text, new_version}
 use Rattle.document_model.specs.Opens.{Open}
@@ -27,16 +27,17 @@ use Rattle.event_model.specs.Event.{Event, behind, events_of, said, with_cause}
 use Rattle.event_model.specs.Requests.{answered_id, is_open, is_own, open_of}
 use Rattle.event_model.specs.Settings.{Settings}
 use Rattle.event_model.specs.Stages.{life_of}
-use Rattle.response_route.specs.Asked.{documents_asked}
-use Rattle.response_route.specs.Results.{documents_in}
+use Rattle.group_rows.specs.response_route.specs.Asked.{documents_asked}
+use Rattle.group_rows.specs.response_route.specs.Results.{documents_in}
 use Rattle.mux_facts.specs.Allowed.{is_response}
 use Rattle.mux_model.specs.Documents.{held_at}
 use Rattle.group_rows.specs.Answers.{shared_texts}
 use Rattle.group_rows.specs.AskRows.{is_edit}
 use Rattle.group_rows.specs.Forwarded.{Forwarded, answered_by, forwarding_of}
+use Rattle.group_rows.specs.Tokens.{forwarded_text}
 use Rattle.group_facts.specs.OwnTexts.{HasOwn}
 
--- At this moment, in the entry of a message of e with these bytes as its id, start s was sent that message as its request n, and all else in it as e gave it.
+-- At this moment, in the entry of a message of e with these bytes as its id, start s was sent that message as its request n, with the daemon's tokens, and all else in it as e gave it.
 pub record IsSentOn (s : ℕ) (events : List Event) (n e : ℕ) (id : List ℕ) : Type 0 where
   pub asked : List ℕ
   pub own_id : id_bytes asked ≡ id
@@ -45,7 +46,7 @@ pub record IsSentOn (s : ℕ) (events : List Event) (n e : ℕ) (id : List ℕ) 
   pub moment : List Event
   pub entry : moment ≡ behind (with_cause before (FromEditor e asked)) outs
   pub body : List ℕ
-  pub bytes : body ≡ with_id_text asked (decimal n)
+  pub bytes : body ≡ forwarded_text n asked
   pub method : List ℕ
   pub params : Option Json
   pub says : message_of body ≡ request (integer (decimal n)) method params

@@ -9,7 +9,7 @@ use Rattle.mux_history.specs.declared.cause.Cause.{Cause}
 use Rattle.mux_history.specs.declared.cause.Cause.TheVariants.{Started, FromServer, FromEditor}
 use Rattle.lsp_method.specs.Class.{class_of}
 use Rattle.lsp_method.specs.declared.variants.Class.{Class}
-use Rattle.lsp_method.specs.declared.variants.Class.TheVariants.{Broadcast, Cancel, Focused, Folders, Refresh, Register, Unregister}
+use Rattle.lsp_method.specs.declared.variants.Class.TheVariants.{Broadcast, Cancel, Focused, Folders, Progress, Refresh, Register, Unregister}
 use Rattle.lsp_method.specs.declared.variants.Origin.TheVariants.{Editor, Server}
 use Rattle.mux_history.specs.declared.entry.Entry.{Entry}
 use Rattle.mux_history.specs.declared.out.Out.{Out}
@@ -28,14 +28,14 @@ use Rattle.event_model.specs.Requests.{next_number, answered_id, open_of, is_ope
 use Rattle.event_model.specs.Settings.{Settings}
 use Rattle.event_model.specs.Spawns.{group_of, start_of, starts_of}
 use Rattle.event_model.specs.Stages.{is_first_result, is_initializing, is_ready, is_spawning, life_of}
-use Rattle.response_route.specs.Answers.{answer_text}
-use Rattle.response_route.specs.Asked.{asked_text, not_applied}
+use Rattle.group_rows.specs.response_route.specs.Answers.{answer_text}
+use Rattle.group_rows.specs.response_route.specs.Asked.{asked_text, not_applied}
 use Rattle.mux_facts.specs.Allowed.{AllowsSaying, is_response}
 use Rattle.mux_model.specs.Documents.{held_at}
 use Rattle.mux_model.specs.Methods.{goes_on}
 use Rattle.document_model.specs.Helds.{HeldText}
-use Rattle.registrations.specs.declared.registration.Registration.{Registration}
-use Rattle.registrations.specs.Items.{again, registered}
+use Rattle.group_rows.specs.registrations.specs.declared.registration.Registration.{Registration}
+use Rattle.group_rows.specs.registrations.specs.Items.{again, registered}
 use Rattle.group_words.specs.declared.kept.Kept.{Kept}
 use Rattle.group_words.specs.Houses.{groups_of, home_of}
 use Rattle.group_words.specs.Rows.{folders_text}
@@ -49,6 +49,7 @@ use Rattle.group_rows.specs.Leaves.{cancel_text}
 use Rattle.group_rows.specs.Live.{is_registering, live_of, register_text, taken_back, unregister_text}
 use Rattle.group_rows.specs.Rows.{sync_bodies}
 use Rattle.group_rows.specs.Texts.{texts_of}
+use Rattle.group_rows.specs.Tokens.{forwarded_text, is_told, is_worked, listens, mark_text, marked_text, own_token, work_mark}
 use Rattle.group_facts.specs.Built.{is_left}
 use Rattle.group_facts.specs.Facts.{IsAlone, IsWaiting, asked_by, asked_of, ends_link, is_early, leaves, turned_away}
 use Rattle.group_facts.specs.Lively.{IsDying}
@@ -117,7 +118,7 @@ pub record IsForward (settings : Settings) (before : List Event) (cause : Cause)
   pub asked : List ℕ
   pub from : cause ≡ FromEditor sender.editor asked
   pub synced : IsBehindSync settings before events s sender.editor asked
-  pub bytes : body ≡ with_id_text asked (decimal (forwarding_of s events).next)
+  pub bytes : body ≡ forwarded_text (forwarding_of s events).next asked
   pub id : Id
   pub method : List ℕ
   pub params : Option Json
@@ -196,6 +197,22 @@ pub record IsCancel (before : List Event) (cause : Cause) (events : List Event) 
   pub text : CancelText before cause s number body
   pub says : message_of body ≡ notification (codes "$/cancelRequest") (Some params)
 
+-- an editor that is served cancels the work of an open request of its own, which it names by its token: its message goes on with the daemon's token to s, which is ready (LSP 3.17, Work Done Progress)
+pub record IsWorkCancel (before : List Event) (cause : Cause) (events : List Event) (s : ℕ) (body : List ℕ) : Type 0 where
+  pub editor : ℕ
+  pub asked : List ℕ
+  pub given : Option Json
+  pub request : Forwarded
+  pub params : Option Json
+  pub from : cause ≡ FromEditor editor asked
+  pub served : is_served (desk_of editor before).phase ≡ true
+  pub notified : message_of asked ≡ notification (codes "window/workDoneProgress/cancel") given
+  pub meant : find (is_worked editor (named_of (codes "token") given)) (forwarding_of s before).open_requests ≡ Some request
+  pub ready : (life_of s events).stage ≡ Ready
+  pub stays : moves before cause s ≡ false
+  pub bytes : body ≡ marked_text (mark_text (work_mark request.number)) asked
+  pub says : message_of body ≡ notification (codes "window/workDoneProgress/cancel") params
+
 -- a request of s, which gave no result yet, is answered at once
 pub record IsReply (before : List Event) (cause : Cause) (events : List Event) (s : ℕ) (body : List ℕ) : Type 0 where
   pub id : Id
@@ -246,6 +263,7 @@ pub data WhyToServer (settings : Settings) (before : List Event) (cause : Cause)
   tells : IsTelling before cause events s body → WhyToServer settings before cause events s body
   shuts : IsShutting settings before cause events s body → WhyToServer settings before cause events s body
   cancels : IsCancel before cause events s body → WhyToServer settings before cause events s body
+  cancels_work : IsWorkCancel before cause events s body → WhyToServer settings before cause events s body
   responds : IsReply before cause events s body → WhyToServer settings before cause events s body
   resolves : IsResolving settings before cause events s body → WhyToServer settings before cause events s body
   exits : IsExit before cause events s body → WhyToServer settings before cause events s body
@@ -454,6 +472,26 @@ pub record IsRecall (settings : Settings) (before : List Event) (cause : Cause) 
   pub id : id_of value ≡ Some (integer (decimal ask.number))
   pub says : message_of body ≡ notification (codes "$/cancelRequest") (Some params)
 
+-- what the start tells of an open request of the editor, which runs or is down, with the editor's own token (S13)
+pub record IsProgress (before : List Event) (cause : Cause) (events : List Event) (e : ℕ) (body : List ℕ) : Type 0 where
+  pub start : ℕ
+  pub asked : List ℕ
+  pub method : List ℕ
+  pub given : Option Json
+  pub request : Forwarded
+  pub token : List ℕ
+  pub params : Option Json
+  pub from : cause ≡ FromServer start asked
+  pub ready : (life_of start before).stage ≡ Ready
+  pub asks : message_of asked ≡ notification method given
+  pub class : class_of method Server true ≡ Progress
+  pub found : find (is_told before (named_of (codes "token") given)) (forwarding_of start before).open_requests ≡ Some request
+  pub own : own_token (named_of (codes "token") given) request ≡ Some token
+  pub editor : request.editor ≡ e
+  pub hears : listens (desk_of e events).phase ≡ true
+  pub bytes : body ≡ marked_text token asked
+  pub says : message_of body ≡ notification method params
+
 pub data WhyToEditor (settings : Settings) (before : List Event) (cause : Cause) (events : List Event) (e : ℕ) (body : List ℕ) : Type 0 where
   rejects : IsRejection before cause events e body → WhyToEditor settings before cause events e body
   refuses : IsRefusal events e body → WhyToEditor settings before cause events e body
@@ -466,6 +504,7 @@ pub data WhyToEditor (settings : Settings) (before : List Event) (cause : Cause)
   registers : IsRegistering settings before cause events e body → WhyToEditor settings before cause events e body
   spreads : IsSpread settings before cause events e body → WhyToEditor settings before cause events e body
   recalls : IsRecall settings before cause events e body → WhyToEditor settings before cause events e body
+  progresses : IsProgress before cause events e body → WhyToEditor settings before cause events e body
 
 -- its program is to begin, or gave no result yet
 abbrev pub is_starting : Stage → Bool

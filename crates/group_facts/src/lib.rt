@@ -3,4 +3,5 @@
 
 mod laws;
 
+pub use group_rows::{mux_members, registrations};
 pub use laws::{every_history, every_out, every_settled, own_moments, own_versions, switches};

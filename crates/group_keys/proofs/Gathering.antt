@@ -3,7 +3,7 @@ use Rattle.std.proofs.Common.{◌≡◌, ℕ, zero, suc, ◌<◌, IsUtf8, slice_
 use Rattle.std.specs.Prelude.{Option, Some, None, MatchOption, codes, encode_utf8_all, option_map}
 use Rattle.std.specs.Option.{option_and_then}
 use Rattle.doc_text.specs.Changes.{string_text}
-use Rattle.document_model.specs.Sayings.{string_at}
+use Rattle.mux_members.specs.document_model.specs.Sayings.{string_at}
 use Rattle.json_text.specs.Json.{Json, word, number, string, array, object}
 use Rattle.json_text.specs.Named.{named_in}
 use Rattle.json_nodes.specs.At.{At, Found}

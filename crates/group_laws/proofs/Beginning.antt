@@ -6,7 +6,7 @@ use Rattle.std.specs.Option.{option_map_or}
 use Rattle.mux_history.specs.declared.cause.Cause.TheVariants.{FromServer}
 use Rattle.mux_history.specs.declared.out.Out.{Out}
 use Rattle.mux_history.specs.declared.out.Out.TheVariants.{ToEditor, ToServer}
-use Rattle.rpc_message.specs.Message.{message_of}
+use Rattle.document_model.specs.rpc_message.specs.Message.{message_of}
 use Rattle.position_codec.specs.declared.Encoding.{Encoding}
 use Rattle.document_model.specs.Helds.{HeldText}
 use Rattle.document_model.specs.Bodies.{open_text}
@@ -25,8 +25,8 @@ use Rattle.event_model.proofs.Frames.{one_more}
 use Rattle.event_model.proofs.Turns.{behind_more}
 use Rattle.focus_switch.specs.Documents.{Documents}
 use Rattle.focus_switch.specs.Rows.{ready_row}
-use Rattle.mux_model.specs.Documents.{Sent, encoding_by, held_at, sent_behind, sent_of}
-use Rattle.mux_model.proofs.DocumentFolds.{sent_encoding}
+use Rattle.group_rows.specs.mux_model.specs.Documents.{Sent, encoding_by, held_at, sent_behind, sent_of}
+use Rattle.group_rows.specs.mux_model.proofs.DocumentFolds.{sent_encoding}
 use Rattle.group_rows.specs.Texts.{encoding_of, is_synced, texts_of}
 use Rattle.group_rows.specs.Rows as rows
 use Rattle.group_rows.proofs.Frames.{encoding_more, encoding_stays, texts_stay}

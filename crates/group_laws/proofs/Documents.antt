@@ -5,7 +5,7 @@ use Rattle.json_text.specs.Tree.{tree_of}
 use Rattle.mux_history.specs.declared.cause.Cause.TheVariants.{FromEditor}
 use Rattle.mux_history.specs.declared.out.Out.TheVariants.{ToServer}
 use Rattle.position_codec.specs.declared.Encoding.{Encoding}
-use Rattle.rpc_message.specs.Message.{message_in, message_of, notification}
+use Rattle.document_model.specs.rpc_message.specs.Message.{message_in, message_of, notification}
 use Rattle.document_model.specs.Helds.{HeldText}
 use Rattle.document_model.specs.Opens.{Open, holder_beside}
 use Rattle.document_model.specs.Orderly.{IsSpelt, AllSpelt, Orderly}
@@ -27,9 +27,9 @@ use Rattle.event_model.specs.Stages.{life_of, is_ready}
 use Rattle.focus_switch.specs.Documents.{Documents}
 use Rattle.focus_switch.specs.Rows.{Step, change_row, close_row, open_row}
 use Rattle.focus_switch.specs.Rows as focus
-use Rattle.mux_model.specs.Documents.{held_at}
-use Rattle.mux_model.proofs.DocumentFolds.{outs_to_start}
-use Rattle.group_words.specs.Houses.{home_of, is_home}
+use Rattle.group_rows.specs.mux_model.specs.Documents.{held_at}
+use Rattle.group_rows.specs.mux_model.proofs.DocumentFolds.{outs_to_start}
+use Rattle.group_rows.specs.group_words.specs.Houses.{home_of, is_home}
 use Rattle.group_rows.specs.Rows as rows
 use Rattle.group_laws.specs.Stands.{HeldStands, TextsStand}
 use Rattle.group_laws.specs.Steps.{changed_by, document_step}

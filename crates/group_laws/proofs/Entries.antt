@@ -6,7 +6,7 @@ use Rattle.json_text.specs.Json.{Json}
 use Rattle.mux_history.specs.declared.cause.Cause.TheVariants.{FromEditor}
 use Rattle.mux_history.specs.declared.out.Out.{Out}
 use Rattle.mux_history.specs.declared.out.Out.TheVariants.{ToServer}
-use Rattle.rpc_message.specs.Message.{message_of, notification}
+use Rattle.document_model.specs.rpc_message.specs.Message.{message_of, notification}
 use Rattle.position_codec.specs.declared.Encoding.{Encoding}
 use Rattle.document_model.specs.Helds.{HeldText, told}
 use Rattle.document_model.specs.Opens.{holder}
@@ -25,11 +25,11 @@ use Rattle.event_model.specs.Settings.{Settings}
 use Rattle.event_model.proofs.Turns.{behind_more}
 use Rattle.focus_switch.specs.Documents.{Documents, version_held}
 use Rattle.focus_switch.specs.Rows.{Step}
-use Rattle.mux_model.specs.Documents as starts
-use Rattle.mux_model.specs.Documents.{Sent, held_at, sent_behind, sent_of}
-use Rattle.mux_model.proofs.DocumentFolds.{sent_encoding}
+use Rattle.group_rows.specs.mux_model.specs.Documents as starts
+use Rattle.group_rows.specs.mux_model.specs.Documents.{Sent, held_at, sent_behind, sent_of}
+use Rattle.group_rows.specs.mux_model.proofs.DocumentFolds.{sent_encoding}
 use Rattle.event_model.proofs.Frames.{one_more}
-use Rattle.group_words.specs.Houses.{home_of, is_home}
+use Rattle.group_rows.specs.group_words.specs.Houses.{home_of, is_home}
 use Rattle.group_rows.specs.Texts.{encoding_of, is_aside, is_synced, texts_of}
 use Rattle.group_rows.proofs.Frames.{encoding_stays, texts_more, texts_stay}
 use Rattle.group_laws.specs.Stands.{HeldStands, TextsStand}

@@ -17,12 +17,12 @@ use Rattle.document_model.proofs.Orders.{IsFound, all_found, orderly_behind}
 use Rattle.document_model.proofs.Spelt.{drop_spelt, latest_spelt}
 use Rattle.document_model.proofs.Spoken.{AllSpeak, sent_close_speaks}
 use Rattle.focus_switch.specs.Documents.{Documents, version_held}
-use Rattle.document_table.specs.Rows.{uris_of}
+use Rattle.focus_switch.specs.document_table.specs.Rows.{uris_of}
 use Rattle.focus_switch.specs.Rows.{Step, nothing, send, forget, or_nothing, close_sends, close_row, close_next, leave_row}
 use Rattle.document_laws.specs.Follows.{Held, Matches, texts_in, told_outs}
 use Rattle.document_laws.proofs.Following.{close_held, close_none, close_outs, close_silent, close_stays, close_texts}
 use Rattle.document_laws.proofs.Sends.{Stays, other_way, send_version_other}
-use Rattle.mux_model.specs.Documents.{without_editor}
+use Rattle.group_rows.specs.mux_model.specs.Documents.{without_editor}
 use Rattle.document_model.specs.Rows.{sent_close}
 use Rattle.group_rows.specs.Leaves as departures
 use Rattle.group_laws.proofs.Syncing.{apart, map_append}

@@ -6,7 +6,7 @@ use Rattle.mux_history.specs.declared.cause.Cause.TheVariants.{FromEditor, Edito
 use Rattle.mux_history.specs.declared.out.Out.{Out}
 use Rattle.mux_history.specs.declared.out.Out.TheVariants.{ToEditor, ToServer, CloseEditor}
 use Rattle.mux_history.specs.declared.cause.Why.{Why}
-use Rattle.rpc_message.specs.Message.{message_of}
+use Rattle.document_model.specs.rpc_message.specs.Message.{message_of}
 use Rattle.position_codec.specs.declared.Encoding.{Encoding}
 use Rattle.document_model.specs.Helds.{HeldText, told}
 use Rattle.document_model.specs.Sayings.{nothing, saying_of}
@@ -20,10 +20,10 @@ use Rattle.event_model.proofs.Frames.{one_more}
 use Rattle.event_model.proofs.Turns.{behind_more}
 use Rattle.focus_switch.specs.Documents.{Documents}
 use Rattle.focus_switch.specs.Rows.{leave_row}
-use Rattle.mux_model.specs.Documents as starts
-use Rattle.mux_model.specs.Documents.{Sent, held_at, sent_behind, sent_of, without_editor}
-use Rattle.mux_model.proofs.DocumentFolds.{sent_encoding}
-use Rattle.group_words.specs.Houses.{home_of, is_home}
+use Rattle.group_rows.specs.mux_model.specs.Documents as starts
+use Rattle.group_rows.specs.mux_model.specs.Documents.{Sent, held_at, sent_behind, sent_of, without_editor}
+use Rattle.group_rows.specs.mux_model.proofs.DocumentFolds.{sent_encoding}
+use Rattle.group_rows.specs.group_words.specs.Houses.{home_of, is_home}
 use Rattle.group_rows.specs.Leaves as departures
 use Rattle.group_rows.specs.Texts.{encoding_of, is_synced, texts_of}
 use Rattle.group_rows.proofs.Frames.{encoding_stays, texts_more, texts_stay}

@@ -4,7 +4,7 @@ use Rattle.std.specs.Prelude.{Option, Some, None}
 use Rattle.mux_history.specs.declared.cause.Cause.TheVariants.{FromEditor, FromServer}
 use Rattle.mux_history.specs.declared.out.Out.{Out}
 use Rattle.mux_history.specs.declared.out.Out.TheVariants.{ToEditor, ToServer}
-use Rattle.rpc_message.specs.Message.{message_of}
+use Rattle.document_model.specs.rpc_message.specs.Message.{message_of}
 use Rattle.position_codec.specs.declared.Encoding.{Encoding}
 use Rattle.document_model.specs.Helds.{HeldText}
 use Rattle.event_model.specs.Event.{Event, behind, heard, said, with_cause}
@@ -12,9 +12,9 @@ use Rattle.event_model.specs.Settings.{Settings}
 use Rattle.event_model.specs.Spawns.{group_behind, group_of}
 use Rattle.event_model.proofs.Frames.{one_more}
 use Rattle.focus_switch.specs.Documents.{Documents}
-use Rattle.mux_model.specs.Documents.{Sent, held_at, sent_behind, sent_of}
-use Rattle.mux_model.proofs.DocumentFolds.{sent_encoding}
-use Rattle.group_words.specs.Houses.{home_of, is_home}
+use Rattle.group_rows.specs.mux_model.specs.Documents.{Sent, held_at, sent_behind, sent_of}
+use Rattle.group_rows.specs.mux_model.proofs.DocumentFolds.{sent_encoding}
+use Rattle.group_rows.specs.group_words.specs.Houses.{home_of, is_home}
 use Rattle.group_rows.specs.Texts.{encoding_of, texts_of}
 use Rattle.group_rows.proofs.Frames.{encoding_more, encoding_stays, texts_apart, texts_more, texts_stay}
 use Rattle.group_laws.specs.Stands.{HeldStands, TextsStand}

@@ -2,7 +2,7 @@
 use Rattle.std.proofs.Common.{◌≡◌, ℕ, ◌<◌, ◌^◌, Bool, true, false, ◌&&◌, List, find, codes, refl, sym, ◌∙◌, ap, ap₂, subst, if◌then◌else◌}
 use Rattle.std.specs.Prelude.{Option, Some, None}
 use Rattle.mux_history.specs.declared.cause.Cause.TheVariants.{FromEditor}
-use Rattle.rpc_message.specs.Message.{message_of}
+use Rattle.document_model.specs.rpc_message.specs.Message.{message_of}
 use Rattle.position_codec.specs.declared.Encoding.{Encoding}
 use Rattle.document_model.specs.Helds.{HeldText}
 use Rattle.document_model.specs.Opens.{Open, holder, is_open_at}
@@ -17,8 +17,8 @@ use Rattle.event_model.specs.Settings.{Settings}
 use Rattle.event_model.proofs.Frames.{never}
 use Rattle.focus_switch.specs.Documents.{Documents, version_held}
 use Rattle.focus_switch.specs.Rows.{sync_row}
-use Rattle.mux_model.specs.Documents.{Sent, held_at}
-use Rattle.group_words.specs.Houses.{home_of, is_home}
+use Rattle.group_rows.specs.mux_model.specs.Documents.{Sent, held_at}
+use Rattle.group_rows.specs.group_words.specs.Houses.{home_of, is_home}
 use Rattle.group_rows.specs.Rows as rows
 use Rattle.group_rows.specs.Texts.{encoding_of, texts_heard, texts_of}
 use Rattle.group_rows.proofs.Frames.{texts_more}

@@ -12,7 +12,7 @@ use Rattle.document_model.proofs.Orders.{IsFound, all_found}
 use Rattle.document_model.proofs.Spelt.{all_find}
 use Rattle.focus_switch.specs.declared.telling.Telling.{Telling}
 use Rattle.focus_switch.specs.Documents.{Documents, version_held}
-use Rattle.document_table.specs.Rows.{touched_at}
+use Rattle.focus_switch.specs.document_table.specs.Rows.{touched_at}
 use Rattle.focus_switch.specs.Rows.{Step, nothing, send, each, synced, switch, sync_sends, sync_row}
 use Rattle.document_laws.specs.Follows.{Held, Matches, told_outs}
 use Rattle.document_laws.proofs.Sends.{Kept, bodies_of, by_match, other_way, send_keeps, send_version, send_version_other, told_bodies, told_sent, version_behind}

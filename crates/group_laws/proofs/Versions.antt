@@ -13,7 +13,7 @@ use Rattle.document_laws.proofs.Owning.{found_there, own_is}
 use Rattle.event_model.specs.Event.{Event}
 use Rattle.event_model.specs.Settings.{Settings}
 use Rattle.event_model.specs.Spawns.{group_of}
-use Rattle.mux_model.specs.Documents.{held_at}
+use Rattle.group_rows.specs.mux_model.specs.Documents.{held_at}
 use Rattle.group_rows.specs.Answers.{agreed_version, held_version, shared_texts, stamp_at, stamped}
 use Rattle.group_rows.specs.Texts.{texts_of}
 use Rattle.group_laws.specs.Stands.{HeldStands, TextsStand}

@@ -7,8 +7,8 @@ use Rattle.document_laws.specs.Follows.{Held, texts_in}
 use Rattle.event_model.specs.Event.{Event}
 use Rattle.event_model.specs.Settings.{Settings}
 use Rattle.focus_switch.specs.Documents.{Documents}
-use Rattle.mux_model.specs.Documents as starts
-use Rattle.mux_model.specs.Documents.{held_at}
+use Rattle.group_rows.specs.mux_model.specs.Documents as starts
+use Rattle.group_rows.specs.mux_model.specs.Documents.{held_at}
 use Rattle.group_rows.specs.Texts.{encoding_of, texts_of}
 
 -- what its editors have open, and how positions count

@@ -14,14 +14,14 @@ use Rattle.json_text.proofs.Depths.{named_below}
 use Rattle.json_text.proofs.Laws.{tree_complete, tree_sound}
 use Rattle.json_text.proofs.Moves.{placed}
 use Rattle.json_text.proofs.Put.{members_depth_bare}
-use Rattle.json_nodes.specs.Puts.{member_edits, new_or, put_members}
-use Rattle.json_nodes.proofs.PutBare.{flat_members}
+use Rattle.response_route.specs.json_nodes.specs.Puts.{member_edits, new_or, put_members}
+use Rattle.response_route.specs.json_nodes.proofs.PutBare.{flat_members}
 use Rattle.rpc_message.specs.Message.{Id, given, id_of, message_of, notification}
 use Rattle.rpc_message.specs.ValueTexts.{IsIdText, IsOptionText}
 use Rattle.rpc_message.proofs.Decimals.{decimal_number}
 use Rattle.rpc_message.proofs.Ids.{id_flat}
 use Rattle.rpc_message.proofs.PutLaws.{notification_puts}
-use Rattle.document_model.proofs.Bares.{Notice, notice}
+use Rattle.response_route.specs.document_model.proofs.Bares.{Notice, notice}
 use Rattle.event_model.specs.Members.{named_of}
 use Rattle.group_rows.specs.Cancelling.{id_meant, id_puts, named_id, new_id, numbered_text}
 

@@ -5,7 +5,7 @@ use Rattle.mux_history.specs.declared.cause.Cause.TheVariants.{FromEditor, Edito
 use Rattle.mux_history.specs.declared.out.Out.TheVariants.{ToServer, CloseEditor}
 use Rattle.rpc_message.specs.Message.{Message}
 use Rattle.position_codec.specs.declared.Encoding.{Encoding}
-use Rattle.document_model.specs.Texts.{Texts, no_texts}
+use Rattle.response_route.specs.document_model.specs.Texts.{Texts, no_texts}
 use Rattle.event_model.specs.Event.{Event, took, did}
 use Rattle.event_model.specs.Settings.{Settings}
 use Rattle.event_model.specs.Spawns.{group_of}

@@ -6,10 +6,10 @@ use Rattle.json_text.specs.Json.{Json}
 use Rattle.lsp_method.specs.Class.{class_of, editor_notification, own_notification}
 use Rattle.lsp_method.specs.declared.variants.Origin.TheVariants.{Editor}
 use Rattle.rpc_message.specs.Message.{notification}
-use Rattle.document_model.specs.Sayings.{saying_by}
-use Rattle.document_model.specs.Sayings as saying
+use Rattle.response_route.specs.document_model.specs.Sayings.{saying_by}
+use Rattle.response_route.specs.document_model.specs.Sayings as saying
 use Rattle.event_model.proofs.Frames.{never}
-use Rattle.mux_model.specs.Methods.{goes_on}
+use Rattle.registrations.specs.mux_model.specs.Methods.{goes_on}
 use Rattle.group_rows.specs.Texts.{is_synced}
 
 abbrev pub Going : List ℕ → Type 0

@@ -8,9 +8,9 @@ use Rattle.json_text.specs.Named.{named, named_in, or_else, if_named}
 use Rattle.json_text.specs.Tree.{tree_of}
 use Rattle.json_text.proofs.Laws.{tree_sound}
 use Rattle.rpc_message.specs.Message.{Id, Message, request, result, error, not_json, not_message, notification, message_in, message_of, by_method, called, request_if, notification_if, given, is_null, is_integer, are_params, id_of, no_name_twice, is_two, answered, response_with, response_id, error_if}
-use Rattle.document_model.specs.Notices.{integer_text}
-use Rattle.document_model.specs.Sayings.{Saying, opens, changes, closes, misshapen, nothing, member_of, string_at, integer_at, opening, changing, closing, saying_by, saying_of}
-use Rattle.document_model.proofs.ScalarTrees.{either_way, MayHold}
+use Rattle.response_route.specs.document_model.specs.Notices.{integer_text}
+use Rattle.response_route.specs.document_model.specs.Sayings.{Saying, opens, changes, closes, misshapen, nothing, member_of, string_at, integer_at, opening, changing, closing, saying_by, saying_of}
+use Rattle.response_route.specs.document_model.proofs.ScalarTrees.{either_way, MayHold}
 
 abbrev mutual
   pub AllNumbers : Json → Type 0

@@ -14,3 +14,5 @@ pub mod Versions
 pub mod WorkedAsks
 pub mod WorkedLive
 pub mod LiveTexts
+pub mod TokenTexts
+pub mod WorkedTokens

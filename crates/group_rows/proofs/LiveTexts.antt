@@ -14,7 +14,7 @@ use Rattle.json_text.proofs.Forms.{says, says_more_items}
 use Rattle.json_text.proofs.Inside.{InSpan, value_in_span}
 use Rattle.json_text.proofs.Laws.{tree_sound}
 use Rattle.json_text.proofs.Moves.{Placed, moved, placed}
-use Rattle.document_model.specs.Sayings.{string_at}
+use Rattle.response_route.specs.document_model.specs.Sayings.{string_at}
 use Rattle.json_text.proofs.Put.{named_bare, depth_bare}
 use Rattle.mux_history.specs.declared.cause.Cause.TheVariants.{Joined, FromEditor, EditorGone, Started, StartFailed, FromServer, ServerGone, Drained, Tick}
 use Rattle.lsp_method.specs.Class.{class_of}
@@ -25,9 +25,9 @@ use Rattle.rpc_message.specs.Message.{Message, request, notification, result, er
 use Rattle.rpc_message.specs.ValueTexts.{IsShallowText, IsValueText}
 use Rattle.rpc_message.proofs.Opening.{value_says}
 use Rattle.rpc_message.proofs.Replies.{request_law}
-use Rattle.document_model.specs.Strings.{string_text}
-use Rattle.capability_meet.specs.Parts.{bracketed, listed}
-use Rattle.capability_meet.proofs.MeetSays.{array_says, first_item, one_more_item}
+use Rattle.response_route.specs.document_model.specs.Strings.{string_text}
+use Rattle.group_words.specs.capability_meet.specs.Parts.{bracketed, listed}
+use Rattle.group_words.specs.capability_meet.proofs.MeetSays.{array_says, first_item, one_more_item}
 use Rattle.event_model.specs.Event.{Event, did, took}
 use Rattle.event_model.specs.Members.{listed as items_of, named_of, params_of}
 use Rattle.event_model.specs.Settings.{Settings}

@@ -11,11 +11,11 @@ use Rattle.json_text.proofs.Compact.{closing_none, closing_member, compact_objec
 use Rattle.json_text.proofs.Forms.{says, says_more_items}
 use Rattle.json_text.proofs.Moves.{Placed, placed}
 use Rattle.json_text.proofs.Put.{depth_bare}
-use Rattle.json_span.proofs.Quoted.{spells_text}
+use Rattle.rpc_message.specs.json_span.proofs.Quoted.{spells_text}
 use Rattle.rpc_message.specs.ValueTexts.{IsValueText}
 use Rattle.rpc_message.proofs.Decimals.{decimal_number}
-use Rattle.capability_meet.specs.Parts.{bracketed, listed}
-use Rattle.capability_meet.proofs.MeetSays.{array_says, first_item, one_more_item}
+use Rattle.group_words.specs.capability_meet.specs.Parts.{bracketed, listed}
+use Rattle.group_words.specs.capability_meet.proofs.MeetSays.{array_says, first_item, one_more_item}
 use Rattle.event_model.specs.declared.stage.Stage.{Stage}
 use Rattle.event_model.specs.declared.stage.Stage.TheVariants.{Unspawned, Spawning, Initializing, Ready, Stopping, Ending, Ended}
 use Rattle.group_rows.specs.Status.{Item, is_utf8, item_text, name_text, number_text, state_text, status_text}

@@ -4,7 +4,7 @@ use Rattle.std.specs.List.{range_with_len}
 use Rattle.event_model.specs.declared.stage.Stage.{Stage}
 use Rattle.event_model.specs.declared.stage.Stage.TheVariants.{Stopping}
 use Rattle.event_model.proofs.Frames.{never}
-use Rattle.mux_model.specs.Rows.{below}
+use Rattle.registrations.specs.mux_model.specs.Rows.{below}
 use Rattle.group_rows.specs.Ticks.{is_stopping}
 
 -- the numbers below, counted up

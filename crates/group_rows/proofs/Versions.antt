@@ -12,12 +12,12 @@ use Rattle.mux_history.specs.declared.out.Out.{Out}
 use Rattle.mux_history.specs.declared.out.Out.TheVariants.{CloseEditor, ToServer}
 use Rattle.position_codec.specs.declared.Encoding.{Encoding}
 use Rattle.rpc_message.specs.Message.{message_of}
-use Rattle.document_model.specs.Helds.{HeldText}
-use Rattle.document_model.specs.Opens.{Open, is_open_at}
-use Rattle.document_model.specs.Sayings.{Saying, opens, changes, closes, misshapen, nothing, saying_of}
-use Rattle.document_model.specs.Texts.{Texts, changed, found, no_texts, opened, text_after, texts_behind, touched}
-use Rattle.document_model.proofs.ScalarTrees.{either_way}
-use Rattle.document_model.proofs.Spelt.{all_drop, all_find, all_put}
+use Rattle.response_route.specs.document_model.specs.Helds.{HeldText}
+use Rattle.response_route.specs.document_model.specs.Opens.{Open, is_open_at}
+use Rattle.response_route.specs.document_model.specs.Sayings.{Saying, opens, changes, closes, misshapen, nothing, saying_of}
+use Rattle.response_route.specs.document_model.specs.Texts.{Texts, changed, found, no_texts, opened, text_after, texts_behind, touched}
+use Rattle.response_route.specs.document_model.proofs.ScalarTrees.{either_way}
+use Rattle.response_route.specs.document_model.proofs.Spelt.{all_drop, all_find, all_put}
 use Rattle.event_model.specs.Event.{Event, took, did, heard, said, requests}
 use Rattle.event_model.specs.Phases.{desk_of, is_served}
 use Rattle.event_model.specs.Settings.{Settings}
@@ -25,7 +25,7 @@ use Rattle.event_model.specs.Spawns.{group_of}
 use Rattle.response_route.specs.declared.versions.Stamp.{Stamp}
 use Rattle.response_route.specs.Answers.{GivesFlat, IsFlatText}
 use Rattle.response_route.specs.Versions.{is_held, version_now, version_then}
-use Rattle.mux_model.specs.Documents.{held_at, without_editor}
+use Rattle.registrations.specs.mux_model.specs.Documents.{held_at, without_editor}
 use Rattle.group_words.specs.Houses.{home_of, is_home}
 use Rattle.group_words.specs.Past.{past}
 use Rattle.group_rows.specs.AskRows.{current_version}

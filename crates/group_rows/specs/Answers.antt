@@ -4,10 +4,10 @@ use Rattle.std.specs.Prelude.{Option, Some, None}
 use Rattle.std.specs.Option.{option_and_then, option_map, option_map_or}
 use Rattle.mux_history.specs.declared.out.Out.TheVariants.{ToEditor, ToServer}
 use Rattle.rpc_message.specs.Message.{Message, request}
-use Rattle.document_model.specs.Helds.{HeldText}
-use Rattle.document_model.specs.Opens.{Open}
-use Rattle.document_model.specs.Rows.{agrees}
-use Rattle.document_model.specs.Texts.{Texts, found, no_texts}
+use Rattle.response_route.specs.document_model.specs.Helds.{HeldText}
+use Rattle.response_route.specs.document_model.specs.Opens.{Open}
+use Rattle.response_route.specs.document_model.specs.Rows.{agrees}
+use Rattle.response_route.specs.document_model.specs.Texts.{Texts, found, no_texts}
 use Rattle.event_model.specs.Event.{Event, did}
 use Rattle.event_model.specs.Phases.{desk_of, is_there}
 use Rattle.event_model.specs.Requests.{answered_id, is_own}
@@ -18,7 +18,7 @@ use Rattle.response_route.specs.declared.versions.Stamp.{Stamp}
 use Rattle.response_route.specs.Answers.{answer_text}
 use Rattle.response_route.specs.Edits.{Renaming}
 use Rattle.response_route.specs.Versions.{version_now}
-use Rattle.mux_model.specs.Documents.{held_at}
+use Rattle.registrations.specs.mux_model.specs.Documents.{held_at}
 use Rattle.group_words.specs.Past.{past}
 use Rattle.group_rows.specs.Forwarded.{Forwarded, answered_by, forwarding_of}
 use Rattle.group_rows.specs.Texts.{texts_of}

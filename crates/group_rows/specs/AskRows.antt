@@ -7,7 +7,7 @@ use Rattle.json_text.specs.Json.{Json}
 use Rattle.mux_history.specs.declared.out.Out.TheVariants.{ToEditor, ToServer}
 use Rattle.lsp_method.specs.Class.{class_of}
 use Rattle.lsp_method.specs.declared.variants.Class.{Class}
-use Rattle.lsp_method.specs.declared.variants.Class.TheVariants.{Broadcast, Cancel, Focused, Folders, Lowest, Refresh, Register, Unregister}
+use Rattle.lsp_method.specs.declared.variants.Class.TheVariants.{Broadcast, Cancel, Focused, Folders, Lowest, Progress, Refresh, Register, Unregister}
 use Rattle.lsp_method.specs.declared.variants.Origin.TheVariants.{Server}
 use Rattle.rpc_message.specs.Message.{Id, Message, id_bytes, id_of}
 use Rattle.rpc_message.specs.Texts.{error_text, ok_text, request_failed, with_id_text}
@@ -29,6 +29,7 @@ use Rattle.group_rows.specs.Asks.{Ask, Parked, asking_of, asks_of, first_in, has
 use Rattle.group_rows.specs.Forwarded.{Forwarded, forwarding_of}
 use Rattle.group_rows.specs.Leaves.{cancel_text}
 use Rattle.group_rows.specs.LiveRows.{register_row, restore, unregister_row}
+use Rattle.group_rows.specs.Tokens.{progress_row}
 
 -- the editor is asked what the start asks, under the editor's next number, while one is left
 abbrev pub ask : List ℕ → ℕ → Row
@@ -119,6 +120,7 @@ broadcast_row settings before s body = on (group_of s before) nothing (λ g. eac
 
 abbrev pub notified_row : Settings → ℕ → List Event → List ℕ → Option Json → Class → Row
 notified_row settings s before body params Cancel = cancelled_row settings s before params
+notified_row settings s before body params Progress = progress_row s before body params
 notified_row settings s before body params Broadcast = broadcast_row settings before s body
 notified_row settings s before body params _ = nothing
 

@@ -5,7 +5,7 @@ use Rattle.std.specs.Option.{option_and_then, option_map_or}
 use Rattle.json_text.specs.Json.{Json}
 use Rattle.json_text.specs.Replace.{Edit, replace}
 use Rattle.json_text.specs.Tree.{tree_of}
-use Rattle.json_nodes.specs.Puts.{put_edits}
+use Rattle.response_route.specs.json_nodes.specs.Puts.{put_edits}
 use Rattle.mux_history.specs.declared.out.Out.TheVariants.{ToServer}
 use Rattle.rpc_message.specs.Message.{Id, id_of, same_id}
 use Rattle.event_model.specs.Event.{Event}

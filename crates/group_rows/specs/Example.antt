@@ -6,7 +6,7 @@ use Rattle.mux_history.specs.declared.cause.Cause.TheVariants.{Joined, FromEdito
 use Rattle.mux_history.specs.declared.cause.Why.TheVariants.{End}
 use Rattle.mux_history.specs.declared.out.Out.{Out}
 use Rattle.mux_history.specs.declared.out.Out.TheVariants.{ToEditor, ToServer, CloseEditor, EndServer, Spawn}
-use Rattle.document_model.specs.Opens.{Open}
+use Rattle.response_route.specs.document_model.specs.Opens.{Open}
 use Rattle.event_model.specs.Event.{Event, behind, with_cause}
 use Rattle.event_model.specs.Row.{outs}
 use Rattle.event_model.specs.Settings.{Settings}

@@ -7,18 +7,22 @@ use Rattle.mux_history.specs.declared.out.Out.TheVariants.{ToServer}
 use Rattle.rpc_message.specs.Message.{Message, request, notification, Id, integer, id_bytes}
 use Rattle.event_model.specs.Event.{Event, took, did}
 use Rattle.event_model.specs.Requests.{answered_id, is_own}
-use Rattle.event_model.specs.Members.{named_of}
+use Rattle.event_model.specs.Members.{bytes_if, is_token, named_of, params_of}
 
--- whose request is at work, and the bytes of its id
+-- whose request is at work, the bytes of its id, and those of its tokens for progress, where it has them (LSP 3.17, Work Done Progress and Partial Result Progress)
 pub record Sender : Type 0 where
   pub editor : ℕ
   pub id : List ℕ
+  pub work : Option (List ℕ)
+  pub partial : Option (List ℕ)
 
 -- a request that was sent on and isn't answered
 pub record Forwarded : Type 0 where
   pub number : ℕ
   pub editor : ℕ
   pub id : List ℕ
+  pub work : Option (List ℕ)
+  pub partial : Option (List ℕ)
   pub cancelled : Bool
 
 -- at a start: whose request is at work, the number that comes next, and the requests that it has to answer, in the order of their numbers
@@ -27,13 +31,17 @@ pub record Forwarding : Type 0 where
   pub next : ℕ
   pub open_requests : List Forwarded
 
+-- a token of its params, by its name; the last member of the name counts
+abbrev pub token_in : List ℕ → List ℕ → Option (List ℕ)
+token_in name body = if is_token (named_of name (params_of body)) then bytes_if name (params_of body) body else None
+
 abbrev pub sender_of : ℕ → List ℕ → Message → Option Sender
-sender_of e body (request id method ps) = Some (record { editor = e; id = id_bytes body })
+sender_of e body (request id method ps) = Some (record { editor = e; id = id_bytes body; work = token_in (codes "workDoneToken") body; partial = token_in (codes "partialResultToken") body })
 sender_of e body other = None
 
 abbrev pub numbered : Option Sender → ℕ → List Forwarded
 numbered None n = []
-numbered (Some sender) n = record { number = n; editor = sender.editor; id = sender.id; cancelled = false } ∷ []
+numbered (Some sender) n = record { number = n; editor = sender.editor; id = sender.id; work = sender.work; partial = sender.partial; cancelled = false } ∷ []
 
 -- this id of a response writes this number
 abbrev pub names : Option Id → ℕ → Bool
@@ -49,7 +57,7 @@ is_written (Some (number s digits)) n = bytes_eq digits (decimal n)
 is_written other n = false
 
 abbrev pub cancelled_by : Option Json → Forwarded → Forwarded
-cancelled_by id f = if is_written id f.number then record { number = f.number; editor = f.editor; id = f.id; cancelled = true } else f
+cancelled_by id f = if is_written id f.number then record f { cancelled = true } else f
 
 -- the daemon's own `initialize` and `shutdown` are no editor's: they have the numbers before 2, and behind the last
 abbrev pub forwards : Forwarding → Message → Forwarding

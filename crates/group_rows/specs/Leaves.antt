@@ -2,17 +2,17 @@
 use Rattle.std.specs.Prelude.{ℕ, not, List, ◌++◌, filter, flat_map, codes, decimal, nat_eq}
 use Rattle.std.specs.Prelude.{Option, Some}
 use Rattle.mux_history.specs.declared.out.Out.TheVariants.{ToServer}
-use Rattle.document_model.specs.Helds.{HeldText}
-use Rattle.document_model.specs.Opens.{Open, holder_beside}
-use Rattle.document_model.specs.Rows.{sent_close}
+use Rattle.response_route.specs.document_model.specs.Helds.{HeldText}
+use Rattle.response_route.specs.document_model.specs.Opens.{Open, holder_beside}
+use Rattle.response_route.specs.document_model.specs.Rows.{sent_close}
 use Rattle.rpc_message.specs.Texts.{error_text, notification_text, request_failed}
 use Rattle.event_model.specs.Event.{Event}
 use Rattle.event_model.specs.Row.{Row, nothing, send, choose, each, on, ◌⨾◌}
 use Rattle.event_model.specs.Settings.{Settings}
 use Rattle.event_model.specs.Spawns.{start_of}
 use Rattle.event_model.specs.Stages.{life_of, is_ready}
-use Rattle.mux_model.specs.Documents.{held_at}
-use Rattle.mux_model.specs.Rows.{to_start}
+use Rattle.registrations.specs.mux_model.specs.Documents.{held_at}
+use Rattle.registrations.specs.mux_model.specs.Rows.{to_start}
 use Rattle.group_words.specs.Houses.{home_of}
 use Rattle.group_rows.specs.Asks.{Ask, asks_of, is_with}
 use Rattle.group_rows.specs.Forwarded.{Forwarded, forwarding_of, numbers_of}

@@ -17,3 +17,10 @@ pub mod Live
 pub mod LiveExample
 pub mod LiveRows
 pub mod LiveTexts
+pub mod Tokens
+pub mod TokensExample
+pub use Rattle.group_words
+pub use Rattle.registrations.specs.mux_members
+pub use Rattle.registrations.specs.mux_model
+pub use Rattle.registrations
+pub use Rattle.response_route

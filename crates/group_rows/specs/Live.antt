@@ -9,7 +9,7 @@ use Rattle.lsp_method.specs.declared.variants.Class.TheVariants.{Register, Unreg
 use Rattle.lsp_method.specs.declared.variants.Origin.TheVariants.{Server}
 use Rattle.rpc_message.specs.Message.{Id, request}
 use Rattle.rpc_message.specs.Texts.{request_text}
-use Rattle.capability_meet.specs.Parts.{bracketed}
+use Rattle.group_words.specs.capability_meet.specs.Parts.{bracketed}
 use Rattle.event_model.specs.Event.{Event, took}
 use Rattle.event_model.specs.Settings.{Settings}
 use Rattle.event_model.specs.Stages.{life_of, is_ready}

@@ -4,7 +4,7 @@ use Rattle.std.specs.Prelude.{Some}
 use Rattle.std.specs.List.{AllByRecursion}
 use Rattle.json_text.specs.Bare.{nowhere}
 use Rattle.json_text.specs.Json.{Json, string}
-use Rattle.document_model.specs.Sayings.{string_at}
+use Rattle.response_route.specs.document_model.specs.Sayings.{string_at}
 use Rattle.rpc_message.specs.ValueTexts.{IsShallowText, IsValueText}
 use Rattle.registrations.specs.declared.registration.Registration.{Registration}
 

@@ -1,4 +1,4 @@
--- The routing table over several editors and groups, in part: J1, J2, E2 to E5, E7 to E10, E11 but for the work of tokens, E12 to E17, E19, S1, S2 with X4, S3, S4, S5 with V1 and V2, S6, S7, S9 to S12 with V3, S14, L2 of registrations and of what waits until an editor runs, X1 to X3 of groups that live no more, and X5 to X7.
+-- The routing table over several editors and groups, in part: J1, J2, E2 to E5, E7 to E10, E11, E12 to E17, E19, S1, S2 with X4, S3, S4, S5 with V1 and V2, S6, S7, S9 to S12 with V3, S13 of requests' tokens, S14, L2 of registrations and of what waits until an editor runs, X1 to X3 of groups that live no more, and X5 to X7.
 use Rattle.std.specs.Prelude.{ℕ, Bool, true, false, ◌&&◌, ◌||◌, List, [], ◌∷◌, ◌++◌, filter, flat_map, codes, nat_eq, nat_lt, decimal, bytes_eq, if◌then◌else◌}
 use Rattle.std.specs.Prelude.{Option, Some, None, slice_get}
 use Rattle.std.specs.List.{list_any}
@@ -13,26 +13,27 @@ use Rattle.lsp_method.specs.Class.{class_of}
 use Rattle.lsp_method.specs.declared.variants.Origin.TheVariants.{Editor, Server}
 use Rattle.rpc_message.specs.Message.{Message, request, notification, message_of, id_bytes, result_bytes}
 use Rattle.rpc_message.specs.Texts.{ok_text, error_text, initialized_text, with_id_text, Code, invalid_params, invalid_request, method_not_found, request_failed, server_not_initialized}
-use Rattle.document_model.specs.Bodies.{open_text}
-use Rattle.document_model.specs.Helds.{HeldText}
-use Rattle.document_model.specs.Opens.{Open, holder, holder_beside}
-use Rattle.document_model.specs.Rows.{differing, sent_open, sent_change, sent_close}
-use Rattle.document_model.specs.Sayings.{Saying, opens, changes, closes, misshapen, saying_by}
-use Rattle.document_model.specs.Sayings as saying
-use Rattle.document_model.specs.Texts.{Texts, opened, found, changed}
+use Rattle.response_route.specs.document_model.specs.Bodies.{open_text}
+use Rattle.response_route.specs.document_model.specs.Helds.{HeldText}
+use Rattle.response_route.specs.document_model.specs.Opens.{Open, holder, holder_beside}
+use Rattle.response_route.specs.document_model.specs.Rows.{differing, sent_open, sent_change, sent_close}
+use Rattle.response_route.specs.document_model.specs.Sayings.{Saying, opens, changes, closes, misshapen, saying_by}
+use Rattle.response_route.specs.document_model.specs.Sayings as saying
+use Rattle.response_route.specs.document_model.specs.Texts.{Texts, opened, found, changed}
 use Rattle.event_model.specs.declared.phase.Phase.{Phase}
 use Rattle.event_model.specs.declared.phase.Phase.TheVariants.{New, Waiting, Answered, Running, Down}
 use Rattle.event_model.specs.declared.stage.Stage.{Stage}
 use Rattle.event_model.specs.declared.stage.Stage.TheVariants.{Spawning, Initializing, Ready, Stopping}
 use Rattle.event_model.specs.Event.{Event, behind, with_cause, requests}
+use Rattle.event_model.specs.Members.{params_of}
 use Rattle.event_model.specs.Phases.{desk_of, is_begun, is_there, is_malformed, is_served, is_waiting, makes_running}
 use Rattle.event_model.specs.Row.{Row, nothing, send, choose, look, outs, each, on, ◌⨾◌}
 use Rattle.event_model.specs.Settings.{Settings}
 use Rattle.event_model.specs.Spawns.{group_of, start_of}
 use Rattle.event_model.specs.Stages.{life_of, is_ready, is_first_result}
-use Rattle.mux_model.specs.Documents.{held_at}
-use Rattle.mux_model.specs.Methods.{goes_on, is_dollar, is_wrong}
-use Rattle.mux_model.specs.Rows.{malformed_row, to_start}
+use Rattle.registrations.specs.mux_model.specs.Documents.{held_at}
+use Rattle.registrations.specs.mux_model.specs.Methods.{goes_on, is_dollar, is_wrong}
+use Rattle.registrations.specs.mux_model.specs.Rows.{malformed_row, to_start}
 use Rattle.group_words.specs.Houses.{editors_in, groups_of, home_of, is_doubled, is_first_error, is_first_open, server_asked}
 use Rattle.group_words.specs.Rows.{initialize_of, initialize_row, shown_of}
 use Rattle.group_rows.specs.Answers.{answer_row}
@@ -44,6 +45,7 @@ use Rattle.group_rows.specs.Leaves.{leave_row}
 use Rattle.group_rows.specs.Status.{items_of, status_text}
 use Rattle.group_rows.specs.Texts.{encoding_of, texts_of}
 use Rattle.group_rows.specs.Ticks.{tick_row}
+use Rattle.group_rows.specs.Tokens.{forwarded_text, reserves, work_row}
 
 abbrev pub answer_error : ℕ → List ℕ → Code → Row
 answer_error e body code = send (ToEditor e (error_text (id_bytes body) code))
@@ -80,9 +82,9 @@ replay_bodies told all (o ∷ os) =
     if list_any (bytes_eq o.uri) told then replay_bodies told all os
     else option_map_or (λ (h : Open). open_text h.uri h.language h.text ∷ []) (holder o.uri all) [] ++ replay_bodies (o.uri ∷ told) all os
 
--- E10: the request goes to the start of the editor's group under the next number, behind a sync
+-- E10: the request goes to the start of the editor's group under the next number, with the daemon's tokens, behind a sync; a token that begins as the daemon's do is refused
 abbrev pub forward : ℕ → List ℕ → Row
-forward s body = look (λ events. send (ToServer s (with_id_text body (decimal (forwarding_of s events).next))))
+forward s body = look (λ events. send (ToServer s (forwarded_text (forwarding_of s events).next body)))
 
 abbrev pub can_ask : Settings → ℕ → List Event → Bool
 can_ask settings s events = is_ready (life_of s events).stage && nat_lt (forwarding_of s events).next settings.limits.requests
@@ -94,8 +96,8 @@ abbrev pub request_at : Settings → List Event → ℕ → List ℕ → ℕ →
 request_at settings before e body g s = choose (can_ask settings s before) (sync_row settings before g s e ⨾ forward s body) (answer_error e body request_failed)
 
 abbrev pub request_row : Settings → List Event → ℕ → List ℕ → Row
-request_row settings before e body = on (home_of settings e before) (answer_error e body request_failed)
-    (λ g. on (start_of g before) (answer_error e body request_failed) (request_at settings before e body g))
+request_row settings before e body = choose (reserves (params_of body)) (answer_error e body invalid_params) (on (home_of settings e before) (answer_error e body request_failed)
+    (λ g. on (start_of g before) (answer_error e body request_failed) (request_at settings before e body g)))
 
 abbrev pub document_at : Settings → List Event → ℕ → List ℕ → Saying → ℕ → ℕ → Row
 document_at settings before e body x g s =
@@ -147,7 +149,8 @@ served_request settings before e body method = choose (is_misplaced method) (ans
 abbrev pub served_notice : Settings → List Event → ℕ → List ℕ → List ℕ → Option Json → Row
 served_notice settings before e body method params = choose (bytes_eq (codes "exit") method) (closing_row settings before e)
     (choose (goes_on (class_of method Editor true)) (notice_row settings before e body)
-    (choose (bytes_eq (codes "$/cancelRequest") method) (cancelling_row settings before e body params) (document_row settings before e body (saying_by method params))))
+    (choose (bytes_eq (codes "$/cancelRequest") method) (cancelling_row settings before e body params)
+    (choose (bytes_eq (codes "window/workDoneProgress/cancel") method) (work_row settings before e body params) (document_row settings before e body (saying_by method params)))))
 
 abbrev pub served_row : Settings → List Event → ℕ → List ℕ → Message → Row
 served_row settings before e body (request id method params) = served_request settings before e body method

@@ -4,7 +4,7 @@ use Rattle.std.specs.Prelude.{slice_get}
 use Rattle.std.specs.Option.{option_map_or}
 use Rattle.std.specs.Str.{all_scalars, chars}
 use Rattle.json.specs.Print.{quoted}
-use Rattle.capability_meet.specs.Parts.{bracketed}
+use Rattle.group_words.specs.capability_meet.specs.Parts.{bracketed}
 use Rattle.event_model.specs.declared.settings.Server.{Server}
 use Rattle.event_model.specs.declared.stage.Stage.{Stage}
 use Rattle.event_model.specs.declared.stage.Stage.TheVariants.{Spawning, Initializing}

@@ -5,16 +5,16 @@ use Rattle.mux_history.specs.declared.cause.Cause.TheVariants.{FromEditor, Edito
 use Rattle.mux_history.specs.declared.out.Out.TheVariants.{ToServer, CloseEditor}
 use Rattle.rpc_message.specs.Message.{Message, request, notification}
 use Rattle.position_codec.specs.declared.Encoding.{Encoding}
-use Rattle.document_model.specs.Opens.{Open}
-use Rattle.document_model.specs.Sayings.{saying_of, saying_by, speaks}
-use Rattle.document_model.specs.Texts.{Texts, no_texts, texts_behind}
+use Rattle.response_route.specs.document_model.specs.Opens.{Open}
+use Rattle.response_route.specs.document_model.specs.Sayings.{saying_of, saying_by, speaks}
+use Rattle.response_route.specs.document_model.specs.Texts.{Texts, no_texts, texts_behind}
 use Rattle.event_model.specs.Event.{Event, took, did, requests}
 use Rattle.event_model.specs.Phases.{desk_of, is_served}
 use Rattle.event_model.specs.Requests.{is_own}
 use Rattle.event_model.specs.Settings.{Settings}
 use Rattle.event_model.specs.Spawns.{group_of}
 use Rattle.event_model.specs.Stages.{life_of, is_initializing}
-use Rattle.mux_model.specs.Documents.{encoding_by, without_editor}
+use Rattle.registrations.specs.mux_model.specs.Documents.{encoding_by, without_editor}
 use Rattle.group_words.specs.Houses.{home_of, is_home}
 use Rattle.group_words.specs.Past.{past}
 

@@ -90,7 +90,7 @@ module _ (body : List ℕ) (id : Id) (params : Option Json) (x : Json) where
   linked Waiting i o begun fresh h = record { id = h.id; params = h.params; asks = h.asks; only = without_last id o.initializes fresh ∙ h.only; not_yet = h.not_yet }
   linked Answered i o begun fresh h = (without_last id o.initializes fresh ∙ h.0, speaks_now o.spoke o.answered false h.1 refl)
   linked Running i o begun fresh h = (without_last id o.initializes fresh ∙ h.0, ap (λ b. b || (o.answered && true)) h.1)
-  linked Down i o begun fresh h = without_last id o.initializes fresh ∙ h
+  linked Down i o begun fresh h = (without_last id o.initializes fresh ∙ h.0, ap (λ b. b || (o.answered && true)) h.1)
   linked Absent i o begun fresh h = absurd (cc)
   linked New i o begun fresh h = absurd (cc)
   linked Closed i o begun fresh h = absurd (cc)
@@ -130,7 +130,7 @@ module _ (settings : Settings) (before : List Event) (n : ℕ) (body : List ℕ)
       go Waiting at b k = ap (is_open id) k.only ∙ ap (λ b. b || false) (other_id (waits at) k fresh)
       go Answered at b k = ap (is_open id) k.0
       go Running at b k = ap (is_open id) k.0
-      go Down at b k = ap (is_open id) k
+      go Down at b k = ap (is_open id) k.0
       go Absent at b k = absurd (cc)
       go New at b k = absurd (cc)
       go Closed at b k = absurd (cc)

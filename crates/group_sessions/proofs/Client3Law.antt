@@ -26,9 +26,10 @@ use Rattle.session_laws.specs.ClientRules.{ClientRule3, KeepsClient3, Opening, m
 use Rattle.session_laws.proofs.Client3Law as client_3
 use Rattle.session_laws.proofs.Client3Law.{Expects, Link, LinkAt, asks_again, closed_link, late_told, may_answer, may_welcome, none_open, opening, same_request, took_it, welcomed}
 use Rattle.group_rows.specs.Rows.{outs_of}
+use Rattle.group_rows.specs.Tokens.{listens}
 use Rattle.group_facts.specs.Facts.{Asks}
 use Rattle.group_facts.specs.Legal.{Legal}
-use Rattle.group_facts.specs.Why.{IsBeside, WhyToEditor, registers, rejects, resumes, refuses, answers, turns_away, welcomes, passes, asks, recalls, spreads}
+use Rattle.group_facts.specs.Why.{IsBeside, WhyToEditor, registers, rejects, resumes, refuses, answers, turns_away, welcomes, passes, asks, recalls, spreads, progresses}
 use Rattle.group_facts.proofs.RestLaws.{RestLaw, rest_holds}
 use Rattle.group_sessions.proofs.Again.{again_rests}
 use Rattle.session_laws.proofs.Client2Law.{is_own_word}
@@ -86,7 +87,7 @@ error_link Waiting i ids o k x h w =
     record { id = f.id; params = f.params; asks = f.asks; only = ap (without k) f.only ∙ open_alone k f.id ids (ap (λ z. is_open z (without k ids)) same ∙ w.waits); not_yet = f.not_yet }
 error_link Answered i ids o k x h w = (none_without k o.initializes (h tt).0, (h tt).1)
 error_link Running i ids o k x h w = (none_without k o.initializes (h tt).0, (h tt).1)
-error_link Down i ids o k x h w = none_without k o.initializes (h tt)
+error_link Down i ids o k x h w = (none_without k o.initializes (h tt).0, (h tt).1)
 error_link Closed i ids o k x h w = tt
 error_link Gone i ids o k x h w = tt
 
@@ -114,7 +115,7 @@ may_reply New i o id r there apart h = none_may o id h.0
 may_reply Waiting i o id r there apart h = ap (λ b. not (b && is_open id o.initializes)) h.not_yet
 may_reply Answered i o id r there apart h = none_may o id h.0
 may_reply Running i o id r there apart h = none_may o id h.0
-may_reply Down i o id r there apart h = none_may o id h
+may_reply Down i o id r there apart h = none_may o id h.0
 may_reply Absent i o id r there apart h = absurd (cc)
 may_reply Closed i o id r there apart h = absurd (cc)
 may_reply Gone i o id r there apart h = absurd (cc)
@@ -135,7 +136,7 @@ reply_link New i o id r apart h = (ap (without (Some id)) h.0, none_answered o i
 reply_link Waiting i o id r apart h = reply_waiting i o id r apart h
 reply_link Answered i o id r apart h = (ap (without (Some id)) h.0, ap (λ b. b || is_open id o.initializes) h.1)
 reply_link Running i o id r apart h = (ap (without (Some id)) h.0, h.1)
-reply_link Down i o id r apart h = ap (without (Some id)) h
+reply_link Down i o id r apart h = (ap (without (Some id)) h.0, h.1)
 reply_link Closed i o id r apart h = tt
 reply_link Gone i o id r apart h = tt
 
@@ -261,15 +262,9 @@ module _ (events : List Event) (n : ℕ) (body : List ℕ) where
       beside_apart Closed at f = tt
       beside_apart Gone at f = tt
 
-  -- a request or a notification, to an editor that runs
-  asked_told : (m : Message) → (desk_of n events).phase ≡ Running → message_of body ≡ m → is_own_word m ≡ true → Here n events → Heard
-  asked_told m running says own h =
-      let link : ((opening n events).initializes ≡ []) × ((opening n events).spoke ≡ true) = subst (λ z. Link z (desk_of n events).initialize (opening n events)) running
-      (h.link (late_waits (desk_of n events).phase (desk_of n events).initialize (open_of n events) (ap is_early running))) in
-      record {
-        may = ap (may_hear (opening n events)) says ∙ any_time m own ∙ link.1;
-        link = λ left. subst₂ (λ p o. Link p (desk_of n events).initialize o) (sym (ap (λ p. phase_told p (desk_of n events).initialize (message_of body)) running)) (sym (ap (opening_told (opening n events)) says ∙ untold m own)) link;
-      }
+  -- a request or a notification, to an editor that runs or is down
+  progress_told : (m : Message) → listens (desk_of n events).phase ≡ true → message_of body ≡ m → is_own_word m ≡ true → Here n events → Heard
+  progress_told m hears says own h = go (desk_of n events).phase refl hears
     where
       any_time : (m : Message) → is_own_word m ≡ true → may_hear (opening n events) m ≡ (opening n events).spoke
       any_time (request id method params) own = refl
@@ -287,6 +282,29 @@ module _ (events : List Event) (n : ℕ) (body : List ℕ) where
       untold not_json own = absurd (cc)
       untold not_message own = absurd (cc)
 
+      by_link : (p : Phase) → (desk_of n events).phase ≡ p → is_early p ≡ false → (Link p (desk_of n events).initialize (opening n events) → ((opening n events).initializes ≡ []) × ((opening n events).spoke ≡ true))
+          → (((opening n events).initializes ≡ []) × ((opening n events).spoke ≡ true) → Link p (desk_of n events).initialize (opening n events)) → ((i : List ℕ) → phase_told p i (message_of body) ≡ p) → Heard
+      by_link p at late out back stays =
+          let link : ((opening n events).initializes ≡ []) × ((opening n events).spoke ≡ true) = out (subst (λ z. Link z (desk_of n events).initialize (opening n events)) at
+          (h.link (late_waits (desk_of n events).phase (desk_of n events).initialize (open_of n events) (ap is_early at ∙ late)))) in
+          record {
+            may = ap (may_hear (opening n events)) says ∙ any_time m own ∙ link.1;
+            link = λ left. subst₂ (λ q o. Link q (desk_of n events).initialize o) (sym (ap (λ q. phase_told q (desk_of n events).initialize (message_of body)) at ∙ stays (desk_of n events).initialize)) (sym (ap (opening_told (opening n events)) says ∙ untold m own)) (back link);
+          }
+
+      go : (p : Phase) → (desk_of n events).phase ≡ p → listens p ≡ true → Heard
+      go Running at k = by_link Running at refl (λ l. l) (λ l. l) (λ i. refl)
+      go Down at k = by_link Down at refl (λ l. l) (λ l. l) (λ i. refl)
+      go Absent at k = absurd (cc)
+      go New at k = absurd (cc)
+      go Waiting at k = absurd (cc)
+      go Answered at k = absurd (cc)
+      go Closed at k = absurd (cc)
+      go Gone at k = absurd (cc)
+
+  asked_told : (m : Message) → (desk_of n events).phase ≡ Running → message_of body ≡ m → is_own_word m ≡ true → Here n events → Heard
+  asked_told m running says own h = progress_told m (ap listens running) says own h
+
   heard_it : (settings : Settings) (before : List Event) (cause : Cause) → WhyToEditor settings before cause events n body → Here n events → Heard
   heard_it settings before cause (rejects k) h = error_told None k.x k.says h
   heard_it settings before cause (refuses k) h = error_told (Some k.id) k.x k.says h
@@ -298,6 +316,7 @@ module _ (events : List Event) (n : ℕ) (body : List ℕ) where
   heard_it settings before cause (registers k) h = asked_told (request (integer (decimal (next_ask n events))) k.method k.params) k.running k.says refl h
   heard_it settings before cause (spreads k) h = asked_told (notification k.method k.params) (k.source).running k.says refl h
   heard_it settings before cause (recalls k) h = asked_told (notification (codes "$/cancelRequest") (Some k.params)) (k.source).running k.says refl h
+  heard_it settings before cause (progresses k) h = progress_told (notification k.method k.params) k.hears k.says refl h
   heard_it settings before cause (passes k) h = answer_told k.id k.there k.late (response_to k.id (message_of body) k.response k.answers) h
 
 -- Other outs

@@ -14,7 +14,7 @@ use Rattle.mux_facts.proofs.Words.{pick}
 use Rattle.session_laws.specs.ServerRules.{KeepsServer1, Program, ServerRule1, program_of}
 use Rattle.session_laws.proofs.Server1Law.{IsUp, Link, Running, begun_up, free, is_up, more, ready_up, running_sent, running_spawned, running_took}
 use Rattle.group_facts.specs.Legal.{Legal}
-use Rattle.group_facts.specs.Why.{WhyToServer, begins, greets, forwarded, notes, tells, shuts, cancels, responds, exits, resolves}
+use Rattle.group_facts.specs.Why.{WhyToServer, begins, greets, forwarded, notes, tells, shuts, cancels, responds, exits, resolves, cancels_work}
 use Rattle.group_facts.proofs.RestLaws.{Inside, Law}
 use Rattle.group_sessions.proofs.PartLaws.{ServerRule, server_history}
 
@@ -47,6 +47,7 @@ module _ (settings : Settings) (before : List Event) (cause : Cause) (events : L
   up (notes k) i = ready_up events s k.ready i
   up (tells k) i = ready_up events s k.ready i
   up (cancels k) i = ready_up events s k.ready i
+  up (cancels_work k) i = ready_up events s k.ready i
   up (exits k) i = subst (λ z. Link z (program_of (server_part s events))) k.stopping (i s)
   up (shuts k) i = ready_up events s k.ready i
   up (resolves k) i = ready_up events s k.ready i

@@ -36,7 +36,7 @@ use Rattle.group_rows.specs.Rows.{outs_of, result_in}
 use Rattle.group_facts.specs.Facts.{Housed, IsHoused, IsWritten, Written, is_unready}
 use Rattle.group_rows.proofs.Going.{no_initialized}
 use Rattle.group_facts.specs.Legal.{Legal}
-use Rattle.group_facts.specs.Why.{IsTelling, Turn, WhyToServer, begins, greets, forwarded, notes, tells, shuts, cancels, stays, greeted, moves, responds, exits, resolves}
+use Rattle.group_facts.specs.Why.{IsTelling, Turn, WhyToServer, begins, greets, forwarded, notes, tells, shuts, cancels, stays, greeted, moves, responds, exits, resolves, cancels_work}
 use Rattle.group_facts.proofs.Forwards.{get_all}
 use Rattle.group_facts.proofs.Facts.{Facts}
 use Rattle.group_facts.proofs.RestLaws.{RestLaw}
@@ -254,6 +254,7 @@ module _ (settings : Settings) (range : InRange settings) (before : List Event) 
   step (notes k) h m = ready_step k.ready (ap (λ c. moves before c s) k.from) m (λ o. noted_on (hand s events) s body (message_of body) k.method k.params k.says (no_initialized k.method k.going) o)
   step (tells k) h m = told_step k h m (λ o. tells_on settings range (hand s events) s body (message_of body) k.spoken o)
   step (cancels k) h m = ready_step k.ready k.stays m (λ o. (ap₂ allows o k.says, still_open (requests (codes "shutdown") (message_of body)) (handshake_behind (hand s events) (said (ToServer s body))) (ap (λ z. handshake_behind z (said (ToServer s body))) o)))
+  step (cancels_work k) h m = ready_step k.ready k.stays m (λ o. (ap₂ allows o k.says, still_open (requests (codes "shutdown") (message_of body)) (handshake_behind (hand s events) (said (ToServer s body))) (ap (λ z. handshake_behind z (said (ToServer s body))) o)))
   step (responds k) h m =
       let asking : hand s events ≡ asked = subst (λ z. Link z (hand s events)) k.waiting (m.hands s k.stays) in
       record {

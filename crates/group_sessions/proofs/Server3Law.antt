@@ -13,7 +13,7 @@ use Rattle.session_laws.proofs.Server3Law.{begun_numbered, free, known, told_num
 use Rattle.group_rows.specs.Forwarded.{forwarding_of}
 use Rattle.group_facts.specs.Facts.{is_unbegun}
 use Rattle.group_facts.specs.Legal.{Legal}
-use Rattle.group_facts.specs.Why.{WhyToServer, begins, greets, forwarded, notes, tells, shuts, cancels, responds, exits, resolves}
+use Rattle.group_facts.specs.Why.{WhyToServer, begins, greets, forwarded, notes, tells, shuts, cancels, responds, exits, resolves, cancels_work}
 use Rattle.group_facts.proofs.Facts.{Facts, Mid, TiedAt, begins_now}
 use Rattle.group_facts.proofs.RestLaws.{Inside}
 use Rattle.group_sessions.proofs.PartLaws.{ServerRule, no_law, server_history}
@@ -38,6 +38,7 @@ module _ (settings : Settings) (before : List Event) (cause : Cause) (events : L
   numbered (notes k) h here = subst (HasNumber (next_number s events)) (sym k.says) tt
   numbered (tells k) h here = told_numbered (next_number s events) (message_of body) k.spoken
   numbered (cancels k) h here = subst (HasNumber (next_number s events)) (sym k.says) tt
+  numbered (cancels_work k) h here = subst (HasNumber (next_number s events)) (sym k.says) tt
   numbered (responds k) h here = response_numbered (next_number s events) (message_of body) k.response
   numbered (resolves k) h here = response_numbered (next_number s events) (message_of body) k.response
   numbered (exits k) h here = subst (HasNumber (next_number s events)) (sym k.says) tt

@@ -16,7 +16,7 @@ use Rattle.session_laws.proofs.PartLaws.{No, either_same, part_tied, same_if}
 use Rattle.session_laws.proofs.Server5Law.{answers_open, free}
 use Rattle.group_facts.specs.Facts.{asked_by, server_behind}
 use Rattle.group_facts.specs.Legal.{Legal}
-use Rattle.group_facts.specs.Why.{WhyToServer, begins, cancels, exits, forwarded, greets, notes, resolves, responds, shuts, tells}
+use Rattle.group_facts.specs.Why.{WhyToServer, begins, cancels, exits, forwarded, greets, notes, resolves, responds, shuts, tells, cancels_work}
 use Rattle.group_facts.proofs.RestLaws.{Inside}
 use Rattle.group_sessions.proofs.PartLaws.{ServerRule, no_law, server_history}
 
@@ -47,6 +47,7 @@ module _ (settings : Settings) (before : List Event) (cause : Cause) (events : L
   answers (tells k) = let m : Spoken (message_of body) = spoken (message_of body) k.spoken in subst Answers (sym m.is) refl
   answers (shuts k) = subst Answers (sym k.says) refl
   answers (cancels k) = subst Answers (sym k.says) refl
+  answers (cancels_work k) = subst Answers (sym k.says) refl
   answers (exits k) = subst Answers (sym k.says) refl
   answers (responds k) = answers_open ids k.id (message_of body) k.answers (ap (is_open k.id) (sym (open_by_part s events)) ∙ k.waits)
   answers (resolves k) = answers_open ids k.id (message_of body) k.answers (ap (is_open k.id) (sym (open_by_part s events)) ∙ k.waits)

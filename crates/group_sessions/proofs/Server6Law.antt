@@ -24,7 +24,7 @@ use Rattle.session_laws.proofs.Server6Law.{free, response_free, spoken_free, wai
 use Rattle.group_rows.specs.Forwarded.{Forwarded, Forwarding, Sender, answered_by, cancelled_by, forwarding_behind, forwarding_of, forwards, is_written, names, numbered}
 use Rattle.group_rows.proofs.Going.{not_cancel}
 use Rattle.group_facts.specs.Legal.{Legal}
-use Rattle.group_facts.specs.Why.{WhyToServer, begins, greets, forwarded, notes, tells, shuts, cancels, is_uncancelled, responds, exits, resolves}
+use Rattle.group_facts.specs.Why.{WhyToServer, begins, greets, forwarded, notes, tells, shuts, cancels, is_uncancelled, responds, exits, resolves, cancels_work}
 use Rattle.group_facts.proofs.Forwards.{forwarding_more}
 use Rattle.group_facts.proofs.RestLaws.{Inside, Law}
 use Rattle.group_sessions.proofs.PartLaws.{ServerRule, server_history}
@@ -73,7 +73,7 @@ cancelled_all : (j : Option Json) (ids : List Id) (fs : List Forwarded) → AllB
 cancelled_all j ids [] h = tt
 cancelled_all j ids (f ∷ fs) h = (go (is_written j f.number) refl, cancelled_all j ids fs h.1)
   where
-    go : (b : Bool) → is_written j f.number ≡ b → Named (without (id_at j) ids) (if b then record { number = f.number; editor = f.editor; id = f.id; cancelled = true } else f)
+    go : (b : Bool) → is_written j f.number ≡ b → Named (without (id_at j) ids) (if b then record f { cancelled = true } else f)
     go true e = λ open_still. absurd (cc)
     go false e = λ open_still. unnamed j f.number ids e (h.0 open_still)
 
@@ -175,6 +175,7 @@ module _ (settings : Settings) (before : List Event) (cause : Cause) (events : L
   numbered_by (forwarded k) = subst (IsNumbered (forwarding_of s events).next) (sym k.says) (λ other. refl)
   numbered_by (greets k) = subst (IsNumbered (forwarding_of s events).next) (sym k.says) tt
   numbered_by (cancels k) = subst (IsNumbered (forwarding_of s events).next) (sym k.says) tt
+  numbered_by (cancels_work k) = subst (IsNumbered (forwarding_of s events).next) (sym k.says) tt
   numbered_by (exits k) = subst (IsNumbered (forwarding_of s events).next) (sym k.says) tt
   numbered_by (notes k) = subst (IsNumbered (forwarding_of s events).next) (sym k.says) tt
   numbered_by (tells k) = spoken_numbered (forwarding_of s events).next (message_of body) k.spoken
@@ -195,6 +196,7 @@ module _ (settings : Settings) (before : List Event) (cause : Cause) (events : L
   may_send (responds k) h = response_free (waiting s events) (message_of body) k.response
   may_send (resolves k) h = response_free (waiting s events) (message_of body) k.response
   may_send (cancels k) h = subst May (sym k.says) (ap (λ j. is_among (id_at j) (waiting s events)) k.named ∙ ap (λ i. is_among i (waiting s events)) k.id ∙ may_name k.number (waiting s events) (forwarding_of s events).open_requests (h s) k.waits)
+  may_send (cancels_work k) h = subst May (sym k.says) refl
 
 law : (settings : Settings) → Law settings Ties
 law settings = record {

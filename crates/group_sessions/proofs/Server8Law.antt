@@ -26,7 +26,7 @@ use Rattle.group_rows.specs.Forwarded.{names}
 use Rattle.group_rows.specs.Rows.{outs_of}
 use Rattle.group_rows.proofs.Going.{no_exit}
 use Rattle.group_facts.specs.Legal.{Legal}
-use Rattle.group_facts.specs.Why.{IsExit, IsShutting, WhyToServer, begins, greets, forwarded, notes, tells, shuts, cancels, responds, exits, resolves}
+use Rattle.group_facts.specs.Why.{IsExit, IsShutting, WhyToServer, begins, greets, forwarded, notes, tells, shuts, cancels, responds, exits, resolves, cancels_work}
 use Rattle.group_facts.proofs.RestLaws.{RestLaw}
 use Rattle.group_sessions.proofs.PartLaws.{ServerRule, server_history}
 
@@ -222,6 +222,7 @@ module _ (settings : Settings) (before : List Event) (cause : Cause) (events : L
   step (notes k) h m = calm_step Ready k.ready refl (calm_as _ k.says (record { stays = refl; goes_on = no_exit k.method k.going })) m
   step (tells k) h m = calm_step Ready k.ready refl (spoken_calm (message_of body) k.spoken) m
   step (cancels k) h m = calm_step Ready k.ready refl (calm_as _ k.says (record { stays = refl; goes_on = refl })) m
+  step (cancels_work k) h m = calm_step Ready k.ready refl (calm_as _ k.says (record { stays = refl; goes_on = refl })) m
   step (responds k) h m = calm_step Initializing k.waiting refl (response_calm (message_of body) k.response) m
   step (resolves k) h m = calm_step Ready k.ready refl (response_calm (message_of body) k.response) m
   step (shuts k) h m = shuts_step k m

@@ -4,9 +4,9 @@ ghost use Rattle.group_words.specs.Keys as keys;
 ghost use Rattle.group_words.specs.Placing as placing;
 ghost use Rattle.group_table.specs.Tables.{ReadsTo};
 
-use capability_meet::below;
+use group_words::capability_meet::below;
+use group_words::json_span::{JsonFault, Tape, same};
 use group_words::{Kept, Key};
-use json_span::{JsonFault, Tape, same};
 use message_body::{Body, Memory};
 use std::alloc::Global;
 

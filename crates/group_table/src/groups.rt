@@ -3,7 +3,7 @@ ghost use Rattle.std.specs.Prelude.{◌≡◌, ◌+◌, ◌^◌, None, IsErr, Is
 ghost use Rattle.group_words.specs.Houses.{idle_if_live};
 ghost use Rattle.group_words.specs.Placing.{all_from, changed, ended, exited, busy, is_due, is_live, first_from, founded, idlest_from, founding, live_count, takes, placed_in, with_placed};
 ghost use Rattle.std.specs.List.{slice_get};
-ghost use Rattle.capability_meet.specs.declared.fault.CapFault.TheVariants.{NotJson};
+ghost use Rattle.group_words.specs.capability_meet.specs.declared.fault.CapFault.TheVariants.{NotJson};
 ghost use Rattle.group_words.specs.declared.kept.Kept.{Kept};
 ghost use Rattle.group_words.specs.Placing as placing;
 ghost use Rattle.number_table.specs.Numbers.{numbers_in};
@@ -11,7 +11,7 @@ ghost use Rattle.group_table.specs.Live.{first_in, idlest_in, number_of};
 ghost use Rattle.group_table.specs.Tables.{Inside, after_place, declared_text, place_in, with_groups};
 
 use crate::compare::takes;
-use capability_meet::{CapFault, declared};
+use group_words::capability_meet::{CapFault, declared};
 use group_words::{Idle, Kept, Key, Placed};
 use message_body::{Body, Memory};
 use number_table::{Numbered, forget, place_of};

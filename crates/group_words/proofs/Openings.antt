@@ -18,13 +18,13 @@ use Rattle.json_text.proofs.Inside.{Inside, path_inside, InSpan, value_in_span}
 use Rattle.json_text.proofs.Laws.{tree_complete, tree_sound}
 use Rattle.json_text.proofs.Moves.{Placed, PlacedText, moved, placed, placed_text}
 use Rattle.json_text.proofs.Put.{depth_bare}
-use Rattle.json_token.proofs.Scalars.{scalar_string, utf8_characters}
-use Rattle.rpc_message.proofs.Strings.{spells_text}
-use Rattle.rpc_message.specs.Message.{integer, request, slice_of, message_of}
-use Rattle.rpc_message.specs.Texts.{initialize_params}
-use Rattle.rpc_message.specs.ValueTexts.{IsOptionText, IsShallowText, IsValueText, option_depth}
-use Rattle.rpc_message.proofs.Opening.{initialize_law, value_says}
-use Rattle.rpc_message.proofs.Standing.{place_named}
+use Rattle.capability_meet.specs.json_token.proofs.Scalars.{scalar_string, utf8_characters}
+use Rattle.event_model.specs.rpc_message.proofs.Strings.{spells_text}
+use Rattle.event_model.specs.rpc_message.specs.Message.{integer, request, slice_of, message_of}
+use Rattle.event_model.specs.rpc_message.specs.Texts.{initialize_params}
+use Rattle.event_model.specs.rpc_message.specs.ValueTexts.{IsOptionText, IsShallowText, IsValueText, option_depth}
+use Rattle.event_model.specs.rpc_message.proofs.Opening.{initialize_law, value_says}
+use Rattle.event_model.specs.rpc_message.proofs.Standing.{place_named}
 use Rattle.capability_meet.specs.Compact.{compact}
 use Rattle.capability_meet.specs.DeclaredTree.{declared_of, declared_tree}
 use Rattle.capability_meet.specs.Meet.{meets}

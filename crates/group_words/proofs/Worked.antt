@@ -6,8 +6,8 @@ use Rattle.url.proofs.OnLiterals.{url_on_literals}
 use Rattle.json.specs.Print.{escape_byte}
 use Rattle.json_text.specs.Computes.{computes}
 use Rattle.json_text.specs.Named.{named}
-use Rattle.rpc_message.specs.Message.{message_of, no_name_twice, is_integer, member_bytes}
-use Rattle.rpc_message.specs.Texts.{with_id_text}
+use Rattle.event_model.specs.rpc_message.specs.Message.{message_of, no_name_twice, is_integer, member_bytes}
+use Rattle.event_model.specs.rpc_message.specs.Texts.{with_id_text}
 use Rattle.group_words.specs.Houses.{home_of, groups_of, normalised, without_slash}
 use Rattle.group_words.specs.Placing.{over}
 use Rattle.group_words.specs.Rows.{outs_from, events_from, initialize_of}

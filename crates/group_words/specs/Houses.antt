@@ -7,7 +7,7 @@ use Rattle.url.specs.Parser.{Parsed, parse_url}
 use Rattle.url.specs.Parts.{Parts, serialize}
 use Rattle.mux_history.specs.declared.cause.Cause.TheVariants.{Joined, FromEditor, EditorGone, StartFailed, FromServer, ServerGone, Tick}
 use Rattle.mux_history.specs.declared.out.Out.TheVariants.{CloseEditor}
-use Rattle.rpc_message.specs.Message.{Message, request, error, integer}
+use Rattle.event_model.specs.rpc_message.specs.Message.{Message, request, error, integer}
 use Rattle.capability_meet.specs.DeclaredTree.{declared_of}
 use Rattle.event_model.specs.declared.settings.Server.{Server}
 use Rattle.event_model.specs.declared.phase.Phase.{Phase}

@@ -10,8 +10,8 @@ use Rattle.mux_history.specs.declared.cause.Cause.{Cause}
 use Rattle.mux_history.specs.declared.cause.Cause.TheVariants.{FromEditor, FromServer}
 use Rattle.mux_history.specs.declared.out.Out.{Out}
 use Rattle.mux_history.specs.declared.out.Out.TheVariants.{ToEditor, ToServer, CloseEditor, EndServer, Spawn}
-use Rattle.rpc_message.specs.Message.{message_of, id_bytes, result_bytes}
-use Rattle.rpc_message.specs.Texts.{ok_text, error_text, initialize_text, request_text, request_failed}
+use Rattle.event_model.specs.rpc_message.specs.Message.{message_of, id_bytes, result_bytes}
+use Rattle.event_model.specs.rpc_message.specs.Texts.{ok_text, error_text, initialize_text, request_text, request_failed}
 use Rattle.capability_meet.specs.Parts.{bracketed}
 use Rattle.event_model.specs.Members.{named_of}
 use Rattle.group_words.specs.declared.kept.Kept.{Kept}

@@ -6,6 +6,8 @@ mod kept;
 mod key;
 mod placed;
 
+pub use capability_meet;
+pub use capability_meet::json_span;
 pub use idle::Idle;
 pub use kept::Kept;
 pub use key::Key;

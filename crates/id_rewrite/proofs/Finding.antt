@@ -3,10 +3,10 @@ use Rattle.std.proofs.Common.{◌≡◌, ℕ, suc, ◌+◌, ◌-◌, ◌≤◌, 
 use Rattle.std.specs.Prelude.{Option, Some, None, option_map, bytes_eq, IfSome}
 use Rattle.std.specs.Map.{lookup}
 use Rattle.std.proofs.lemmas.Bool.Decides.{nat_tests}
-use Rattle.rpc_message.specs.Ids.{is_quoted}
-use Rattle.rpc_message.specs.Message.{Id, integer, text, same_id}
-use Rattle.rpc_message.specs.ValueTexts.{IsIdText}
-use Rattle.rpc_message.proofs.SameIds.{Shape, id_shape, others_same, shape_quoted}
+use Rattle.response_route.specs.rpc_message.specs.Ids.{is_quoted}
+use Rattle.response_route.specs.rpc_message.specs.Message.{Id, integer, text, same_id}
+use Rattle.response_route.specs.rpc_message.specs.ValueTexts.{IsIdText}
+use Rattle.response_route.specs.rpc_message.proofs.SameIds.{Shape, id_shape, others_same, shape_quoted}
 use Rattle.id_rewrite.specs.declared.pending.Pending.{Pending}
 use Rattle.id_rewrite.specs.declared.pending.Numbered.{Numbered}
 use Rattle.id_rewrite.specs.Fingerprints.{fingerprint, front, words}

@@ -6,7 +6,7 @@ use Rattle.sha2.specs.declared.Sha256.{Sha256}
 use Rattle.sha2.specs.Hashers.{Holds256}
 use Rattle.sha2.specs.Sha256.{sha256}
 use Rattle.json_token.specs.Characters.{next_character}
-use Rattle.rpc_message.specs.Ids.{is_quoted}
+use Rattle.response_route.specs.rpc_message.specs.Ids.{is_quoted}
 use Rattle.id_rewrite.specs.Fingerprints.{Adds, fingerprint, front, word, words}
 use Rattle.id_rewrite.specs.Forms.{characters_of, form, inner}
 use Rattle.id_rewrite.proofs.Forming.{first_is, none_is}

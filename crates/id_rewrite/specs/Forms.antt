@@ -2,7 +2,7 @@
 use Rattle.std.specs.Prelude.{ℕ, zero, suc, ◌-◌, Bool, List, [], ◌∷◌, length, slice_range, bytes_eq, if◌then◌else◌}
 use Rattle.std.specs.Prelude.{None, Some}
 use Rattle.json_token.specs.Characters.{Front, next_character}
-use Rattle.rpc_message.specs.Ids.{is_quoted}
+use Rattle.response_route.specs.rpc_message.specs.Ids.{is_quoted}
 
 abbrev pub first_then : Front → (List ℕ → List ℕ) → List ℕ
 first_then None rest = []

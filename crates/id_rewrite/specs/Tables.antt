@@ -2,8 +2,8 @@
 use Rattle.std.specs.Prelude.{ℕ, ◌+◌, ◌≤◌, Bool, true, not, ◌&&◌, List, [], ◌∷◌, map, filter, find, nat_eq, if◌then◌else◌}
 use Rattle.std.specs.Prelude.{Option, None, option_map}
 use Rattle.std.specs.List.{AllByRecursion, last_or, list_any}
-use Rattle.rpc_message.specs.Message.{Id, same_id}
-use Rattle.rpc_message.specs.ValueTexts.{IsIdText}
+use Rattle.response_route.specs.rpc_message.specs.Message.{Id, same_id}
+use Rattle.response_route.specs.rpc_message.specs.ValueTexts.{IsIdText}
 use Rattle.id_rewrite.specs.Forms.{same_form}
 use Rattle.id_rewrite.specs.declared.pending.Pending.{Pending}
 use Rattle.id_rewrite.specs.declared.pending.Numbered.{Numbered}

@@ -4,7 +4,7 @@ ghost use Rattle.id_rewrite.specs.Forms.{characters_of, form, inner, same_form};
 ghost use Rattle.id_rewrite.specs.Fingerprints.{Adds, fingerprint, front, word, words};
 
 use json_token::next_character;
-use rpc_message::is_quoted;
+use response_route::rpc_message::is_quoted;
 use sha2::{Digest, Sha256};
 
 // What is between the quotation marks of a string.

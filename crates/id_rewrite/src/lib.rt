@@ -9,4 +9,5 @@ mod table;
 
 pub use form::{fingerprint, same_form};
 pub use pending::{Numbered, NumbersUsed, Pending};
+pub use response_route;
 pub use table::IdTable;

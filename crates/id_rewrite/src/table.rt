@@ -1,7 +1,7 @@
 //! The table of open requests.
 ghost use Rattle.std.specs.Prelude.{◌≡◌, ℕ, ◌+◌, ◌<◌, ◌≤◌, List, [], ◌∷◌, ◌++◌, true, None, Some, IfOk, IsOk, OnOk, OnErr, IfSome, MatchResult, option_copied, option_map};
-ghost use Rattle.rpc_message.specs.Message.{Id};
-ghost use Rattle.rpc_message.specs.ValueTexts.{IsIdText};
+ghost use Rattle.response_route.specs.rpc_message.specs.Message.{Id};
+ghost use Rattle.response_route.specs.rpc_message.specs.ValueTexts.{IsIdText};
 ghost use Rattle.id_rewrite.specs.Tables.{AreIds, IsInOrder, last_editor, number_of, number_under, numbers_of, pending_of, with_cancelled, without, editors_of};
 
 use crate::form::fingerprint;

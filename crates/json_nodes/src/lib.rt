@@ -12,6 +12,7 @@ mod span_bytes;
 mod steps;
 mod values;
 
+pub use json_token;
 pub use node::{Node, Place};
 pub use puts::Put;
 pub use span_bytes::part;

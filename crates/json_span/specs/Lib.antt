@@ -3,3 +3,4 @@ pub mod Machine
 pub mod Views
 pub mod Words
 pub mod Characters
+pub use Rattle.json_nodes

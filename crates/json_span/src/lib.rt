@@ -11,6 +11,7 @@ mod tape;
 mod word;
 
 pub use fault::JsonFault;
+pub use json_nodes;
 pub use json_text::{Change, Kind, Span, splice};
 pub use json_token::{decode, same_characters, spells_text};
 pub use message_body::{Body, Memory};

@@ -8,5 +8,6 @@ mod tree;
 
 pub use change::{Change, splice};
 pub use kind::{Kind, Word};
+pub use message_body;
 pub use span::Span;
 pub use tree::tree_of_law;

@@ -5,7 +5,7 @@ use Rattle.std.specs.Io.KnownBytes.{append_known}
 use Rattle.std.proofs.lemmas.List.{append-nil}
 use Rattle.mux_history.specs.declared.entry.Entry.{Entry}
 use Rattle.mux_hub.specs.Hubs.{HubView, Tells}
-use Rattle.group_facts.specs.Legal.{Legal}
+use Rattle.mux_hub.specs.group_facts.specs.Legal.{Legal}
 use Rattle.outside_io.specs.Faults.{Rose}
 use Rattle.event_model.specs.Settings.{Settings}
 use Rattle.lspmux_program.specs.declared.refusal.Refusal.{Refusal}
@@ -15,9 +15,9 @@ use Rattle.lspmux_program.proofs.Driving.{append_both, take_more}
 use Rattle.lspmux_program.proofs.Passing.{not_too_many}
 use Rattle.lspmux_program.specs.Lines.{lines_of}
 use Rattle.drive_text.specs.Outs.{outs_text}
-use Rattle.group_facts.specs.OwnTexts.{OwnTexts}
-use Rattle.group_facts.proofs.OwnVersions.{own_versions_hold}
-use Rattle.group_facts.proofs.Switching.{switches_hold}
+use Rattle.mux_hub.specs.group_facts.specs.OwnTexts.{OwnTexts}
+use Rattle.mux_hub.specs.group_facts.proofs.OwnVersions.{own_versions_hold}
+use Rattle.mux_hub.specs.group_facts.proofs.Switching.{switches_hold}
 use Rattle.mux_hub.proofs.Sessions.{sessions_kept}
 use Rattle.lspmux_program.specs.Program.{status_of, fault_line, status_line, refused_line, Ran, Drove, JournalTells, words_line, IsUnrefused, Undisturbed}
 use Rattle.lspmux_program.specs.Reports.{Wrote, Reported, said, unsaid}

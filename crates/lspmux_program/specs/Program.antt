@@ -6,11 +6,11 @@ use Rattle.mux_history.specs.declared.entry.Entry.{Entry}
 use Rattle.mux_hub.specs.Entries.{most_events}
 use Rattle.mux_hub.specs.Hubs.{Tells}
 use Rattle.event_model.specs.Event.{events_of}
-use Rattle.session_laws.specs.Sessions.{KeepsSessions}
-use Rattle.group_facts.specs.Legal.{Legal}
-use Rattle.group_facts.specs.OwnTexts.{OwnTexts}
-use Rattle.group_facts.specs.OwnVersions.{OwnVersions}
-use Rattle.group_facts.specs.Switches.{Switches}
+use Rattle.mux_hub.specs.session_laws.specs.Sessions.{KeepsSessions}
+use Rattle.mux_hub.specs.group_facts.specs.Legal.{Legal}
+use Rattle.mux_hub.specs.group_facts.specs.OwnTexts.{OwnTexts}
+use Rattle.mux_hub.specs.group_facts.specs.OwnVersions.{OwnVersions}
+use Rattle.mux_hub.specs.group_facts.specs.Switches.{Switches}
 use Rattle.outside_io.specs.Faults.{Rose}
 use Rattle.lspmux_program.specs.declared.refusal.Refusal.{Refusal}
 use Rattle.lspmux_program.specs.declared.refusal.Refusal.TheVariants.{Form, Absent, Unbuilt}

@@ -6,7 +6,7 @@ use Rattle.mux_history.specs.declared.cause.Cause.{Cause}
 use Rattle.mux_history.specs.declared.entry.Entry.{Entry}
 use Rattle.mux_model.specs.Fits.{fits}
 use Rattle.event_model.specs.Settings.{Settings}
-use Rattle.group_facts.specs.Built.{built}
+use Rattle.mux_hub.specs.group_facts.specs.Built.{built}
 use Rattle.mux_hub.specs.Entries.{entry_of, passes}
 use Rattle.lspmux_program.specs.declared.refusal.Refusal.{Refusal}
 use Rattle.lspmux_program.specs.declared.refusal.Refusal.TheVariants.{Form, Absent, Unbuilt}

@@ -5,7 +5,7 @@ ghost use Rattle.mux_history.specs.declared.entry.Entry.{Entry};
 ghost use Rattle.mux_history.specs.Cores.{body_length};
 ghost use Rattle.mux_hub.specs.Hubs.{HubView, HubStands};
 ghost use Rattle.mux_model.specs.Fits.{fits};
-ghost use Rattle.group_facts.specs.Built.{built};
+ghost use Rattle.mux_hub.specs.group_facts.specs.Built.{built};
 ghost use Rattle.lspmux_program.specs.Runs.{reading_bytes};
 ghost use Rattle.lspmux_program.specs.Steps.{IsTaken, IsTooMany, LineTaken, LineLeft};
 ghost use Rattle.lspmux_program.specs.Faults.{LeavesWritten};

@@ -4,10 +4,10 @@ use Rattle.std.specs.Prelude.{Some, slice_get}
 use Rattle.event_model.specs.Event.{Event}
 use Rattle.event_model.specs.Settings.{Settings}
 use Rattle.event_model.specs.Stages.{life_of}
-use Rattle.mux_tables.specs.declared.tables.Start.{Start}
-use Rattle.mux_tables.specs.declared.tables.Tables.{Tables}
-use Rattle.mux_tables.specs.Stands.{Stands, number_in, of_life}
-use Rattle.mux_tables.proofs.Starts.{read_here, start_at_place}
+use Rattle.mux_turns.specs.mux_tables.specs.declared.tables.Start.{Start}
+use Rattle.mux_turns.specs.mux_tables.specs.declared.tables.Tables.{Tables}
+use Rattle.mux_turns.specs.mux_tables.specs.Stands.{Stands, number_in, of_life}
+use Rattle.mux_turns.specs.mux_tables.proofs.Starts.{read_here, start_at_place}
 
 -- the last start of a group, as it is kept
 pub last_life : (settings : Settings) (t : Tables) (events : List Event) (g s : ℕ) (z : Start) → Stands settings t events → slice_get (map number_in t.lasts.items) g ≡ Some s → g < length t.lasts.items → z ≡ get_or t.lasts.items g z

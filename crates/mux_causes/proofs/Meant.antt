@@ -10,7 +10,6 @@ use Rattle.rpc_message.specs.declared.envelope.Envelope.TheVariants.{Request, No
 use Rattle.rpc_message.specs.Envelopes.{Tells}
 use Rattle.rpc_message.specs.Parsed.{IsRead, Parsed}
 use Rattle.rpc_message.specs.Sorts.{sort_of}
-use Rattle.event_model.specs.declared.phase.Phase.{Phase}
 use Rattle.event_model.specs.declared.stage.Stage.{Stage}
 use Rattle.event_model.specs.declared.stage.Stage.TheVariants.{Unspawned, Spawning, Initializing, Ready, Stopping, Ending, Ended}
 use Rattle.event_model.specs.Event.{Event}
@@ -18,11 +17,11 @@ use Rattle.event_model.specs.Phases.{is_malformed}
 use Rattle.event_model.specs.Settings.{Settings}
 use Rattle.event_model.specs.Stages.{is_first_result}
 use Rattle.group_words.specs.Houses.{groups_of}
-use Rattle.group_facts.specs.Built.{built_early, built_from_editor, built_from_server, built_ready, is_shown_whole, is_left}
-use Rattle.group_facts.specs.Lively.{lives_at}
+use Rattle.mux_turns.specs.group_facts.specs.Built.{built_early, built_from_editor, built_from_server, built_ready, is_shown_whole, is_left}
+use Rattle.mux_turns.specs.group_facts.specs.Lively.{lives_at}
 use Rattle.std.specs.Option.{option_map_or}
-use Rattle.mux_tables.specs.declared.tables.Tables.{Tables}
-use Rattle.mux_tables.specs.Stands.{Stands, is_over}
+use Rattle.mux_turns.specs.mux_tables.specs.declared.tables.Tables.{Tables}
+use Rattle.mux_turns.specs.mux_tables.specs.Stands.{Stands, is_over}
 
 -- what a message of each sort is
 
@@ -52,15 +51,15 @@ is_notification (error id e) h = absurd (cc)
 is_notification not_json h = absurd (cc)
 is_notification not_message h = absurd (cc)
 
-pub response_built : (phase : Phase) (ids : List Id) (m : Message) (x : Sort) → sort_of m ≡ Some x → (x ≡ sort.Result) ⊎ (x ≡ sort.Error) → true ≡ built_from_editor phase ids m
-response_built phase ids (result id v) x h k = refl
-response_built phase ids (error id e) x h k = refl
-response_built phase ids not_json x h k = refl
-response_built phase ids not_message x h k = refl
-response_built phase ids (request id method params) x h (inl e) = absurd (cc)
-response_built phase ids (request id method params) x h (inr e) = absurd (cc)
-response_built phase ids (notification method params) x h (inl e) = absurd (cc)
-response_built phase ids (notification method params) x h (inr e) = absurd (cc)
+pub unasked_built : (m : Message) (x : Sort) → sort_of m ≡ Some x → (x ≡ sort.Notification) ⊎ ((x ≡ sort.Result) ⊎ (x ≡ sort.Error)) → true ≡ built_from_editor m
+unasked_built (result id v) x h k = refl
+unasked_built (error id e) x h k = refl
+unasked_built not_json x h k = refl
+unasked_built not_message x h k = refl
+unasked_built (notification method params) x h k = refl
+unasked_built (request id method params) x h (inl e) = absurd (cc)
+unasked_built (request id method params) x h (inr (inl e)) = absurd (cc)
+unasked_built (request id method params) x h (inr (inr e)) = absurd (cc)
 
 -- of a start
 

@@ -1,1 +1,4 @@
 pub mod Backlogs
+pub use Rattle.mux_turns.specs.document_laws
+pub use Rattle.mux_turns.specs.group_laws
+pub use Rattle.mux_turns.specs.mux_tables

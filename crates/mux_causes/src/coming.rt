@@ -5,12 +5,12 @@ ghost use Rattle.event_model.specs.Phases.{backlog_of, desk_of, is_linked};
 ghost use Rattle.event_model.specs.Settings.{Settings};
 ghost use Rattle.event_model.specs.Stages.{life_of, may_start, runs};
 ghost use Rattle.mux_causes.specs.Backlogs.{BacklogsStand};
-ghost use Rattle.mux_model.specs.Fits.{fits_behind};
-ghost use Rattle.mux_tables.specs.Stands.{Stands};
+ghost use Rattle.mux_turns.specs.mux_model.specs.Fits.{fits_behind};
+ghost use Rattle.mux_turns.specs.mux_tables.specs.Stands.{Stands};
 
 use crate::backlogs::Backlogs;
 use mux_history::Cause;
-use mux_tables::{Start, Tables};
+use mux_turns::mux_tables::{Start, Tables};
 
 // Whether the link of an editor isn't gone.
 fn is_linked(tables: &Tables, e: u64) -> bool

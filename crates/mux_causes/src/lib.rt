@@ -7,4 +7,5 @@ mod rows;
 
 pub use backlogs::Backlogs;
 pub use coming::fits;
+pub use mux_turns::mux_tables;
 pub use rows::built;

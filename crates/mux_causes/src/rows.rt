@@ -1,60 +1,33 @@
 // Which causes meet rows of the routing table that are built.
-ghost use Rattle.std.specs.Prelude.{◌≡◌, ◌≤◌, ◌<◌, ◌&&◌, ◌||◌, ℕ, not, true, false, length, map, List, Option, Some, IfOk, slice_get};
+ghost use Rattle.std.specs.Prelude.{◌≡◌, ◌≤◌, ◌<◌, ℕ, true, false, length, map, List, Option, Some, IfOk, slice_get};
 ghost use Rattle.event_model.specs.declared.stage.Stage.TheVariants.{Ready};
 ghost use Rattle.event_model.specs.Event.{Event};
-ghost use Rattle.event_model.specs.Members.{has_token};
-ghost use Rattle.event_model.specs.Phases.{desk_of, is_served};
-ghost use Rattle.event_model.specs.Requests.{is_open, open_of};
 ghost use Rattle.event_model.specs.Settings.{Settings};
 ghost use Rattle.event_model.specs.Stages.{is_first_result, life_of};
-ghost use Rattle.group_facts.specs.Built.{built_asking, built_behind, built_early, built_from_editor, built_from_server, built_notice, built_ready, built_request, built_telling, cancels_work, doubles, is_left, is_marked, is_plain, is_shown_whole, is_standard};
-ghost use Rattle.group_facts.specs.Facts.{Known};
-ghost use Rattle.group_facts.specs.Lively.{lives_at};
-ghost use Rattle.group_facts.specs.Settled.{Settled};
-ghost use Rattle.group_rows.specs.Rows.{names_lspmux};
+ghost use Rattle.mux_turns.specs.group_facts.specs.Built.{built_asking, built_behind, built_early, built_from_editor, built_from_server, built_ready, built_request, built_telling, is_left, is_shown_whole, is_standard};
+ghost use Rattle.mux_turns.specs.group_facts.specs.Facts.{Known};
+ghost use Rattle.mux_turns.specs.group_facts.specs.Lively.{lives_at};
+ghost use Rattle.mux_turns.specs.group_facts.specs.Settled.{Settled};
+ghost use Rattle.mux_turns.specs.group_rows.specs.Rows.{names_lspmux};
 ghost use Rattle.group_words.specs.Houses.{groups_of};
 ghost use Rattle.json_text.specs.Json.{Json};
 ghost use Rattle.lsp_method.specs.Class.{class_of};
 ghost use Rattle.lsp_method.specs.declared.variants.Origin.TheVariants.{Editor, Server};
 ghost use Rattle.mux_history.specs.Cores.{body_length};
-ghost use Rattle.mux_model.specs.Built.{is_other};
-ghost use Rattle.mux_tables.specs.declared.tables.Start.{Start};
-ghost use Rattle.mux_tables.specs.Stands.{Stands, number_in};
+ghost use Rattle.mux_turns.specs.mux_tables.specs.declared.tables.Start.{Start};
+ghost use Rattle.mux_turns.specs.mux_tables.specs.Stands.{Stands, number_in};
 ghost use Rattle.rpc_message.specs.Message.{Id, message_of, notification, request, result as outcome};
 ghost use Rattle.rpc_message.specs.Parsed.{IsRead};
 
-use event_model::{Phase, Stage};
+use event_model::Stage;
 use lsp_method::Class;
 use message_body::{Body, Memory};
 use mux_history::Cause;
-use mux_members::{asked_class, cancels_work, class_in, has_token, is_first_result, told_class};
-use mux_tables::Tables;
-use mux_turns::{asks_lspmux, doubles, shown_of};
+use mux_turns::mux_members::{asked_class, class_in, is_first_result, told_class};
+use mux_turns::mux_tables::Tables;
+use mux_turns::{asks_lspmux, shown_of};
 use rpc_message::{Malformed, Message, Sort};
 use std::alloc::Global;
-
-// Whether this is the class of requests that are passed on.
-fn is_other(class: Class) -> bool
-    ensures { result ≡ is_other class }
-{
-    matches!(class, Class::Other)
-}
-
-// E8 and E10: whether a request is of that class.
-fn is_plain(message: &Message) -> bool
-    ensures { (body method : List ℕ) (id : Id) (params : Option Json) → IsRead message.now body → message_of body ≡ request id method params
-        → result ≡ is_plain method }
-{
-    is_other(class_in(message))
-}
-
-// E10: whether it is, and has a token.
-fn is_marked(message: &Message) -> bool
-    ensures { (body method : List ℕ) (id : Id) (params : Option Json) → IsRead message.now body → message_of body ≡ request id method params
-        → result ≡ is_marked method params }
-{
-    is_plain(message) && has_token(message)
-}
 
 // Whether this is a class of methods of the standard.
 fn is_standard_class(class: Class) -> bool
@@ -73,30 +46,6 @@ fn is_standard(message: &Message) -> bool
     is_standard_class(class_in(message))
 }
 
-// E10: whether a request of an editor that is served has a token.
-fn is_marked_here(phase: Phase, message: &Message) -> bool
-    ensures { (body method : List ℕ) (id : Id) (params : Option Json) → IsRead message.now body → message_of body ≡ request id method params
-        → result ≡ (is_served phase && is_marked method params) }
-{
-    phase.is_served() && is_marked(message)
-}
-
-// E3 and E10: whether a request goes nowhere, since it is under an id that is open, or goes on without a token.
-fn is_tokenless(phase: Phase, doubled: bool, message: &Message) -> bool
-    ensures { (body method : List ℕ) (id : Id) (params : Option Json) → IsRead message.now body → message_of body ≡ request id method params
-        → result ≡ (doubled || not (is_served phase && is_marked method params)) }
-{
-    doubled || !is_marked_here(phase, message)
-}
-
-// E3 and E7 to E10: whether a request of the standard is built.
-fn is_taken(phase: Phase, doubled: bool, message: &Message) -> bool
-    ensures { (body method : List ℕ) (id : Id) (params : Option Json) → IsRead message.now body → message_of body ≡ request id method params
-        → result ≡ (is_standard (class_of method Editor false) && (doubled || not (is_served phase && is_marked method params))) }
-{
-    is_standard(message) && is_tokenless(phase, doubled, message)
-}
-
 // E4 and E5: whether a request is the multiplexer's own.
 fn names_lspmux(message: &Message) -> bool
     ensures { (body method : List ℕ) (id : Id) (params : Option Json) → IsRead message.now body → message_of body ≡ request id method params
@@ -105,61 +54,31 @@ fn names_lspmux(message: &Message) -> bool
     asks_lspmux(message)
 }
 
-// E3 to E5 and E7 to E10: whether a request of an editor in this phase is built, under an id that is open or not.
-fn built_request(phase: Phase, doubled: bool, message: &Message) -> bool
+// E3 to E5 and E7 to E10: whether a request of an editor is built.
+fn built_request(message: &Message) -> bool
     ensures { (body method : List ℕ) (id : Id) (params : Option Json) → IsRead message.now body → message_of body ≡ request id method params
-        → result ≡ built_request phase doubled method params }
+        → result ≡ built_request method }
 {
-    names_lspmux(message) || is_taken(phase, doubled, message)
-}
-
-// E11: whether it is a notification of an editor that is served, and cancels the work of a token.
-fn cancels_here(phase: Phase, message: &Message) -> bool
-    ensures { (body method : List ℕ) (params : Option Json) → IsRead message.now body → message_of body ≡ notification method params
-        → result ≡ (is_served phase && cancels_work method) }
-{
-    phase.is_served() && cancels_work(message)
-}
-
-// Whether a notification of an editor in this phase is built.
-fn built_notice(phase: Phase, message: &Message) -> bool
-    ensures { (body method : List ℕ) (params : Option Json) → IsRead message.now body → message_of body ≡ notification method params
-        → result ≡ built_notice phase method }
-{
-    !cancels_here(phase, message)
-}
-
-// A request of an editor.
-fn built_asking(tables: &Tables, e: u64, phase: Phase, message: &Message) -> bool
-    ensures { (settings : Settings) (before : List Event) (body method : List ℕ) (id : Id) (params : Option Json) → Known settings before
-        → Settled settings before → Stands settings tables.now before → IsRead message.now body → message_of body ≡ request id method params
-        → phase ≡ (desk_of e before).phase → result ≡ built_request phase (doubles phase id (open_of e before)) method params }
-{
-    let doubled = doubles(tables, e, phase, message.id_bytes());
-    built_request(phase, doubled, message)
+    names_lspmux(message) || is_standard(message)
 }
 
 // A message of an editor.
-fn built_message(tables: &Tables, e: u64, message: &Message) -> bool
-    ensures { (settings : Settings) (before : List Event) (body : List ℕ) → Known settings before
-        → Settled settings before → Stands settings tables.now before → IsRead message.now body
-        → result ≡ built_from_editor (desk_of e before).phase (open_of e before) (message_of body) }
+fn built_message(message: &Message) -> bool
+    ensures { (body : List ℕ) → IsRead message.now body → result ≡ built_from_editor (message_of body) }
 {
     match message.sort() {
-        Sort::Request => built_asking(tables, e, tables.phase(e), message),
-        Sort::Notification => built_notice(tables.phase(e), message),
-        Sort::Result | Sort::Error => true,
+        Sort::Request => built_request(message),
+        Sort::Notification | Sort::Result | Sort::Error => true,
     }
 }
 
 // A body of an editor.
-fn built_from_editor(tables: &Tables, alloc: Global, e: u64, body: &Body) -> Result<bool, Memory>
+fn built_from_editor(alloc: Global, body: &Body) -> Result<bool, Memory>
     requires { length body.now ≤ 268435456 }
-    ensures { (settings : Settings) (before : List Event) → Known settings before → Settled settings before → Stands settings tables.now before
-        → IfOk result (λ answer. answer ≡ built_from_editor (desk_of e before).phase (open_of e before) (message_of body.now)) }
+    ensures { IfOk result (λ answer. answer ≡ built_from_editor (message_of body.now)) }
 {
     match Message::read(alloc, body.bytes()) {
-        Ok(message) => Ok(built_message(tables, e, &message)),
+        Ok(message) => Ok(built_message(&message)),
         Err(Malformed::Memory) => Err(Memory),
         Err(Malformed::NotJson) => Ok(true),
         Err(Malformed::NotMessage) => Ok(true),
@@ -175,11 +94,11 @@ fn is_shown_whole(alloc: Global, message: &Message) -> Result<bool, Memory>
     Ok(told.bytes() == answer)
 }
 
-// Whether notifications of this class are built.
+// S13, S14, and what goes to each editor: whether notifications of this class are built.
 fn is_told(class: Class) -> bool
     ensures { result ≡ built_telling class }
 {
-    matches!(class, Class::Cancel | Class::Broadcast)
+    matches!(class, Class::Cancel | Class::Progress | Class::Broadcast)
 }
 
 // Whether a notification of a start that is ready is built.
@@ -324,7 +243,7 @@ pub fn built(tables: &Tables, alloc: Global, cause: &Cause) -> Result<bool, Memo
         Cause::EditorGone(_, _) => Ok(true),
         Cause::Started(_) => Ok(true),
         Cause::Drained(_, _) => Ok(true),
-        Cause::FromEditor(e, body) => built_from_editor(tables, alloc, *e, body),
+        Cause::FromEditor(_, body) => built_from_editor(alloc, body),
         Cause::FromServer(s, body) => built_from_server(tables, alloc, *s, body),
         Cause::StartFailed(s) => Ok(is_left(tables, *s)),
         Cause::ServerGone(s) => Ok(is_left(tables, *s)),

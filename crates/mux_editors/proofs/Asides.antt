@@ -15,7 +15,7 @@ use Rattle.event_model.specs.declared.phase.Phase.TheVariants.{Absent, New, Wait
 use Rattle.event_model.specs.Event.{Event, heard, notifies, requests, with_cause}
 use Rattle.event_model.specs.Phases.{Desk, desk_behind, desk_hears, desk_of, is_malformed, is_new, is_served, is_there}
 use Rattle.event_model.proofs.Frames.{one_more}
-use Rattle.group_facts.specs.Facts.{is_early}
+use Rattle.mux_turns.specs.group_facts.specs.Facts.{is_early}
 use Rattle.group_words.specs.Houses.{is_doubled, is_first_open, meant_of, places, stops}
 use Rattle.mux_tables.specs.Stands.{is_answer}
 use Rattle.mux_tables.specs.Documents.{changes_documents}

@@ -1,5 +1,5 @@
 -- An editor's request goes on behind a sync.
-use Rattle.std.proofs.Common.{◌≡◌, ℕ, ◌<◌, ◌^◌, true, false, not, List, [], ◌∷◌, ◌++◌, map, refl, ap, sym, subst, ◌∙◌, codes, arith}
+use Rattle.std.proofs.Common.{◌≡◌, ℕ, ◌<◌, ◌^◌, true, false, not, List, [], ◌∷◌, ◌++◌, map, refl, ap, ap₂, sym, subst, ◌∙◌, codes, arith}
 use Rattle.std.specs.Prelude.{Option, Some, decimal, slice_get}
 use Rattle.std.specs.List.{AllByRecursion}
 use Rattle.json_text.specs.Json.{Json}
@@ -7,9 +7,6 @@ use Rattle.mux_history.specs.declared.cause.Cause.TheVariants.{FromEditor}
 use Rattle.mux_history.specs.declared.out.Out.{Out}
 use Rattle.mux_history.specs.declared.out.Out.TheVariants.{ToServer}
 use Rattle.rpc_message.specs.Message.{Id, id_bytes, integer, message_of, request}
-use Rattle.rpc_message.specs.Texts.{with_id_text}
-use Rattle.rpc_message.proofs.Decimals.{decimal_law}
-use Rattle.rpc_message.proofs.Ids.{request_with_id}
 use Rattle.document_model.specs.Sayings.{nothing, saying_of}
 use Rattle.event_model.specs.declared.stage.Stage.TheVariants.{Ready}
 use Rattle.event_model.specs.Does.{Does}
@@ -21,9 +18,11 @@ use Rattle.event_model.proofs.Frames.{one_more}
 use Rattle.mux_model.specs.Documents.{held_at}
 use Rattle.mux_model.specs.Rows.{to_start}
 use Rattle.mux_model.proofs.DocumentFolds.{outs_to_start}
-use Rattle.group_facts.specs.Why.{IsQuestion}
-use Rattle.group_rows.specs.Forwarded.{Forwarding, forwarding_behind, forwarding_of, sender_of}
+use Rattle.mux_turns.specs.group_facts.specs.Why.{IsQuestion}
+use Rattle.group_rows.specs.Forwarded.{Forwarding, forwarding_behind, forwarding_of, sender_of, token_in}
 use Rattle.group_rows.specs.Rows.{forward, sync_bodies, sync_row}
+use Rattle.group_rows.specs.Tokens.{forwarded_text}
+use Rattle.group_rows.proofs.TokenTexts.{forwarded_says}
 use Rattle.group_rows.specs.Texts.{is_synced, texts_of, worker_of}
 use Rattle.mux_tables.specs.declared.tables.Start.{Start}
 use Rattle.mux_tables.specs.declared.tables.Tables.{Tables}
@@ -49,9 +48,10 @@ module _ (settings : Settings) (t : Tables) (before : List Event) (body method :
   g = x.life.group
 
   -- whose request is at work
-  pub sends : (bytes : List ℕ) → bytes ≡ id_bytes body → Sends s e bytes now
-  sends bytes is = ap (λ (f : Forwarding). f.sender) ((alike_since settings before body e xs asked).forwarding s) ∙ (ap (λ (f : Forwarding). f.sender) (one_more (forwarding_behind s) _ _ before (heard (FromEditor e body)) refl)
-      ∙ (ap (sender_of e body) says ∙ ap (λ w. Some (record { editor = e; id = w })) (sym is)))
+  pub sends : (bytes : List ℕ) (work partial : Option (List ℕ)) → bytes ≡ id_bytes body → work ≡ token_in (codes "workDoneToken") body → partial ≡ token_in (codes "partialResultToken") body → Sends s e bytes work partial now
+  sends bytes work partial is first second = ap (λ (f : Forwarding). f.sender) ((alike_since settings before body e xs asked).forwarding s) ∙ (ap (λ (f : Forwarding). f.sender) (one_more (forwarding_behind s) _ _ before (heard (FromEditor e body)) refl)
+      ∙ (ap (sender_of e body) says ∙ (ap (λ w. Some (record { editor = e; id = w; work = token_in (codes "workDoneToken") body; partial = token_in (codes "partialResultToken") body })) (sym is)
+      ∙ ap₂ (λ a b. Some (record { editor = e; id = bytes; work = a; partial = b })) (sym first) (sym second))))
 
   pub works : worker_of now ≡ Some e
   works = at_work settings before body e xs asked
@@ -71,15 +71,15 @@ module _ (settings : Settings) (t : Tables) (before : List Event) (body method :
       let range = st.range in
       omega (arith, next, left, ends, range)
 
-  module _ (u : Tables) (text : List ℕ) (ys : List Out) (is : text ≡ with_id_text body (decimal n)) where
-    text_says : n < 2 ^ 32 → message_of text ≡ request (integer (decimal n)) method params
-    text_says l = ap message_of is ∙ request_with_id body (decimal n) id (integer (decimal n)) method params says (decimal_law n (omega (arith, l)))
+  module _ (u : Tables) (text : List ℕ) (ys : List Out) (is : text ≡ forwarded_text n body) where
+    text_says : n < 2 ^ 32 → (new : Option Json) × (message_of text ≡ request (integer (decimal n)) method new)
+    text_says l = let new = forwarded_says n body id method params (omega (arith, l)) says in (new.0, ap message_of is ∙ new.1)
 
     -- the number is still the next one behind the sync
     next_told : AllStand settings (t, nothing_owed) now → (forwarding_of s (behind now (to s bodies))).next ≡ n
     next_told k =
         let d = documents_at settings nothing_owed t now i x at k.1 in
-        let goes = text_says (bound k.0) in
+        let goes = (text_says (bound k.0)).1 in
         let silent : saying_of (message_of text) ≡ nothing = ap saying_of goes in
         let goes_behind : is_synced (message_of text) ≡ true = ap is_synced goes ∙ ap not passed in
         let row = row_bodies settings t now i e x d.0 text at d.1 ready silent goes_behind works k.0 k.1 in
@@ -90,12 +90,13 @@ module _ (settings : Settings) (t : Tables) (before : List Event) (body method :
 
     same_outs : AllStand settings (t, nothing_owed) now → outs (look (λ es. to_start s (syncing settings es g s e) ⨾ send (ToServer s text))) now ≡ outs (sync_row settings before g s e ⨾ forward s body) now
     same_outs k = ap (λ bs. outs (to_start s bs ⨾ send (ToServer s text)) now) same_bodies
-        ∙ ap (λ w. outs (to_start s bodies) now ++ ToServer s w ∷ []) (is ∙ ap (λ m. with_id_text body (decimal m)) (sym (ap (λ zs. (forwarding_of s (behind now zs)).next) (outs_to_start s bodies now) ∙ next_told k)))
+        ∙ ap (λ w. outs (to_start s bodies) now ++ ToServer s w ∷ []) (is ∙ ap (λ m. forwarded_text m body) (sym (ap (λ zs. (forwarding_of s (behind now zs)).next) (outs_to_start s bodies now) ∙ next_told k)))
 
-    pub goes_on : ((name : Id) → message_of text ≡ request name method params → Does (λ k events. AllStand settings k events) (look (λ es. to_start s (syncing settings es g s e) ⨾ send (ToServer s text))) base (t, nothing_owed) xs (u, nothing_owed) ys)
+    pub goes_on : ((name : Id) (new : Option Json) → message_of text ≡ request name method new → Does (λ k events. AllStand settings k events) (look (λ es. to_start s (syncing settings es g s e) ⨾ send (ToServer s text))) base (t, nothing_owed) xs (u, nothing_owed) ys)
         → Does (λ k events. AllStand settings k events) (sync_row settings before g s e ⨾ forward s body) base (t, nothing_owed) xs (u, nothing_owed) ys
     goes_on d = record {
       done = λ k.
-          let one = (d (integer (decimal n)) (text_says (bound k.0))).done k in
+          let goes = text_says (bound k.0) in
+          let one = (d (integer (decimal n)) goes.0 goes.1).done k in
           record { outs = one.outs ∙ ap (λ ws. xs ++ ws) (same_outs k); stands = one.stands };
     }

@@ -14,15 +14,15 @@ use Rattle.event_model.specs.Settings.{Settings}
 use Rattle.event_model.specs.Stages.{Life, is_ready, life_of}
 use Rattle.event_model.proofs.Places.{same_item}
 use Rattle.event_model.proofs.Turns.{alike_then, does_alike, does_nothing, does_then}
-use Rattle.group_facts.specs.Why.{IsQuestion}
+use Rattle.mux_turns.specs.group_facts.specs.Why.{IsQuestion}
 use Rattle.group_rows.specs.AskRows.{ask}
 use Rattle.group_rows.specs.Asks.{Asking, Parked, asks_of, parked_of}
 use Rattle.group_rows.specs.Live.{live_of, register_text}
 use Rattle.group_rows.specs.LiveRows.{has_some, register_any}
 use Rattle.group_rows.proofs.LiveTexts.{live_written}
 use Rattle.group_words.specs.Houses.{home_of}
-use Rattle.mux_facts.proofs.Lists.{all_join}
-use Rattle.registrations.specs.declared.registration.Registration.{Registration}
+use Rattle.mux_turns.specs.mux_facts.proofs.Lists.{all_join}
+use Rattle.group_rows.specs.registrations.specs.declared.registration.Registration.{Registration}
 use Rattle.mux_tables.specs.declared.tables.Start.{Start}
 use Rattle.mux_tables.specs.declared.tables.Tables.{Tables}
 use Rattle.mux_tables.specs.Documents.{AllStand, DocumentsStand, Owed}

@@ -26,18 +26,18 @@ use Rattle.event_model.specs.Settings.{Settings}
 use Rattle.event_model.specs.Spawns.{start_of}
 use Rattle.event_model.specs.Stages.{is_ready, life_of}
 use Rattle.event_model.proofs.Turns.{alike, alike_false, alike_then, alike_true}
-use Rattle.mux_facts.proofs.Lists.{all_of}
-use Rattle.mux_facts.proofs.Words.{same_number}
+use Rattle.mux_turns.specs.mux_facts.proofs.Lists.{all_of}
+use Rattle.mux_turns.specs.mux_facts.proofs.Words.{same_number}
 use Rattle.mux_members.proofs.Roots.{read_params}
-use Rattle.group_facts.specs.Facts.{AllForwarded, IsForwarded}
+use Rattle.mux_turns.specs.group_facts.specs.Facts.{AllForwarded, IsForwarded}
 use Rattle.group_rows.specs.Cancelling.{cancelling_at, cancelling_row, id_puts, is_called, named_id, new_id, number_called, number_named, numbered_text, uncancelled_number}
 use Rattle.group_rows.specs.Forwarded.{Forwarded, forwarding_of, is_written}
 use Rattle.group_rows.proofs.Cancelling.{Renumbered, renumbered, text_meant}
 use Rattle.group_words.specs.Houses.{home_of}
-use Rattle.id_rewrite.specs.declared.pending.Numbered.{Numbered}
-use Rattle.id_rewrite.specs.declared.pending.Pending.{Pending}
-use Rattle.id_rewrite.specs.Tables.{RiseWithin, has_number, is_under, number_under, pending_of}
-use Rattle.id_rewrite.proofs.Finding.{texts_same}
+use Rattle.mux_tables.specs.id_rewrite.specs.declared.pending.Numbered.{Numbered}
+use Rattle.mux_tables.specs.id_rewrite.specs.declared.pending.Pending.{Pending}
+use Rattle.mux_tables.specs.id_rewrite.specs.Tables.{RiseWithin, has_number, is_under, number_under, pending_of}
+use Rattle.mux_tables.specs.id_rewrite.proofs.Finding.{texts_same}
 use Rattle.mux_tables.specs.declared.tables.Start.{Start}
 use Rattle.mux_tables.specs.declared.tables.Tables.{Tables}
 use Rattle.mux_tables.specs.Documents.{AllStand, DocumentsStand, changes_documents, nothing_owed}

@@ -16,7 +16,7 @@ use Rattle.event_model.specs.declared.phase.Phase.TheVariants.{Absent, New, Wait
 use Rattle.event_model.specs.Event.{Event, requests, with_cause}
 use Rattle.event_model.specs.Phases.{desk_hears, desk_of, is_begun, is_new, is_served, is_there}
 use Rattle.event_model.specs.Requests.{is_open, open_of}
-use Rattle.group_facts.specs.Built.{doubles, is_standard}
+use Rattle.mux_turns.specs.group_facts.specs.Built.{doubles, is_standard}
 use Rattle.group_words.specs.Houses.{is_first_open, places, stops}
 use Rattle.mux_editors.proofs.Asides.{desk_now, old_unopened}
 use Rattle.mux_editors.proofs.Classes.{Serves, first_named, first_serves, is_initialize, not_own, serves, wrong_not_own}

@@ -28,13 +28,13 @@ use Rattle.group_rows.specs.AskRows.{hand_back, response_at, response_row}
 use Rattle.group_rows.specs.Asks.{Ask, Asking, Parked, asking_of, asks_of, is_seated, is_under, parked_of, waits_under}
 use Rattle.group_rows.specs.Forwarded.{moves_ids}
 use Rattle.group_rows.specs.Texts.{is_synced}
-use Rattle.mux_facts.specs.Allowed.{is_response}
+use Rattle.mux_turns.specs.mux_facts.specs.Allowed.{is_response}
 use Rattle.mux_tables.specs.declared.tables.Tables.{Tables}
 use Rattle.group_words.specs.Houses.{home_of, stops}
 use Rattle.mux_tables.specs.Documents.{changes_documents}
 use Rattle.mux_tables.specs.Stands.{AnswersNone, AnswersOne, HasEnded, HasText, Stands, start_for}
 use Rattle.mux_turns.proofs.Rows.{is_first, is_second}
-use Rattle.group_facts.specs.Why.{IsQuestion}
+use Rattle.mux_turns.specs.group_facts.specs.Why.{IsQuestion}
 use Rattle.mux_editors.specs.Handing.{Fits, IsUnused}
 use Rattle.mux_editors.proofs.Runs.{still_unused}
 

@@ -28,12 +28,12 @@ use Rattle.event_model.proofs.Turns.{alike, alike_then, does_alike, does_nothing
 use Rattle.editor_session.specs.declared.session.Session.{Session}
 use Rattle.capability_meet.specs.DeclaredTree.{declared_of, declared_tree}
 use Rattle.capability_meet.specs.MeetTree.{whole_text}
-use Rattle.group_facts.specs.Facts.{Numbered, Plain, is_up}
-use Rattle.group_facts.specs.Settled.{Settled}
-use Rattle.group_facts.proofs.Waiting.{new_is}
+use Rattle.mux_turns.specs.group_facts.specs.Facts.{Numbered, Plain, is_up}
+use Rattle.mux_turns.specs.group_facts.specs.Settled.{Settled}
+use Rattle.mux_turns.specs.group_facts.proofs.Waiting.{new_is}
 use Rattle.mux_turns.proofs.Ready.{is_that_ready}
 use Rattle.mux_turns.proofs.Rows.{is_second}
-use Rattle.group_table.specs.Tables.{declared_text}
+use Rattle.mux_tables.specs.group_table.specs.Tables.{declared_text}
 use Rattle.group_words.specs.declared.idle.Idle.{Idle}
 use Rattle.group_words.specs.declared.kept.Kept.{Kept}
 use Rattle.group_words.specs.declared.placed.Placed.{Placed}
@@ -46,7 +46,7 @@ use Rattle.mux_tables.specs.declared.tables.Tables.{Tables}
 use Rattle.mux_tables.specs.Documents.{AllStand, nothing_owed}
 use Rattle.mux_tables.specs.Stands.{HasEnded, Stands, phase_in}
 use Rattle.mux_tables.proofs.Frames.{itself}
-use Rattle.group_facts.specs.Ceilings.{HaveCeilings, IsCeiling}
+use Rattle.mux_turns.specs.group_facts.specs.Ceilings.{HaveCeilings, IsCeiling}
 use Rattle.mux_turns.specs.Founding.{IsNext}
 use Rattle.mux_turns.specs.Welcomes.{IsShown}
 use Rattle.mux_turns.proofs.Evictions.{numbered_heard}

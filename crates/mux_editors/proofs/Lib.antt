@@ -14,3 +14,4 @@ pub mod Serving
 pub mod Synced
 mod Telling
 pub mod Turns
+pub mod Working

@@ -13,12 +13,12 @@ use Rattle.event_model.specs.Phases.{Desk, desk_behind, desk_hears, desk_of, has
 use Rattle.event_model.specs.Requests.{is_open, open_of}
 use Rattle.event_model.specs.Settings.{Settings}
 use Rattle.event_model.proofs.Frames.{one_more}
-use Rattle.group_facts.specs.Settled.{IsOnly, Settled}
-use Rattle.group_facts.proofs.Multiplexer.{by_names}
-use Rattle.group_facts.proofs.Waiting.{new_is}
+use Rattle.mux_turns.specs.group_facts.specs.Settled.{IsOnly, Settled}
+use Rattle.mux_turns.specs.group_facts.proofs.Multiplexer.{by_names}
+use Rattle.mux_turns.specs.group_facts.proofs.Waiting.{new_is}
 use Rattle.group_rows.specs.Rows.{asks_lspmux, names_lspmux}
 use Rattle.group_words.specs.Houses.{is_doubled, is_first_open, meant_of, places, stops}
-use Rattle.mux_facts.proofs.Words.{id_same}
+use Rattle.mux_turns.specs.mux_facts.proofs.Words.{id_same}
 use Rattle.mux_tables.specs.Documents.{changes_documents}
 use Rattle.mux_tables.proofs.Frames.{itself}
 use Rattle.mux_turns.proofs.Lspmux.{either_asks}

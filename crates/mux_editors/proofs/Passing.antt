@@ -17,7 +17,7 @@ use Rattle.event_model.specs.Phases.{desk_of, is_served}
 use Rattle.event_model.specs.Row.{look, outs, send, ◌⨾◌}
 use Rattle.event_model.specs.Settings.{Settings}
 use Rattle.event_model.specs.Stages.{Life, life_of}
-use Rattle.group_facts.specs.Why.{IsQuestion}
+use Rattle.mux_turns.specs.group_facts.specs.Why.{IsQuestion}
 use Rattle.mux_model.specs.Methods.{goes_on}
 use Rattle.mux_model.specs.Rows.{to_start}
 use Rattle.group_rows.specs.Rows.{sync_row}

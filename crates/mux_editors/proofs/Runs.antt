@@ -22,19 +22,19 @@ use Rattle.event_model.specs.Spawns.{start_of}
 use Rattle.event_model.specs.Stages.{Life, is_ready, life_behind, life_of}
 use Rattle.event_model.proofs.Frames.{never, one_more}
 use Rattle.event_model.proofs.Turns.{alike, alike_then, behind_more}
-use Rattle.mux_facts.proofs.Lists.{all_join}
-use Rattle.group_facts.specs.Why.{IsQuestion, asks_something}
-use Rattle.group_facts.proofs.Asks.{asking_more}
-use Rattle.group_facts.proofs.Begun.{start_took}
-use Rattle.group_facts.proofs.Homes.{took_home}
-use Rattle.group_facts.proofs.Still.{unshut}
+use Rattle.mux_turns.specs.mux_facts.proofs.Lists.{all_join}
+use Rattle.mux_turns.specs.group_facts.specs.Why.{IsQuestion, asks_something}
+use Rattle.mux_turns.specs.group_facts.proofs.Asks.{asking_more}
+use Rattle.mux_turns.specs.group_facts.proofs.Begun.{start_took}
+use Rattle.mux_turns.specs.group_facts.proofs.Homes.{took_home}
+use Rattle.mux_turns.specs.group_facts.proofs.Still.{unshut}
 use Rattle.group_rows.specs.AskRows.{ask, run_at, run_row}
 use Rattle.group_rows.specs.Asks.{Ask, Asking, Parked, asked_next, asking_next, asking_of, has_number, is_own_work, is_patient, is_under, next_ask, parked_of, serves, unparked, waits_under}
 use Rattle.group_rows.specs.Live.{live_of, register_text}
 use Rattle.group_rows.specs.LiveRows.{call, has_some, register_any, restore}
 use Rattle.group_rows.specs.Texts.{worker_behind, worker_of}
 use Rattle.group_words.specs.Houses.{home_of, is_doubled, stops}
-use Rattle.registrations.specs.declared.registration.Registration.{Registration}
+use Rattle.group_rows.specs.registrations.specs.declared.registration.Registration.{Registration}
 use Rattle.mux_tables.specs.Stands.{IsWorking, MayWait, start_for}
 use Rattle.mux_tables.proofs.Registering.{live_more}
 use Rattle.mux_turns.specs.Calls.{IsCall}

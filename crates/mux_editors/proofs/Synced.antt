@@ -15,8 +15,8 @@ use Rattle.event_model.specs.Phases.{desk_of, is_served}
 use Rattle.event_model.specs.Settings.{Settings}
 use Rattle.event_model.proofs.Frames.{one_more}
 use Rattle.mux_model.specs.Documents.{Sent, held_at, sent_behind}
-use Rattle.group_facts.specs.Why.{IsQuestion}
-use Rattle.group_facts.proofs.Same.{Same, same_held, same_questions}
+use Rattle.mux_turns.specs.group_facts.specs.Why.{IsQuestion}
+use Rattle.mux_turns.specs.group_facts.proofs.Same.{Same, same_held, same_questions}
 use Rattle.group_words.specs.Houses.{home_of, is_home}
 use Rattle.group_rows.specs.Rows.{sync_bodies, synced}
 use Rattle.group_rows.specs.Texts.{texts_heard, texts_of, worker_behind, worker_of}

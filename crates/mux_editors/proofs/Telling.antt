@@ -6,8 +6,8 @@ use Rattle.std.proofs.lemmas.List.{length-append}
 use Rattle.event_model.specs.declared.stage.Stage.{Stage}
 use Rattle.event_model.specs.declared.stage.Stage.TheVariants.{Ended}
 use Rattle.event_model.specs.Stages.{life_of}
-use Rattle.group_facts.specs.Facts.{is_up}
-use Rattle.group_facts.specs.Lively.{lives, lives_at}
+use Rattle.mux_turns.specs.group_facts.specs.Facts.{is_up}
+use Rattle.mux_turns.specs.group_facts.specs.Lively.{lives, lives_at}
 use Rattle.group_words.specs.declared.kept.Kept.{Kept}
 use Rattle.group_words.specs.Houses.{groups_of}
 use Rattle.group_words.specs.Placing.{all_from, is_live}
@@ -23,7 +23,7 @@ use Rattle.capability_meet.specs.Parts.{bracketed, comma, listed}
 use Rattle.event_model.specs.Event.{Event}
 use Rattle.event_model.specs.Settings.{Settings}
 use Rattle.event_model.specs.Spawns.{start_of}
-use Rattle.group_facts.specs.Settled.{Settled}
+use Rattle.mux_turns.specs.group_facts.specs.Settled.{Settled}
 use Rattle.group_rows.specs.Status.{Item, is_utf8, item_at, item_in, item_text, name_text, number_text, numbers_text, state_text}
 use Rattle.mux_turns.proofs.Folders.{drop_one}
 

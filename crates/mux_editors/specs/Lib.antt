@@ -2,3 +2,4 @@ pub mod Cancels
 pub mod Handing
 pub mod Running
 pub mod Tellings
+pub mod Works

@@ -11,7 +11,7 @@ use Rattle.event_model.specs.Event.{Event, with_cause}
 use Rattle.event_model.specs.Phases.{desk_of, makes_running}
 use Rattle.event_model.specs.Row.{Row, choose, nothing}
 use Rattle.event_model.specs.Settings.{Settings}
-use Rattle.group_facts.specs.Why.{IsQuestion}
+use Rattle.mux_turns.specs.group_facts.specs.Why.{IsQuestion}
 use Rattle.group_rows.specs.AskRows.{run_row}
 use Rattle.mux_tables.specs.declared.tables.Tables.{Tables}
 use Rattle.mux_tables.specs.Documents.{AllStand, Owed}

@@ -5,7 +5,7 @@ ghost use Rattle.event_model.specs.Event.{Event, requests, with_cause};
 ghost use Rattle.event_model.specs.Phases.{desk_of, is_begun, is_served};
 ghost use Rattle.event_model.specs.Requests.{open_of};
 ghost use Rattle.event_model.specs.Settings.{Settings};
-ghost use Rattle.group_facts.specs.Built.{doubles, is_standard};
+ghost use Rattle.mux_turns.specs.group_facts.specs.Built.{doubles, is_standard};
 ghost use Rattle.group_rows.specs.Rows.{asks_lspmux, closing_row};
 ghost use Rattle.json_text.specs.Json.{Json};
 ghost use Rattle.lsp_method.specs.Class.{class_of};

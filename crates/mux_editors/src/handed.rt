@@ -13,7 +13,7 @@ ghost use Rattle.group_rows.specs.AskRows.{hand_back, response_row};
 ghost use Rattle.group_rows.specs.Asks.{Ask, asking_of, asks_of};
 ghost use Rattle.group_words.specs.Houses.{home_of};
 ghost use Rattle.mux_editors.specs.Handing.{Fits};
-ghost use Rattle.mux_facts.specs.Allowed.{is_response};
+ghost use Rattle.mux_turns.specs.mux_facts.specs.Allowed.{is_response};
 ghost use Rattle.mux_history.specs.declared.cause.Cause.TheVariants.{FromEditor};
 ghost use Rattle.mux_tables.specs.declared.tables.Start.{Start};
 ghost use Rattle.mux_tables.specs.Documents.{AllStand, DocumentsStand, Owed, nothing_owed};

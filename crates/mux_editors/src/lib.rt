@@ -13,6 +13,7 @@ mod quiet;
 mod requests;
 mod running;
 mod status;
+mod worked;
 
 pub use cancelled::{Target, take_cancel};
 pub use doubled::{take_doubled, take_doubled_own};
@@ -26,3 +27,4 @@ pub use passed::take_passed;
 pub use quiet::{take_closed, take_early, take_malformed, take_quiet, take_wrong};
 pub use requests::take_request;
 pub use status::take_status;
+pub use worked::take_work_cancel;

@@ -2,7 +2,7 @@
 ghost use Rattle.std.specs.Prelude.{◌≡◌, ◌<◌, ℕ, List, [], Option, Some, true, length, map, IfNone, IfSome, OnOk, slice_get, false};
 ghost use Rattle.group_words.specs.Houses.{home_of};
 ghost use Rattle.event_model.specs.Stages.{is_ready, life_of};
-ghost use Rattle.group_facts.specs.Why.{IsQuestion};
+ghost use Rattle.mux_turns.specs.group_facts.specs.Why.{IsQuestion};
 ghost use Rattle.std.specs.List.{AllByRecursion};
 ghost use Rattle.mux_editors.specs.Running.{running_row};
 ghost use Rattle.event_model.specs.declared.stage.Stage.TheVariants.{Ready};

@@ -7,7 +7,7 @@ ghost use Rattle.event_model.specs.Event.{Event, heard, with_cause};
 ghost use Rattle.event_model.specs.Phases.{desk_of, is_served};
 ghost use Rattle.event_model.specs.Row.{nothing, ◌⨾◌};
 ghost use Rattle.event_model.specs.Settings.{Settings};
-ghost use Rattle.group_facts.specs.Facts.{is_early};
+ghost use Rattle.mux_turns.specs.group_facts.specs.Facts.{is_early};
 ghost use Rattle.group_rows.specs.Rows.{answer_error, asks_lspmux, early_code, is_misplaced, wrong_code};
 ghost use Rattle.group_words.specs.Houses.{places, stops};
 ghost use Rattle.json_text.specs.Json.{Json};

@@ -6,7 +6,7 @@ ghost use Rattle.event_model.specs.Does.{Done};
 ghost use Rattle.event_model.specs.Event.{Event, requests, with_cause};
 ghost use Rattle.event_model.specs.Phases.{desk_of, is_begun, is_there};
 ghost use Rattle.event_model.specs.Settings.{Settings};
-ghost use Rattle.group_facts.specs.Settled.{Settled};
+ghost use Rattle.mux_turns.specs.group_facts.specs.Settled.{Settled};
 ghost use Rattle.group_rows.specs.Rows.{status_row};
 ghost use Rattle.group_rows.specs.Status.{item_at, item_in, item_text, items_of, name_text, number_text, numbers_text, server_of, state_text, status_text};
 ghost use Rattle.group_words.specs.Houses.{is_doubled};

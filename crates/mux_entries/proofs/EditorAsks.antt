@@ -12,12 +12,12 @@ use Rattle.event_model.specs.Settings.{Settings}
 use Rattle.event_model.specs.Spawns.{start_of}
 use Rattle.event_model.specs.Stages.{life_of}
 use Rattle.event_model.proofs.Frames.{never}
-use Rattle.group_facts.specs.Settled.{HasSeat, Settled}
+use Rattle.mux_starts.specs.group_facts.specs.Settled.{HasSeat, Settled}
 use Rattle.group_rows.specs.Asks.{Ask, asks_of, is_seated}
 use Rattle.group_rows.specs.Forwarded.{names}
 use Rattle.group_words.specs.Houses.{home_of}
-use Rattle.mux_tables.specs.Stands.{AnswersNone, AnswersOne}
-use Rattle.mux_tables.proofs.Lasts.{same_place}
+use Rattle.mux_starts.specs.mux_tables.specs.Stands.{AnswersNone, AnswersOne}
+use Rattle.mux_starts.specs.mux_tables.proofs.Lasts.{same_place}
 
 module _ (settings : Settings) (before : List Event) (e : ℕ) (m : Message) (settled : Settled settings before) where
   same_editor : (a : Ask) → nat_eq a.editor e ≡ true → a.editor ≡ e

@@ -16,14 +16,13 @@ use Rattle.document_model.specs.Sayings.{saying_of, speaks}
 use Rattle.event_model.specs.declared.phase.Phase.{Phase}
 use Rattle.event_model.specs.declared.phase.Phase.TheVariants.{Absent, New, Waiting, Answered, Running, Down, Closed, Gone}
 use Rattle.event_model.specs.Event.{Event, requests}
-use Rattle.event_model.specs.Phases.{desk_of, is_begun, is_served, is_there, needs_server}
-use Rattle.event_model.specs.Requests.{is_open, open_of}
-use Rattle.group_facts.specs.Built.{built_from_editor, built_request, doubles, is_marked, is_standard}
-use Rattle.group_facts.specs.Facts.{is_early}
+use Rattle.event_model.specs.Phases.{desk_of, is_served, is_there, needs_server}
+use Rattle.mux_starts.specs.group_facts.specs.Built.{built_from_editor, built_request, is_standard}
+use Rattle.mux_starts.specs.group_facts.specs.Facts.{is_early}
 use Rattle.group_rows.specs.Rows.{asks_lspmux, names_lspmux}
 use Rattle.group_words.specs.Houses.{is_doubled, stops}
 use Rattle.group_rows.specs.Rows.{is_misplaced}
-use Rattle.mux_tables.specs.Documents.{changes_documents}
+use Rattle.mux_starts.specs.mux_tables.specs.Documents.{changes_documents}
 use Rattle.mux_editors.proofs.Classes.{first_named, is_initialize}
 
 pub second_of : (a b : Bool) → (a && b) ≡ true → b ≡ true
@@ -57,57 +56,29 @@ standard_stays method h same = let own : is_standard (class_of (codes "lspmux/st
 own_stays : (method : List ℕ) → names_lspmux method ≡ true → (codes "lspmux/stop" ≡ method) → ⊥
 own_stays method h same = let clash : names_lspmux (codes "lspmux/stop") ≡ true = subst (λ m. names_lspmux m ≡ true) (sym same) h in cc
 
-request_stays : (p : Phase) (doubled : Bool) (method : List ℕ) (params : Option Json) → built_request p doubled method params ≡ true → (codes "lspmux/stop" ≡ method) → ⊥
-request_stays p doubled method params h = go (names_lspmux method) refl h
+request_stays : (method : List ℕ) → built_request method ≡ true → (codes "lspmux/stop" ≡ method) → ⊥
+request_stays method h = go (names_lspmux method) refl h
   where
-    go : (b : Bool) → names_lspmux method ≡ b → (b || (is_standard (class_of method Editor false) && (doubled || not (is_served p && is_marked method params)))) ≡ true → (codes "lspmux/stop" ≡ method) → ⊥
+    go : (b : Bool) → names_lspmux method ≡ b → (b || is_standard (class_of method Editor false)) ≡ true → (codes "lspmux/stop" ≡ method) → ⊥
     go true k s = own_stays method k
-    go false k s = standard_stays method (first_of (is_standard (class_of method Editor false)) (doubled || not (is_served p && is_marked method params)) s)
+    go false k s = standard_stays method s
 
 -- a request that isn't the multiplexer's own
 other_built : (b c : Bool) → b ≡ false → (b || c) ≡ true → c ≡ true
 other_built true c h k = absurd (cc)
 other_built false c h k = k
 
-module _ (before : List Event) (e : ℕ) (p : Phase) where
-  abbrev ids : List Id
-  ids = open_of e before
+pub built_stays : (before : List Event) (e : ℕ) (m : Message) → built_from_editor m ≡ true → stops before e m ≡ false
+built_stays before e (request id method params) h = stops_not method (request_stays method h) before e id params
+built_stays before e (notification method params) h = refl
+built_stays before e (result id r) h = refl
+built_stays before e (error id r) h = refl
+built_stays before e not_json h = refl
+built_stays before e not_message h = refl
 
-  pub built_stays : (m : Message) → built_from_editor p ids m ≡ true → stops before e m ≡ false
-  built_stays (request id method params) h = stops_not method (request_stays p (doubles p id ids) method params h) before e id params
-  built_stays (notification method params) h = refl
-  built_stays (result id r) h = refl
-  built_stays (error id r) h = refl
-  built_stays not_json h = refl
-  built_stays not_message h = refl
-
-  -- under an id that is open it is a request of the standard, or the multiplexer's own
-  pub doubled_standard : (id : Id) (method : List ℕ) (params : Option Json) → names_lspmux method ≡ false → doubles p id ids ≡ true → built_from_editor p ids (request id method params) ≡ true → is_standard (class_of method Editor false) ≡ true
-  doubled_standard id method params none doubled h = go p (first_of (is_begun p) (is_open id ids) doubled) h
-    where
-      go : (q : Phase) → is_begun q ≡ true → built_request q (doubles p id ids) method params ≡ true → is_standard (class_of method Editor false) ≡ true
-      go Waiting s k = first_of (is_standard (class_of method Editor false)) (doubles p id ids || true) (other_built (names_lspmux method) _ none k)
-      go Answered s k = first_of (is_standard (class_of method Editor false)) (doubles p id ids || not (is_marked method params)) (other_built (names_lspmux method) _ none k)
-      go Running s k = first_of (is_standard (class_of method Editor false)) (doubles p id ids || not (is_marked method params)) (other_built (names_lspmux method) _ none k)
-      go Down s k = first_of (is_standard (class_of method Editor false)) (doubles p id ids || true) (other_built (names_lspmux method) _ none k)
-      go Absent s k = absurd (cc)
-      go New s k = absurd (cc)
-      go Closed s k = absurd (cc)
-      go Gone s k = absurd (cc)
-
-  -- of one that is served it is such a request too
-  pub served_standard : (id : Id) (method : List ℕ) (params : Option Json) → names_lspmux method ≡ false → is_served p ≡ true → built_from_editor p ids (request id method params) ≡ true → is_standard (class_of method Editor false) ≡ true
-  served_standard id method params none served h = go p served h
-    where
-      go : (q : Phase) → is_served q ≡ true → built_request q (doubles p id ids) method params ≡ true → is_standard (class_of method Editor false) ≡ true
-      go Answered s k = first_of (is_standard (class_of method Editor false)) (doubles p id ids || not (is_marked method params)) (other_built (names_lspmux method) _ none k)
-      go Running s k = first_of (is_standard (class_of method Editor false)) (doubles p id ids || not (is_marked method params)) (other_built (names_lspmux method) _ none k)
-      go Absent s k = absurd (cc)
-      go New s k = absurd (cc)
-      go Waiting s k = absurd (cc)
-      go Down s k = absurd (cc)
-      go Closed s k = absurd (cc)
-      go Gone s k = absurd (cc)
+-- a request that isn't the multiplexer's own is one of the standard
+pub standard_built : (id : Id) (method : List ℕ) (params : Option Json) → names_lspmux method ≡ false → built_from_editor (request id method params) ≡ true → is_standard (class_of method Editor false) ≡ true
+standard_built id method params none h = other_built (names_lspmux method) (is_standard (class_of method Editor false)) none h
 
 -- a request of an editor that is there, which isn't the multiplexer's own
 pub unasked_there : (p : Phase) (m : Message) → is_there p ≡ true → (is_there p && asks_lspmux m) ≡ false → asks_lspmux m ≡ false

@@ -27,14 +27,14 @@ use Rattle.mux_model.specs.Rows.{malformed_row}
 use Rattle.group_words.specs.Rows.{initialize_row}
 use Rattle.group_words.specs.Houses.{is_doubled}
 use Rattle.group_rows.specs.AskRows.{response_row}
-use Rattle.mux_facts.specs.Allowed.{is_response}
+use Rattle.mux_starts.specs.mux_facts.specs.Allowed.{is_response}
 use Rattle.group_rows.specs.Rows.{asks_lspmux, closing_row, down_row, early_row, exit_row, from_editor, lspmux_row, open_row, row_of, served_row, status_row, taken_row}
 use Rattle.mux_editors.specs.Running.{running_at, running_row}
-use Rattle.mux_tables.specs.declared.tables.Tables.{Tables}
-use Rattle.mux_tables.specs.Documents.{AllStand, DocumentsStand, nothing_owed}
-use Rattle.mux_tables.specs.Stands.{Stands}
-use Rattle.mux_tables.proofs.DocumentHeard.{drained_documents}
-use Rattle.mux_tables.proofs.Heard.{drained_moves}
+use Rattle.mux_starts.specs.mux_tables.specs.declared.tables.Tables.{Tables}
+use Rattle.mux_starts.specs.mux_tables.specs.Documents.{AllStand, DocumentsStand, nothing_owed}
+use Rattle.mux_starts.specs.mux_tables.specs.Stands.{Stands}
+use Rattle.mux_starts.specs.mux_tables.proofs.DocumentHeard.{drained_documents}
+use Rattle.mux_starts.specs.mux_tables.proofs.Heard.{drained_moves}
 use Rattle.mux_editors.proofs.Turns.{is_first, is_second, whole_entry}
 
 -- a whole entry of a row that sends what another one does

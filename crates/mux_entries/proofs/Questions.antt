@@ -4,7 +4,7 @@ use Rattle.std.specs.Prelude.{Some}
 use Rattle.std.specs.List.{AllByRecursion}
 use Rattle.lsp_method.specs.Class.{class_of}
 use Rattle.lsp_method.specs.declared.variants.Class.{Class}
-use Rattle.lsp_method.specs.declared.variants.Class.TheVariants.{Broadcast, Cancel, Focused, Folders, Lowest, Refresh, Register, Unregister}
+use Rattle.lsp_method.specs.declared.variants.Class.TheVariants.{Broadcast, Cancel, Focused, Folders, Lowest, Progress, Refresh, Register, Unregister}
 use Rattle.lsp_method.specs.declared.variants.Origin.TheVariants.{Server}
 use Rattle.rpc_message.specs.declared.sort.Sort.TheVariants as sort
 use Rattle.rpc_message.specs.Message.{Message, message_of, request}
@@ -20,13 +20,13 @@ use Rattle.event_model.specs.Spawns.{group_of}
 use Rattle.event_model.specs.Stages.{life_of}
 use Rattle.event_model.proofs.Frames.{never}
 use Rattle.event_model.proofs.Turns.{alike}
-use Rattle.group_facts.specs.Built.{built_asking, built_from_server, built_ready, built_telling}
-use Rattle.group_facts.specs.Settled.{HasSeat, Settled}
+use Rattle.mux_starts.specs.group_facts.specs.Built.{built_asking, built_from_server, built_ready, built_telling}
+use Rattle.mux_starts.specs.group_facts.specs.Settled.{HasSeat, Settled}
 use Rattle.group_rows.specs.AskRows.{asking_row}
 use Rattle.group_rows.specs.Asks.{Ask, asks_of}
 use Rattle.group_rows.specs.Rows.{from_server}
 use Rattle.group_rows.specs.Rows as rows
-use Rattle.mux_tables.specs.Stands.{is_request}
+use Rattle.mux_starts.specs.mux_tables.specs.Stands.{is_request}
 
 -- classes that aren't built
 pub unbuilt_class : {A : Type 0} (c : Class) → (c ≡ Refresh → ⊥) → (c ≡ Folders → ⊥) → (c ≡ Focused → ⊥) → (c ≡ Lowest → ⊥) → (c ≡ Register → ⊥) → (c ≡ Unregister → ⊥) → built_asking c ≡ true → A
@@ -38,10 +38,11 @@ unbuilt_class Register r d f l g u h = absurd (g refl)
 unbuilt_class Unregister r d f l g u h = absurd (u refl)
 unbuilt_class other r d f l g u h = never (sym h)
 
-pub broadcasts : (c : Class) → (c ≡ Cancel → ⊥) → built_telling c ≡ true → c ≡ Broadcast
-broadcasts Cancel other h = absurd (other refl)
-broadcasts Broadcast other h = refl
-broadcasts c other h = never (sym h)
+pub broadcasts : (c : Class) → (c ≡ Cancel → ⊥) → (c ≡ Progress → ⊥) → built_telling c ≡ true → c ≡ Broadcast
+broadcasts Cancel other more h = absurd (other refl)
+broadcasts Progress other more h = absurd (more refl)
+broadcasts Broadcast other more h = refl
+broadcasts c other more h = never (sym h)
 
 -- it is under no open id
 pub built_else : (a b : Bool) → a ≡ false → (a || b) ≡ true → b ≡ true

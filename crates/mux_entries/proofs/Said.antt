@@ -25,8 +25,8 @@ use Rattle.event_model.specs.Settings.{Settings}
 use Rattle.event_model.specs.Stages.{Life, is_ended, is_first_result, life_behind, life_of, no_life, runs, stage_ending, stage_hears, stage_started, stage_told}
 use Rattle.event_model.proofs.Frames.{never}
 use Rattle.event_model.proofs.Turns.{alike, alike_then}
-use Rattle.group_facts.specs.Built.{built_early, built_from_server, built_ready, built_telling, is_shown_whole}
-use Rattle.group_facts.specs.Facts.{AllForwarded, IsForwarded, WaitingAsked, is_early}
+use Rattle.mux_starts.specs.group_facts.specs.Built.{built_early, built_from_server, built_ready, built_telling, is_shown_whole}
+use Rattle.mux_starts.specs.group_facts.specs.Facts.{AllForwarded, IsForwarded, WaitingAsked, is_early}
 use Rattle.lsp_method.specs.Class.{class_of}
 use Rattle.lsp_method.specs.declared.variants.Class.{Class}
 use Rattle.lsp_method.specs.declared.variants.Class.TheVariants.{Broadcast}
@@ -39,11 +39,11 @@ use Rattle.group_rows.specs.Rows.{first_result, from_server, refused_row, hasty_
 use Rattle.group_rows.specs.Ends.{last_number}
 use Rattle.group_words.specs.Houses.{is_first_error}
 use Rattle.group_words.specs.Rows.{shown_of}
-use Rattle.mux_facts.proofs.Lists.{found_is}
-use Rattle.mux_tables.specs.declared.tables.Start.{Start}
-use Rattle.mux_tables.specs.declared.tables.Tables.{Tables}
-use Rattle.mux_tables.specs.Stands.{NamesAt, Stands, number_in, of_life}
-use Rattle.mux_tables.proofs.Starts.{start_at_place}
+use Rattle.mux_starts.specs.mux_facts.proofs.Lists.{found_is}
+use Rattle.mux_starts.specs.mux_tables.specs.declared.tables.Start.{Start}
+use Rattle.mux_starts.specs.mux_tables.specs.declared.tables.Tables.{Tables}
+use Rattle.mux_starts.specs.mux_tables.specs.Stands.{NamesAt, Stands, number_in, of_life}
+use Rattle.mux_starts.specs.mux_tables.proofs.Starts.{start_at_place}
 use Rattle.mux_starts.specs.Answers.{IsAsked}
 use Rattle.mux_starts.specs.Welcomes.{AllAsking, IsShown}
 use Rattle.mux_editors.proofs.Turns.{is_first, is_second}

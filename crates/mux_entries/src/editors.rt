@@ -6,21 +6,21 @@ ghost use Rattle.event_model.specs.Event.{Event, requests, with_cause};
 ghost use Rattle.event_model.specs.Phases.{desk_of, is_begun, is_served, is_there};
 ghost use Rattle.event_model.specs.Row.{◌⨾◌};
 ghost use Rattle.event_model.specs.Settings.{Settings};
-ghost use Rattle.group_facts.specs.Built.{built_behind, is_standard};
-ghost use Rattle.group_facts.specs.Facts.{Known, is_early};
-ghost use Rattle.group_facts.specs.Settled.{Settled};
+ghost use Rattle.mux_starts.specs.group_facts.specs.Built.{built_behind, is_standard};
+ghost use Rattle.mux_starts.specs.group_facts.specs.Facts.{Known, is_early};
+ghost use Rattle.mux_starts.specs.group_facts.specs.Settled.{Settled};
 ghost use Rattle.group_rows.specs.Rows.{asks_lspmux, down_row, early_row, exit_row, lspmux_row, row_of, served_request, served_row};
 ghost use Rattle.group_words.specs.Houses.{is_doubled, places, stops};
 ghost use Rattle.json_text.specs.Json.{Json};
 ghost use Rattle.lsp_method.specs.Class.{class_of};
 ghost use Rattle.lsp_method.specs.declared.variants.Origin.TheVariants.{Editor};
-ghost use Rattle.group_facts.specs.Ceilings.{HaveCeilings};
+ghost use Rattle.mux_starts.specs.group_facts.specs.Ceilings.{HaveCeilings};
 ghost use Rattle.mux_editors.specs.Running.{running_row};
 ghost use Rattle.mux_history.specs.declared.cause.Cause.TheVariants.{EditorGone, FromEditor, Joined};
 ghost use Rattle.mux_history.specs.declared.cause.Why.{Why};
 ghost use Rattle.mux_model.specs.Fits.{fits_behind};
-ghost use Rattle.mux_tables.specs.Documents.{AllStand, DocumentsStand, nothing_owed};
-ghost use Rattle.mux_tables.specs.Stands.{AnswersNone, Stands};
+ghost use Rattle.mux_starts.specs.mux_tables.specs.Documents.{AllStand, DocumentsStand, nothing_owed};
+ghost use Rattle.mux_starts.specs.mux_tables.specs.Stands.{AnswersNone, Stands};
 ghost use Rattle.rpc_message.specs.declared.sort.Sort.TheVariants.{Request};
 ghost use Rattle.rpc_message.specs.Message.{Id, message_of, notification, request};
 ghost use Rattle.rpc_message.specs.Parsed.{IsRead};
@@ -32,11 +32,14 @@ use message_body::{Body, Memory};
 use mux_editors::{
     asks_lspmux, doubles, take_cancel, take_closed, take_doubled, take_doubled_own, take_down,
     take_early, take_exit, take_gone, take_initialize, take_malformed, take_notice, take_open,
-    take_passed, take_quiet, take_reply, take_request, take_shutdown, take_status, take_wrong,
+    take_passed, take_quiet, take_reply, take_request, take_shutdown, take_status,
+    take_work_cancel, take_wrong,
 };
 use mux_history::Outs;
-use mux_members::{class_in, goes_on, is_cancel, is_exit, is_initialize, is_open};
-use mux_tables::Tables;
+use mux_starts::mux_members::{
+    cancels_work, class_in, goes_on, is_cancel, is_exit, is_initialize, is_open,
+};
+use mux_starts::mux_tables::Tables;
 use rpc_message::{Malformed, Message, Sort};
 use std::alloc::Global;
 
@@ -252,6 +255,9 @@ fn from_noting(
         Ok(())
     } else if is_cancel(message) {
         take_cancel(tables, alloc, outs, e, message)?;
+        Ok(())
+    } else if cancels_work(message) {
+        take_work_cancel(tables, alloc, outs, e, message)?;
         Ok(())
     } else {
         take_notice(tables, alloc, outs, e, message)?;

@@ -3,23 +3,23 @@ ghost use Rattle.std.specs.Prelude.{◌≡◌, ◌≤◌, true, List, [], IfOk, 
 ghost use Rattle.event_model.specs.Does.{Done};
 ghost use Rattle.event_model.specs.Event.{Event, behind, with_cause};
 ghost use Rattle.event_model.specs.Settings.{Settings};
-ghost use Rattle.group_facts.specs.Built.{built_behind};
-ghost use Rattle.group_facts.specs.Facts.{Known};
-ghost use Rattle.group_facts.specs.Settled.{Settled};
+ghost use Rattle.mux_starts.specs.group_facts.specs.Built.{built_behind};
+ghost use Rattle.mux_starts.specs.group_facts.specs.Facts.{Known};
+ghost use Rattle.mux_starts.specs.group_facts.specs.Settled.{Settled};
 ghost use Rattle.group_rows.specs.Rows.{outs_of, row_of};
-ghost use Rattle.group_facts.specs.Ceilings.{HaveCeilings};
+ghost use Rattle.mux_starts.specs.group_facts.specs.Ceilings.{HaveCeilings};
 ghost use Rattle.mux_history.specs.Cores.{body_length};
 ghost use Rattle.mux_model.specs.Fits.{fits_behind};
-ghost use Rattle.mux_tables.specs.Documents.{AllStand, DocumentsStand, nothing_owed};
-ghost use Rattle.mux_tables.specs.Stands.{Stands};
+ghost use Rattle.mux_starts.specs.mux_tables.specs.Documents.{AllStand, DocumentsStand, nothing_owed};
+ghost use Rattle.mux_starts.specs.mux_tables.specs.Stands.{Stands};
 
 use crate::editors::{from_editor, gone, joined};
 use crate::servers::from_server;
 use event_model::Server;
 use message_body::Memory;
 use mux_history::{Cause, Outs};
+use mux_starts::mux_tables::Tables;
 use mux_starts::{take_left, take_started, take_tick};
-use mux_tables::Tables;
 use std::alloc::Global;
 
 // The row of a cause that is built, from the first of its outs.

@@ -1,4 +1,4 @@
-//! What the program of a start says: S1 to S7, S9 to S12, S14, and what goes to each editor.
+//! What the program of a start says: S1 to S7, S9 to S14, and what goes to each editor.
 ghost use Rattle.std.specs.Prelude.{◌≡◌, ◌<◌, ◌≤◌, ℕ, List, [], map, Option, Some, false, true, length, OnOk, slice_get};
 ghost use Rattle.event_model.specs.declared.stage.Stage.TheVariants.{Initializing, Ready};
 ghost use Rattle.event_model.specs.Does.{Alike, Done};
@@ -7,9 +7,9 @@ ghost use Rattle.event_model.specs.Requests.{answered_id};
 ghost use Rattle.event_model.specs.Row.{nothing};
 ghost use Rattle.event_model.specs.Settings.{Settings};
 ghost use Rattle.event_model.specs.Stages.{is_first_result, life_of, runs};
-ghost use Rattle.group_facts.specs.Built.{built_asking, built_behind, built_ready, built_telling};
-ghost use Rattle.group_facts.specs.Facts.{Known};
-ghost use Rattle.group_facts.specs.Settled.{Settled};
+ghost use Rattle.mux_starts.specs.group_facts.specs.Built.{built_asking, built_behind, built_ready, built_telling};
+ghost use Rattle.mux_starts.specs.group_facts.specs.Facts.{Known};
+ghost use Rattle.mux_starts.specs.group_facts.specs.Settled.{Settled};
 ghost use Rattle.group_rows.specs.AskRows.{asking_row, notified_row, question_row};
 ghost use Rattle.group_rows.specs.Asks.{asking_of, is_taken};
 ghost use Rattle.group_rows.specs.Rows.{row_of};
@@ -19,9 +19,9 @@ ghost use Rattle.lsp_method.specs.Class.{class_of};
 ghost use Rattle.lsp_method.specs.declared.variants.Origin.TheVariants.{Server};
 ghost use Rattle.mux_history.specs.declared.cause.Cause.TheVariants.{FromServer};
 ghost use Rattle.mux_model.specs.Fits.{fits_behind};
-ghost use Rattle.mux_tables.specs.declared.tables.Start.{Start};
-ghost use Rattle.mux_tables.specs.Documents.{AllStand, DocumentsStand, nothing_owed};
-ghost use Rattle.mux_tables.specs.Stands.{NamesAt, Stands, is_request, number_in};
+ghost use Rattle.mux_starts.specs.mux_tables.specs.declared.tables.Start.{Start};
+ghost use Rattle.mux_starts.specs.mux_tables.specs.Documents.{AllStand, DocumentsStand, nothing_owed};
+ghost use Rattle.mux_starts.specs.mux_tables.specs.Stands.{NamesAt, Stands, is_request, number_in};
 ghost use Rattle.rpc_message.specs.Message.{Id, message_of, notification, request};
 ghost use Rattle.rpc_message.specs.Parsed.{IsRead};
 ghost use Rattle.rpc_message.specs.Sorts.{Refuses};
@@ -30,13 +30,13 @@ use event_model::Stage;
 use lsp_method::Class;
 use message_body::{Body, Memory};
 use mux_history::Outs;
-use mux_members::{asked_class, is_first_result, told_class};
+use mux_starts::mux_members::{asked_class, is_first_result, told_class};
+use mux_starts::mux_tables::Tables;
 use mux_starts::{
     answered_number, is_first_error, stage_at, take_answer, take_broadcast, take_ending,
-    take_focused, take_folders, take_hasty, take_lowest, take_recall, take_refresh, take_refused,
-    take_register, take_repeated, take_result, take_stopping, take_unregister,
+    take_focused, take_folders, take_hasty, take_lowest, take_progress, take_recall, take_refresh,
+    take_refused, take_register, take_repeated, take_result, take_stopping, take_unregister,
 };
-use mux_tables::Tables;
 use rpc_message::{Malformed, Message, Sort};
 use std::alloc::Global;
 
@@ -216,7 +216,7 @@ fn take_question(
     }
 }
 
-// S14, and what goes to each editor: a notification comes from a start that is ready; other classes aren't built.
+// S13, S14, and what goes to each editor: a notification comes from a start that is ready; other classes aren't built.
 fn take_telling(
     tables: &mut Tables,
     alloc: Global,
@@ -238,6 +238,10 @@ fn take_telling(
     match told_class(message) {
         Class::Cancel => {
             take_recall(tables, alloc, outs, g, message)?;
+            Ok(())
+        }
+        Class::Progress => {
+            take_progress(tables, alloc, outs, g, message)?;
             Ok(())
         }
         _ => {

@@ -5,12 +5,12 @@ use Rattle.std.proofs.lemmas.Bool.{and_parts}
 use Rattle.std.proofs.lemmas.Slice.Eq.{bytes_eq-Decides}
 use Rattle.json_text.specs.Json.{Json}
 use Rattle.position_codec.specs.declared.Encoding.{Encoding}
-use Rattle.doc_text.specs.Changes.{text_behind}
-use Rattle.document_model.specs.Opens.{Open, later, latest, holder_beside}
-use Rattle.document_model.specs.Orderly.{IsSpelt}
-use Rattle.document_model.specs.Sayings.{changes, saying_of}
-use Rattle.document_model.specs.Texts.{Texts, found, text_after, changed}
-use Rattle.document_model.proofs.Spelt.{changes_spelt, changed_spelt}
+use Rattle.mux_model.specs.doc_text.specs.Changes.{text_behind}
+use Rattle.mux_model.specs.document_model.specs.Opens.{Open, later, latest, holder_beside}
+use Rattle.mux_model.specs.document_model.specs.Orderly.{IsSpelt}
+use Rattle.mux_model.specs.document_model.specs.Sayings.{changes, saying_of}
+use Rattle.mux_model.specs.document_model.specs.Texts.{Texts, found, text_after, changed}
+use Rattle.mux_model.specs.document_model.proofs.Spelt.{changes_spelt, changed_spelt}
 use Rattle.rpc_message.specs.Message.{message_of}
 use Rattle.event_model.specs.declared.stage.Stage.{Stage}
 use Rattle.event_model.specs.declared.stage.Stage.TheVariants.{Unspawned, Spawning, Initializing, Ready, Stopping, Ending, Ended}

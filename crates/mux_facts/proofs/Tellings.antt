@@ -3,8 +3,8 @@ use Rattle.std.proofs.Common.{◌≡◌, ℕ, true, List, [], ◌∷◌, ◌++�
 use Rattle.std.specs.Option.{option_map}
 use Rattle.std.proofs.lemmas.List.Sums.{fold-append}
 use Rattle.std.proofs.lemmas.Slice.Eq.{bytes_eq-Decides}
-use Rattle.document_model.specs.Helds.{HeldText, told}
-use Rattle.document_model.specs.Sayings.{Saying, closes, saying_of, speaks}
+use Rattle.mux_model.specs.document_model.specs.Helds.{HeldText, told}
+use Rattle.mux_model.specs.document_model.specs.Sayings.{Saying, closes, saying_of, speaks}
 use Rattle.mux_history.specs.declared.out.Out.TheVariants.{ToServer}
 use Rattle.rpc_message.specs.Message.{message_of}
 use Rattle.mux_model.specs.Documents.{Sent, sent_behind, sent_of, held_at}

@@ -1,7 +1,7 @@
 -- What a start may be told of a document (LSP 3.17, Text Document Synchronization), and which messages are responses.
 use Rattle.std.specs.Prelude.{◌≡◌, ℕ, ◌+◌, Bool, true, false, List, codes, decimal, is_some}
 use Rattle.std.specs.Prelude.{Option, Some, None}
-use Rattle.document_model.specs.Sayings.{Saying, opens, changes, closes, misshapen, nothing}
+use Rattle.mux_model.specs.document_model.specs.Sayings.{Saying, opens, changes, closes, misshapen, nothing}
 use Rattle.rpc_message.specs.Message.{Message, result, error}
 
 -- a result or an error

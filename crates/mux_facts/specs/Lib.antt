@@ -1,2 +1,3 @@
 pub mod Allowed
 pub mod Ranges
+pub use Rattle.mux_model

@@ -12,8 +12,8 @@ use Rattle.event_model.specs.Event.{Event, heard, said, with_cause, with_entry, 
 use Rattle.event_model.specs.Phases.{editors_of, editors_behind}
 use Rattle.event_model.specs.Settings.{Settings}
 use Rattle.mux_facts.specs.Ranges.{InRange}
-use Rattle.session_laws.proofs.SpawnedLaw.{counts_above, counts_below}
-use Rattle.group_facts.specs.Legal.{Legal}
+use Rattle.group_sessions.specs.session_laws.proofs.SpawnedLaw.{counts_above, counts_below}
+use Rattle.group_sessions.specs.group_facts.specs.Legal.{Legal}
 use Rattle.group_sessions.proofs.SpawnedLaw.{numbered, spawned_once_law}
 use Rattle.event_model.specs.Spawns.{starts_of}
 use Rattle.mux_hub.proofs.Spawned.{servers_count}

@@ -11,17 +11,17 @@ use Rattle.event_model.specs.Event.{Event, behind, events_of, with_cause, with_e
 use Rattle.event_model.specs.Settings.{Settings}
 use Rattle.mux_facts.specs.Ranges.{InRange}
 use Rattle.mux_model.specs.Fits.{fits, fits_behind}
-use Rattle.group_facts.specs.Built.{built, built_behind}
-use Rattle.group_facts.specs.Facts.{Known}
-use Rattle.group_facts.specs.Legal.{Legal, LegalFrom}
-use Rattle.group_facts.specs.Settled.{Settled}
-use Rattle.group_facts.proofs.Everywhere.{known_holds}
-use Rattle.group_facts.proofs.Settling.{settled_holds}
-use Rattle.group_rows.specs.Rows.{outs_of}
-use Rattle.mux_tables.specs.declared.tables.Tables.{Tables}
-use Rattle.mux_tables.specs.Documents.{DocumentsStand, nothing_owed}
-use Rattle.mux_tables.specs.Stands.{Stands}
-use Rattle.group_facts.specs.Ceilings.{HaveCeilings}
+use Rattle.group_sessions.specs.group_facts.specs.Built.{built, built_behind}
+use Rattle.group_sessions.specs.group_facts.specs.Facts.{Known}
+use Rattle.group_sessions.specs.group_facts.specs.Legal.{Legal, LegalFrom}
+use Rattle.group_sessions.specs.group_facts.specs.Settled.{Settled}
+use Rattle.group_sessions.specs.group_facts.proofs.Everywhere.{known_holds}
+use Rattle.group_sessions.specs.group_facts.proofs.Settling.{settled_holds}
+use Rattle.group_sessions.specs.group_rows.specs.Rows.{outs_of}
+use Rattle.mux_causes.specs.mux_tables.specs.declared.tables.Tables.{Tables}
+use Rattle.mux_causes.specs.mux_tables.specs.Documents.{DocumentsStand, nothing_owed}
+use Rattle.mux_causes.specs.mux_tables.specs.Stands.{Stands}
+use Rattle.group_sessions.specs.group_facts.specs.Ceilings.{HaveCeilings}
 use Rattle.mux_causes.specs.Backlogs.{BacklogsStand}
 use Rattle.mux_hub.specs.Entries.{emits, entry_of, most_events, passes}
 use Rattle.mux_hub.specs.Faults.{Counted, step_fault_of}

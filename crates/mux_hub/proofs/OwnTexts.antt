@@ -15,7 +15,7 @@ use Rattle.document_model.specs.Orderly.{AllSpelt}
 use Rattle.document_model.specs.Rows.{Agrees}
 use Rattle.document_model.specs.Texts.{Texts, found}
 use Rattle.document_model.proofs.Spoken.{AllSpeak}
-use Rattle.document_laws.specs.Follows.{Matches}
+use Rattle.mux_causes.specs.document_laws.specs.Follows.{Matches}
 use Rattle.event_model.specs.declared.stage.Stage.{Stage}
 use Rattle.event_model.specs.declared.stage.Stage.TheVariants.{Ready}
 use Rattle.event_model.specs.Event.{Event, behind, events_of, heard, said, with_cause}
@@ -30,28 +30,28 @@ use Rattle.mux_facts.proofs.DocumentRow.{ready_is}
 use Rattle.mux_facts.proofs.Keeps.{behind_both}
 use Rattle.mux_facts.proofs.Reasons.{Reasons}
 use Rattle.mux_model.specs.Documents.{held_at}
-use Rattle.group_rows.specs.Rows.{sync_bodies}
-use Rattle.group_rows.proofs.Frames.{texts_more}
-use Rattle.group_rows.specs.Texts.{is_synced, texts_of, worker_behind, worker_of}
-use Rattle.group_facts.specs.Built.{built}
-use Rattle.group_facts.specs.Legal.{Legal}
-use Rattle.group_facts.specs.OwnTexts.{AllHaveHolders, AllOnOwnTexts, HasHolders, OnOwnTexts, OwnTexts, OwnTextsFrom, HasOwn}
-use Rattle.group_facts.specs.Why.{IsBehindSync, IsQuestion, Why, WhyToServer, begins, cancels, exits, forwarded, greets, notes, resolves, responds, shuts, tells}
-use Rattle.group_facts.proofs.Asides.{answer_aside, spoken_aside, unsynced}
-use Rattle.group_facts.proofs.Known.{facts_hold}
-use Rattle.group_facts.proofs.Same.{IsBody, same_behind, same_held, same_questions}
-use Rattle.group_facts.proofs.Table.{reasons}
-use Rattle.group_laws.specs.Stands.{HeldStands}
-use Rattle.group_laws.proofs.OwnTexts.{own_texts}
-use Rattle.group_laws.proofs.Asking.{sync_speaks, to}
-use Rattle.group_laws.proofs.Entries.{first_behind, texts_told}
-use Rattle.mux_tables.specs.declared.tables.Start.{Start}
-use Rattle.mux_tables.specs.declared.tables.Tables.{Tables}
-use Rattle.mux_tables.specs.Documents.{DocumentsStand, SharedStands, nothing_owed}
-use Rattle.mux_tables.specs.Stands.{Stands, of_life}
-use Rattle.mux_tables.proofs.DocumentMoves.{documents_at}
-use Rattle.mux_tables.proofs.Homes.{kept_start}
-use Rattle.mux_tables.proofs.Placed.{KeptAt}
+use Rattle.group_sessions.specs.group_rows.specs.Rows.{sync_bodies}
+use Rattle.group_sessions.specs.group_rows.proofs.Frames.{texts_more}
+use Rattle.group_sessions.specs.group_rows.specs.Texts.{is_synced, texts_of, worker_behind, worker_of}
+use Rattle.group_sessions.specs.group_facts.specs.Built.{built}
+use Rattle.group_sessions.specs.group_facts.specs.Legal.{Legal}
+use Rattle.group_sessions.specs.group_facts.specs.OwnTexts.{AllHaveHolders, AllOnOwnTexts, HasHolders, OnOwnTexts, OwnTexts, OwnTextsFrom, HasOwn}
+use Rattle.group_sessions.specs.group_facts.specs.Why.{IsBehindSync, IsQuestion, Why, WhyToServer, begins, cancels, cancels_work, exits, forwarded, greets, notes, resolves, responds, shuts, tells}
+use Rattle.group_sessions.specs.group_facts.proofs.Asides.{answer_aside, spoken_aside, unsynced}
+use Rattle.group_sessions.specs.group_facts.proofs.Known.{facts_hold}
+use Rattle.group_sessions.specs.group_facts.proofs.Same.{IsBody, same_behind, same_held, same_questions}
+use Rattle.group_sessions.specs.group_facts.proofs.Table.{reasons}
+use Rattle.mux_causes.specs.group_laws.specs.Stands.{HeldStands}
+use Rattle.mux_causes.specs.group_laws.proofs.OwnTexts.{own_texts}
+use Rattle.mux_causes.specs.group_laws.proofs.Asking.{sync_speaks, to}
+use Rattle.mux_causes.specs.group_laws.proofs.Entries.{first_behind, texts_told}
+use Rattle.mux_causes.specs.mux_tables.specs.declared.tables.Start.{Start}
+use Rattle.mux_causes.specs.mux_tables.specs.declared.tables.Tables.{Tables}
+use Rattle.mux_causes.specs.mux_tables.specs.Documents.{DocumentsStand, SharedStands, nothing_owed}
+use Rattle.mux_causes.specs.mux_tables.specs.Stands.{Stands, of_life}
+use Rattle.mux_causes.specs.mux_tables.proofs.DocumentMoves.{documents_at}
+use Rattle.mux_causes.specs.mux_tables.proofs.Homes.{kept_start}
+use Rattle.mux_causes.specs.mux_tables.proofs.Placed.{KeptAt}
 use Rattle.mux_hub.specs.Entries.{emits, entry_of}
 
 module _ (settings : Settings) (t : Tables) (before : List Event) (st : Stands settings t before) (ds : DocumentsStand settings nothing_owed t before) where
@@ -146,6 +146,7 @@ module _ (settings : Settings) (t : Tables) (before : List Event) (st : Stands s
   by_reason cause events s body (tells k) goes = never (sym goes ∙ spoken_aside (message_of body) k.spoken)
   by_reason cause events s body (shuts k) goes = unsynced body _ k.says refl goes
   by_reason cause events s body (cancels k) goes = unsynced body _ k.says refl goes
+  by_reason cause events s body (cancels_work k) goes = unsynced body _ k.says refl goes
   by_reason cause events s body (responds k) goes = never (sym goes ∙ answer_aside (message_of body) k.response)
   by_reason cause events s body (resolves k) goes = never (sym goes ∙ answer_aside (message_of body) k.response)
   by_reason cause events s body (exits k) goes = unsynced body _ k.says refl goes

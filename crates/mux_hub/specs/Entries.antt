@@ -5,7 +5,7 @@ use Rattle.mux_history.specs.declared.entry.Entry.{Entry}
 use Rattle.mux_history.specs.declared.out.Out.{Out}
 use Rattle.event_model.specs.Event.{events_of}
 use Rattle.event_model.specs.Settings.{Settings}
-use Rattle.group_rows.specs.Rows.{outs_of}
+use Rattle.group_sessions.specs.group_rows.specs.Rows.{outs_of}
 
 abbrev pub emits : Settings → List Entry → Cause → List Out
 emits settings history cause = outs_of settings (events_of history) cause

@@ -4,12 +4,12 @@ use Rattle.mux_history.specs.declared.entry.Entry.{Entry}
 use Rattle.event_model.specs.Event.{Event, events_of}
 use Rattle.event_model.specs.Settings.{Settings}
 use Rattle.mux_facts.specs.Ranges.{InRange}
-use Rattle.group_facts.specs.Legal.{Legal}
-use Rattle.group_facts.specs.OwnTexts.{OwnTexts}
-use Rattle.mux_tables.specs.declared.tables.Tables.{Tables}
-use Rattle.mux_tables.specs.Documents.{DocumentsStand, nothing_owed}
-use Rattle.mux_tables.specs.Stands.{Stands}
-use Rattle.group_facts.specs.Ceilings.{HaveCeilings}
+use Rattle.group_sessions.specs.group_facts.specs.Legal.{Legal}
+use Rattle.group_sessions.specs.group_facts.specs.OwnTexts.{OwnTexts}
+use Rattle.mux_causes.specs.mux_tables.specs.declared.tables.Tables.{Tables}
+use Rattle.mux_causes.specs.mux_tables.specs.Documents.{DocumentsStand, nothing_owed}
+use Rattle.mux_causes.specs.mux_tables.specs.Stands.{Stands}
+use Rattle.group_sessions.specs.group_facts.specs.Ceilings.{HaveCeilings}
 use Rattle.mux_causes.specs.Backlogs.{BacklogsStand}
 use Rattle.mux_hub.specs.Entries.{most_events}
 use Rattle.mux_hub.specs.Starts.{servers_of}

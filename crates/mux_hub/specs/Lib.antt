@@ -2,3 +2,5 @@ pub mod Entries
 pub mod Faults
 pub mod Hubs
 pub mod Starts
+pub use Rattle.group_sessions.specs.group_facts
+pub use Rattle.group_sessions.specs.session_laws

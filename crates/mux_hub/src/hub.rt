@@ -1,6 +1,6 @@
 // The hub: the tables, the journal, and whether a step had a fault.
 ghost use Rattle.std.specs.Prelude.{◌≡◌, ℕ, ◌+◌, ◌^◌, ◌≤◌, ◌<◌, ◌↔◌, List, [], ◌∷◌, ◌++◌, Bool, true, false, length, nat_lt, if◌then◌else◌, Some, None, IsTrue, IsNone, IfOk, OnOk, OnErr, IsErrOf, IfErr, slice_get};
-ghost use Rattle.group_facts.specs.Ceilings.{HaveCeilings};
+ghost use Rattle.group_sessions.specs.group_facts.specs.Ceilings.{HaveCeilings};
 ghost use Rattle.outside_io.specs.Faults.{Rose};
 ghost use Rattle.mux_history.specs.declared.entry.Entry.{Entry};
 ghost use Rattle.mux_history.specs.Cores.{body_length, joined, spawns};
@@ -8,10 +8,10 @@ ghost use Rattle.mux_history.specs.Journals.{append_told};
 ghost use Rattle.event_model.specs.Event.{Event, behind, events_of, with_cause};
 ghost use Rattle.event_model.specs.Settings.{Settings};
 ghost use Rattle.mux_model.specs.Fits.{fits, fits_behind};
-ghost use Rattle.group_rows.specs.Rows.{outs_of};
-ghost use Rattle.group_facts.specs.Built.{built, built_behind};
-ghost use Rattle.group_facts.specs.Facts.{Known};
-ghost use Rattle.group_facts.specs.Settled.{Settled};
+ghost use Rattle.group_sessions.specs.group_rows.specs.Rows.{outs_of};
+ghost use Rattle.group_sessions.specs.group_facts.specs.Built.{built, built_behind};
+ghost use Rattle.group_sessions.specs.group_facts.specs.Facts.{Known};
+ghost use Rattle.group_sessions.specs.group_facts.specs.Settled.{Settled};
 ghost use Rattle.mux_hub.specs.Entries.{emits, entry_of, most_events, passes};
 ghost use Rattle.mux_hub.specs.Faults.{Counted};
 ghost use Rattle.mux_hub.specs.Hubs.{HubView, HubStands, TablesStand, Tells};
@@ -22,8 +22,8 @@ use crate::starts::note_spawns;
 use event_model::{Limits, Server};
 use message_body::Memory;
 use mux_causes::Backlogs;
+use mux_causes::mux_tables::Tables;
 use mux_history::{Cause, Entry, Journal, Outs, StepFault as CoreFault, Steps};
-use mux_tables::Tables;
 use std::alloc::Global;
 use std::marker::Model;
 

@@ -4,11 +4,11 @@ ghost use Rattle.event_model.specs.Event.{Event, behind, said};
 ghost use Rattle.event_model.specs.Settings.{Settings};
 ghost use Rattle.group_words.specs.Houses.{groups_of};
 ghost use Rattle.mux_hub.specs.Starts.{SameServers, server_in, servers_of};
-ghost use Rattle.mux_tables.specs.Stands.{Stands};
+ghost use Rattle.mux_causes.specs.mux_tables.specs.Stands.{Stands};
 
 use message_body::Memory;
+use mux_causes::mux_tables::Tables;
 use mux_history::{Out, Outs};
-use mux_tables::Tables;
 
 // The place of the server that the starts of a group run.
 fn server_in(tables: &Tables, default: u32, group: u64) -> u32

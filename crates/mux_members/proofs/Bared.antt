@@ -6,7 +6,7 @@ use Rattle.json_text.specs.Json.{Json, word, number, string, array, object}
 use Rattle.json_text.specs.Named.{named_in}
 use Rattle.json_text.proofs.Put.{named_bare}
 use Rattle.rpc_message.specs.Message.{is_integer_value, is_string_value}
-use Rattle.event_model.specs.Members.{named_of, is_token, has_token}
+use Rattle.mux_model.specs.event_model.specs.Members.{named_of, is_token, has_token}
 
 pub in_bare : (cs : List ℕ) (j : Json) → named_in cs (bare j) ≡ option_map bare (named_in cs j)
 in_bare cs (object s ms) = named_bare cs ms

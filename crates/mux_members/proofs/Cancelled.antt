@@ -1,5 +1,5 @@
 -- The id that a cancel names.
-use Rattle.std.proofs.Common.{◌≡◌, ℕ, Bool, true, false, ◌||◌, List, codes, Option, Some, None, option_map, refl, sym, ◌∙◌, ap, subst}
+use Rattle.std.proofs.Common.{◌≡◌, ℕ, Bool, true, false, ◌||◌, List, Option, Some, None, option_map, refl, sym, ◌∙◌, ap, subst}
 use Rattle.std.specs.Option.{option_and_then}
 use Rattle.json_text.specs.Bare.{bare}
 use Rattle.json_text.specs.Json.{Json, word, number, string, array, object, span_of, value}
@@ -13,7 +13,7 @@ use Rattle.rpc_message.specs.Message.{Id, Message, error, id_of, integer, intege
 use Rattle.rpc_message.specs.Parsed.{FoundBare}
 use Rattle.rpc_message.specs.ValueTexts.{IsIdText}
 use Rattle.rpc_message.proofs.Meaning.{id_bare}
-use Rattle.event_model.specs.Members.{named_of}
+use Rattle.mux_model.specs.event_model.specs.Members.{named_of}
 use Rattle.mux_members.specs.Cancels.{IsTextOf, may_be_id}
 use Rattle.mux_members.specs.Envelopes.{notification_params}
 use Rattle.mux_members.proofs.Bared.{of_bare}
@@ -58,18 +58,19 @@ id_given (Some t) = id_bare t
 id_given None = refl
 
 -- the params say what their value says
-named_given : (o : Option Json) → option_and_then id_of (named_of (codes "id") (option_map bare o)) ≡ option_and_then id_of (named_of (codes "id") o)
-named_given o = ap (λ z. option_and_then id_of z) (of_bare (codes "id") o) ∙ id_given (named_of (codes "id") o)
+module _ (name : List ℕ) where
+  named_given : (o : Option Json) → option_and_then id_of (named_of name (option_map bare o)) ≡ option_and_then id_of (named_of name o)
+  named_given o = ap (λ z. option_and_then id_of z) (of_bare name o) ∙ id_given (named_of name o)
 
-module _ (doc : Doc) (params : Option Json) (answer : Option ℕ) (told : FoundBare doc params answer) where
-  abbrev id : Option Json
-  id = named_of (codes "id") told.value
+  module _ (doc : Doc) (params : Option Json) (answer : Option ℕ) (told : FoundBare doc params answer) where
+    abbrev id : Option Json
+    id = named_of name told.value
 
-  same : option_and_then id_of (named_of (codes "id") params) ≡ option_and_then id_of id
-  same = ap (λ o. option_and_then id_of (named_of (codes "id") o)) told.is ∙ named_given told.value
+    same : option_and_then id_of (named_of name params) ≡ option_and_then id_of id
+    same = ap (λ o. option_and_then id_of (named_of name o)) told.is ∙ named_given told.value
 
-  pub names_id : (place : Option ℕ) (w : List ℕ) → Found doc id place → may_be_id id ≡ true → ((t : Json) → Found doc (Some t) place → value t (span_of t).from w) → IsTextOf (option_and_then id_of (named_of (codes "id") params)) (Some w)
-  names_id place w found may f = subst (λ o. IsTextOf o (Some w)) (sym same) (some_id id w may (λ t is. ((span_of t).from, f t (subst (λ o. Found doc o place) is found))))
+    pub names_id : (place : Option ℕ) (w : List ℕ) → Found doc id place → may_be_id id ≡ true → ((t : Json) → Found doc (Some t) place → value t (span_of t).from w) → IsTextOf (option_and_then id_of (named_of name params)) (Some w)
+    names_id place w found may f = subst (λ o. IsTextOf o (Some w)) (sym same) (some_id id w may (λ t is. ((span_of t).from, f t (subst (λ o. Found doc o place) is found))))
 
-  pub names_nothing : may_be_id id ≡ false → IsTextOf (option_and_then id_of (named_of (codes "id") params)) None
-  names_nothing may = subst (λ o. IsTextOf o None) (sym same) (no_id id may)
+    pub names_nothing : may_be_id id ≡ false → IsTextOf (option_and_then id_of (named_of name params)) None
+    names_nothing may = subst (λ o. IsTextOf o None) (sym same) (no_id id may)

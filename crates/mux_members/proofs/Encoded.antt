@@ -1,6 +1,6 @@
 -- Characters and their UTF-8 are equal to an ASCII text at once.
 use Rattle.std.proofs.Common.{◌≡◌, ℕ, ◌+◌, ◌/◌, ◌%◌, ◌<◌, ◌≤◌, Bool, true, false, ◌&&◌, ◌||◌, List, [], ◌∷◌, ◌++◌, codes, ◌⊎◌, inl, inr, refl, sym, ◌∙◌, ap, ap₂, arith}
-use Rattle.std.specs.Prelude.{bytes_eq, nat_eq, nat_lt, encode_utf8_all, chars, is_some, unwrap_or, if◌then◌else◌}
+use Rattle.std.specs.Prelude.{suc, length, take, bytes_eq, nat_eq, nat_lt, encode_utf8_all, chars, is_some, unwrap_or, if◌then◌else◌}
 use Rattle.std.proofs.lemmas.Bool.{cases_lt}
 use Rattle.std.proofs.lemmas.Bool.Decides.{nat_tests}
 use Rattle.std.proofs.lemmas.Str.{chars-IsAscii}
@@ -8,7 +8,7 @@ use Rattle.std.proofs.lemmas.Str.Ascii.{IsAscii-from_all}
 use Rattle.std.specs.List.{All}
 use Rattle.std.proofs.lemmas.List.Sums.{AllPass-from_list_all}
 use lib.Utf8.{encode, encodes}
-use Rattle.json_token.proofs.Encoded.{one, two, three, four}
+use Rattle.json_nodes.specs.json_token.proofs.Encoded.{one, two, three, four}
 use Rattle.lsp_method.specs.Class.{editor_notification, editor_request, goes_nowhere, is_focused, is_refresh, own_notification, own_request, server_notification, server_request}
 use Rattle.lsp_method.specs.declared.variants.Class.TheVariants.{Wrong, Other, Dropped}
 use Rattle.mux_model.specs.Methods.{is_dollar}
@@ -35,6 +35,9 @@ apart a c n xs ys ns h k l =
     let f : nat_eq c n ≡ false = grind (arith, nat_tests) in
     ap (λ b. b && bytes_eq xs ns) e ∙ sym (ap (λ b. b && bytes_eq ys ns) f)
 
+differ : (n c : ℕ) → n < 128 → 128 ≤ c → nat_eq n c ≡ false
+differ n c l h = grind (arith, nat_tests)
+
 head_ascii : (n : ℕ) (ns : List ℕ) → is_ascii (n ∷ ns) ≡ true → n < 128
 head_ascii n ns h = ascii_all (n ∷ ns) h 0 0 (omega arith)
 
@@ -59,6 +62,21 @@ ascii_encoded (c ∷ cs) (n ∷ ns) h = go (ascii_encoded cs ns (tail_ascii n ns
     go same (inr l) =
         let k : (a : ℕ) × (more : List ℕ) × (encode c ≡ a ∷ more) × (128 ≤ a) = lead c l in
         ap (λ xs. bytes_eq (xs ++ encodes cs) (n ∷ ns)) k.2 ∙ apart k.0 c n (k.1 ++ encodes cs) cs ns k.3 l (head_ascii n ns h)
+
+-- and begin with one at once
+pub ascii_fronted : (name cs : List ℕ) → is_ascii name ≡ true → bytes_eq name (take (length name) (encode_utf8_all cs)) ≡ bytes_eq name (take (length name) cs)
+ascii_fronted [] cs h = refl
+ascii_fronted (n ∷ ns) [] h = refl
+ascii_fronted (n ∷ ns) (c ∷ cs) h = go (ascii_fronted ns cs (tail_ascii n ns h)) (cases_lt c 128)
+  where
+    go : bytes_eq ns (take (length ns) (encodes cs)) ≡ bytes_eq ns (take (length ns) cs) → (c < 128) ⊎ (128 ≤ c) → bytes_eq (n ∷ ns) (take (suc (length ns)) (encode c ++ encodes cs)) ≡ bytes_eq (n ∷ ns) (take (suc (length ns)) (c ∷ cs))
+    go same (inl l) = ap (λ xs. bytes_eq (n ∷ ns) (take (suc (length ns)) (xs ++ encodes cs))) (one c l) ∙ ap (λ b. nat_eq n c && b) same
+    go same (inr l) =
+        let k : (a : ℕ) × (more : List ℕ) × (encode c ≡ a ∷ more) × (128 ≤ a) = lead c l in
+        let low = head_ascii n ns h in
+        let e : nat_eq n k.0 ≡ false = differ n k.0 low k.3 in
+        let f : nat_eq n c ≡ false = differ n c low l in
+        ap (λ xs. bytes_eq (n ∷ ns) (take (suc (length ns)) (xs ++ encodes cs))) k.2 ∙ (ap (λ b. b && bytes_eq ns (take (length ns) (k.1 ++ encodes cs))) e ∙ sym (ap (λ b. b && bytes_eq ns (take (length ns) cs)) f))
 
 -- so the class of a method may be told by its UTF-8
 

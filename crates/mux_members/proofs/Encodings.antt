@@ -15,7 +15,7 @@ use Rattle.rpc_message.specs.declared.envelope.Envelope.TheVariants.{Request, No
 use Rattle.rpc_message.specs.Envelopes.{Tells}
 use Rattle.rpc_message.specs.Message.{Id, Message, request, notification, result, error, result_tree, is_string_value}
 use Rattle.mux_model.specs.Documents.{encoding_in, encoding_named}
-use Rattle.event_model.specs.Members.{named_of, string_of}
+use Rattle.mux_model.specs.event_model.specs.Members.{named_of, string_of}
 use Rattle.mux_members.specs.Envelopes.{outcome_value}
 use Rattle.mux_members.specs.Results.{value_encoding}
 use Rattle.mux_members.proofs.Bared.{in_bare, of_bare}

@@ -8,4 +8,5 @@ pub mod Results
 pub mod Roots
 pub mod Spoken
 pub mod Told
+pub mod Tokens
 pub mod Walks

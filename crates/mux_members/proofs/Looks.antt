@@ -15,7 +15,7 @@ use Rattle.json_nodes.specs.Nodes.{kind_of}
 use Rattle.json_nodes.proofs.Sames.{number_of}
 use Rattle.rpc_message.specs.Message.{is_integer, is_integer_value}
 use Rattle.json_nodes.proofs.Spelling.{named_so}
-use Rattle.event_model.specs.Members.{named_of}
+use Rattle.mux_model.specs.event_model.specs.Members.{named_of}
 use Rattle.mux_members.specs.Finds.{is_ascii}
 use Rattle.mux_members.proofs.Encoded.{ascii_chars}
 

@@ -7,11 +7,11 @@ use Rattle.json_text.specs.Json.{Json, word, number, string, array, object, valu
 use Rattle.json_nodes.specs.At.{At, Found}
 use Rattle.json_nodes.specs.Doc.{Doc}
 use Rattle.json_nodes.proofs.Spelled.{string_text}
-use Rattle.json_token.proofs.Scalars.{scalar_characters, utf8_characters}
+use Rattle.json_nodes.specs.json_token.proofs.Scalars.{scalar_characters, utf8_characters}
 use Rattle.rpc_message.specs.Message.{is_integer_value, is_string_value}
 use Rattle.mux_model.specs.Sayings.{integer_text}
 use Rattle.mux_model.specs.Sayings.{Saying, nothing, member_of, opening_by, changing_by, closing_by, saying_by}
-use Rattle.event_model.specs.Members.{named_of}
+use Rattle.mux_model.specs.event_model.specs.Members.{named_of}
 
 -- a string's characters are a text
 pub text_utf8 : (doc : Doc) (o : Option Json) (place : Option ℕ) (n : ℕ) (text : List ℕ) → Some n ≡ place → is_string_value o ≡ true → ((s : Span) (cs : List ℕ) → At doc n (string s cs) → text ≡ encode_utf8_all cs) → Found doc o place → IsUtf8 text

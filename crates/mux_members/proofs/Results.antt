@@ -13,8 +13,8 @@ use Rattle.rpc_message.specs.declared.envelope.Envelope.{Envelope}
 use Rattle.rpc_message.specs.declared.envelope.Envelope.TheVariants.{Request, Notification, Outcome, Failure}
 use Rattle.rpc_message.specs.Envelopes.{Tells}
 use Rattle.rpc_message.specs.Message.{Id, integer, text, Message, request, notification, result, error, result_tree, response_id, is_integer, is_integer_value, is_string_value}
-use Rattle.event_model.specs.Members.{listed, named_of, has_version, has_versions, is_versioned_edit, reads_versions}
-use Rattle.event_model.specs.Stages.{is_first_result}
+use Rattle.mux_model.specs.event_model.specs.Members.{listed, named_of, has_version, has_versions, is_versioned_edit, reads_versions}
+use Rattle.mux_model.specs.event_model.specs.Stages.{is_first_result}
 use Rattle.mux_members.specs.Envelopes.{outcome_id, outcome_value}
 use Rattle.mux_members.specs.Results.{any_versioned, is_one, value_reads_versions}
 use Rattle.mux_members.proofs.Bared.{in_bare, integer_bare, of_bare, string_bare}

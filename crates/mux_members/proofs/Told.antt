@@ -10,7 +10,7 @@ use Rattle.rpc_message.specs.declared.envelope.Envelope.{Envelope}
 use Rattle.rpc_message.specs.declared.envelope.Envelope.TheVariants.{Request, Notification, Outcome, Failure}
 use Rattle.rpc_message.specs.Envelopes.{Tells}
 use Rattle.rpc_message.specs.Message.{Message, message_of, request, notification, result, error}
-use Rattle.event_model.specs.Event.{notifies, requests}
+use Rattle.mux_model.specs.event_model.specs.Event.{notifies, requests}
 use Rattle.rpc_message.specs.Message.{Id, result_tree}
 use Rattle.std.specs.Prelude.{encode_utf8_all}
 use Rattle.rpc_message.specs.Parsed.{FoundBare, method_of}

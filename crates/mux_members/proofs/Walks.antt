@@ -11,7 +11,7 @@ use Rattle.json_nodes.specs.Doc.{Doc}
 use Rattle.json_nodes.proofs.Bounds.{at_inside}
 use Rattle.json_nodes.proofs.Members.{Inside, Follows, found_child_is, no_child, inside_more}
 use Rattle.json_nodes.proofs.Numbers.{child_at}
-use Rattle.event_model.specs.Members.{listed}
+use Rattle.mux_model.specs.event_model.specs.Members.{listed}
 use Rattle.mux_members.specs.Finds.{Rest, values_of, is_array_value}
 
 -- lists from one place on

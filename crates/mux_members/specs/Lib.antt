@@ -4,3 +4,8 @@ pub mod Finds
 pub mod Notices
 pub mod Results
 pub mod Members
+pub mod Tokens
+pub use Rattle.mux_model.specs.document_model
+pub use Rattle.json_nodes
+pub use Rattle.mux_model
+pub use Rattle.rpc_message

@@ -8,7 +8,7 @@ use Rattle.rpc_message.specs.Message.{Id, integer, text}
 use Rattle.position_codec.specs.declared.Encoding.{Encoding}
 use Rattle.position_codec.specs.declared.Encoding.TheVariants.{Utf16}
 use Rattle.mux_model.specs.Documents.{encoding_in}
-use Rattle.event_model.specs.Members.{has_versions, is_versioned_edit, reads_versions}
+use Rattle.mux_model.specs.event_model.specs.Members.{has_versions, is_versioned_edit, reads_versions}
 
 -- the integer 1
 abbrev pub is_one : Option Id → Bool

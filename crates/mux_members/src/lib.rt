@@ -9,7 +9,7 @@ mod notice;
 mod outcome;
 mod params;
 
-pub use cancel::cancelled_id;
+pub use cancel::{cancelled_id, cancelled_token};
 pub use look::{first_item, is_object, member, member_bytes, next_value};
 pub use method::{
     asked_class, cancels_work, class_in, goes_on, is_cancel, is_dollar, is_exit, is_initialize,
@@ -17,4 +17,6 @@ pub use method::{
 };
 pub use notice::{Notice, notice_in, speaks, string};
 pub use outcome::{encoding, is_first_result, reads_versions};
-pub use params::has_token;
+pub use params::{has_token, named_token, text, token};
+pub use rpc_message;
+pub use rpc_message::json_span;

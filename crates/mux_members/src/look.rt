@@ -4,12 +4,12 @@ ghost use Rattle.json_text.specs.declared.span.Span.{Span};
 ghost use Rattle.json_text.specs.Json.{Json, span_of, string, value};
 ghost use Rattle.json_nodes.specs.At.{Found};
 ghost use Rattle.rpc_message.specs.Message.{is_integer_value, is_string_value};
-ghost use Rattle.event_model.specs.Members.{bytes_if, listed, named_of};
+ghost use Rattle.mux_model.specs.event_model.specs.Members.{bytes_if, listed, named_of};
 ghost use Rattle.mux_members.specs.Finds.{Rest, is_array_value, is_ascii, is_object_value, values_of};
 
-use json_span::Tape;
+use json_nodes::json_token::spells_text;
 use json_text::Kind;
-use json_token::spells_text;
+use rpc_message::json_span::Tape;
 
 /// The value of the last member of this name, where the value is there and an object.
 pub fn member(tape: &Tape, node: Option<u32>, name: &str) -> Option<u32>

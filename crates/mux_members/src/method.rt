@@ -6,7 +6,7 @@ ghost use Rattle.lsp_method.specs.declared.variants.Origin.TheVariants.{Editor, 
 ghost use Rattle.rpc_message.specs.Message.{Id, message_of, notification, request};
 ghost use Rattle.mux_model.specs.Methods.{goes_on, is_dollar, is_wrong};
 ghost use Rattle.rpc_message.specs.Parsed.{IsRead};
-ghost use Rattle.event_model.specs.Event.{notifies, requests};
+ghost use Rattle.mux_model.specs.event_model.specs.Event.{notifies, requests};
 
 use crate::envelope::{notification_method, request_method};
 use crate::look::spells;

@@ -11,9 +11,9 @@ ghost use Rattle.mux_members.specs.Notices.{AreTexts, IsTextIf, Says, is_of_docu
 
 use crate::envelope::{notification_method, notification_params};
 use crate::look::{bytes, is_integer, is_text, member, spells};
-use json_span::Tape;
 use message_body::{Body, Memory};
 use rpc_message::Message;
+use rpc_message::json_span::Tape;
 use std::alloc::Global;
 
 /// What a notification says of a document.

@@ -6,15 +6,15 @@ ghost use Rattle.rpc_message.specs.Message.{Id, message_of, response_id};
 ghost use Rattle.rpc_message.specs.Message.{result as outcome_of};
 ghost use Rattle.rpc_message.specs.Parsed.{IsRead};
 ghost use Rattle.mux_model.specs.Documents.{encoding_in};
-ghost use Rattle.event_model.specs.Members.{has_version, has_versions, listed, reads_versions};
-ghost use Rattle.event_model.specs.Stages.{is_first_result};
+ghost use Rattle.mux_model.specs.event_model.specs.Members.{has_version, has_versions, listed, reads_versions};
+ghost use Rattle.mux_model.specs.event_model.specs.Stages.{is_first_result};
 ghost use Rattle.mux_members.specs.Results.{any_edit_versioned, any_versioned, is_one, value_encoding, value_reads_versions};
 
 use crate::envelope::{outcome_id, outcome_value};
 use crate::look::{bytes, first_item, is_array, is_integer, is_text, member, next_value, spells};
-use json_span::Tape;
 use position_codec::Encoding;
 use rpc_message::Message;
+use rpc_message::json_span::Tape;
 
 // Whether a response's id is the integer 1.
 fn is_one(tape: &Tape, node: Option<u32>) -> bool

@@ -1,8 +1,8 @@
 -- How a start counts positions, and what it has of a document, by the history (LSP 3.17, Text Document Synchronization).
 use Rattle.std.specs.Prelude.{ℕ, not, List, filter, fold, codes, nat_eq, bytes_eq, if◌then◌else◌}
 use Rattle.std.specs.Prelude.{Option, Some, None}
-use Rattle.json_text.specs.Json.{Json}
-use Rattle.json_text.specs.Named.{named_in}
+use Rattle.document_model.specs.json_text.specs.Json.{Json}
+use Rattle.document_model.specs.json_text.specs.Named.{named_in}
 use Rattle.mux_history.specs.declared.cause.Cause.TheVariants.{FromServer}
 use Rattle.mux_history.specs.declared.out.Out.TheVariants.{ToServer}
 use Rattle.event_model.specs.Messages.{Message, result, integer}

@@ -4,3 +4,6 @@ pub mod Fits
 pub mod Methods
 pub mod Rows
 pub mod Sayings
+pub use Rattle.document_model.specs.doc_text
+pub use Rattle.document_model
+pub use Rattle.event_model

@@ -18,4 +18,6 @@ mod statuses;
 #[cfg(test)]
 mod tests;
 #[cfg(test)]
+mod tokens;
+#[cfg(test)]
 mod versions;

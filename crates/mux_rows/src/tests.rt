@@ -643,10 +643,8 @@ const IDLING: [(&str, &str); 10] = [
 ];
 
 // Lines that fit, and that no row takes yet.
-const UNBUILT: [&str; 4] = [
-    "ed 0 {\"jsonrpc\":\"2.0\",\"method\":\"window/workDoneProgress/cancel\",\"params\":{\"token\":1}}\n",
+const UNBUILT: [&str; 2] = [
     "ed 0 {\"jsonrpc\":\"2.0\",\"id\":1,\"method\":\"lspmux/stop\"}\n",
-    "ed 0 {\"jsonrpc\":\"2.0\",\"id\":1,\"method\":\"x\",\"params\":{\"workDoneToken\":1}}\n",
     "sv 0 {\"jsonrpc\":\"2.0\",\"id\":1,\"method\":\"window/workDoneProgress/create\",\"params\":{\"token\":1}}\n",
 ];
 

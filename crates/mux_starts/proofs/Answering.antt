@@ -7,13 +7,13 @@ use Rattle.mux_history.specs.declared.cause.Cause.TheVariants.{FromServer}
 use Rattle.mux_history.specs.declared.out.Out.{Out}
 use Rattle.mux_history.specs.declared.out.Out.TheVariants.{ToEditor}
 use Rattle.rpc_message.specs.Message.{Message, Id, message_of}
-use Rattle.mux_facts.specs.Allowed.{is_response}
-use Rattle.mux_facts.proofs.Bodies.{IsResponseTo, is_error, is_result}
-use Rattle.group_facts.proofs.AnswerRows.{answers_only}
-use Rattle.group_facts.specs.Facts.{Meant}
-use Rattle.group_facts.proofs.Answered.{answer_says}
+use Rattle.mux_turns.specs.mux_facts.specs.Allowed.{is_response}
+use Rattle.mux_turns.specs.mux_facts.proofs.Bodies.{IsResponseTo, is_error, is_result}
+use Rattle.mux_turns.specs.group_facts.proofs.AnswerRows.{answers_only}
+use Rattle.mux_turns.specs.group_facts.specs.Facts.{Meant}
+use Rattle.mux_turns.specs.group_facts.proofs.Answered.{answer_says}
 use Rattle.group_rows.proofs.Versions.{own_flat}
-use Rattle.id_rewrite.specs.declared.pending.Pending.{Pending}
+use Rattle.mux_tables.specs.id_rewrite.specs.declared.pending.Pending.{Pending}
 use Rattle.event_model.specs.declared.phase.Phase.{Phase}
 use Rattle.event_model.specs.declared.phase.Phase.TheVariants.{Absent, New, Waiting, Answered, Running, Down, Closed, Gone}
 use Rattle.event_model.specs.Does.{Alike, Does}

@@ -8,7 +8,7 @@ use Rattle.rpc_message.specs.Message.{Id, integer, message_of, request}
 use Rattle.rpc_message.proofs.Decimals.{decimal_law}
 use Rattle.event_model.specs.Event.{Event}
 use Rattle.event_model.specs.Settings.{Settings}
-use Rattle.group_facts.specs.Facts.{Meant}
+use Rattle.mux_turns.specs.group_facts.specs.Facts.{Meant}
 use Rattle.group_rows.specs.AskRows.{current_version}
 use Rattle.group_rows.specs.Asks.{has_number, next_ask}
 use Rattle.group_rows.proofs.Versions.{current_flat}

@@ -25,9 +25,9 @@ use Rattle.mux_tables.specs.declared.tables.Tables.{Tables}
 use Rattle.mux_tables.specs.Stands.{Stands, is_answer}
 use Rattle.document_model.specs.Sayings.{saying_of}
 use Rattle.document_model.specs.Sayings.{nothing as no_saying}
-use Rattle.group_facts.specs.Facts.{IsWritten, Known}
-use Rattle.group_facts.specs.Settled.{AreUtf8, Settled}
-use Rattle.group_facts.proofs.Forwards.{get_all}
+use Rattle.mux_turns.specs.group_facts.specs.Facts.{IsWritten, Known}
+use Rattle.mux_turns.specs.group_facts.specs.Settled.{AreUtf8, Settled}
+use Rattle.mux_turns.specs.group_facts.proofs.Forwards.{get_all}
 use Rattle.mux_starts.specs.Openings.{IsOpening, is_spawning}
 
 -- a start whose program isn't awaited gives nothing

@@ -15,7 +15,7 @@ use Rattle.group_rows.specs.Forwarded.{moves_ids, names}
 use Rattle.group_rows.specs.Rows.{hasty_answer}
 use Rattle.group_rows.specs.Texts.{is_synced}
 use Rattle.group_words.specs.Houses.{is_first_error}
-use Rattle.mux_facts.proofs.Bodies.{refusal_says}
+use Rattle.mux_turns.specs.mux_facts.proofs.Bodies.{refusal_says}
 use Rattle.event_model.specs.declared.stage.Stage.TheVariants.{Initializing}
 use Rattle.event_model.specs.Stages.{is_first_result, is_ready}
 use Rattle.mux_tables.specs.declared.tables.Start.{Start}

@@ -7,6 +7,7 @@ pub mod Replies
 pub mod Stopped
 pub mod Ticking
 pub mod Parking
+pub mod Progressing
 pub mod Singles
 pub mod Refreshing
 pub mod Recalls

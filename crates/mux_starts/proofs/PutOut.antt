@@ -23,14 +23,14 @@ use Rattle.event_model.specs.Stages.{Life, is_ready, life_of}
 use Rattle.event_model.proofs.Frames.{one_more}
 use Rattle.event_model.proofs.Places.{Same, same, other, compare, same_item}
 use Rattle.event_model.proofs.Turns.{alike, behind_more, does_alike, does_look, does_then}
-use Rattle.mux_facts.proofs.Table.{waiting_is}
+use Rattle.mux_turns.specs.mux_facts.proofs.Table.{waiting_is}
 use Rattle.editor_session.specs.declared.session.Session.{Session}
 use Rattle.group_words.specs.Houses.{home_of, is_first_error, is_home}
 use Rattle.group_rows.specs.Leaves.{leave_bodies}
 use Rattle.group_rows.specs.Rows.{close_all, members_in, refusal, refused_in, refused_row, waiting_in}
 use Rattle.group_rows.specs.Texts.{texts_of}
-use Rattle.group_facts.proofs.PutOut.{homes_stay}
-use Rattle.group_facts.proofs.RefusedRow.{IsError, error_is}
+use Rattle.mux_turns.specs.group_facts.proofs.PutOut.{homes_stay}
+use Rattle.mux_turns.specs.group_facts.proofs.RefusedRow.{IsError, error_is}
 use Rattle.mux_model.specs.Documents.{held_at}
 use Rattle.mux_tables.specs.declared.tables.Start.{Start}
 use Rattle.mux_tables.specs.declared.tables.Tables.{Tables}

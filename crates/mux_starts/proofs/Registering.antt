@@ -17,8 +17,8 @@ use Rattle.event_model.proofs.Turns.{alike, does_knowing, does_then}
 use Rattle.group_rows.specs.Asks.{asking_of, is_single, running_in}
 use Rattle.group_rows.specs.Live.{if_live, live_of, register_text, taken_back, unregister_text}
 use Rattle.group_rows.specs.LiveRows.{accept, call, decline, has_some, register_row, registering, unregister_any, unregister_row}
-use Rattle.registrations.specs.declared.registration.Registration.{Registration}
-use Rattle.registrations.specs.Items.{again, are_live, registered, unregistered}
+use Rattle.group_rows.specs.registrations.specs.declared.registration.Registration.{Registration}
+use Rattle.group_rows.specs.registrations.specs.Items.{again, are_live, registered, unregistered}
 use Rattle.mux_tables.specs.declared.tables.Tables.{Tables}
 use Rattle.mux_tables.specs.Documents.{AllStand, nothing_owed}
 use Rattle.mux_turns.specs.Calls.{IsCall}

@@ -19,7 +19,7 @@ use Rattle.event_model.specs.Requests.{answered_id}
 use Rattle.event_model.specs.Phases.{desk_of, is_running}
 use Rattle.event_model.specs.Settings.{Settings}
 use Rattle.event_model.proofs.Frames.{never}
-use Rattle.group_facts.specs.Facts.{IsWritten}
+use Rattle.mux_turns.specs.group_facts.specs.Facts.{IsWritten}
 use Rattle.group_rows.specs.AskRows.{else_first, in_focus, is_among, last_among}
 use Rattle.group_rows.specs.Asks.{Ask, Asker, Asking, Parked, asker_of, asking_of, asks_of, first_in, idle_asking, is_single, is_taken, is_under, parked_of, parks, running_in, waits_under}
 use Rattle.group_rows.specs.Forwarded.{Forwarded, moves_ids}

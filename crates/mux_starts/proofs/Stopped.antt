@@ -17,9 +17,9 @@ use Rattle.event_model.proofs.Frames.{never}
 use Rattle.event_model.proofs.Turns.{does_then}
 use Rattle.document_model.specs.Sayings.{saying_of}
 use Rattle.document_model.specs.Sayings.{nothing as no_saying}
-use Rattle.group_facts.specs.Built.{is_left}
-use Rattle.group_facts.specs.Lively.{lives}
-use Rattle.group_facts.proofs.Exits.{left_over}
+use Rattle.mux_turns.specs.group_facts.specs.Built.{is_left}
+use Rattle.mux_turns.specs.group_facts.specs.Lively.{lives}
+use Rattle.mux_turns.specs.group_facts.proofs.Exits.{left_over}
 use Rattle.group_words.specs.declared.kept.Kept.{Kept}
 use Rattle.group_rows.specs.Ends.{answers_shutdown, exit_server, exit_text, last_number}
 use Rattle.group_rows.specs.Forwarded.{forwarding_of, moves_ids, names}

@@ -17,13 +17,13 @@ use Rattle.event_model.specs.Spawns.{start_of}
 use Rattle.event_model.specs.Stages.{Life, life_of, stage_ending, stage_told}
 use Rattle.event_model.proofs.Frames.{never}
 use Rattle.event_model.proofs.Turns.{behind_more, does_entry, does_knowing, does_then}
-use Rattle.mux_facts.proofs.Folds.{life_more, number_more}
-use Rattle.mux_facts.proofs.Reasons.{Because, Reasons}
-use Rattle.group_facts.specs.Facts.{Known, Numbered}
-use Rattle.group_facts.proofs.Forwards.{forwarding_more}
-use Rattle.group_facts.proofs.GroupEnds.{shutdown_says}
-use Rattle.group_facts.proofs.Numbers.{forwarding_other, number_other}
-use Rattle.group_facts.proofs.TickRow.{ending_not, programs_stop, told_not}
+use Rattle.mux_turns.specs.mux_facts.proofs.Folds.{life_more, number_more}
+use Rattle.mux_turns.specs.mux_facts.proofs.Reasons.{Because, Reasons}
+use Rattle.mux_turns.specs.group_facts.specs.Facts.{Known, Numbered}
+use Rattle.mux_turns.specs.group_facts.proofs.Forwards.{forwarding_more}
+use Rattle.mux_turns.specs.group_facts.proofs.GroupEnds.{shutdown_says}
+use Rattle.mux_turns.specs.group_facts.proofs.Numbers.{forwarding_other, number_other}
+use Rattle.mux_turns.specs.group_facts.proofs.TickRow.{ending_not, programs_stop, told_not}
 use Rattle.group_rows.specs.Forwarded.{Forwarding, forwarding_of}
 use Rattle.group_rows.specs.Ticks.{due_of, is_stopping, overdue_of, tick_row}
 use Rattle.group_words.specs.Rows.{end_group, end_start}

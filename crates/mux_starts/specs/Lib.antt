@@ -1,6 +1,10 @@
 pub mod Answers
 pub mod Openings
+pub mod Progress
 pub mod Refusing
 pub mod Replies
 pub mod Stops
 pub use Rattle.mux_turns.specs.Welcomes
+pub use Rattle.mux_turns.specs.group_facts
+pub use Rattle.mux_turns.specs.mux_facts
+pub use Rattle.mux_tables

@@ -5,7 +5,7 @@ use Rattle.json_text.specs.Json.{Json}
 use Rattle.event_model.specs.declared.stage.Stage.{Stage}
 use Rattle.event_model.specs.declared.stage.Stage.TheVariants.{Spawning}
 use Rattle.rpc_message.specs.Message.{integer, message_of, request}
-use Rattle.group_facts.specs.Settled.{AreUtf8}
+use Rattle.mux_turns.specs.group_facts.specs.Settled.{AreUtf8}
 use Rattle.group_words.specs.declared.kept.Kept.{Kept}
 use Rattle.group_words.specs.Rows.{initialize_of}
 

@@ -6,7 +6,7 @@ ghost use Rattle.event_model.specs.Event.{Event, behind, with_cause};
 ghost use Rattle.event_model.specs.Phases.{desk_of, is_running};
 ghost use Rattle.event_model.specs.Row.{send};
 ghost use Rattle.event_model.specs.Settings.{Settings};
-ghost use Rattle.group_facts.specs.Facts.{Meant};
+ghost use Rattle.mux_turns.specs.group_facts.specs.Facts.{Meant};
 ghost use Rattle.group_rows.specs.Answers.{agreed_version, stamp_at};
 ghost use Rattle.group_rows.specs.AskRows.{ask_edit, edited, is_edit};
 ghost use Rattle.group_rows.specs.Asks.{asking_of, is_patient, is_single, is_taken};

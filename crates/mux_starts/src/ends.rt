@@ -5,7 +5,7 @@ ghost use Rattle.event_model.specs.Does.{Does, Done};
 ghost use Rattle.event_model.specs.Event.{Event, with_cause};
 ghost use Rattle.event_model.specs.Requests.{answered_id, next_number};
 ghost use Rattle.event_model.specs.Settings.{Settings};
-ghost use Rattle.group_facts.specs.Built.{is_left};
+ghost use Rattle.mux_turns.specs.group_facts.specs.Built.{is_left};
 ghost use Rattle.group_rows.specs.Ends.{answers_shutdown, exit_server, exit_text};
 ghost use Rattle.group_rows.specs.Forwarded.{forwarding_of};
 ghost use Rattle.group_rows.specs.Rows.{row_of, stopping_row};

@@ -22,11 +22,11 @@ ghost use Rattle.mux_tables.specs.Stands.{Stands, number_in};
 ghost use Rattle.rpc_message.specs.Message.{message_of, notification};
 ghost use Rattle.rpc_message.specs.Parsed.{IsRead};
 
-use ask_route::Seat;
 use message_body::Memory;
 use mux_history::Outs;
 use mux_members::cancelled_id;
 use mux_tables::Tables;
+use mux_tables::ask_route::Seat;
 use mux_turns::cancel_request;
 use rpc_message::Message;
 use std::alloc::Global;

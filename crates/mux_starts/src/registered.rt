@@ -19,15 +19,15 @@ ghost use Rattle.mux_tables.specs.declared.tables.Start.{Start};
 ghost use Rattle.mux_tables.specs.Documents.{AllStand, DocumentsStand, nothing_owed};
 ghost use Rattle.mux_tables.specs.Stands.{Stands, number_in};
 ghost use Rattle.mux_turns.specs.Calls.{IsCall};
-ghost use Rattle.registrations.specs.Items.{unregistered};
+ghost use Rattle.group_rows.specs.registrations.specs.Items.{unregistered};
 ghost use Rattle.rpc_message.specs.Message.{Id, message_of, request};
 ghost use Rattle.rpc_message.specs.Parsed.{IsRead};
 
+use group_rows::registrations::{Registration, registered, unregistered};
 use message_body::Memory;
 use mux_history::Outs;
 use mux_tables::Tables;
 use mux_turns::{call_registered, call_unregistered, call_unregistered_any};
-use registrations::{Registration, registered, unregistered};
 use rpc_message::{ErrorCode, Message, error_answer, ok_reply};
 use std::alloc::Global;
 

@@ -6,7 +6,7 @@ ghost use Rattle.event_model.specs.Event.{Event, behind, with_cause};
 ghost use Rattle.event_model.specs.Phases.{desk_of, is_running};
 ghost use Rattle.event_model.specs.Row.{nothing, send};
 ghost use Rattle.event_model.specs.Settings.{Settings};
-ghost use Rattle.group_facts.specs.Facts.{Meant};
+ghost use Rattle.mux_turns.specs.group_facts.specs.Facts.{Meant};
 ghost use Rattle.group_rows.specs.AskRows.{ask, ask_in_focus, focused_row, in_focus, lowest_row};
 ghost use Rattle.group_rows.specs.Asks.{asking_of, first_in, has_running, is_patient, is_single, is_taken, running_in};
 ghost use Rattle.group_rows.specs.Forwarded.{forwarding_of};

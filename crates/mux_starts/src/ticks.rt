@@ -6,7 +6,7 @@ ghost use Rattle.event_model.specs.Event.{Event, behind, with_cause};
 ghost use Rattle.event_model.specs.Row.{each, send};
 ghost use Rattle.event_model.specs.Settings.{Settings};
 ghost use Rattle.event_model.specs.Stages.{life_of};
-ghost use Rattle.group_facts.specs.Facts.{Known, Numbered};
+ghost use Rattle.mux_turns.specs.group_facts.specs.Facts.{Known, Numbered};
 ghost use Rattle.group_rows.specs.Rows.{row_of};
 ghost use Rattle.group_rows.specs.Ticks.{is_stopping};
 ghost use Rattle.group_words.specs.Rows.{end_group};

@@ -20,13 +20,13 @@ use Rattle.event_model.proofs.Places.{item_at}
 use Rattle.focus_switch.specs.Versions.{versions_of}
 use Rattle.group_laws.specs.Stands.{HeldStands}
 use Rattle.group_laws.proofs.Versions.{now_stamp}
-use Rattle.mux_model.specs.Documents.{held_at}
-use Rattle.group_rows.specs.Answers.{agreed_version, shared_texts, stamp_at, stamped}
-use Rattle.group_rows.specs.Texts.{texts_of}
+use Rattle.group_laws.specs.mux_model.specs.Documents.{held_at}
+use Rattle.group_laws.specs.group_rows.specs.Answers.{agreed_version, shared_texts, stamp_at, stamped}
+use Rattle.group_laws.specs.group_rows.specs.Texts.{texts_of}
 use Rattle.id_rewrite.specs.declared.pending.Pending.{Pending}
 use Rattle.id_rewrite.specs.Tables.{pending_of}
-use Rattle.response_route.specs.declared.versions.Stamp.{Stamp}
-use Rattle.response_route.specs.Versions.{stamp_of}
+use Rattle.id_rewrite.specs.response_route.specs.declared.versions.Stamp.{Stamp}
+use Rattle.id_rewrite.specs.response_route.specs.Versions.{stamp_of}
 use Rattle.mux_tables.specs.declared.tables.Start.{Start}
 use Rattle.mux_tables.specs.declared.tables.Tables.{Tables}
 use Rattle.mux_tables.specs.Documents.{DocumentsStand, IsOwned, Owed, SharedStands, nothing_owed}

@@ -6,7 +6,7 @@ use Rattle.std.proofs.lemmas.Slice.Eq.{bytes_eq-Decides}
 use Rattle.rpc_message.specs.Message.{Id, integer, text, same_id}
 use Rattle.event_model.specs.Event.{Event}
 use Rattle.event_model.proofs.Frames.{never}
-use Rattle.group_rows.specs.Asks.{Ask, is_under}
+use Rattle.group_laws.specs.group_rows.specs.Asks.{Ask, is_under}
 use Rattle.mux_tables.specs.Stands.{AreApart, AsksStand, HasText, IsOther, WasAsked, kept_ask}
 
 bytes_flip : (a b : List ℕ) → bytes_eq b a ≡ false → bytes_eq a b ≡ false

@@ -14,7 +14,7 @@ use Rattle.event_model.specs.Stages.{is_ready}
 use Rattle.event_model.specs.Settings.{Settings}
 use Rattle.event_model.proofs.Frames.{never, one_more}
 use Rattle.group_words.proofs.Frames.{past_more}
-use Rattle.group_rows.specs.Asks.{Ask, Asking, Parked, asked_behind, asking_next, asking_of, asks_of, is_seated, is_under, next_ask, no_asking, parked_of, waits_under}
+use Rattle.group_laws.specs.group_rows.specs.Asks.{Ask, Asking, Parked, asked_behind, asking_next, asking_of, asks_of, is_seated, is_under, next_ask, no_asking, parked_of, waits_under}
 use Rattle.restart_replay.specs.Standings.{Standing, moved}
 use Rattle.mux_tables.specs.declared.tables.Start.{Start}
 use Rattle.mux_tables.specs.Stands.{AnswersNone, AsksAt, AsksStand, AsksStay, OpenStay, ParkedAt, ParkedStand, ParkedStay, PartStands, WasAsked, begun_at, is_answer, of_asks, of_parked}

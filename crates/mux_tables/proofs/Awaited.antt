@@ -14,9 +14,9 @@ use Rattle.event_model.specs.Event.{Event, did, requests, said}
 use Rattle.event_model.specs.Spawns.{starts_behind, starts_of}
 use Rattle.event_model.specs.Stages.{Life, is_first_result, life_behind, life_of, stage_hears, stage_started, stage_told}
 use Rattle.event_model.proofs.Frames.{never, one_more}
-use Rattle.mux_model.specs.Rows.{below}
-use Rattle.group_rows.specs.Ticks.{is_stopping, stopping_of}
-use Rattle.group_rows.proofs.Stops.{filter_both, range_below}
+use Rattle.group_laws.specs.mux_model.specs.Rows.{below}
+use Rattle.group_laws.specs.group_rows.specs.Ticks.{is_stopping, stopping_of}
+use Rattle.group_laws.specs.group_rows.proofs.Stops.{filter_both, range_below}
 use Rattle.mux_tables.specs.declared.tables.Tables.{Tables}
 use Rattle.mux_tables.specs.Stands.{unstopped}
 use Rattle.mux_tables.proofs.Frames.{itself, life_alone, names_start, spawns, starts_alone}

@@ -10,7 +10,7 @@ use Rattle.event_model.proofs.Places.{Same, same, other, compare, get_set_same, 
 use Rattle.editor_session.specs.declared.session.Session.{Session}
 use Rattle.editor_session.specs.Sessions.{is_gone}
 use Rattle.group_words.proofs.Frames.{itself}
-use Rattle.group_rows.specs.Asks.{asked_behind, next_ask}
+use Rattle.group_laws.specs.group_rows.specs.Asks.{asked_behind, next_ask}
 use Rattle.mux_tables.specs.Stands.{CountStands, is_request}
 
 pub next_more : (e : ℕ) (events : List Event) (ev : Event) → next_ask e (events ++ ev ∷ []) ≡ asked_behind e (next_ask e events) ev

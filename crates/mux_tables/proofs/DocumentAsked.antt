@@ -29,16 +29,16 @@ use Rattle.event_model.proofs.Places.{get_set_same}
 use Rattle.focus_switch.specs.Documents.{Documents, version_held}
 use Rattle.focus_switch.specs.Rows.{sync_row}
 use Rattle.focus_switch.specs.Versions.{versions_of}
-use Rattle.mux_model.specs.Documents.{Sent, held_at, sent_of}
-use Rattle.mux_model.specs.Rows.{to_start}
-use Rattle.mux_model.proofs.DocumentFolds.{outs_to_start, sent_encoding}
+use Rattle.group_laws.specs.mux_model.specs.Documents.{Sent, held_at, sent_of}
+use Rattle.group_laws.specs.mux_model.specs.Rows.{to_start}
+use Rattle.group_laws.specs.mux_model.proofs.DocumentFolds.{outs_to_start, sent_encoding}
 use Rattle.group_words.specs.Houses.{home_of, is_home}
-use Rattle.response_route.specs.declared.versions.Stamp.{Stamp}
-use Rattle.group_rows.specs.Answers.{held_version, stamp_at, stamped}
-use Rattle.group_rows.specs.Forwarded.{Forwarding, cancelled_by, forwarding_behind, forwarding_of, forwards, moves_ids}
-use Rattle.group_rows.specs.Rows as rows
-use Rattle.group_rows.specs.Texts.{is_aside, is_synced, texts_of, touch_all, touched_at, worker_behind, worker_of}
-use Rattle.group_rows.proofs.Frames.{encoding_stays, texts_apart, texts_more}
+use Rattle.id_rewrite.specs.response_route.specs.declared.versions.Stamp.{Stamp}
+use Rattle.group_laws.specs.group_rows.specs.Answers.{held_version, stamp_at, stamped}
+use Rattle.group_laws.specs.group_rows.specs.Forwarded.{Forwarding, cancelled_by, forwarding_behind, forwarding_of, forwards, moves_ids}
+use Rattle.group_laws.specs.group_rows.specs.Rows as rows
+use Rattle.group_laws.specs.group_rows.specs.Texts.{is_aside, is_synced, texts_of, touch_all, touched_at, worker_behind, worker_of}
+use Rattle.group_laws.specs.group_rows.proofs.Frames.{encoding_stays, texts_apart, texts_more}
 use Rattle.group_laws.specs.Stands.{HeldStands}
 use Rattle.group_laws.proofs.Asking.{spelt_touched, sync_speaks, touch_orderly}
 use Rattle.group_laws.proofs.Entries.{all_told, encoding_told, first_behind, held_same, known_sent, texts_told}
@@ -111,10 +111,10 @@ touched_owned P e turn (o ∷ os) f h = (go (nat_eq o.editor e), touched_owned P
     go false = h.0
 
 -- whose request is at work, behind bodies that tell of documents
-sender_told : (n s : ℕ) (bodies : List (List ℕ)) (events : List Event) (e : ℕ) (id : List ℕ) → AllTell bodies → Sends n e id events → Sends n e id (behind events (to s bodies))
-sender_told n s [] events e id h k = subst (λ es. Sends n e id es) (sym (append-nil events)) k
-sender_told n s (body ∷ bodies) events e id h k = subst (λ es. Sends n e id es) (sym (first_behind events (ToServer s body) (to s bodies)))
-    (sender_told n s bodies (events ++ said (ToServer s body) ∷ []) e id h.1 (ap (λ (x : Forwarding). x.sender) (one_more (forwarding_behind n) _ _ events (said (ToServer s body)) refl) ∙ (keeps (nat_eq s n) (forwarding_of n events) (message_of body) h.0 ∙ k)))
+sender_told : (n s : ℕ) (bodies : List (List ℕ)) (events : List Event) (e : ℕ) (id : List ℕ) (work partial : Option (List ℕ)) → AllTell bodies → Sends n e id work partial events → Sends n e id work partial (behind events (to s bodies))
+sender_told n s [] events e id work partial h k = subst (λ es. Sends n e id work partial es) (sym (append-nil events)) k
+sender_told n s (body ∷ bodies) events e id work partial h k = subst (λ es. Sends n e id work partial es) (sym (first_behind events (ToServer s body) (to s bodies)))
+    (sender_told n s bodies (events ++ said (ToServer s body) ∷ []) e id work partial h.1 (ap (λ (x : Forwarding). x.sender) (one_more (forwarding_behind n) _ _ events (said (ToServer s body)) refl) ∙ (keeps (nat_eq s n) (forwarding_of n events) (message_of body) h.0 ∙ k)))
   where
     sent_by : (x : Forwarding) (m : Message) → speaks (saying_of m) ≡ true → (forwards x m).sender ≡ x.sender
     sent_by x (notification method ps) h = go (bytes_eq method (codes "$/cancelRequest"))
@@ -302,14 +302,14 @@ synced_does settings t u xs ys told base i s start e z text here number ran does
 }
 
 -- a request
-pub asked_does : (settings : Settings) (t u : Tables) (xs ys told : List Out) (base : List Event) (g s start e : ℕ) (z : Start) (ids : Table) (pending : Pending) (noted : List (List ℕ × Stamp)) (text id method : List ℕ) (name : Id) (ps : Option Json) → slice_get (map number_in t.lasts.items) g ≡ Some s → g < length t.lasts.items → z ≡ get_or t.lasts.items g z
-    → z.life.stage ≡ Ready → message_of text ≡ request name method ps → is_own method ≡ false → Sends s e id (behind base xs) → worker_of (behind base xs) ≡ Some e → forwarded_of (record { number = z.ids.next; pending = pending }) ≡ sent_as (record { editor = e; id = id }) z.ids.next
+pub asked_does : (settings : Settings) (t u : Tables) (xs ys told : List Out) (base : List Event) (g s start e : ℕ) (z : Start) (ids : Table) (pending : Pending) (noted : List (List ℕ × Stamp)) (text id : List ℕ) (work partial : Option (List ℕ)) (method : List ℕ) (name : Id) (ps : Option Json) → slice_get (map number_in t.lasts.items) g ≡ Some s → g < length t.lasts.items → z ≡ get_or t.lasts.items g z
+    → z.life.stage ≡ Ready → message_of text ≡ request name method ps → is_own method ≡ false → Sends s e id work partial (behind base xs) → worker_of (behind base xs) ≡ Some e → forwarded_of (record { number = z.ids.next; pending = pending }) ≡ sent_as (record { editor = e; id = id; work = work; partial = partial }) z.ids.next
     → ids.requests ≡ z.ids.requests ++ record { number = z.ids.next; pending = pending } ∷ [] → ids.next ≡ z.ids.next + 1 → ids.limit ≡ z.ids.limit → IsInOrder ids
     → u.lasts.items ≡ slice_set t.lasts.items g (record z { ids = ids }) → u.editors ≡ t.editors → u.groups ≡ t.groups → u.time ≡ t.time → u.origins ≡ t.origins → u.requests ≡ t.requests → u.versions ≡ t.versions
     → StepAt (sync_row e) g (slice_get t.documents.items g) t.documents.items told u.documents.items → pending.editor ≡ e → pending.noted ≡ Some noted → StampsAt noted (versions_of e) (slice_get u.documents.items g)
     → start ≡ z.life.start → ys ≡ (xs ++ told) ++ ToServer start text ∷ [] → (h : ℕ) → z.life.group ≡ h
     → Does (λ k events. AllStand settings k events) (look (λ now. to_start s (syncing settings now h s e) ⨾ send (ToServer s text))) base (t, nothing_owed) xs (u, nothing_owed) ys
-asked_does settings t u xs ys told base g s start e z ids pending noted text id method name ps at within read ready says own sends works kept put next limit order set es gs time os r vs does asker notes stamps is said_so h mine =
+asked_does settings t u xs ys told base g s start e z ids pending noted text id work partial method name ps at within read ready says own sends works kept put next limit order set es gs time os r vs does asker notes stamps is said_so h mine =
     subst (λ g. Does (λ k events. AllStand settings k events) (look (λ now. to_start s (syncing settings now g s e) ⨾ send (ToServer s text))) base (t, nothing_owed) xs (u, nothing_owed) ys) mine
     (synced_does settings t u xs ys told base g s start e z text here number (λ d has docs st ds. all_last settings t now g e z d text here has ready silent synced works st ds u ids set vs docs (stands d has st ds)
     (notes_more settings z.life.start z.ids.next pending ids.requests z.ids.requests
@@ -344,9 +344,9 @@ asked_does settings t u xs ys told base g s start e z ids pending noted text id 
     stands d has st ds mid_st =
         let bodies = rows.sync_bodies d.versions (λ u. held_at z.life.start u now) e d.opens in
         let mid = behind now (to z.life.start bodies) in
-        let sends_on : Sends z.life.start e id mid = sender_told z.life.start z.life.start bodies now e id (tell settings t now g e z d text here has ready silent synced works st ds) (subst (λ n. Sends n e id now) (sym number) sends) in
-        (does_entry mid_st (forward_does settings t u [] (ToServer z.life.start text ∷ []) mid g z.life.start z.life.start e z ids pending text id method name ps (subst (λ n. slice_get (map number_in t.lasts.items) g ≡ Some n) (sym number) at) within read says own
-        (subst (λ es. Sends z.life.start e id es) (sym (append-nil mid)) sends_on) kept put next limit order set es gs time os r refl refl)).stands
+        let sends_on : Sends z.life.start e id work partial mid = sender_told z.life.start z.life.start bodies now e id work partial (tell settings t now g e z d text here has ready silent synced works st ds) (subst (λ n. Sends n e id work partial now) (sym number) sends) in
+        (does_entry mid_st (forward_does settings t u [] (ToServer z.life.start text ∷ []) mid g z.life.start z.life.start e z ids pending text id work partial method name ps (subst (λ n. slice_get (map number_in t.lasts.items) g ≡ Some n) (sym number) at) within read says own
+        (subst (λ es. Sends z.life.start e id work partial es) (sym (append-nil mid)) sends_on) kept put next limit order set es gs time os r refl refl)).stands
 
 -- a notification
 pub passed_does : (settings : Settings) (t u : Tables) (xs ys told : List Out) (base : List Event) (g s start e : ℕ) (z : Start) (text method : List ℕ) (ps : Option Json) → slice_get (map number_in t.lasts.items) g ≡ Some s → g < length t.lasts.items → z ≡ get_or t.lasts.items g z

@@ -20,11 +20,11 @@ use Rattle.event_model.specs.Spawns.{group_of}
 use Rattle.event_model.specs.Stages.{is_first_result, is_initializing, life_of}
 use Rattle.event_model.proofs.Frames.{never, outs_more, outs_still}
 use Rattle.focus_switch.specs.Documents.{Documents}
-use Rattle.mux_model.specs.Documents as starts
-use Rattle.mux_model.specs.Documents.{encoding_by, without_editor}
+use Rattle.group_laws.specs.mux_model.specs.Documents as starts
+use Rattle.group_laws.specs.mux_model.specs.Documents.{encoding_by, without_editor}
 use Rattle.group_words.specs.Houses.{home_of, is_home}
-use Rattle.group_rows.specs.Texts.{encoding_of, given, is_synced, texts_of}
-use Rattle.group_rows.proofs.Frames.{encoding_more, encoding_stays, texts_more, texts_stay, touches_encoding, touches_texts}
+use Rattle.group_laws.specs.group_rows.specs.Texts.{encoding_of, given, is_synced, texts_of}
+use Rattle.group_laws.specs.group_rows.proofs.Frames.{encoding_more, encoding_stays, texts_more, texts_stay, touches_encoding, touches_texts}
 use Rattle.group_laws.specs.Stands.{HeldStands}
 use Rattle.group_laws.proofs.Entries.{first_behind, texts_told}
 use Rattle.mux_tables.specs.Documents.{IsOwned, SharedStands, StartTold, Told, changes_documents, to}

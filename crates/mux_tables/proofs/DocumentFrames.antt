@@ -20,12 +20,12 @@ use Rattle.event_model.specs.Phases.{Desk, desk_behind, desk_of, is_served, is_n
 use Rattle.event_model.specs.Settings.{Settings}
 use Rattle.event_model.proofs.Frames.{never, one_more, outs_more}
 use Rattle.focus_switch.specs.Documents.{Documents}
-use Rattle.mux_model.specs.Documents as starts
-use Rattle.mux_model.specs.Documents.{Sent, encoding_by, held_at, held_behind, sent_behind, sent_of}
-use Rattle.mux_model.proofs.DocumentFolds.{sent_encoding}
+use Rattle.group_laws.specs.mux_model.specs.Documents as starts
+use Rattle.group_laws.specs.mux_model.specs.Documents.{Sent, encoding_by, held_at, held_behind, sent_behind, sent_of}
+use Rattle.group_laws.specs.mux_model.proofs.DocumentFolds.{sent_encoding}
 use Rattle.group_words.specs.Houses.{home_next, home_of, house_of}
 use Rattle.group_words.proofs.Frames.{home_more}
-use Rattle.group_rows.specs.Texts.{encoding_of, texts_of}
+use Rattle.group_laws.specs.group_rows.specs.Texts.{encoding_of, texts_of}
 use Rattle.group_laws.specs.Stands.{HeldStands}
 use Rattle.group_laws.proofs.Entries.{held_same}
 use Rattle.mux_tables.specs.Documents.{IsOwned, SharedStands, StartTold, Told, Untold, to}

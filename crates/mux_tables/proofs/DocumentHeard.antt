@@ -19,7 +19,7 @@ use Rattle.event_model.proofs.Frames.{never}
 use Rattle.editor_session.specs.declared.session.Session.{Session}
 use Rattle.focus_switch.specs.Documents.{Documents}
 use Rattle.group_words.specs.Houses.{is_first_error, stops}
-use Rattle.group_rows.proofs.Frames.{encoding_stays, texts_stay}
+use Rattle.group_laws.specs.group_rows.proofs.Frames.{encoding_stays, texts_stay}
 use Rattle.restart_replay.specs.Standings.{Standing}
 use Rattle.id_rewrite.specs.Tables.{without}
 use Rattle.mux_tables.specs.declared.tables.Start.{Start}

@@ -25,13 +25,13 @@ use Rattle.event_model.proofs.Places.{item_at}
 use Rattle.event_model.proofs.Turns.{behind_more}
 use Rattle.editor_session.specs.Sessions.{absent, session_of}
 use Rattle.focus_switch.specs.Documents.{Documents}
-use Rattle.document_table.specs.Rows.{uris_of}
+use Rattle.focus_switch.specs.document_table.specs.Rows.{uris_of}
 use Rattle.focus_switch.specs.Rows.{Step, close_next, leave_row}
-use Rattle.mux_model.specs.Documents.{held_at, sent_of, without_editor}
+use Rattle.group_laws.specs.mux_model.specs.Documents.{held_at, sent_of, without_editor}
 use Rattle.group_words.specs.Houses.{home_of, is_home}
-use Rattle.group_rows.specs.Leaves as departures
-use Rattle.group_rows.specs.Texts.{encoding_of, texts_heard, texts_of}
-use Rattle.group_rows.proofs.Frames.{encoding_stays, texts_more, touches_encoding}
+use Rattle.group_laws.specs.group_rows.specs.Leaves as departures
+use Rattle.group_laws.specs.group_rows.specs.Texts.{encoding_of, texts_heard, texts_of}
+use Rattle.group_laws.specs.group_rows.proofs.Frames.{encoding_stays, texts_more, touches_encoding}
 use Rattle.group_laws.specs.Stands.{HeldStands}
 use Rattle.group_laws.proofs.Entries.{known_sent}
 use Rattle.group_laws.proofs.Leaving.{leave_orderly, leave_outs, leave_silent, leave_speaks, leave_spelt, leave_stays, leave_texts}

@@ -14,10 +14,10 @@ use Rattle.event_model.specs.Spawns.{start_behind, start_of, starts_behind, star
 use Rattle.event_model.proofs.Frames.{never, one_more}
 use Rattle.event_model.proofs.Places.{Same, same, other, compare, get_set_same, get_set_other, item_at, same_item}
 use Rattle.focus_switch.specs.Documents.{Documents}
-use Rattle.mux_model.specs.Documents.{sent_of}
-use Rattle.group_rows.specs.Answers.{moment_of}
-use Rattle.group_rows.specs.Texts.{encoding_of, texts_of}
-use Rattle.group_rows.proofs.Frames.{encoding_stays, texts_stay}
+use Rattle.group_laws.specs.mux_model.specs.Documents.{sent_of}
+use Rattle.group_laws.specs.group_rows.specs.Answers.{moment_of}
+use Rattle.group_laws.specs.group_rows.specs.Texts.{encoding_of, texts_of}
+use Rattle.group_laws.specs.group_rows.proofs.Frames.{encoding_stays, texts_stay}
 use Rattle.id_rewrite.specs.declared.pending.Pending.{Pending}
 use Rattle.id_rewrite.specs.Tables.{pending_of}
 use Rattle.mux_tables.specs.declared.tables.Start.{Start}

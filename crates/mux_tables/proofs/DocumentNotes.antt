@@ -13,9 +13,9 @@ use Rattle.document_model.specs.Sayings.{Saying, opens, changes, closes, misshap
 use Rattle.focus_switch.specs.Documents.{Documents}
 use Rattle.focus_switch.specs.Rows.{Step, change_row}
 use Rattle.group_laws.specs.Steps.{changed_by, document_step}
-use Rattle.mux_members.specs.declared.notice.Notice.{Notice}
-use Rattle.mux_members.specs.declared.notice.Notice.TheVariants.{Changes}
-use Rattle.mux_members.specs.Notices.{Says}
+use Rattle.group_laws.specs.mux_members.specs.declared.notice.Notice.{Notice}
+use Rattle.group_laws.specs.mux_members.specs.declared.notice.Notice.TheVariants.{Changes}
+use Rattle.group_laws.specs.mux_members.specs.Notices.{Says}
 
 abbrev made : List Out → Documents → Step
 made outs after = record { outs = outs; after = after }

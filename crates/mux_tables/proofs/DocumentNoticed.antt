@@ -30,11 +30,11 @@ use Rattle.event_model.specs.Stages.{Life, is_ready, life_of}
 use Rattle.event_model.proofs.Places.{same_item}
 use Rattle.focus_switch.specs.Documents.{Documents}
 use Rattle.focus_switch.specs.Rows.{Step}
-use Rattle.mux_model.specs.Documents.{held_at, sent_of}
+use Rattle.group_laws.specs.mux_model.specs.Documents.{held_at, sent_of}
 use Rattle.group_words.specs.Houses.{home_of, is_home}
-use Rattle.group_rows.specs.Rows as rows
-use Rattle.group_rows.specs.Texts.{encoding_of, texts_of}
-use Rattle.group_rows.proofs.Frames.{encoding_stays, texts_more}
+use Rattle.group_laws.specs.group_rows.specs.Rows as rows
+use Rattle.group_laws.specs.group_rows.specs.Texts.{encoding_of, texts_of}
+use Rattle.group_laws.specs.group_rows.proofs.Frames.{encoding_stays, texts_more}
 use Rattle.group_laws.specs.Stands.{HeldStands}
 use Rattle.group_laws.specs.Steps.{changed_by, document_step}
 use Rattle.group_laws.proofs.Documents.{document_held, document_right}

@@ -18,10 +18,10 @@ use Rattle.event_model.proofs.Frames.{never}
 use Rattle.event_model.proofs.Places.{same_item}
 use Rattle.event_model.proofs.Turns.{behind_more, does_entry}
 use Rattle.focus_switch.specs.Documents.{Documents}
-use Rattle.mux_model.specs.Rows.{to_start}
-use Rattle.mux_model.proofs.DocumentFolds.{outs_to_start}
-use Rattle.group_rows.specs.Forwarded.{moves_ids}
-use Rattle.group_rows.proofs.Frames.{encoding_stays}
+use Rattle.group_laws.specs.mux_model.specs.Rows.{to_start}
+use Rattle.group_laws.specs.mux_model.proofs.DocumentFolds.{outs_to_start}
+use Rattle.group_laws.specs.group_rows.specs.Forwarded.{moves_ids}
+use Rattle.group_laws.specs.group_rows.proofs.Frames.{encoding_stays}
 use Rattle.group_laws.proofs.Entries.{first_behind, texts_told}
 use Rattle.mux_tables.specs.declared.tables.Start.{Start}
 use Rattle.mux_tables.specs.declared.tables.Tables.{Tables}

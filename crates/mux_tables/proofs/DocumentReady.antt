@@ -19,11 +19,11 @@ use Rattle.event_model.specs.Stages.{Life, life_of}
 use Rattle.event_model.proofs.Frames.{one_more}
 use Rattle.focus_switch.specs.Documents.{Documents}
 use Rattle.focus_switch.specs.Rows.{ready_row}
-use Rattle.mux_model.specs.Documents.{Sent, encoding_by, held_at, sent_behind, sent_of}
-use Rattle.mux_model.proofs.DocumentFolds.{sent_encoding}
-use Rattle.group_rows.specs.Rows as rows
-use Rattle.group_rows.specs.Texts.{encoding_of}
-use Rattle.group_rows.proofs.Frames.{encoding_more, texts_stay}
+use Rattle.group_laws.specs.mux_model.specs.Documents.{Sent, encoding_by, held_at, sent_behind, sent_of}
+use Rattle.group_laws.specs.mux_model.proofs.DocumentFolds.{sent_encoding}
+use Rattle.group_laws.specs.group_rows.specs.Rows as rows
+use Rattle.group_laws.specs.group_rows.specs.Texts.{encoding_of}
+use Rattle.group_laws.specs.group_rows.proofs.Frames.{encoding_more, texts_stay}
 use Rattle.group_laws.proofs.Beginning.{replay_speaks}
 use Rattle.group_laws.proofs.Entries.{all_told, held_same}
 use Rattle.group_laws.proofs.ReplayHeld.{ready_held}

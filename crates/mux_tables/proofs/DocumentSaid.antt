@@ -15,8 +15,8 @@ use Rattle.event_model.specs.Settings.{Settings}
 use Rattle.event_model.proofs.Turns.{behind_more}
 use Rattle.focus_switch.specs.Documents.{Documents}
 use Rattle.focus_switch.specs.Rows.{unready_row}
-use Rattle.group_rows.specs.Texts.{is_synced}
-use Rattle.group_rows.proofs.Frames.{encoding_stays, texts_stay}
+use Rattle.group_laws.specs.group_rows.specs.Texts.{is_synced}
+use Rattle.group_laws.specs.group_rows.proofs.Frames.{encoding_stays, texts_stay}
 use Rattle.restart_replay.specs.Standings.{Standing, moved, stopped}
 use Rattle.id_rewrite.specs.Tables.{with_cancelled}
 use Rattle.mux_tables.specs.declared.tables.Start.{Start}

@@ -12,7 +12,7 @@ use Rattle.event_model.specs.Spawns.{start_behind, start_of, starts_behind, star
 use Rattle.event_model.proofs.Frames.{one_more}
 use Rattle.event_model.proofs.Places.{Same, same, other, compare, get_push_other, get_push_same, same_item}
 use Rattle.focus_switch.specs.Documents.{Documents}
-use Rattle.group_rows.proofs.Frames.{encoding_stays, texts_stay}
+use Rattle.group_laws.specs.group_rows.proofs.Frames.{encoding_stays, texts_stay}
 use Rattle.restart_replay.specs.Standings.{Standing, spawned}
 use Rattle.mux_tables.specs.declared.tables.Start.{Start}
 use Rattle.mux_tables.specs.declared.tables.Tables.{Tables}

@@ -9,7 +9,7 @@ use Rattle.group_words.specs.declared.kept.Kept.{Kept}
 use Rattle.group_words.specs.Placing.{all_from, changed, ended, end_where, is_due}
 use Rattle.group_words.specs.Houses.{groups_of, time_of}
 use Rattle.group_words.proofs.Frames.{groups_more}
-use Rattle.group_rows.specs.Ticks.{due_of}
+use Rattle.group_laws.specs.group_rows.specs.Ticks.{due_of}
 use Rattle.group_table.specs.Tables.{Table, with_groups}
 use Rattle.mux_tables.specs.declared.tables.Tables.{Tables}
 use Rattle.mux_tables.specs.Stands.{EditorsStand, HouseStands, ends}

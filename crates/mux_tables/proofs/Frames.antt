@@ -22,16 +22,16 @@ use Rattle.group_words.specs.Rows.{result_behind, result_of}
 use Rattle.group_words.proofs.Frames.{touches_groups, names_home, groups_stay, home_stays, past_more}
 use Rattle.id_rewrite.specs.Tables.{Table}
 use Rattle.mux_tables.specs.declared.tables.Start.{Start}
-use Rattle.group_rows.specs.Asks.{Asking, asked_behind, asker_of, asking_next, asking_of, idle_asking, next_ask, parks}
-use Rattle.group_rows.specs.Forwarded.{Forwarding, forwarding_behind, forwarding_of, forwards, moves_ids, numbered}
+use Rattle.group_laws.specs.group_rows.specs.Asks.{Asking, asked_behind, asker_of, asking_next, asking_of, idle_asking, next_ask, parks}
+use Rattle.group_laws.specs.group_rows.specs.Forwarded.{Forwarding, forwarding_behind, forwarding_of, forwards, moves_ids, numbered}
 use Rattle.mux_tables.specs.Stands.{EditorsStand, GroupsStand, OriginsStand, IdsAt, IdsStand, Part, of_life, of_ids, of_shown, PartStands, LastStands, ShownAt, of_stop, StopAt, of_asks, of_parked, of_live, AsksStay, LiveStay, OpenStay, is_answer, is_request}
 use Rattle.mux_tables.proofs.Asking.{asks_by, parked_by, told_asking, unanswered, unhanded, unwaited}
 use Rattle.mux_tables.proofs.Counted.{counted_same, next_more}
 use Rattle.mux_tables.proofs.Named.{goes_so, meant_by, named_by}
 use Rattle.mux_tables.proofs.Registering.{live_by_stay, silent_live}
-use Rattle.group_rows.specs.Live.{live_next, live_of}
-use Rattle.group_rows.specs.Ticks.{stop_next, stop_of}
-use Rattle.registrations.specs.declared.registration.Registration.{Registration}
+use Rattle.group_laws.specs.group_rows.specs.Live.{live_next, live_of}
+use Rattle.group_laws.specs.group_rows.specs.Ticks.{stop_next, stop_of}
+use Rattle.group_laws.specs.registrations.specs.declared.registration.Registration.{Registration}
 
 pub itself : (n : ℕ) → nat_eq n n ≡ true
 itself n = grind (arith, nat_tests)

@@ -28,7 +28,7 @@ use Rattle.group_words.proofs.Frames.{groups_more, home_more}
 use Rattle.mux_tables.specs.declared.tables.Tables.{Tables}
 use Rattle.mux_tables.specs.Names.{NameStands, id_in}
 use Rattle.mux_tables.specs.Stands.{AnswersNone, CountStands, EditorsStand, GroupsStand, HouseStands, Stands, ends, is_answer, phase_in, group_in, meant_in, stays_in}
-use Rattle.group_rows.specs.Asks.{next_ask}
+use Rattle.group_laws.specs.group_rows.specs.Asks.{next_ask}
 use Rattle.mux_tables.proofs.Asking.{answers_none, none_answered}
 use Rattle.mux_tables.proofs.Counted.{counted_same, counted_set, next_more}
 use Rattle.mux_tables.proofs.Ends.{tick_heard}

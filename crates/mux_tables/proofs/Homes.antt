@@ -15,9 +15,9 @@ use Rattle.event_model.proofs.Places.{item_at}
 use Rattle.event_model.specs.Spawns.{group_of, start_of}
 use Rattle.event_model.specs.Stages.{Life, is_ready, life_of}
 use Rattle.editor_session.specs.Sessions.{absent, session_of}
-use Rattle.group_rows.specs.Forwarded.{forwarding_of, numbers_of}
-use Rattle.group_rows.specs.Leaves.{uncancelled_of}
-use Rattle.group_rows.specs.Rows.{can_ask}
+use Rattle.group_laws.specs.group_rows.specs.Forwarded.{forwarding_of, numbers_of}
+use Rattle.group_laws.specs.group_rows.specs.Leaves.{uncancelled_of}
+use Rattle.group_laws.specs.group_rows.specs.Rows.{can_ask}
 use Rattle.group_words.specs.Houses.{home_of}
 use Rattle.group_words.specs.Rows.{result_of, shown_of}
 use Rattle.id_rewrite.specs.declared.pending.Numbered.{Numbered}

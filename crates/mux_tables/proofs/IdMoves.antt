@@ -15,7 +15,7 @@ use Rattle.id_rewrite.specs.declared.pending.Pending.{Pending}
 use Rattle.id_rewrite.specs.declared.pending.Numbered.{Numbered}
 use Rattle.id_rewrite.specs.Tables as tables
 use Rattle.id_rewrite.specs.Tables.{Table, IsInOrder, RiseWithin}
-use Rattle.group_rows.specs.Forwarded.{Sender, Forwarded, Forwarding, forwarding_behind, forwarding_of, answered_by, cancelled_by, is_written, is_under, is_of, numbers_of}
+use Rattle.group_laws.specs.group_rows.specs.Forwarded.{Sender, Forwarded, Forwarding, forwarding_behind, forwarding_of, answered_by, cancelled_by, is_written, is_under, is_of, numbers_of}
 use Rattle.mux_tables.specs.Stands.{IdsAt, IdsStand, Names, NamesAt, forwarded_of, forwarded_as}
 use Rattle.mux_tables.proofs.Frames.{itself}
 
@@ -56,7 +56,7 @@ module _ (f g : Numbered → Forwarded) (to : ℕ) (same : (r : Numbered) → r.
 
 -- who asks now has this number
 abbrev pub sent_as : Sender → ℕ → Forwarded
-sent_as a k = record { number = k; editor = a.editor; id = a.id; cancelled = false }
+sent_as a k = record { number = k; editor = a.editor; id = a.id; work = a.work; partial = a.partial; cancelled = false }
 
 -- one event more, by what it does to the word's value
 pub ids_more : (limit s : ℕ) (t u : Table) (events : List Event) (ev : Event) → (IdsAt limit (forwarding_of s events) t → IdsAt limit (forwarding_behind s (forwarding_of s events) ev) u) → IdsStand limit s t events → IdsStand limit s u (events ++ ev ∷ [])
@@ -102,7 +102,7 @@ unanswered_ids limit s t x body m h named i = rw (itself s) (record {
 abbrev pub Writes : Option Json → ℕ → Type 0
 Writes id k = (n : ℕ) → n < 2 ^ 32 → is_written id n ≡ nat_eq n k
 
-marked : (k : ℕ) (r : Numbered) (b : Bool) → nat_eq r.number k ≡ b → cond b (record { number = r.number; editor = r.pending.editor; id = r.pending.id; cancelled = true }) (forwarded_of r) ≡ forwarded_of (cond b (tables.cancelled r) r)
+marked : (k : ℕ) (r : Numbered) (b : Bool) → nat_eq r.number k ≡ b → cond b (record { number = r.number; editor = r.pending.editor; id = r.pending.id; work = r.pending.work; partial = r.pending.partial; cancelled = true }) (forwarded_of r) ≡ forwarded_of (cond b (tables.cancelled r) r)
 marked k r true e = refl
 marked k r false e = refl
 
@@ -126,7 +126,7 @@ cancelled_ids limit s t u x body method m ps k h says cancels written is next sa
 })
   where
     one : (r : Numbered) → r.number < t.next → cancelled_by (named_of (codes "id") ps) (forwarded_of r) ≡ forwarded_of (cond (tables.has_number k r) (tables.cancelled r) r)
-    one r l = ap (λ b. cond b (record { number = r.number; editor = r.pending.editor; id = r.pending.id; cancelled = true }) (forwarded_of r)) (written r.number (below_limit limit t r.number h i.ends i.order l)) ∙ marked k r (nat_eq r.number k) refl
+    one r l = ap (λ b. cond b (record { number = r.number; editor = r.pending.editor; id = r.pending.id; work = r.pending.work; partial = r.pending.partial; cancelled = true }) (forwarded_of r)) (written r.number (below_limit limit t r.number h i.ends i.order l)) ∙ marked k r (nat_eq r.number k) refl
 
 -- the program of the start ended
 abbrev pub Emptied : ℕ → Table → Type 0

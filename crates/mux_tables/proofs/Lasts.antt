@@ -10,7 +10,7 @@ use Rattle.event_model.specs.Spawns.{start_behind, start_of, starts_behind, star
 use Rattle.event_model.specs.Stages.{Life, life_behind, life_of}
 use Rattle.event_model.specs.Settings.{Settings}
 use Rattle.event_model.proofs.Frames.{one_more}
-use Rattle.group_rows.specs.Forwarded.{forwarding_of}
+use Rattle.group_laws.specs.group_rows.specs.Forwarded.{forwarding_of}
 use Rattle.event_model.proofs.Places.{each_set, Same, same, other, compare, same_item}
 use Rattle.mux_tables.specs.declared.tables.Start.{Start}
 use Rattle.mux_tables.specs.Stands.{AsksStay, blank, forwarded_of, IsLost, Lost, of_ids, of_life, OriginsStand, LastStands, LastsStand, Rise}

@@ -23,7 +23,7 @@ use Rattle.group_words.proofs.Frames.{itself, groups_more, home_more, home_stays
 use Rattle.group_table.specs.Tables.{Table, with_groups}
 use Rattle.mux_tables.specs.declared.tables.Tables.{Tables}
 use Rattle.mux_tables.specs.Names.{NameStands, id_in}
-use Rattle.group_rows.specs.Asks.{asked_behind, next_ask}
+use Rattle.group_laws.specs.group_rows.specs.Asks.{asked_behind, next_ask}
 use Rattle.mux_tables.specs.Stands.{CountStands, EditorsStand, GroupsStand, HouseStands, phase_in, group_in, meant_in, stays_in}
 use Rattle.event_model.proofs.Frames.{never, one_more}
 use Rattle.mux_tables.proofs.Counted.{counted_set, next_more}

@@ -58,3 +58,4 @@ pub mod Registered
 pub mod Resuming
 pub mod DocumentResumed
 pub mod Working
+pub mod Marks

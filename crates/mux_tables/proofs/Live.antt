@@ -7,8 +7,8 @@ use Rattle.event_model.specs.Phases.{desk_of, is_begun, is_there}
 use Rattle.event_model.specs.Settings.{Settings}
 use Rattle.editor_session.specs.declared.session.Session.{Session}
 use Rattle.editor_session.specs.Sessions.{absent, is_of, numbers_of, session_of}
-use Rattle.group_rows.specs.Forwarded.{Forwarded}
-use Rattle.group_rows.specs.Status.{asked_at}
+use Rattle.group_laws.specs.group_rows.specs.Forwarded.{Forwarded}
+use Rattle.group_laws.specs.group_rows.specs.Status.{asked_at}
 use Rattle.group_words.specs.Houses.{editors_in, groups_of, home_of}
 use Rattle.group_words.specs.Placing.{all_from, is_live}
 use Rattle.id_rewrite.specs.declared.pending.Numbered.{Numbered}

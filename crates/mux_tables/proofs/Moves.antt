@@ -8,7 +8,7 @@ use Rattle.event_model.specs.Settings.{Settings}
 use Rattle.event_model.specs.Spawns.{start_behind, group_behind, group_of}
 use Rattle.event_model.proofs.Frames.{one_more}
 use Rattle.event_model.specs.Stages.{Life, life_of}
-use Rattle.group_rows.specs.Ticks.{is_stopping}
+use Rattle.group_laws.specs.group_rows.specs.Ticks.{is_stopping}
 use Rattle.group_words.specs.Houses.{time_behind}
 use Rattle.group_words.proofs.Frames.{touches_groups}
 use Rattle.mux_tables.specs.declared.tables.Start.{Start}

@@ -15,11 +15,11 @@ use Rattle.event_model.specs.Requests.{is_own}
 use Rattle.event_model.specs.Settings.{Settings}
 use Rattle.event_model.proofs.Frames.{never, one_more}
 use Rattle.group_words.proofs.Frames.{past_more}
-use Rattle.group_rows.specs.Answers.{moment_next, moment_of, sends_on}
-use Rattle.group_rows.specs.Forwarded.{forwarding_of}
-use Rattle.group_rows.specs.Texts.{is_synced}
+use Rattle.group_laws.specs.group_rows.specs.Answers.{moment_next, moment_of, sends_on}
+use Rattle.group_laws.specs.group_rows.specs.Forwarded.{forwarding_of}
+use Rattle.group_laws.specs.group_rows.specs.Texts.{is_synced}
 use Rattle.group_laws.proofs.Entries.{first_behind}
-use Rattle.response_route.specs.declared.versions.Stamp.{Stamp}
+use Rattle.id_rewrite.specs.response_route.specs.declared.versions.Stamp.{Stamp}
 use Rattle.id_rewrite.specs.declared.pending.Numbered.{Numbered}
 use Rattle.id_rewrite.specs.declared.pending.Pending.{Pending}
 use Rattle.id_rewrite.specs.Tables.{RiseWithin, cancelled, has_number, pending_of, with_cancelled, without}

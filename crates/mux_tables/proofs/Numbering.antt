@@ -6,7 +6,7 @@ use Rattle.event_model.specs.Does.{Does}
 use Rattle.event_model.specs.Event.{Event, behind}
 use Rattle.event_model.specs.Row.{Row, choose, look, nothing}
 use Rattle.event_model.proofs.Turns.{does_false, does_knowing, does_look, does_nothing, does_true}
-use Rattle.group_rows.specs.Asks.{has_number, next_ask}
+use Rattle.group_laws.specs.group_rows.specs.Asks.{has_number, next_ask}
 
 no_number : (b : Bool) (m : ℕ) → ◌≡◌ {A = Option ℕ} None (if b then Some m else None) → b ≡ false
 no_number false m e = refl

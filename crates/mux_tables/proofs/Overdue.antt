@@ -9,10 +9,10 @@ use Rattle.event_model.specs.Settings.{Settings}
 use Rattle.event_model.specs.Spawns.{starts_of}
 use Rattle.event_model.specs.Stages.{Life, life_of}
 use Rattle.event_model.proofs.Frames.{never}
-use Rattle.group_rows.specs.Ticks.{is_stopping, overdue_of, stop_of}
+use Rattle.group_laws.specs.group_rows.specs.Ticks.{is_stopping, overdue_of, stop_of}
 use Rattle.group_words.specs.Houses.{time_of}
 use Rattle.group_words.specs.Placing.{is_since}
-use Rattle.group_rows.proofs.Stops.{filter_both}
+use Rattle.group_laws.specs.group_rows.proofs.Stops.{filter_both}
 use Rattle.mux_tables.specs.declared.tables.Start.{Start}
 use Rattle.mux_tables.specs.declared.tables.Tables.{Tables}
 use Rattle.mux_tables.specs.Stands.{Stands, StopAt, is_over, moment_in, number_in, of_life, of_stop}

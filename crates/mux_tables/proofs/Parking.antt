@@ -15,7 +15,7 @@ use Rattle.event_model.specs.Requests.{answered_id}
 use Rattle.event_model.specs.Settings.{Settings}
 use Rattle.event_model.specs.Stages.{Life, is_first_result, is_initializing, is_ready, life_of}
 use Rattle.group_words.specs.Houses.{is_first_error}
-use Rattle.group_rows.specs.Asks.{Ask, Asking, Parked, asker_of, asking_of, asks_of, has_running, idle_asking, is_patient, is_taken, is_under, parked_of, parks, waits_under}
+use Rattle.group_laws.specs.group_rows.specs.Asks.{Ask, Asking, Parked, asker_of, asking_of, asks_of, has_running, idle_asking, is_patient, is_taken, is_under, parked_of, parks, waits_under}
 use Rattle.mux_tables.specs.declared.tables.Start.{Start}
 use Rattle.mux_tables.specs.declared.tables.Tables.{Tables}
 use Rattle.mux_tables.specs.Stands.{HasOwnId, HaveOwnIds, IsFree, MayWait, NamesAt, ParkedAt, ParkedStand, ParkedStay, PartStands, Stands, is_early, number_in, of_life, of_parked}

@@ -22,7 +22,7 @@ use Rattle.group_words.proofs.Frames.{itself, groups_more, home_more}
 use Rattle.group_table.specs.Tables.{Table}
 use Rattle.mux_tables.specs.declared.tables.Tables.{Tables}
 use Rattle.mux_tables.specs.Names.{NameStands, id_in}
-use Rattle.group_rows.specs.Asks.{next_ask}
+use Rattle.group_laws.specs.group_rows.specs.Asks.{next_ask}
 use Rattle.mux_tables.specs.Stands.{CountStands, EditorsStand, GroupsStand, HouseStands, phase_in, group_in, meant_in}
 use Rattle.mux_tables.proofs.Counted.{counted_set, next_more}
 use Rattle.mux_tables.proofs.Frames.{desk_apart, meant_apart}

@@ -31,8 +31,8 @@ use Rattle.editor_session.specs.declared.session.Session.{Session}
 use Rattle.editor_session.specs.Sessions as sessions
 use Rattle.editor_session.specs.Sessions.{absent, is_gone, session_of, unless_gone, with_session}
 use Rattle.group_words.proofs.Frames.{itself}
-use Rattle.group_rows.specs.AskRows.{ask}
-use Rattle.group_rows.specs.Asks.{Parked, Ask, Asking, asked_next, asking_next, asking_of, asks_of, has_number, is_own_work, is_patient, is_under, next_ask, parked_of, serves, waits_under}
+use Rattle.group_laws.specs.group_rows.specs.AskRows.{ask}
+use Rattle.group_laws.specs.group_rows.specs.Asks.{Parked, Ask, Asking, asked_next, asking_next, asking_of, asks_of, has_number, is_own_work, is_patient, is_under, next_ask, parked_of, serves, waits_under}
 use Rattle.mux_tables.specs.declared.tables.Start.{Start}
 use Rattle.mux_tables.specs.declared.tables.Tables.{Tables}
 use Rattle.mux_tables.specs.Documents.{DocumentsStand, Owed}

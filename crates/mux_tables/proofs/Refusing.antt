@@ -20,10 +20,10 @@ use Rattle.event_model.specs.Row.{each, nothing, send}
 use Rattle.event_model.specs.Settings.{Settings}
 use Rattle.event_model.proofs.Places.{get_set_same}
 use Rattle.event_model.proofs.Turns.{behind_more, does_then}
-use Rattle.group_rows.specs.Asks.{Ask, Asking, Parked, asking_of, asks_of, is_under, is_with, parked_of, waits_under}
-use Rattle.group_rows.specs.Forwarded.{moves_ids}
+use Rattle.group_laws.specs.group_rows.specs.Asks.{Ask, Asking, Parked, asking_of, asks_of, is_under, is_with, parked_of, waits_under}
+use Rattle.group_laws.specs.group_rows.specs.Forwarded.{moves_ids}
 use Rattle.document_model.specs.Sayings.{nothing as no_saying, saying_of}
-use Rattle.group_rows.specs.Texts.{is_synced}
+use Rattle.group_laws.specs.group_rows.specs.Texts.{is_synced}
 use Rattle.mux_tables.specs.declared.tables.Start.{Start}
 use Rattle.mux_tables.specs.declared.tables.Tables.{Tables}
 use Rattle.mux_tables.specs.Documents.{DocumentsStand, Owed}

@@ -24,10 +24,10 @@ use Rattle.event_model.proofs.Turns.{does_knowing}
 use Rattle.editor_session.specs.Sessions as sessions
 use Rattle.editor_session.specs.Sessions.{session_of, unless_gone, with_session}
 use Rattle.group_words.specs.Houses.{is_first_error}
-use Rattle.group_rows.specs.Asks.{Asking, asked_next, asking_next, asking_of, is_own_work, is_patient, is_taken, may_wait, next_ask, serves, unparked}
-use Rattle.group_rows.specs.Live.{if_live, live_by, live_of, with_registered, without_these}
-use Rattle.registrations.specs.declared.registration.Registration.{Registration}
-use Rattle.registrations.specs.Items.{are_live, others, registered, unregistered}
+use Rattle.group_laws.specs.group_rows.specs.Asks.{Asking, asked_next, asking_next, asking_of, is_own_work, is_patient, is_taken, may_wait, next_ask, serves, unparked}
+use Rattle.group_laws.specs.group_rows.specs.Live.{if_live, live_by, live_of, with_registered, without_these}
+use Rattle.group_laws.specs.registrations.specs.declared.registration.Registration.{Registration}
+use Rattle.group_laws.specs.registrations.specs.Items.{are_live, others, registered, unregistered}
 use Rattle.mux_tables.specs.declared.tables.Start.{Start}
 use Rattle.mux_tables.specs.declared.tables.Tables.{Tables}
 use Rattle.mux_tables.specs.Puts.{IsNextAsk}

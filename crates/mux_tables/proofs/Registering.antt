@@ -15,10 +15,10 @@ use Rattle.event_model.specs.Settings.{Settings}
 use Rattle.event_model.specs.Stages.{is_ready, life_of}
 use Rattle.event_model.proofs.Frames.{never}
 use Rattle.group_words.proofs.Frames.{itself, past_more}
-use Rattle.group_rows.specs.Asks.{asking_of, is_patient, is_taken, may_wait}
-use Rattle.group_rows.specs.Live.{changes_live, is_heard, is_registering, live_by, live_next, live_of, taken_back, with_registered, without_these}
-use Rattle.registrations.specs.declared.registration.Registration.{Registration}
-use Rattle.registrations.specs.Items.{registered}
+use Rattle.group_laws.specs.group_rows.specs.Asks.{asking_of, is_patient, is_taken, may_wait}
+use Rattle.group_laws.specs.group_rows.specs.Live.{changes_live, is_heard, is_registering, live_by, live_next, live_of, taken_back, with_registered, without_these}
+use Rattle.group_laws.specs.registrations.specs.declared.registration.Registration.{Registration}
+use Rattle.group_laws.specs.registrations.specs.Items.{registered}
 use Rattle.restart_replay.specs.Standings.{Standing, moved}
 use Rattle.mux_tables.specs.declared.tables.Start.{Start}
 use Rattle.mux_tables.specs.Stands.{LiveAt, LiveStay, PartStands, begun_at, is_request, of_live}

@@ -19,8 +19,8 @@ use Rattle.event_model.specs.Spawns.{group_behind, start_behind}
 use Rattle.event_model.proofs.Frames.{never, one_more}
 use Rattle.editor_session.specs.Sessions.{with_session}
 use Rattle.group_words.specs.Houses.{is_first_open, places, stops}
-use Rattle.group_rows.specs.Asks.{Ask, Asking, Parked, asks_of, is_seated, is_under, parked_of, waits_under}
-use Rattle.group_rows.specs.Forwarded.{names}
+use Rattle.group_laws.specs.group_rows.specs.Asks.{Ask, Asking, Parked, asks_of, is_seated, is_under, parked_of, waits_under}
+use Rattle.group_laws.specs.group_rows.specs.Forwarded.{names}
 use Rattle.mux_tables.specs.declared.tables.Start.{Start}
 use Rattle.mux_tables.specs.declared.tables.Tables.{Tables}
 use Rattle.mux_tables.specs.Refusals.{Given, Left}

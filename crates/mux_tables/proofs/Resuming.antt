@@ -28,8 +28,8 @@ use Rattle.editor_session.specs.Sessions as sessions
 use Rattle.editor_session.specs.Sessions.{absent, is_gone, session_of, unless_gone, with_session}
 use Rattle.group_words.specs.Houses.{home_of}
 use Rattle.group_words.proofs.Frames.{home_stays}
-use Rattle.group_rows.specs.AskRows.{ask}
-use Rattle.group_rows.specs.Asks.{Ask, Asker, Asking, Parked, asked_next, asking_next, asking_of, asks_of, is_own_work, is_patient, is_under, next_ask, parked_of, serves, unparked}
+use Rattle.group_laws.specs.group_rows.specs.AskRows.{ask}
+use Rattle.group_laws.specs.group_rows.specs.Asks.{Ask, Asker, Asking, Parked, asked_next, asking_next, asking_of, asks_of, is_own_work, is_patient, is_under, next_ask, parked_of, serves, unparked}
 use Rattle.restart_replay.specs.Standings.{Standing}
 use Rattle.mux_tables.specs.declared.tables.Start.{Start}
 use Rattle.mux_tables.specs.declared.tables.Tables.{Tables}

@@ -19,7 +19,7 @@ use Rattle.event_model.proofs.Turns.{behind_more}
 use Rattle.editor_session.specs.declared.session.Session.{Session}
 use Rattle.editor_session.specs.Sessions.{absent, is_gone, session_of, with_session}
 use Rattle.group_table.specs.Tables.{with_groups}
-use Rattle.group_rows.specs.Asks.{Asking, asked_next, asking_next, asking_of, is_own_work, is_patient, next_ask, serves, unparked}
+use Rattle.group_laws.specs.group_rows.specs.Asks.{Asking, asked_next, asking_next, asking_of, is_own_work, is_patient, next_ask, serves, unparked}
 use Rattle.group_words.specs.Houses.{emptied, meant_behind, time_behind}
 use Rattle.group_words.proofs.Frames.{home_stays}
 use Rattle.mux_tables.specs.declared.tables.Tables.{Tables}

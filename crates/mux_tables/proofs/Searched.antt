@@ -11,9 +11,9 @@ use Rattle.rpc_message.specs.ValueTexts.{IsIdText}
 use Rattle.event_model.specs.declared.stage.Stage.TheVariants.{Ready}
 use Rattle.event_model.specs.Event.{Event}
 use Rattle.event_model.specs.Settings.{Settings}
-use Rattle.group_rows.specs.AskRows.{is_among, last_among}
-use Rattle.group_rows.specs.Asks.{Ask, Parked, asking_of, asks_of, is_taken, is_under, parked_of, waits_under}
-use Rattle.group_rows.specs.Forwarded.{Forwarded, forwarding_of}
+use Rattle.group_laws.specs.group_rows.specs.AskRows.{is_among, last_among}
+use Rattle.group_laws.specs.group_rows.specs.Asks.{Ask, Parked, asking_of, asks_of, is_taken, is_under, parked_of, waits_under}
+use Rattle.group_laws.specs.group_rows.specs.Forwarded.{Forwarded, forwarding_of}
 use Rattle.id_rewrite.specs.declared.pending.Numbered.{Numbered}
 use Rattle.id_rewrite.specs.Tables as tables
 use Rattle.id_rewrite.proofs.Finding.{texts_same}

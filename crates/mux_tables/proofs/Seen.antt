@@ -17,8 +17,8 @@ use Rattle.group_words.specs.Houses.{Meant, editors_in, given_or, home_of, meant
 use Rattle.id_rewrite.specs.Tables as tables
 use Rattle.mux_tables.specs.declared.tables.Start.{Start}
 use Rattle.mux_tables.specs.declared.tables.Tables.{Tables}
-use Rattle.group_rows.specs.Forwarded as forwarded
-use Rattle.group_rows.specs.Forwarded.{forwarding_of}
+use Rattle.group_laws.specs.group_rows.specs.Forwarded as forwarded
+use Rattle.group_laws.specs.group_rows.specs.Forwarded.{forwarding_of}
 use Rattle.mux_tables.specs.Stands.{HasEnded, IsLost, Rise, Stands, group_in, is_over, meant_in, number_in, of_ids, of_life, phase_in, start_for}
 use Rattle.mux_tables.proofs.IdMoves.{numbers_mapped}
 use Rattle.mux_tables.proofs.Lasts.{lost_ended}

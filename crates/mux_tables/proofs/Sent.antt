@@ -24,12 +24,12 @@ use Rattle.event_model.specs.Members.{named_of}
 use Rattle.restart_replay.specs.Standings.{Standing, moved, stopped}
 use Rattle.mux_tables.specs.declared.tables.Start.{Start}
 use Rattle.mux_tables.specs.declared.tables.Tables.{Tables}
-use Rattle.group_rows.specs.Forwarded.{forwarding_of, is_written, moves_ids}
-use Rattle.group_rows.specs.Ticks.{is_stopping, stop_of}
+use Rattle.group_laws.specs.group_rows.specs.Forwarded.{forwarding_of, is_written, moves_ids}
+use Rattle.group_laws.specs.group_rows.specs.Ticks.{is_stopping, stop_of}
 use Rattle.group_words.specs.Houses.{time_of}
 use Rattle.mux_tables.specs.Stands.{AsksStay, Part, of_life, of_ids, of_shown, of_stop, of_asks, of_parked, of_live, PartStands, Sends, Stands, StopAt, forwarded_of, is_answer, number_in, unstopped}
 use Rattle.event_model.specs.Requests.{answered_id}
-use Rattle.group_rows.specs.Asks.{Ask, Parked, asks_of, is_under, parked_of, waits_under}
+use Rattle.group_laws.specs.group_rows.specs.Asks.{Ask, Parked, asks_of, is_under, parked_of, waits_under}
 use Rattle.mux_tables.proofs.Asking.{none_handed, told_asks, told_parked}
 use Rattle.mux_tables.proofs.Frames.{asks_stay, groups_stand, itself, part_quiet, stop_more}
 use Rattle.mux_tables.proofs.IdMoves.{cancelled_ids, sent_as, sent_ids}
@@ -105,20 +105,20 @@ not_shutdown method h = go (bytes_eq (codes "shutdown") method) refl
     go true e = never (sym (ap is_own (sym ((bytes_eq-Decides (codes "shutdown") method).0 e))) ∙ h)
 
 -- an editor's request
-pub forward_does : (settings : Settings) (t u : Tables) (xs ys : List Out) (base : List Event) (g s start e : ℕ) (z : Start) (ids : Table) (pending : Pending) (text id method : List ℕ) (name : Id) (ps : Option Json) → slice_get (map number_in t.lasts.items) g ≡ Some s → g < length t.lasts.items → z ≡ get_or t.lasts.items g z
-    → message_of text ≡ request name method ps → is_own method ≡ false → Sends s e id (behind base xs) → forwarded_of (record { number = z.ids.next; pending = pending }) ≡ sent_as (record { editor = e; id = id }) z.ids.next
+pub forward_does : (settings : Settings) (t u : Tables) (xs ys : List Out) (base : List Event) (g s start e : ℕ) (z : Start) (ids : Table) (pending : Pending) (text id : List ℕ) (work partial : Option (List ℕ)) (method : List ℕ) (name : Id) (ps : Option Json) → slice_get (map number_in t.lasts.items) g ≡ Some s → g < length t.lasts.items → z ≡ get_or t.lasts.items g z
+    → message_of text ≡ request name method ps → is_own method ≡ false → Sends s e id work partial (behind base xs) → forwarded_of (record { number = z.ids.next; pending = pending }) ≡ sent_as (record { editor = e; id = id; work = work; partial = partial }) z.ids.next
     → ids.requests ≡ z.ids.requests ++ record { number = z.ids.next; pending = pending } ∷ [] → ids.next ≡ z.ids.next + 1 → ids.limit ≡ z.ids.limit → IsInOrder ids
     → u.lasts.items ≡ slice_set t.lasts.items g (record z { ids = ids }) → u.editors ≡ t.editors → u.groups ≡ t.groups → u.time ≡ t.time → u.origins ≡ t.origins → u.requests ≡ t.requests → start ≡ z.life.start → ys ≡ xs ++ ToServer start text ∷ []
     → Does (λ t events. Stands settings t events) (send (ToServer s text)) base t xs u ys
-forward_does settings t u xs ys base g s start e z ids pending text id method name ps at within read says own sends kept put next limit order set es gs now os r is said_so =
+forward_does settings t u xs ys base g s start e z ids pending text id work partial method name ps at within read says own sends kept put next limit order set es gs now os r is said_so =
     let y : Start = record z { ids = ids } in
     let here : z.life.start ≡ s = start_at_place t.lasts.items g s z (read_here t.lasts.items g z within read) at in
-    sent_does settings t u xs ys base g s start z y text at within read set refl refl es gs now (ap (λ v. v.groups) os) r is said_so (λ st. told_stops t u (behind base xs) s text os (ap (requests (codes "shutdown")) says ∙ not_shutdown method own)) (λ st p h. part (subst (λ n. Sends n e id (behind base xs)) (sym here) sends) p h)
+    sent_does settings t u xs ys base g s start z y text at within read set refl refl es gs now (ap (λ v. v.groups) os) r is said_so (λ st. told_stops t u (behind base xs) s text os (ap (requests (codes "shutdown")) says ∙ not_shutdown method own)) (λ st p h. part (subst (λ n. Sends n e id work partial (behind base xs)) (sym here) sends) p h)
   where
-    part : Sends z.life.start e id (behind base xs) → (p : Part) → PartStands p settings t.requests z (behind base xs) → PartStands p settings t.requests (record z { ids = ids }) (behind base xs ++ said (ToServer z.life.start text) ∷ [])
+    part : Sends z.life.start e id work partial (behind base xs) → (p : Part) → PartStands p settings t.requests z (behind base xs) → PartStands p settings t.requests (record z { ids = ids }) (behind base xs ++ said (ToServer z.life.start text) ∷ [])
     part sends of_life h = still_life settings t.requests (behind base xs) (said (ToServer z.life.start text)) z (record z { ids = ids }) refl refl (ap (requests (codes "shutdown")) says ∙ not_shutdown method own) h
     part sends of_ids h = part_ids settings t.requests (behind base xs) (said (ToServer z.life.start text)) z (record z { ids = ids }) refl
-        (sent_ids t.requests z.life.start z.ids ids (forwarding_of z.life.start (behind base xs)) text method (message_of text) name ps (record { number = z.ids.next; pending = pending }) (record { editor = e; id = id }) says own sends kept put next limit order) h
+        (sent_ids t.requests z.life.start z.ids ids (forwarding_of z.life.start (behind base xs)) text method (message_of text) name ps (record { number = z.ids.next; pending = pending }) (record { editor = e; id = id; work = work; partial = partial }) says own sends kept put next limit order) h
     part sends of_shown h = still_shown settings t.requests (behind base xs) (said (ToServer z.life.start text)) z (record z { ids = ids }) refl refl refl h
     part sends of_stop h = still_stop settings t.requests (behind base xs) (said (ToServer z.life.start text)) z (record z { ids = ids }) refl (ap (requests (codes "shutdown")) says ∙ not_shutdown method own) h
     part sends of_asks h = still_asks settings t.requests (behind base xs) (said (ToServer z.life.start text)) z (record z { ids = ids }) refl refl (ap is_answer says) h

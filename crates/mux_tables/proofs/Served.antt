@@ -20,14 +20,14 @@ use Rattle.id_rewrite.specs.declared.pending.Pending.{Pending}
 use Rattle.id_rewrite.specs.declared.pending.Numbered.{Numbered}
 use Rattle.id_rewrite.specs.Tables.{Table, IsInOrder, pending_of, without}
 use Rattle.restart_replay.specs.Standings.{Standing, moved}
-use Rattle.group_rows.specs.Ticks.{is_stopping, stop_of}
+use Rattle.group_laws.specs.group_rows.specs.Ticks.{is_stopping, stop_of}
 use Rattle.mux_tables.specs.declared.tables.Start.{Start}
 use Rattle.mux_tables.specs.declared.tables.Tables.{Tables}
 use Rattle.ask_route.specs.declared.ask.Ask as route
-use Rattle.group_rows.specs.Forwarded.{Forwarding, forwarding_behind, forwarding_of, is_under}
-use Rattle.group_rows.specs.Asks.{Ask, asks_of, parked_of}
-use Rattle.group_rows.specs.Live.{live_of}
-use Rattle.registrations.specs.declared.registration.Registration.{Registration}
+use Rattle.group_laws.specs.group_rows.specs.Forwarded.{Forwarding, forwarding_behind, forwarding_of, is_under}
+use Rattle.group_laws.specs.group_rows.specs.Asks.{Ask, asks_of, parked_of}
+use Rattle.group_laws.specs.group_rows.specs.Live.{live_of}
+use Rattle.group_laws.specs.registrations.specs.declared.registration.Registration.{Registration}
 use Rattle.mux_tables.specs.Stands.{AsksAt, Exits, IdsAt, NamesAt, Part, of_life, of_ids, of_shown, of_stop, of_asks, of_parked, of_live, LiveAt, LiveStay, ParkedAt, ParkedStay, PartStands, ShownAt, Stands, StopAt, begun_at, forwarded_as, is_early, is_request, number_in, unstopped}
 use Rattle.mux_tables.proofs.Asking.{begun_asks, begun_parked, first_asks, first_parked, parked_by}
 use Rattle.mux_tables.proofs.Exits.{lost_groups, refused_groups}

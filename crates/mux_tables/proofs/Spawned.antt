@@ -23,10 +23,10 @@ use Rattle.id_rewrite.specs.Tables.{IsInOrder}
 use Rattle.restart_replay.specs.Standings.{Standing, spawned}
 use Rattle.mux_tables.specs.declared.tables.Start.{Start}
 use Rattle.mux_tables.specs.declared.tables.Tables.{Tables}
-use Rattle.group_rows.specs.Forwarded.{forwarding_behind}
-use Rattle.group_rows.specs.Ticks.{is_stopping}
-use Rattle.group_rows.specs.Asks.{asks_of, parked_of}
-use Rattle.group_rows.specs.Live.{live_of}
+use Rattle.group_laws.specs.group_rows.specs.Forwarded.{forwarding_behind}
+use Rattle.group_laws.specs.group_rows.specs.Ticks.{is_stopping}
+use Rattle.group_laws.specs.group_rows.specs.Asks.{asks_of, parked_of}
+use Rattle.group_laws.specs.group_rows.specs.Live.{live_of}
 use Rattle.mux_tables.specs.Stands.{AsksAt, IsLost, IsNew, Lost, OriginsStand, Rise, IdsAt, IdsStand, Part, of_life, of_ids, of_shown, of_stop, of_asks, of_parked, of_live, LiveAt, ParkedAt, PartStands, ShownAt, blank, LastStands, LastsStand, Stands}
 use Rattle.mux_tables.proofs.Asking.{asks_more, parked_more}
 use Rattle.mux_tables.proofs.Frames.{groups_stand, itself, last_stands, life_alone, part_apart}

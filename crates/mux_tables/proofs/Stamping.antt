@@ -12,10 +12,10 @@ use Rattle.focus_switch.specs.Documents.{Documents, held_of, version_held}
 use Rattle.focus_switch.specs.Rows.{agreement, agreement_of}
 use Rattle.focus_switch.specs.Versions.{version_of, versions_of}
 use Rattle.json_text.proofs.Put.{same_name}
-use Rattle.response_route.specs.declared.versions.Stamp.{Stamp}
-use Rattle.response_route.specs.Versions.{stamp_of}
-use Rattle.group_rows.specs.Answers.{stamped}
-use Rattle.group_rows.specs.Texts.{touched_at}
+use Rattle.id_rewrite.specs.response_route.specs.declared.versions.Stamp.{Stamp}
+use Rattle.id_rewrite.specs.response_route.specs.Versions.{stamp_of}
+use Rattle.group_laws.specs.group_rows.specs.Answers.{stamped}
+use Rattle.group_laws.specs.group_rows.specs.Texts.{touched_at}
 use Rattle.mux_tables.specs.Notes.{agreed_in, now_version, stamp_from, stamp_in}
 
 bytes_other : (a b : List ℕ) → bytes_eq a b ≡ bytes_eq b a

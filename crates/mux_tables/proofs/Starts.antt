@@ -18,12 +18,12 @@ use Rattle.group_table.specs.Tables as group_tables
 use Rattle.restart_replay.specs.Standings.{Standing}
 use Rattle.mux_tables.specs.declared.tables.Start.{Start}
 use Rattle.mux_tables.specs.declared.tables.Tables.{Tables}
-use Rattle.group_rows.specs.Forwarded.{forwarding_behind, forwarding_of}
-use Rattle.group_rows.specs.Ticks.{is_stopping, stop_of}
+use Rattle.group_laws.specs.group_rows.specs.Forwarded.{forwarding_behind, forwarding_of}
+use Rattle.group_laws.specs.group_rows.specs.Ticks.{is_stopping, stop_of}
 use Rattle.ask_route.specs.declared.ask.Ask as route
-use Rattle.group_rows.specs.Asks.{Ask, Parked, asks_of, parked_of}
-use Rattle.group_rows.specs.Live.{live_of}
-use Rattle.registrations.specs.declared.registration.Registration.{Registration}
+use Rattle.group_laws.specs.group_rows.specs.Asks.{Ask, Parked, asks_of, parked_of}
+use Rattle.group_laws.specs.group_rows.specs.Live.{live_of}
+use Rattle.group_laws.specs.registrations.specs.declared.registration.Registration.{Registration}
 use Rattle.mux_tables.specs.Refusals.{asks_in}
 use Rattle.mux_tables.specs.Stands.{AsksAt, GroupsStand, IdsAt, IdsStand, Part, of_life, of_ids, of_shown, of_stop, of_asks, of_parked, of_live, LiveAt, ParkedAt, PartStands, ShownAt, StopAt, Stands, house_in, number_in, stage_in}
 use Rattle.mux_tables.proofs.Frames.{names_start, names_editor, spawns, ticks, touches, part_quiet}

@@ -9,7 +9,7 @@ use Rattle.rpc_message.proofs.Ids.{request_id_bytes}
 use Rattle.event_model.specs.declared.stage.Stage.{Stage}
 use Rattle.event_model.specs.declared.stage.Stage.TheVariants.{Unspawned, Spawning, Initializing, Ready}
 use Rattle.event_model.proofs.Frames.{never}
-use Rattle.group_rows.specs.Asks.{Ask, Parked, is_under, waits_under}
+use Rattle.group_laws.specs.group_rows.specs.Asks.{Ask, Parked, is_under, waits_under}
 use Rattle.mux_tables.specs.Stands.{IsFree, MayWait, ParkedAt, ParkedStand}
 use Rattle.mux_tables.proofs.Apart.{all_filter, id_flip}
 

@@ -8,7 +8,7 @@ use Rattle.rpc_message.specs.Message.{Id, Message, message_of, request}
 use Rattle.event_model.specs.Event.{Event, did, heard, said}
 use Rattle.event_model.specs.Requests.{answered_id}
 use Rattle.event_model.specs.Settings.{Settings}
-use Rattle.group_rows.specs.Asks.{Asking, asker_of, asking_next, asking_of, next_ask}
+use Rattle.group_laws.specs.group_rows.specs.Asks.{Asking, asker_of, asking_next, asking_of, next_ask}
 use Rattle.mux_tables.specs.Stands.{IsAtRest, IsWorking}
 use Rattle.mux_tables.proofs.Asking.{asking_more, told_asking}
 use Rattle.mux_tables.proofs.Parking.{heard_asking}

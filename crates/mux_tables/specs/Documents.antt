@@ -18,11 +18,11 @@ use Rattle.event_model.specs.Spawns.{start_of, starts_of}
 use Rattle.event_model.specs.Stages.{is_ready, life_of}
 use Rattle.focus_switch.specs.Documents.{Documents}
 use Rattle.focus_switch.specs.Rows.{Step}
-use Rattle.mux_model.specs.Documents.{held_at, sent_of}
+use Rattle.group_laws.specs.mux_model.specs.Documents.{held_at, sent_of}
 use Rattle.group_words.specs.Houses.{home_of}
-use Rattle.group_rows.specs.Leaves.{leave_bodies}
-use Rattle.group_rows.specs.Rows.{document_bodies, replay_bodies, sync_bodies}
-use Rattle.group_rows.specs.Texts.{encoding_of, texts_of}
+use Rattle.group_laws.specs.group_rows.specs.Leaves.{leave_bodies}
+use Rattle.group_laws.specs.group_rows.specs.Rows.{document_bodies, replay_bodies, sync_bodies}
+use Rattle.group_laws.specs.group_rows.specs.Texts.{encoding_of, texts_of}
 use Rattle.group_laws.specs.Stands.{HeldStands, TextsStand}
 use Rattle.mux_tables.specs.declared.tables.Start.{Start}
 use Rattle.mux_tables.specs.declared.tables.Tables.{Tables}

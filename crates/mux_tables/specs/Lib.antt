@@ -7,3 +7,10 @@ pub mod Stops
 pub mod Refusals
 pub mod Resumes
 pub mod Puts
+pub mod Tokens
+pub use Rattle.ask_route
+pub use Rattle.group_laws.specs.document_laws
+pub use Rattle.editor_session
+pub use Rattle.group_laws
+pub use Rattle.group_table
+pub use Rattle.id_rewrite

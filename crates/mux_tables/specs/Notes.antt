@@ -11,9 +11,9 @@ use Rattle.focus_switch.specs.declared.agreement.Agreement.TheVariants.{Agrees}
 use Rattle.focus_switch.specs.declared.version.DocumentVersion.{DocumentVersion}
 use Rattle.focus_switch.specs.Documents.{Documents}
 use Rattle.focus_switch.specs.Rows.{agreement}
-use Rattle.response_route.specs.declared.versions.Stamp.{Stamp}
-use Rattle.response_route.specs.Versions.{stamp_of}
-use Rattle.group_rows.specs.Answers.{held_version, moment_of, stamp_at}
+use Rattle.id_rewrite.specs.response_route.specs.declared.versions.Stamp.{Stamp}
+use Rattle.id_rewrite.specs.response_route.specs.Versions.{stamp_of}
+use Rattle.group_laws.specs.group_rows.specs.Answers.{held_version, moment_of, stamp_at}
 use Rattle.id_rewrite.specs.declared.pending.Numbered.{Numbered}
 use Rattle.id_rewrite.specs.declared.pending.Pending.{Pending}
 use Rattle.id_rewrite.specs.Tables.{pending_of}

@@ -6,7 +6,7 @@ use Rattle.rpc_message.specs.Message.{Id, integer, message_of, request}
 use Rattle.rpc_message.specs.ValueTexts.{IsIdText}
 use Rattle.event_model.specs.Event.{Event}
 use Rattle.event_model.specs.Settings.{Settings}
-use Rattle.group_rows.specs.Asks.{asking_of, has_number, is_taken, next_ask}
+use Rattle.group_laws.specs.group_rows.specs.Asks.{asking_of, has_number, is_taken, next_ask}
 use Rattle.mux_tables.specs.Stands.{IsAtRest}
 
 -- a request of start s under this id is at work, which one editor is to answer; no other open request of s has its id

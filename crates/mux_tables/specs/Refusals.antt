@@ -9,7 +9,7 @@ use Rattle.mux_history.specs.declared.out.Out.{Out}
 use Rattle.mux_history.specs.declared.out.Out.TheVariants.{ToServer}
 use Rattle.rpc_message.specs.Texts.{error_text, request_failed}
 use Rattle.event_model.specs.Row.{Row, send}
-use Rattle.group_rows.specs.Asks.{Ask as Open}
+use Rattle.group_laws.specs.group_rows.specs.Asks.{Ask as Open}
 use Rattle.mux_tables.specs.declared.tables.Start.{Start}
 
 -- what is kept of a start's asks

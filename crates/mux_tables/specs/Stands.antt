@@ -34,11 +34,11 @@ use Rattle.restart_replay.specs.Standings.{Standing, moved}
 use Rattle.mux_tables.specs.declared.tables.Start.{Start}
 use Rattle.mux_tables.specs.declared.tables.Tables.{Tables}
 use Rattle.mux_tables.specs.Names.{NamesStand}
-use Rattle.group_rows.specs.Asks.{Ask, Parked, asking_next, asking_of, asks_of, is_patient, is_seated, is_under, next_ask, parked_of}
-use Rattle.group_rows.specs.Forwarded.{Forwarded, Forwarding, forwarding_of, names}
-use Rattle.group_rows.specs.Live.{live_next, live_of}
-use Rattle.group_rows.specs.Ticks.{stop_of, stopping_of}
-use Rattle.registrations.specs.declared.registration.Registration.{Registration}
+use Rattle.group_laws.specs.group_rows.specs.Asks.{Ask, Parked, asking_next, asking_of, asks_of, is_patient, is_seated, is_under, next_ask, parked_of}
+use Rattle.group_laws.specs.group_rows.specs.Forwarded.{Forwarded, Forwarding, forwarding_of, names}
+use Rattle.group_laws.specs.group_rows.specs.Live.{live_next, live_of}
+use Rattle.group_laws.specs.group_rows.specs.Ticks.{stop_of, stopping_of}
+use Rattle.group_laws.specs.registrations.specs.declared.registration.Registration.{Registration}
 
 -- the editors: how many joined, and of each its phase, its group, the id of its `initialize`, and before that what it meant by `lspmux/open`
 abbrev pub phase_in : Option Session → Phase
@@ -84,7 +84,7 @@ pub record OriginsStand (origins : List ℕ) (events : List Event) : Type 0 wher
 
 -- the open requests at a start
 abbrev pub forwarded_of : Numbered → Forwarded
-forwarded_of r = record { number = r.number; editor = r.pending.editor; id = r.pending.id; cancelled = r.pending.cancelled }
+forwarded_of r = record { number = r.number; editor = r.pending.editor; id = r.pending.id; work = r.pending.work; partial = r.pending.partial; cancelled = r.pending.cancelled }
 
 -- the request of this number
 abbrev pub forwarded_as : ℕ → Pending → Forwarded
@@ -366,9 +366,9 @@ Keeps e body events = ((desk_of e (events ++ said (ToEditor e body) ∷ [])).pha
 abbrev pub Welcomes : ℕ → List ℕ → List Event → Type 0
 Welcomes e body events = ((desk_of e (events ++ said (ToEditor e body) ∷ [])).phase ≡ Answered) × (is_request (message_of body) ≡ false)
 
--- e's request under this id is at work, and goes to start s
-abbrev pub Sends : ℕ → ℕ → List ℕ → List Event → Type 0
-Sends s e id events = (forwarding_of s events).sender ≡ Some (record { editor = e; id = id })
+-- e's request under this id is at work, with these tokens for progress, and goes to start s
+abbrev pub Sends : ℕ → ℕ → List ℕ → Option (List ℕ) → Option (List ℕ) → List Event → Type 0
+Sends s e id work partial events = (forwarding_of s events).sender ≡ Some (record { editor = e; id = id; work = work; partial = partial })
 
 -- the others of these starts
 abbrev pub unstopped : ℕ → List ℕ → List ℕ

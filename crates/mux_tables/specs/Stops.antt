@@ -3,7 +3,7 @@ use Rattle.std.specs.Prelude.{ℕ, List, if◌then◌else◌}
 use Rattle.std.specs.Prelude.{Option, None}
 use Rattle.event_model.specs.Event.{Event}
 use Rattle.event_model.specs.Stages.{life_of}
-use Rattle.group_rows.specs.Ticks.{is_stopping, stop_of}
+use Rattle.group_laws.specs.group_rows.specs.Ticks.{is_stopping, stop_of}
 
 -- the moment at which it was, as long as the answer is awaited
 abbrev pub awaited_stop : ℕ → List Event → Option ℕ

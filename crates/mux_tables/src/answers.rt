@@ -4,10 +4,10 @@ ghost use Rattle.event_model.specs.declared.stage.Stage.TheVariants.{Ready};
 ghost use Rattle.event_model.specs.Event.{Event};
 ghost use Rattle.event_model.specs.Phases.{desk_of};
 ghost use Rattle.event_model.specs.Settings.{Settings};
-ghost use Rattle.group_rows.specs.Answers.{agreed_version, stamp_at};
-ghost use Rattle.group_rows.specs.Forwarded.{forwarding_of, is_under};
+ghost use Rattle.group_laws.specs.group_rows.specs.Answers.{agreed_version, stamp_at};
+ghost use Rattle.group_laws.specs.group_rows.specs.Forwarded.{forwarding_of, is_under};
 ghost use Rattle.id_rewrite.specs.declared.pending.Pending.{Pending};
-ghost use Rattle.response_route.specs.Versions.{stamp_of};
+ghost use Rattle.id_rewrite.specs.response_route.specs.Versions.{stamp_of};
 ghost use Rattle.mux_tables.specs.declared.tables.Start.{Start};
 ghost use Rattle.mux_tables.specs.Documents.{DocumentsStand, Owed, nothing_owed};
 ghost use Rattle.mux_tables.specs.Notes.{IsNoted, has_left};
@@ -16,8 +16,8 @@ ghost use Rattle.mux_tables.specs.Stands.{Stands, forwarded_as, number_in};
 use crate::notes::current;
 use crate::tables::Tables;
 use id_rewrite::Pending;
+use id_rewrite::response_route::Versions;
 use message_body::Memory;
-use response_route::Versions;
 use std::alloc::Global;
 
 impl Tables {

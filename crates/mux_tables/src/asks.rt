@@ -8,7 +8,7 @@ ghost use Rattle.event_model.specs.Phases.{desk_of};
 ghost use Rattle.event_model.specs.Requests.{answered_id};
 ghost use Rattle.event_model.specs.Row.{each};
 ghost use Rattle.event_model.specs.Settings.{Settings};
-ghost use Rattle.group_rows.specs.Asks.{Ask as Open, asks_of, is_seated};
+ghost use Rattle.group_laws.specs.group_rows.specs.Asks.{Ask as Open, asks_of, is_seated};
 ghost use Rattle.group_words.specs.Houses.{is_first_open, places, stops};
 ghost use Rattle.mux_history.specs.declared.cause.Cause.TheVariants.{FromEditor};
 ghost use Rattle.rpc_message.specs.Message.{message_of};

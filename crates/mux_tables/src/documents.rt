@@ -10,9 +10,9 @@ ghost use Rattle.rpc_message.specs.Parsed.{IsRead};
 ghost use Rattle.mux_tables.specs.Documents.{StepAt, StepFrom};
 
 use focus_switch::Shared;
+use group_laws::mux_members::{Notice, notice_in};
 use message_body::Memory;
 use mux_history::Outs;
-use mux_members::{Notice, notice_in};
 use position_codec::Encoding;
 use rpc_message::Message;
 use std::alloc::Global;

@@ -6,7 +6,7 @@ ghost use Rattle.event_model.specs.Event.{Event, heard, requests};
 ghost use Rattle.event_model.specs.Phases.{desk_of, is_served};
 ghost use Rattle.event_model.specs.Settings.{Settings};
 ghost use Rattle.group_table.specs.Tables.{Inside, declared_text, with_groups};
-ghost use Rattle.group_rows.specs.Ticks.{due_of};
+ghost use Rattle.group_laws.specs.group_rows.specs.Ticks.{due_of};
 ghost use Rattle.group_words.specs.Houses.{declared_for, emptied, groups_of, home_of, is_first_open, key_for, placed_for, places, server_asked, stops};
 ghost use Rattle.mux_history.specs.declared.cause.Cause.TheVariants.{EditorGone, FromEditor, Joined, Tick};
 ghost use Rattle.mux_history.specs.declared.cause.Why.{Why};
@@ -21,8 +21,8 @@ ghost use Rattle.mux_tables.specs.Stands.{AnswersNone, Stands, start_for, stays_
 use crate::documents::{leave, note};
 use crate::seats::{end_all, join, later, lives, seat};
 use crate::tables::Tables;
-use capability_meet::CapFault;
 use event_model::Phase;
+use group_words::capability_meet::CapFault;
 use group_words::{Key, Placed};
 use message_body::{Body, Memory};
 use mux_history::Outs;

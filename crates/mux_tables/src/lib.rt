@@ -18,5 +18,9 @@ mod serves;
 mod statuses;
 mod stops;
 mod tables;
+mod tokens;
 
+pub use ask_route;
+pub use id_rewrite;
 pub use tables::{Origins, Start, Tables};
+pub use tokens::Told;

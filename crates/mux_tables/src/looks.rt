@@ -8,7 +8,7 @@ ghost use Rattle.event_model.specs.Settings.{Settings};
 ghost use Rattle.event_model.specs.Stages.{is_ready, life_of, may_start, runs};
 ghost use Rattle.group_words.specs.Houses.{editors_in, home_of, meant_of, server_for};
 ghost use Rattle.mux_tables.specs.declared.tables.Start.{Start};
-ghost use Rattle.group_rows.specs.Forwarded.{forwarding_of, numbers_of};
+ghost use Rattle.group_laws.specs.group_rows.specs.Forwarded.{forwarding_of, numbers_of};
 ghost use Rattle.mux_tables.specs.Names.{id_in};
 ghost use Rattle.mux_tables.specs.Stands.{HasEnded, Stands, is_over, number_in, start_for};
 

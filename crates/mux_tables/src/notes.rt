@@ -2,12 +2,12 @@
 ghost use Rattle.std.specs.Prelude.{◌≡◌, ℕ, List, Some, bytes_eq, if◌then◌else◌, map, IfOk, OnOk, slice_get};
 ghost use Rattle.focus_switch.specs.Documents.{Documents};
 ghost use Rattle.focus_switch.specs.Versions.{versions_of};
-ghost use Rattle.response_route.specs.Versions.{stamp_of};
+ghost use Rattle.id_rewrite.specs.response_route.specs.Versions.{stamp_of};
 ghost use Rattle.mux_tables.specs.Notes.{StampsAt, agreed_in, now_version, stamp_from, stamp_in};
 
 use focus_switch::{Agreement, DocumentVersion, Shared};
+use id_rewrite::response_route::{Stamp, Versions};
 use message_body::Memory;
-use response_route::{Stamp, Versions};
 use std::alloc::Global;
 use text_pieces::PieceText;
 

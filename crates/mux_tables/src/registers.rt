@@ -6,15 +6,15 @@ ghost use Rattle.event_model.specs.Event.{Event, behind, heard};
 ghost use Rattle.event_model.specs.Phases.{desk_of, is_running};
 ghost use Rattle.event_model.specs.Row.{send};
 ghost use Rattle.event_model.specs.Settings.{Settings};
-ghost use Rattle.group_rows.specs.Asks.{asking_of, is_patient, is_taken};
-ghost use Rattle.group_rows.specs.Live.{live_of};
+ghost use Rattle.group_laws.specs.group_rows.specs.Asks.{asking_of, is_patient, is_taken};
+ghost use Rattle.group_laws.specs.group_rows.specs.Live.{live_of};
 ghost use Rattle.json_text.specs.Json.{Json};
 ghost use Rattle.lsp_method.specs.Class.{class_of};
 ghost use Rattle.lsp_method.specs.declared.variants.Class.TheVariants.{Register, Unregister};
 ghost use Rattle.lsp_method.specs.declared.variants.Origin.TheVariants.{Server};
 ghost use Rattle.mux_history.specs.declared.cause.Cause.TheVariants.{FromServer};
 ghost use Rattle.mux_history.specs.declared.out.Out.TheVariants.{ToEditor};
-ghost use Rattle.registrations.specs.Items.{again, are_live, registered, unregistered};
+ghost use Rattle.group_laws.specs.registrations.specs.Items.{again, are_live, registered, unregistered};
 ghost use Rattle.rpc_message.specs.Message.{Id, message_of, request};
 ghost use Rattle.mux_tables.specs.declared.tables.Start.{Start};
 ghost use Rattle.mux_tables.specs.Documents.{DocumentsStand, Owed};
@@ -22,9 +22,9 @@ ghost use Rattle.mux_tables.specs.Puts.{IsNextAsk};
 ghost use Rattle.mux_tables.specs.Stands.{Stands, number_in, stage_in};
 
 use crate::tables::Tables;
+use group_laws::registrations::Registration;
 use message_body::{Body, Memory};
 use mux_history::{Out, Outs};
-use registrations::Registration;
 
 impl Tables {
     /// What is registered at the group's last start, which is ready, in the order of registration.

@@ -11,7 +11,7 @@ ghost use Rattle.event_model.specs.Settings.{Settings};
 ghost use Rattle.event_model.specs.Stages.{is_ready};
 ghost use Rattle.group_words.specs.Houses.{home_of};
 ghost use Rattle.group_words.specs.Rows.{spawn};
-ghost use Rattle.mux_model.specs.Rows.{to_start};
+ghost use Rattle.group_laws.specs.mux_model.specs.Rows.{to_start};
 ghost use Rattle.json_text.specs.Json.{Json};
 ghost use Rattle.mux_history.specs.declared.out.Out.TheVariants.{CloseEditor, EndServer, ToEditor, ToServer};
 ghost use Rattle.event_model.specs.Members.{named_of};
@@ -19,9 +19,9 @@ ghost use Rattle.rpc_message.specs.Message as message;
 ghost use Rattle.rpc_message.specs.Message.{Id, message_of};
 ghost use Rattle.mux_tables.specs.declared.tables.Start.{Start};
 ghost use Rattle.document_model.specs.Sayings.{nothing, saying_of};
-ghost use Rattle.group_rows.specs.Asks.{Ask, Parked, asks_of, is_under, parked_of, waits_under};
-ghost use Rattle.group_rows.specs.Forwarded.{is_written, moves_ids};
-ghost use Rattle.group_rows.specs.Texts.{is_synced, worker_of};
+ghost use Rattle.group_laws.specs.group_rows.specs.Asks.{Ask, Parked, asks_of, is_under, parked_of, waits_under};
+ghost use Rattle.group_laws.specs.group_rows.specs.Forwarded.{is_written, moves_ids};
+ghost use Rattle.group_laws.specs.group_rows.specs.Texts.{is_synced, worker_of};
 ghost use Rattle.mux_tables.specs.Documents.{AllStand, DocumentsStand, Leaves, Owed, nothing_owed, owes, syncing, to};
 ghost use Rattle.mux_tables.specs.Names.{id_in};
 ghost use Rattle.mux_tables.specs.Refusals.{asks_in};
@@ -35,10 +35,10 @@ use crate::tables::{Start, Tables};
 use ask_route::Asks;
 use event_model::Phase;
 use focus_switch::Shared;
+use group_laws::registrations::Live;
 use id_rewrite::{IdTable, Pending};
 use message_body::{Body, Memory};
 use mux_history::{Out, Outs};
-use registrations::Live;
 use restart_replay::Life;
 use std::alloc::Global;
 
@@ -159,14 +159,16 @@ impl Tables {
         Ok(())
     }
 
-    /// An editor's request goes to the group's last start under the next number: `text` is its body under that number, and `id`
-    /// what the editor called it.
+    /// An editor's request goes to the group's last start under the next number: `text` is its body under that number, `id`
+    /// what the editor called it, and `work` and `partial` the texts of its tokens for progress, where it has them.
     pub fn forward(
         &mut self,
         outs: &mut Outs,
         g: usize,
         e: u64,
         id: Body,
+        work: Option<Body>,
+        partial: Option<Body>,
         text: Body,
     ) -> Result<(), Memory>
         requires group { g < length self.old.lasts.items }
@@ -174,15 +176,15 @@ impl Tables {
         ensures starts { OnOk result (map number_in self.new.lasts.items ≡ map number_in self.old.lasts.items) }
         ensures does { (settings : Settings) (base : List Event) (s : ℕ) (name : Id) (method : List ℕ) (ps : Option Json)
             → slice_get (map number_in self.old.lasts.items) g ≡ Some s → message_of text ≡ message.request name method ps → is_own method ≡ false
-            → Sends s e id (behind base outs.old)
+            → Sends s e id work partial (behind base outs.old)
             → OnOk result (Does (λ t events. Stands settings t events) (send (ToServer s text)) base self.old outs.old self.new outs.new) }
     {
         let last = &mut self.lasts[g];
         let pending = Pending {
             editor: e,
             id,
-            work: None,
-            partial: None,
+            work,
+            partial,
             cancelled: false,
             noted: None,
         };
@@ -192,8 +194,9 @@ impl Tables {
     }
 
     /// E10: an editor's request goes to the group's last start, which is ready, under the next number: `text` is its body under that
-    /// number, and `id` what the editor called it. Before it the start is sent the editor's text of each of its documents, where it has
-    /// another; behind that the versions of these documents are noted. Where the answer is an error the tables stand for nothing any more.
+    /// number, `id` what the editor called it, and `work` and `partial` the texts of its tokens for progress, where it has them. Before
+    /// it the start is sent the editor's text of each of its documents, where it has another; behind that the versions of these documents
+    /// are noted. Where the answer is an error the tables stand for nothing any more.
     pub fn ask(
         &mut self,
         alloc: Global,
@@ -201,6 +204,8 @@ impl Tables {
         g: usize,
         e: u64,
         id: Body,
+        work: Option<Body>,
+        partial: Option<Body>,
         text: Body,
     ) -> Result<(), Memory>
         requires group { g < length self.old.lasts.items }
@@ -211,7 +216,7 @@ impl Tables {
         ensures starts { OnOk result (map number_in self.new.lasts.items ≡ map number_in self.old.lasts.items) }
         ensures does { (settings : Settings) (base : List Event) (s : ℕ) (name : Id) (method : List ℕ) (ps : Option Json)
             → slice_get (map number_in self.old.lasts.items) g ≡ Some s → message_of text ≡ message.request name method ps → is_own method ≡ false
-            → Sends s e id (behind base outs.old) → worker_of (behind base outs.old) ≡ Some e
+            → Sends s e id work partial (behind base outs.old) → worker_of (behind base outs.old) ≡ Some e
             → (x : Start) → slice_get self.old.lasts.items g ≡ Some x → OnOk result (Does (λ k events. AllStand settings k events)
             (look (λ now. to_start s (syncing settings now x.life.group s e) ⨾ send (ToServer s text))) base
             (self.old, nothing_owed) outs.old (self.new, nothing_owed) outs.new) }
@@ -223,8 +228,8 @@ impl Tables {
         let asked = Pending {
             editor: e,
             id,
-            work: None,
-            partial: None,
+            work,
+            partial,
             cancelled: false,
             noted: Some(noted),
         };

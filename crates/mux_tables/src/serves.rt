@@ -14,9 +14,9 @@ ghost use Rattle.group_words.specs.Rows.{shown_of};
 ghost use Rattle.mux_history.specs.declared.cause.Cause.TheVariants.{FromServer, ServerGone, StartFailed, Started};
 ghost use Rattle.rpc_message.specs.Message.{message_of, result_bytes};
 ghost use Rattle.mux_tables.specs.declared.tables.Start.{Start};
-ghost use Rattle.mux_model.specs.Documents.{encoding_by};
+ghost use Rattle.group_laws.specs.mux_model.specs.Documents.{encoding_by};
 ghost use Rattle.mux_tables.specs.Documents.{DocumentsStand, Owed, nothing_owed, owes, replaying, to};
-ghost use Rattle.group_rows.specs.Forwarded.{forwarding_of, is_under};
+ghost use Rattle.group_laws.specs.group_rows.specs.Forwarded.{forwarding_of, is_under};
 ghost use Rattle.mux_tables.specs.Stands.{Exits, LiveStay, NamesAt, ParkedStay, Stands, any_in, begun_at, forwarded_as, is_early, number_in, stage_in};
 
 use crate::documents::{ready, remove, unready};
@@ -26,11 +26,11 @@ use crate::stops::end_stop;
 use crate::tables::Tables;
 use ask_route::Asks;
 use event_model::Stage;
+use group_laws::registrations::Live;
 use id_rewrite::{IdTable, Pending};
 use message_body::{Body, Memory};
 use mux_history::Outs;
 use position_codec::Encoding;
-use registrations::Live;
 use restart_replay::Life;
 use std::alloc::Global;
 

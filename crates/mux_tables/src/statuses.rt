@@ -4,7 +4,7 @@ ghost use Rattle.std.specs.List.{All};
 ghost use Rattle.event_model.specs.Event.{Event};
 ghost use Rattle.event_model.specs.Phases.{is_begun, is_there};
 ghost use Rattle.event_model.specs.Settings.{Settings};
-ghost use Rattle.group_rows.specs.Status.{asked_at};
+ghost use Rattle.group_laws.specs.group_rows.specs.Status.{asked_at};
 ghost use Rattle.group_words.specs.Houses.{editors_in, groups_of, home_of};
 ghost use Rattle.group_words.specs.Placing.{all_from, is_live};
 ghost use Rattle.mux_tables.specs.declared.tables.Start.{Start};

@@ -3,7 +3,7 @@ ghost use Rattle.std.specs.Prelude.{◌≡◌, ◌<◌, ◌++◌, ◌∷◌, ℕ
 ghost use Rattle.std.specs.List.{AllByRecursion};
 ghost use Rattle.event_model.specs.Event.{Event};
 ghost use Rattle.event_model.specs.Settings.{Settings};
-ghost use Rattle.group_rows.specs.Ticks.{overdue_of};
+ghost use Rattle.group_laws.specs.group_rows.specs.Ticks.{overdue_of};
 ghost use Rattle.group_words.specs.Placing.{is_since};
 ghost use Rattle.mux_tables.specs.Stands.{Stands, unstopped};
 ghost use Rattle.mux_tables.specs.Stops.{awaited_stop};

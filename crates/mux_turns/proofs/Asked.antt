@@ -20,13 +20,13 @@ use Rattle.group_facts.specs.Built.{doubles}
 use Rattle.group_facts.specs.Facts.{AllForwarded, IsForwarded, is_up}
 use Rattle.group_facts.proofs.LiveGroups.{lives_busy}
 use Rattle.group_facts.specs.Settled.{Settled, is_answered}
-use Rattle.group_rows.specs.Forwarded.{Forwarded, forwarding_of}
+use Rattle.group_facts.specs.group_rows.specs.Forwarded.{Forwarded, forwarding_of}
 use Rattle.group_words.specs.Houses.{groups_of, home_of}
-use Rattle.id_rewrite.specs.declared.pending.Numbered.{Numbered}
-use Rattle.id_rewrite.specs.Forms.{same_form}
-use Rattle.id_rewrite.specs.Tables.{is_under, number_under}
-use Rattle.id_rewrite.proofs.Finding.{texts_same}
-use Rattle.mux_facts.proofs.Words.{id_same, same_id_itself}
+use Rattle.mux_tables.specs.id_rewrite.specs.declared.pending.Numbered.{Numbered}
+use Rattle.mux_tables.specs.id_rewrite.specs.Forms.{same_form}
+use Rattle.mux_tables.specs.id_rewrite.specs.Tables.{is_under, number_under}
+use Rattle.mux_tables.specs.id_rewrite.proofs.Finding.{texts_same}
+use Rattle.group_facts.specs.mux_facts.proofs.Words.{id_same, same_id_itself}
 use Rattle.mux_tables.specs.declared.tables.Start.{Start}
 use Rattle.mux_tables.specs.declared.tables.Tables.{Tables}
 use Rattle.mux_tables.specs.Names.{id_in}

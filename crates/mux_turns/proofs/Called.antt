@@ -16,14 +16,14 @@ use Rattle.event_model.proofs.Frames.{one_more}
 use Rattle.event_model.proofs.Turns.{behind_more}
 use Rattle.group_facts.proofs.Asks.{registering_hurried}
 use Rattle.group_facts.proofs.AskingRows.{registers_all, unregisters_all}
-use Rattle.group_rows.specs.Asks.{Asking, asked_next, asking_next, asking_of, has_number, is_own_work, is_patient, next_ask, serves, unparked}
-use Rattle.group_rows.specs.Live.{register_text, unregister_text}
-use Rattle.group_rows.specs.LiveRows.{call, has_some}
-use Rattle.group_rows.specs.LiveTexts.{AreWritten}
-use Rattle.group_rows.proofs.LiveTexts.{register_says, unregister_says}
+use Rattle.group_facts.specs.group_rows.specs.Asks.{Asking, asked_next, asking_next, asking_of, has_number, is_own_work, is_patient, next_ask, serves, unparked}
+use Rattle.group_facts.specs.group_rows.specs.Live.{register_text, unregister_text}
+use Rattle.group_facts.specs.group_rows.specs.LiveRows.{call, has_some}
+use Rattle.group_facts.specs.group_rows.specs.LiveTexts.{AreWritten}
+use Rattle.group_facts.specs.group_rows.proofs.LiveTexts.{register_says, unregister_says}
 use Rattle.group_words.specs.Houses.{home_of}
 use Rattle.group_words.proofs.Frames.{home_more}
-use Rattle.registrations.specs.declared.registration.Registration.{Registration}
+use Rattle.group_facts.specs.registrations.specs.declared.registration.Registration.{Registration}
 use Rattle.mux_tables.specs.Puts.{IsNextAsk}
 use Rattle.mux_tables.proofs.Asking.{asking_more}
 use Rattle.mux_turns.specs.Calls.{IsCall}

@@ -4,9 +4,9 @@ use Rattle.std.specs.Prelude.{Some}
 use Rattle.json_text.specs.Named.{named}
 use Rattle.rpc_message.specs.Message.{notification, message_of}
 use Rattle.event_model.specs.Members.{named_of}
-use Rattle.group_rows.specs.Forwarded.{is_written}
-use Rattle.group_rows.specs.Leaves.{cancel, cancel_text}
-use Rattle.group_rows.proofs.Cancels.{cancel_says, params_tree}
+use Rattle.group_facts.specs.group_rows.specs.Forwarded.{is_written}
+use Rattle.group_facts.specs.group_rows.specs.Leaves.{cancel, cancel_text}
+use Rattle.group_facts.specs.group_rows.proofs.Cancels.{cancel_says, params_tree}
 use Rattle.mux_history.specs.declared.out.Out.{Out}
 use Rattle.mux_history.specs.declared.out.Out.TheVariants.{ToServer}
 use Rattle.mux_tables.specs.declared.tables.Tables.{Tables}

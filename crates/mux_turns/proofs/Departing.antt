@@ -2,9 +2,9 @@
 use Rattle.std.proofs.Common.{◌≡◌, ℕ, zero, suc, Bool, true, false, List, [], ◌∷◌, ◌++◌, map, filter, flat_map, nat_eq, refl, ap, ap₂, sym, subst, ◌∙◌, append-nil, append_assoc, if◌then◌else◌}
 use Rattle.std.specs.Prelude.{Option, Some, None, slice_get}
 use Rattle.std.specs.Option.{option_and_then}
-use Rattle.document_model.specs.Helds.{HeldText}
-use Rattle.document_model.specs.Opens.{Open}
-use Rattle.document_model.specs.Texts.{Texts}
+use Rattle.group_facts.specs.document_model.specs.Helds.{HeldText}
+use Rattle.group_facts.specs.document_model.specs.Opens.{Open}
+use Rattle.group_facts.specs.document_model.specs.Texts.{Texts}
 use Rattle.mux_history.specs.declared.cause.Cause.TheVariants.{FromEditor}
 use Rattle.mux_history.specs.declared.out.Out.{Out}
 use Rattle.rpc_message.specs.Message.{message_of}
@@ -21,10 +21,10 @@ use Rattle.event_model.proofs.Places.{same_item}
 use Rattle.event_model.proofs.Turns.{behind_more, does_alike}
 use Rattle.group_words.specs.Houses.{home_of, places}
 use Rattle.group_words.proofs.Frames.{home_more}
-use Rattle.group_rows.specs.Leaves.{cancels, cancels_row, closings, leave_bodies, leave_row, left, refusals}
-use Rattle.group_rows.specs.Texts.{texts_of}
-use Rattle.mux_model.specs.Documents.{Sent, held_at}
-use Rattle.mux_model.specs.Rows.{to_start}
+use Rattle.group_facts.specs.group_rows.specs.Leaves.{cancels, cancels_row, closings, leave_bodies, leave_row, left, refusals}
+use Rattle.group_facts.specs.group_rows.specs.Texts.{texts_of}
+use Rattle.group_facts.specs.mux_model.specs.Documents.{Sent, held_at}
+use Rattle.group_facts.specs.mux_model.specs.Rows.{to_start}
 use Rattle.mux_tables.specs.declared.tables.Start.{Start}
 use Rattle.mux_tables.specs.declared.tables.Tables.{Tables}
 use Rattle.group_facts.proofs.Begun.{start_took}

@@ -22,10 +22,10 @@ use Rattle.event_model.proofs.Turns.{behind_more, does_knowing, does_look, does_
 use Rattle.group_facts.specs.Facts.{Numbered}
 use Rattle.group_facts.specs.Why.{is_starting}
 use Rattle.group_facts.proofs.GroupEnds.{shutdown_says}
-use Rattle.group_rows.specs.Forwarded.{Forwarding, forwarding_behind, forwarding_of}
+use Rattle.group_facts.specs.group_rows.specs.Forwarded.{Forwarding, forwarding_behind, forwarding_of}
 use Rattle.group_words.specs.declared.placed.Placed.TheVariants.{Evicts}
 use Rattle.group_words.specs.Rows.{end_group, end_start, placed_row, spawn}
-use Rattle.id_rewrite.specs.Tables.{IsInOrder}
+use Rattle.mux_tables.specs.id_rewrite.specs.Tables.{IsInOrder}
 use Rattle.mux_tables.specs.declared.tables.Start.{Start}
 use Rattle.mux_tables.specs.declared.tables.Tables.{Tables}
 use Rattle.mux_tables.specs.Documents.{AllStand, DocumentsStand, nothing_owed}

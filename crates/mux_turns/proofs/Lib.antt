@@ -1,4 +1,5 @@
 pub mod Stays
+pub mod Marks
 pub mod Asked
 pub mod Called
 pub mod Cancels

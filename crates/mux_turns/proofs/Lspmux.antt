@@ -2,7 +2,7 @@
 use Rattle.std.proofs.Common.{◌≡◌, Bool, true, false, ◌||◌, codes, bytes_eq, refl, ap, ◌∙◌}
 use Rattle.rpc_message.specs.Message.{Message, request, notification, result, error, not_json, not_message}
 use Rattle.event_model.specs.Event.{requests}
-use Rattle.group_rows.specs.Rows.{asks_lspmux}
+use Rattle.group_facts.specs.group_rows.specs.Rows.{asks_lspmux}
 
 -- as the code tells them apart
 pub or_first : (a b : Bool) → a ≡ true → a ≡ (a || b)

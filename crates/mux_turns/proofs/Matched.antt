@@ -12,10 +12,10 @@ use Rattle.event_model.specs.Settings.{Settings}
 use Rattle.event_model.specs.Stages.{is_initializing}
 use Rattle.event_model.proofs.Places.{item_at}
 use Rattle.event_model.proofs.Turns.{does_entry}
-use Rattle.group_rows.specs.Forwarded.{Forwarded, answered_by, forwarding_of, is_under}
-use Rattle.id_rewrite.specs.declared.pending.Numbered.{Numbered}
-use Rattle.id_rewrite.specs.declared.pending.Pending.{Pending}
-use Rattle.id_rewrite.specs.Tables.{RiseWithin}
+use Rattle.group_facts.specs.group_rows.specs.Forwarded.{Forwarded, answered_by, forwarding_of, is_under}
+use Rattle.mux_tables.specs.id_rewrite.specs.declared.pending.Numbered.{Numbered}
+use Rattle.mux_tables.specs.id_rewrite.specs.declared.pending.Pending.{Pending}
+use Rattle.mux_tables.specs.id_rewrite.specs.Tables.{RiseWithin}
 use Rattle.mux_tables.specs.declared.tables.Tables.{Tables}
 use Rattle.mux_tables.specs.Stands.{NamesAt, Stands, forwarded_as, forwarded_of, number_in, of_ids, is_early}
 use Rattle.mux_tables.proofs.Starts.{start_at_place}

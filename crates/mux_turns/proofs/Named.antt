@@ -3,7 +3,7 @@ use Rattle.std.proofs.Common.{◌≡◌, ℕ, List, refl}
 use Rattle.std.specs.Prelude.{Option, Some, None}
 use Rattle.rpc_message.specs.Message.{Id}
 use Rattle.rpc_message.specs.ValueTexts.{IsIdText}
-use Rattle.mux_members.specs.Cancels.{IsTextOf}
+use Rattle.group_facts.specs.mux_members.specs.Cancels.{IsTextOf}
 
 pub names_none : (o : Option Id) → IsTextOf o None → o ≡ None
 names_none None h = refl

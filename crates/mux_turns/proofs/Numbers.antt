@@ -18,7 +18,7 @@ use Rattle.rpc_message.proofs.Decimals.{decimal_integer}
 use Rattle.rpc_message.proofs.Ids.{error_id_bytes, result_id_bytes}
 use Rattle.rpc_message.proofs.SameIds.{quoted_shape}
 use Rattle.event_model.specs.Requests.{answered_id}
-use Rattle.group_rows.specs.Forwarded.{names}
+use Rattle.group_facts.specs.group_rows.specs.Forwarded.{names}
 use Rattle.mux_tables.specs.Stands.{NamesAsk}
 use Rattle.mux_turns.specs.Responses.{is_response}
 

@@ -3,20 +3,22 @@ use Rattle.std.proofs.Common.{◌≡◌, ℕ, Bool, true, false, ◌&&◌, nat_l
 use Rattle.std.specs.Prelude.{Option, Some, None}
 use Rattle.std.specs.Option.{option_and_then}
 use Rattle.mux_history.specs.declared.out.Out.TheVariants.{ToServer}
-use Rattle.rpc_message.specs.Texts.{request_failed}
+use Rattle.rpc_message.specs.Texts.{invalid_params, request_failed}
 use Rattle.event_model.specs.declared.stage.Stage.{Stage}
 use Rattle.event_model.specs.Does.{Alike}
 use Rattle.event_model.specs.Event.{Event}
+use Rattle.event_model.specs.Members.{params_of}
 use Rattle.event_model.specs.Row.{Row, nothing, choose, each, on, send, ◌⨾◌}
 use Rattle.event_model.specs.Settings.{Settings}
 use Rattle.event_model.specs.Spawns.{start_of}
 use Rattle.event_model.specs.Stages.{is_ready, life_of}
 use Rattle.event_model.proofs.Turns.{alike, alike_then, alike_true, alike_false}
-use Rattle.group_rows.specs.Forwarded.{forwarding_of}
-use Rattle.ask_route.specs.declared.ask.Ask as route
-use Rattle.group_rows.specs.Asks.{Ask, asks_of, is_with}
-use Rattle.group_rows.specs.Leaves.{cancel, cancels, cancels_row, refusals, refuse, uncancelled_of}
-use Rattle.group_rows.specs.Rows.{answer_error, can_ask, forward, notice_at, notice_row, request_at, request_row, sync_row}
+use Rattle.group_facts.specs.group_rows.specs.Forwarded.{forwarding_of}
+use Rattle.mux_tables.specs.ask_route.specs.declared.ask.Ask as route
+use Rattle.group_facts.specs.group_rows.specs.Asks.{Ask, asks_of, is_with}
+use Rattle.group_facts.specs.group_rows.specs.Leaves.{cancel, cancels, cancels_row, refusals, refuse, uncancelled_of}
+use Rattle.group_facts.specs.group_rows.specs.Rows.{answer_error, can_ask, forward, notice_at, notice_row, request_at, request_row, sync_row}
+use Rattle.group_facts.specs.group_rows.specs.Tokens.{reserves}
 use Rattle.group_words.specs.Houses.{home_of}
 use Rattle.mux_tables.specs.Refusals.{of_editor, refusal}
 use Rattle.mux_tables.specs.Stands.{HasEnded, kept_ask, start_for}
@@ -89,15 +91,25 @@ module _ (settings : Settings) (before : List Event) (e : ℕ) where
 
   -- E10
   module _ (body : List ℕ) where
-    pub ended_asked : HasEnded (start_for settings e before) before → Alike (request_row settings before e body) (answer_error e body request_failed)
-    ended_asked h = ended_start (home_of settings e before) (λ g. start_of g before) (answer_error e body request_failed) (request_at settings before e body)
-        (λ g s at. is_second refl (ap (λ k. is_ready k && nat_lt (forwarding_of s before).next settings.limits.requests) (h s at)))
+    abbrev sent_row : Row
+    sent_row = on (home_of settings e before) (answer_error e body request_failed) (λ g. on (start_of g before) (answer_error e body request_failed) (request_at settings before e body g))
 
-    asked : (g s : ℕ) → home_of settings e before ≡ Some g → start_of g before ≡ Some s → request_row settings before e body ≡ request_at settings before e body g s
-    asked g s h k = some_start (home_of settings e before) (λ g. start_of g before) (answer_error e body request_failed) (request_at settings before e body) g s h k
+    pub reserved_asked : reserves (params_of body) ≡ true → Alike (request_row settings before e body) (answer_error e body invalid_params)
+    reserved_asked r = is_first refl r
 
-    pub unasked_at : (g s : ℕ) (b : Bool) → home_of settings e before ≡ Some g → start_of g before ≡ Some s → b ≡ can_ask settings s before → b ≡ false → Alike (request_row settings before e body) (answer_error e body request_failed)
-    unasked_at g s b h k is f = is_second (asked g s h k) (sym is ∙ f)
+    module _ (free : reserves (params_of body) ≡ false) where
+      past : Alike (request_row settings before e body) sent_row
+      past = is_second refl free
 
-    pub asked_at : (g s : ℕ) (b : Bool) → home_of settings e before ≡ Some g → start_of g before ≡ Some s → b ≡ can_ask settings s before → b ≡ true → Alike (request_row settings before e body) (sync_row settings before g s e ⨾ forward s body)
-    asked_at g s b h k is so = is_first (asked g s h k) (sym is ∙ so)
+      pub ended_asked : HasEnded (start_for settings e before) before → Alike (request_row settings before e body) (answer_error e body request_failed)
+      ended_asked h = alike_then past (ended_start (home_of settings e before) (λ g. start_of g before) (answer_error e body request_failed) (request_at settings before e body)
+          (λ g s at. is_second refl (ap (λ k. is_ready k && nat_lt (forwarding_of s before).next settings.limits.requests) (h s at))))
+
+      asked : (g s : ℕ) → home_of settings e before ≡ Some g → start_of g before ≡ Some s → sent_row ≡ request_at settings before e body g s
+      asked g s h k = some_start (home_of settings e before) (λ g. start_of g before) (answer_error e body request_failed) (request_at settings before e body) g s h k
+
+      pub unasked_at : (g s : ℕ) (b : Bool) → home_of settings e before ≡ Some g → start_of g before ≡ Some s → b ≡ can_ask settings s before → b ≡ false → Alike (request_row settings before e body) (answer_error e body request_failed)
+      unasked_at g s b h k is f = alike_then past (is_second (asked g s h k) (sym is ∙ f))
+
+      pub asked_at : (g s : ℕ) (b : Bool) → home_of settings e before ≡ Some g → start_of g before ≡ Some s → b ≡ can_ask settings s before → b ≡ true → Alike (request_row settings before e body) (sync_row settings before g s e ⨾ forward s body)
+      asked_at g s b h k is so = alike_then past (is_first (asked g s h k) (sym is ∙ so))

@@ -9,8 +9,8 @@ use Rattle.mux_history.specs.declared.out.Out.{Out}
 use Rattle.mux_history.specs.declared.out.Out.TheVariants.{ToEditor, CloseEditor}
 use Rattle.rpc_message.specs.Message.{Id, id_bytes, message_of, request}
 use Rattle.rpc_message.specs.Texts.{error_text, error_tree, request_failed}
-use Rattle.document_model.specs.Opens.{Open}
-use Rattle.document_model.specs.Texts.{Texts}
+use Rattle.group_facts.specs.document_model.specs.Opens.{Open}
+use Rattle.group_facts.specs.document_model.specs.Texts.{Texts}
 use Rattle.event_model.specs.Does.{Does}
 use Rattle.event_model.specs.Event.{Event, behind}
 use Rattle.event_model.specs.Phases.{desk_of, is_served}
@@ -21,13 +21,13 @@ use Rattle.event_model.specs.Stages.{is_ready, life_of}
 use Rattle.event_model.proofs.Frames.{never}
 use Rattle.event_model.proofs.Turns.{behind_more, does_then}
 use Rattle.mux_turns.proofs.Ready.{has_start, ready_runs}
-use Rattle.group_rows.specs.Leaves.{leave_bodies, left}
-use Rattle.group_rows.specs.Rows.{answer_error}
-use Rattle.group_rows.specs.Texts.{texts_of}
+use Rattle.group_facts.specs.group_rows.specs.Leaves.{leave_bodies, left}
+use Rattle.group_facts.specs.group_rows.specs.Rows.{answer_error}
+use Rattle.group_facts.specs.group_rows.specs.Texts.{texts_of}
 use Rattle.group_words.specs.declared.placed.Placed.TheVariants.{TooMany}
 use Rattle.group_words.specs.Houses.{home_of}
 use Rattle.group_words.specs.Rows.{placed_row}
-use Rattle.mux_model.specs.Documents.{held_at}
+use Rattle.group_facts.specs.mux_model.specs.Documents.{held_at}
 use Rattle.mux_tables.specs.declared.tables.Tables.{Tables}
 use Rattle.mux_tables.specs.Documents.{AllStand, DocumentsStand, IsOwned, Leaves, SharedStands, leaving, nothing_owed, owes}
 use Rattle.mux_tables.specs.Stands.{Stands, start_for}

@@ -21,10 +21,10 @@ use Rattle.event_model.specs.Row.{send}
 use Rattle.event_model.specs.Settings.{Settings}
 use Rattle.event_model.proofs.Frames.{one_more}
 use Rattle.event_model.proofs.Turns.{behind_more, does_look}
-use Rattle.editor_session.specs.declared.session.Session.{Session}
+use Rattle.mux_tables.specs.editor_session.specs.declared.session.Session.{Session}
 use Rattle.group_words.specs.Houses.{home_of, is_home}
 use Rattle.group_words.specs.Rows.{shown_of}
-use Rattle.group_rows.specs.Rows.{waiting_in, welcome}
+use Rattle.group_facts.specs.group_rows.specs.Rows.{waiting_in, welcome}
 use Rattle.mux_tables.specs.declared.tables.Tables.{Tables}
 use Rattle.mux_tables.specs.Documents.{AllStand, DocumentsStand, nothing_owed}
 use Rattle.mux_tables.specs.Names.{NamesStand, id_in}

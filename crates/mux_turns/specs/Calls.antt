@@ -3,7 +3,7 @@ use Rattle.std.specs.Prelude.{◌≡◌, ℕ, ◌<◌, ◌^◌, false, List, dec
 use Rattle.std.specs.Prelude.{Option}
 use Rattle.json_text.specs.Json.{Json}
 use Rattle.rpc_message.specs.Message.{integer, message_of, request}
-use Rattle.group_rows.specs.Asks.{is_patient}
+use Rattle.group_facts.specs.group_rows.specs.Asks.{is_patient}
 
 -- under each number of 64 bits a request, of one method, by which nothing that waits goes on
 pub record IsCall (text : ℕ → List ℕ) : Type 0 where

@@ -10,7 +10,7 @@ use Rattle.event_model.specs.Row.{nothing, each, ◌⨾◌}
 use Rattle.event_model.specs.Settings.{Settings}
 use Rattle.event_model.specs.Stages.{is_ready, life_of}
 use Rattle.group_words.specs.Houses.{home_of}
-use Rattle.group_rows.specs.Leaves.{cancel, cancels_row}
+use Rattle.group_facts.specs.group_rows.specs.Leaves.{cancel, cancels_row}
 use Rattle.mux_tables.specs.declared.tables.Start.{Start}
 use Rattle.mux_tables.specs.declared.tables.Tables.{Tables}
 use Rattle.mux_tables.specs.Documents.{Owed, leaving, nothing_owed, owes, to}

@@ -3,3 +3,11 @@ pub mod Founding
 pub mod Leavings
 pub mod Welcomes
 pub mod Responses
+pub mod Tokens
+pub use Rattle.mux_tables.specs.document_laws
+pub use Rattle.group_facts
+pub use Rattle.mux_tables.specs.group_laws
+pub use Rattle.group_facts.specs.group_rows
+pub use Rattle.group_facts.specs.mux_facts
+pub use Rattle.group_facts.specs.mux_model
+pub use Rattle.mux_tables

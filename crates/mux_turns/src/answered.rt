@@ -11,7 +11,7 @@ use itoa::Buffer;
 use rpc_message::{Message, Sort};
 
 // Whether these bytes write a number.
-fn writes(bytes: &[u8], n: u64) -> bool
+pub fn writes(bytes: &[u8], n: u64) -> bool
     ensures { result ≡ bytes_eq bytes.now (decimal n) }
 {
     let mut digits = Buffer::new();
@@ -30,7 +30,7 @@ fn parsed(text: &str) -> Option<u64>
 }
 
 // The same of bytes.
-fn read(bytes: &[u8]) -> Option<u64>
+pub fn read(bytes: &[u8]) -> Option<u64>
     ensures number { (n : ℕ) → n < 2 ^ 64 → bytes.now ≡ decimal n → result ≡ Some n }
     ensures bound { IfSome result (λ n. n < 2 ^ 64) }
 {

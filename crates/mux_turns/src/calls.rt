@@ -4,17 +4,17 @@ ghost use Rattle.event_model.specs.Does.{Does};
 ghost use Rattle.event_model.specs.Event.{Event, behind};
 ghost use Rattle.event_model.specs.Phases.{desk_of, is_running};
 ghost use Rattle.event_model.specs.Settings.{Settings};
-ghost use Rattle.group_rows.specs.Asks.{asking_of};
-ghost use Rattle.group_rows.specs.Live.{register_text, unregister_text};
-ghost use Rattle.group_rows.specs.LiveRows.{call, unregister_any};
+ghost use Rattle.group_facts.specs.group_rows.specs.Asks.{asking_of};
+ghost use Rattle.group_facts.specs.group_rows.specs.Live.{register_text, unregister_text};
+ghost use Rattle.group_facts.specs.group_rows.specs.LiveRows.{call, unregister_any};
 ghost use Rattle.mux_tables.specs.Documents.{AllStand, Owed};
 ghost use Rattle.mux_turns.specs.Calls.{IsCall};
 
 use crate::live_texts::{register_text, unregister_text};
+use group_facts::registrations::Registration;
 use message_body::Memory;
 use mux_history::Outs;
 use mux_tables::Tables;
-use registrations::Registration;
 use std::alloc::Global;
 
 /// S6: an editor that runs is told of what is registered, under its next number, while one below 2^64 is left. No request is at work that

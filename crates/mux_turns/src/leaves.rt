@@ -4,7 +4,7 @@ ghost use Rattle.event_model.specs.Does.{Does};
 ghost use Rattle.event_model.specs.Event.{Event, behind};
 ghost use Rattle.event_model.specs.Row.{each};
 ghost use Rattle.event_model.specs.Settings.{Settings};
-ghost use Rattle.group_rows.specs.Leaves.{cancel, cancel_text, cancels_row, leave_row};
+ghost use Rattle.group_facts.specs.group_rows.specs.Leaves.{cancel, cancel_text, cancels_row, leave_row};
 ghost use Rattle.mux_tables.specs.Documents.{AllStand, DocumentsStand, Owed, nothing_owed};
 ghost use Rattle.mux_tables.specs.Refusals.{asks_in};
 ghost use Rattle.mux_tables.specs.Stands.{Stands, house_in, number_in, stage_in};

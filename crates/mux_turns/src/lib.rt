@@ -11,14 +11,20 @@ mod live_texts;
 mod own;
 mod placing;
 mod refusals;
+mod tokens;
 
 pub use answered::{answered_ask, answered_number};
 pub use calls::{call_registered, call_unregistered, call_unregistered_any};
 pub use doubled::doubles;
 pub use evicting::{evict, replace, stage_at};
 pub use greeting::{add_comma, bytes_of, folders_text, opening, shown_of};
+pub use group_facts::mux_members;
 pub use leaves::{Departure, cancel_request, depart, leaving};
 pub use live_texts::{register_text, unregister_text};
+pub use mux_tables;
 pub use own::asks_lspmux;
 pub use placing::{found, turn_away, waits, welcome};
-pub use refusals::{asked_at, refuse, refuse_early, refuse_request, refuse_wrong, reject};
+pub use refusals::{
+    asked_at, refuse, refuse_early, refuse_request, refuse_reserved, refuse_wrong, reject,
+};
+pub use tokens::{forwarded_text, mark_text, marked, marked_text, reserves};

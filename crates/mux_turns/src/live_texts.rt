@@ -1,10 +1,10 @@
 //! S6, S7 and L2: the requests by which editors are told of registrations (LSP 3.17, Register Capability and Unregister Capability).
 ghost use Rattle.std.specs.Prelude.{◌≡◌, ◌++◌, IfOk, OnOk};
-ghost use Rattle.group_rows.specs.Live.{register_params, register_text, unregister_params, unregister_text, unregistration};
+ghost use Rattle.group_facts.specs.group_rows.specs.Live.{register_params, register_text, unregister_params, unregister_text, unregistration};
 
 use crate::greeting::add_comma;
+use group_facts::registrations::Registration;
 use message_body::{Body, Memory};
-use registrations::Registration;
 use rpc_message::request;
 use std::alloc::Global;
 

@@ -1,10 +1,10 @@
 //! E4 and E5: the requests of the multiplexer's own.
 ghost use Rattle.std.specs.Prelude.{◌≡◌, ℕ, List};
-ghost use Rattle.group_rows.specs.Rows.{asks_lspmux};
+ghost use Rattle.group_facts.specs.group_rows.specs.Rows.{asks_lspmux};
 ghost use Rattle.rpc_message.specs.Message.{message_of};
 ghost use Rattle.rpc_message.specs.Parsed.{IsRead};
 
-use mux_members::{is_open, is_status};
+use group_facts::mux_members::{is_open, is_status};
 use rpc_message::Message;
 
 /// E4 and E5: whether a message is a request of the multiplexer's own.

@@ -1,13 +1,15 @@
 //! E2, E8 and E10: what an editor is answered with an error.
-ghost use Rattle.std.specs.Prelude.{◌≡◌, ◌<◌, ℕ, List, Option, Some, map, length, IfNone, IfOk, IfSome, OnOk, slice_get};
+ghost use Rattle.std.specs.Prelude.{◌≡◌, ◌<◌, ℕ, List, true, false, Option, Some, map, length, IfNone, IfOk, IfSome, OnOk, slice_get};
 ghost use Rattle.event_model.specs.declared.stage.Stage.TheVariants.{Ready};
 ghost use Rattle.event_model.specs.Does.{Alike, Does};
 ghost use Rattle.event_model.specs.Event.{Event, behind};
 ghost use Rattle.event_model.specs.Row.{◌⨾◌};
 ghost use Rattle.event_model.specs.Settings.{Settings};
-ghost use Rattle.group_rows.specs.Rows.{answer_error, early_code, forward, request_row, sync_row, wrong_code};
+ghost use Rattle.event_model.specs.Members.{params_of};
+ghost use Rattle.group_facts.specs.group_rows.specs.Rows.{answer_error, early_code, forward, request_row, sync_row, wrong_code};
+ghost use Rattle.group_facts.specs.group_rows.specs.Tokens.{reserves};
 ghost use Rattle.json_text.specs.Json.{Json};
-ghost use Rattle.mux_model.specs.Rows.{malformed_code, malformed_row};
+ghost use Rattle.group_facts.specs.mux_model.specs.Rows.{malformed_code, malformed_row};
 ghost use Rattle.mux_tables.specs.declared.tables.Start.{Start};
 ghost use Rattle.mux_tables.specs.Documents.{DocumentsStand, Owed};
 ghost use Rattle.mux_tables.specs.Stands.{Stands, number_in};
@@ -18,9 +20,9 @@ ghost use Rattle.rpc_message.specs.Sorts.{Refuses};
 ghost use Rattle.rpc_message.specs.Texts.{invalid_request, request_failed};
 
 use event_model::Phase;
+use group_facts::mux_members::{is_dollar, is_initialize};
 use message_body::Memory;
 use mux_history::Outs;
-use mux_members::{is_dollar, is_initialize};
 use mux_tables::Tables;
 use rpc_message::{ErrorCode, Malformed, Message, error_answer};
 use std::alloc::Global;
@@ -146,16 +148,16 @@ pub fn refuse_early(
     Ok(())
 }
 
-/// E10: the place of the group whose last start takes the editor's request, as it stands before the request; none where the editor
-/// is in no group, or the group has no start, or that start ended, isn't ready or has no number left: then it is to be refused.
+/// E10: the place of the group whose last start takes the editor's request that has no reserved token, as it stands before the request;
+/// none where the editor is in no group, or the group has no start, or that start ended, isn't ready or has no number left: then it is to be refused.
 pub fn asked_at(tables: &Tables, e: u64) -> Option<usize>
     ensures inside { IfSome result (λ g. g < length tables.now.lasts.items) }
     ensures takes { IfSome result (λ g. (x : Start) → slice_get tables.now.lasts.items g ≡ Some x → (x.life.stage ≡ Ready) × (x.ids.next < x.ids.limit)) }
-    ensures refused { IfNone result ((settings : Settings) (before : List Event) (body : List ℕ) → Stands settings tables.now before
-        → Alike (request_row settings before e body) (answer_error e body request_failed)) }
+    ensures refused { IfNone result ((settings : Settings) (before : List Event) (body : List ℕ) → reserves (params_of body) ≡ false
+        → Stands settings tables.now before → Alike (request_row settings before e body) (answer_error e body request_failed)) }
     ensures goes { IfSome result (λ g. (settings : Settings) (before : List Event) (body : List ℕ) (s : ℕ) (x : Start)
         → slice_get tables.now.lasts.items g ≡ Some x → slice_get (map number_in tables.now.lasts.items) g ≡ Some s
-        → Stands settings tables.now before
+        → reserves (params_of body) ≡ false → Stands settings tables.now before
         → Alike (request_row settings before e body) (sync_row settings before x.life.group s e ⨾ forward s body)) }
 {
     let g = tables.place(e)?;
@@ -177,5 +179,23 @@ pub fn refuse_request(
         → OnOk result (DocumentsStand settings owed tables.now (behind base outs.new)) }
 {
     refuse(tables, alloc, outs, e, message, ErrorCode::RequestFailed)?;
+    Ok(())
+}
+
+/// E10: a request with a token that might be the daemon's is answered with an error (JSON-RPC 2.0, section 5.1: Invalid params).
+pub fn refuse_reserved(
+    tables: &Tables,
+    alloc: Global,
+    outs: &mut Outs,
+    e: u64,
+    message: &Message,
+) -> Result<(), Memory>
+    ensures does { (settings : Settings) (before base : List Event) (body method : List ℕ) (id : Id) (params : Option Json) → IsRead message.now body
+        → message_of body ≡ request id method params → reserves (params_of body) ≡ true
+        → OnOk result (Does (λ t events. Stands settings t events) (request_row settings before e body) base tables.now outs.old tables.now outs.new) }
+    ensures documents { (settings : Settings) (owed : Owed) (base : List Event) → DocumentsStand settings owed tables.now (behind base outs.old)
+        → OnOk result (DocumentsStand settings owed tables.now (behind base outs.new)) }
+{
+    refuse(tables, alloc, outs, e, message, ErrorCode::InvalidParams)?;
     Ok(())
 }

@@ -2,9 +2,9 @@
 use Rattle.std.proofs.Common.{◌≡◌, ℕ, ◌<◌, List, [], ◌∷◌, ◌++◌, length, refl, sym, ◌∙◌, ap, subst, append-nil, append_assoc}
 use Rattle.std.specs.Prelude.{Option, Some, None, MatchOption, option_map}
 use Rattle.json_text.specs.Json.{Json}
-use Rattle.json_nodes.specs.At.{At, Found}
-use Rattle.json_nodes.specs.Doc.{Doc}
-use Rattle.json_nodes.proofs.Members.{Inside, inside_more}
+use Rattle.mux_members.specs.json_nodes.specs.At.{At, Found}
+use Rattle.mux_members.specs.json_nodes.specs.Doc.{Doc}
+use Rattle.mux_members.specs.json_nodes.proofs.Members.{Inside, inside_more}
 use Rattle.mux_members.specs.Members.{listed}
 use Rattle.mux_members.specs.Finds.{Rest}
 use Rattle.mux_members.proofs.Walks.{rest_ends, rest_first}

@@ -6,7 +6,7 @@ use Rattle.mux_members.specs.Members.{string_at}
 use Rattle.mux_members.specs.Members.{listed, named_of}
 use Rattle.json_text.specs.Json.{Json}
 use Rattle.mux_members.specs.Finds.{is_array_value}
-use Rattle.rpc_message.specs.Message.{is_string_value}
+use Rattle.mux_members.specs.rpc_message.specs.Message.{is_string_value}
 use Rattle.registrations.specs.declared.registration.Registration.{Registration}
 use Rattle.registrations.specs.Items.{named_as, registration_of, registrations_at, registrations_in}
 

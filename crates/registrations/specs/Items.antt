@@ -5,7 +5,7 @@ use Rattle.std.specs.List.{list_all, list_any}
 use Rattle.std.specs.Option.{option_and_then, option_map}
 use Rattle.json_text.specs.Json.{Json, span_of}
 use Rattle.mux_members.specs.Members.{string_at}
-use Rattle.rpc_message.specs.Message.{is_string_value, slice_of}
+use Rattle.mux_members.specs.rpc_message.specs.Message.{is_string_value, slice_of}
 use Rattle.mux_members.specs.Members.{listed, named_of, params_of}
 use Rattle.mux_members.specs.Finds.{is_array_value}
 use Rattle.registrations.specs.declared.registration.Registration.{Registration}

@@ -1,2 +1,4 @@
 pub mod Items
 pub mod Names
+pub use Rattle.mux_members
+pub use Rattle.mux_members.specs.mux_model

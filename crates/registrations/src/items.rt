@@ -1,20 +1,20 @@
 // What the requests that register and unregister say.
 ghost use Rattle.std.specs.Prelude.{◌≡◌, ℕ, List, Option, Some, None, codes, option_map, IfOk};
 ghost use Rattle.std.specs.Option.{option_and_then};
-ghost use Rattle.json_nodes.specs.At.{Found};
+ghost use Rattle.mux_members.specs.json_nodes.specs.At.{Found};
 ghost use Rattle.json_text.specs.Json.{Json};
 ghost use Rattle.mux_members.specs.Finds.{is_array_value};
-ghost use Rattle.rpc_message.specs.Message.{is_string_value};
-ghost use Rattle.rpc_message.specs.Parsed.{IsRead};
+ghost use Rattle.mux_members.specs.rpc_message.specs.Message.{is_string_value};
+ghost use Rattle.mux_members.specs.rpc_message.specs.Parsed.{IsRead};
 ghost use Rattle.registrations.specs.Items.{if_distinct, named_as, registration_of, registrations_at, registered, text_of, unregistered};
 
 use crate::names::are_distinct;
 use crate::registration::Registration;
-use json_span::Tape;
 use json_text::Kind;
 use message_body::{Body, Memory};
+use mux_members::json_span::Tape;
+use mux_members::rpc_message::Message;
 use mux_members::{first_item, member, next_value, string};
-use rpc_message::Message;
 use std::alloc::Global;
 
 // The text of a value.

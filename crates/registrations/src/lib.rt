@@ -8,4 +8,5 @@ mod registration;
 
 pub use items::{registered, unregistered};
 pub use live::Live;
+pub use mux_members;
 pub use registration::Registration;

@@ -16,7 +16,7 @@ use Rattle.json_text.proofs.Swaps.{in_object, swap_makes, swapped, span_is}
 use Rattle.json_nodes.specs.Puts.{put_edits}
 use Rattle.json_nodes.proofs.Swapped.{put_rise, rise_in, zero_text, zero_value, zero_says}
 use Rattle.json_nodes.proofs.TwoSwaps.{both, Either, two_swaps}
-use Rattle.doc_text.specs.Changes.{string_text}
+use Rattle.document_model.specs.doc_text.specs.Changes.{string_text}
 use Rattle.document_model.specs.Notices.{integer_text, new_version}
 use Rattle.event_model.specs.Members.{has_version, listed}
 use Rattle.rpc_message.specs.Changed.{id_edits}

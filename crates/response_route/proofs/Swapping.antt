@@ -15,7 +15,7 @@ use Rattle.json_nodes.proofs.Swapped.{Says, put_swaps}
 use Rattle.json_nodes.proofs.TwoSwaps.{both}
 use Rattle.rpc_message.specs.Message.{are_params}
 use Rattle.rpc_message.specs.ValueTexts.{IsValueText}
-use Rattle.doc_text.specs.Changes.{string_text}
+use Rattle.document_model.specs.doc_text.specs.Changes.{string_text}
 use Rattle.document_model.specs.Notices.{integer_text, new_version}
 use Rattle.event_model.specs.Members.{has_version, listed}
 use Rattle.response_route.specs.Answers.{GivesFlat, IsFlatText}

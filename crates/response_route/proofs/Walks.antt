@@ -14,7 +14,7 @@ use Rattle.json_nodes.specs.Nodes.{kind_of}
 use Rattle.json_nodes.proofs.Members.{Inside, Follows, found_child_is, no_child, inside_more}
 use Rattle.json_nodes.proofs.Numbers.{child_at}
 use Rattle.json_nodes.proofs.Sames.{array_of}
-use Rattle.doc_text.specs.Found.{Rest}
+use Rattle.document_model.specs.doc_text.specs.Found.{Rest}
 use Rattle.event_model.specs.Members.{has_version, listed}
 use Rattle.response_route.specs.Edits.{versioned, action_documents, in_front, object_documents, documents_of}
 use Rattle.response_route.specs.Reading.{Stand}

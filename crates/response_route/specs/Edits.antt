@@ -7,7 +7,7 @@ use Rattle.json_text.specs.Json.{Json, array, object, span_of}
 use Rattle.json_text.specs.Named.{items_list, named_in}
 use Rattle.json_text.specs.Replace.{Edit}
 use Rattle.json_nodes.specs.Puts.{put_edits}
-use Rattle.doc_text.specs.Changes.{string_text}
+use Rattle.document_model.specs.doc_text.specs.Changes.{string_text}
 use Rattle.document_model.specs.Notices.{integer_text, new_version}
 use Rattle.event_model.specs.Members.{has_version, listed, named_of}
 

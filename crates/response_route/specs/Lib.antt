@@ -4,3 +4,6 @@ pub mod Edits
 pub mod Reading
 pub mod Results
 pub mod Versions
+pub use Rattle.document_model
+pub use Rattle.json_nodes
+pub use Rattle.rpc_message

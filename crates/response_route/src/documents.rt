@@ -3,7 +3,7 @@ ghost use Rattle.std.specs.Prelude.{◌≡◌, ◌<◌, ◌++◌, ℕ, List, Opt
 ghost use Rattle.json_text.specs.Json.{Json};
 ghost use Rattle.json_text.specs.Named.{named_in};
 ghost use Rattle.json_nodes.specs.At.{At, Found};
-ghost use Rattle.doc_text.specs.Found.{Rest};
+ghost use Rattle.document_model.specs.doc_text.specs.Found.{Rest};
 ghost use Rattle.rpc_message.specs.Message.{is_integer_value, is_string_value};
 ghost use Rattle.event_model.specs.Members.{has_version};
 ghost use Rattle.response_route.specs.Edits.{action_documents, change_documents, documents_of, in_front, object_documents, versioned, workspace_documents};

@@ -7,7 +7,7 @@ ghost use Rattle.json_text.specs.Named.{named_in};
 ghost use Rattle.json_nodes.specs.At.{At, Found};
 ghost use Rattle.json_nodes.specs.Puts.{put_edits};
 ghost use Rattle.rpc_message.specs.Message.{is_integer};
-ghost use Rattle.doc_text.specs.Changes.{string_text};
+ghost use Rattle.document_model.specs.doc_text.specs.Changes.{string_text};
 ghost use Rattle.document_model.specs.Notices.{integer_text, new_version};
 ghost use Rattle.response_route.specs.Edits.{Renaming, all_edits, document_edits, renamed};
 ghost use Rattle.response_route.specs.Reading.{Extends, Gives, Stand};

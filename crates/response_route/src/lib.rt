@@ -18,4 +18,5 @@ pub use fault::EditFault;
 pub use laws::{answers_law, asks_law, edits_law};
 pub use mapping::Mapping;
 pub use requests::asked;
+pub use rpc_message;
 pub use versions::{Stamp, Versions};

@@ -11,8 +11,8 @@ use Rattle.json_text.proofs.Inside.{InSpan, member_in_span}
 use Rattle.json_text.proofs.Laws.{tree_sound}
 use Rattle.json_text.proofs.Swaps.{Swaps, swapped, in_object, SwapsMembers, Replaced, replaced, span_is}
 use Rattle.json_text.proofs.Forms.{says}
-use Rattle.json_nodes.proofs.Swapped.{rise_in}
-use Rattle.json_nodes.proofs.TwoSwaps.{both, Either, two_swaps, apart}
+use Rattle.json_span.specs.json_nodes.proofs.Swapped.{rise_in}
+use Rattle.json_span.specs.json_nodes.proofs.TwoSwaps.{both, Either, two_swaps, apart}
 use Rattle.rpc_message.specs.Changed.{beside, id_edits_at, id_edits}
 use Rattle.rpc_message.specs.Message.{place_in}
 use Rattle.rpc_message.proofs.Ids.{place_of, no_place}

@@ -4,7 +4,7 @@ use Rattle.json_text.specs.declared.change.Change.{Change}
 use Rattle.json_text.specs.declared.span.Span.{Span}
 use Rattle.json_text.specs.Changes.{edits_of}
 use Rattle.json_text.specs.Replace.{Edit}
-use Rattle.json_nodes.proofs.Putting.{edits_push}
+use Rattle.json_span.specs.json_nodes.proofs.Putting.{edits_push}
 use Rattle.json_text.specs.Tree.{tree_of}
 use Rattle.rpc_message.specs.Changed.{is_in_front, beside, id_edits_at, id_edits}
 use Rattle.rpc_message.specs.Message.{place_in}

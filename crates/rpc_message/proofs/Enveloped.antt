@@ -8,10 +8,10 @@ use Rattle.json_text.specs.declared.kind.Kind.TheVariants as kind
 use Rattle.json_text.specs.Bare.{bare}
 use Rattle.json_text.specs.Json.{Json, word, number, string, array, object, Members}
 use Rattle.json_text.specs.Named.{named, named_in}
-use Rattle.json_nodes.specs.At.{At, Found}
-use Rattle.json_nodes.specs.Doc.{Doc}
-use Rattle.json_nodes.specs.Nodes.{kind_of}
-use Rattle.json_nodes.proofs.Sames.{ByMembers, object_of}
+use Rattle.json_span.specs.json_nodes.specs.At.{At, Found}
+use Rattle.json_span.specs.json_nodes.specs.Doc.{Doc}
+use Rattle.json_span.specs.json_nodes.specs.Nodes.{kind_of}
+use Rattle.json_span.specs.json_nodes.proofs.Sames.{ByMembers, object_of}
 use Rattle.rpc_message.specs.declared.envelope.Envelope.{Envelope}
 use Rattle.rpc_message.specs.Envelopes.{AreMembers, IsMadeOf, TellsIf, IsRequest, IsNotification, by_names, is_enveloped, not_null}
 use Rattle.rpc_message.specs.Message.{Id, Message, not_message, request_if, notification_if, called, are_params, given, id_of, is_null, is_string_value, is_two, no_name_twice, message_in}

@@ -8,11 +8,11 @@ use Rattle.json_text.specs.declared.kind.Word.TheVariants.{Null, False, True}
 use Rattle.json_text.specs.Json.{Json, word, number, string, array, object, value}
 use Rattle.json_text.specs.Named.{named_in}
 use Rattle.json_text.specs.String.{SpellsCharacters}
-use Rattle.json_nodes.specs.At.{At, Found}
-use Rattle.json_nodes.specs.Doc.{Doc}
-use Rattle.json_nodes.specs.Nodes.{kind_of}
-use Rattle.json_nodes.proofs.Sames.{number_of, string_of, word_null}
-use Rattle.json_nodes.proofs.Spelling.{decided}
+use Rattle.json_span.specs.json_nodes.specs.At.{At, Found}
+use Rattle.json_span.specs.json_nodes.specs.Doc.{Doc}
+use Rattle.json_span.specs.json_nodes.specs.Nodes.{kind_of}
+use Rattle.json_span.specs.json_nodes.proofs.Sames.{number_of, string_of, word_null}
+use Rattle.json_span.specs.json_nodes.proofs.Spelling.{decided}
 use Rattle.rpc_message.specs.Message.{integer, is_integer, integer_if, id_of, response_id, is_two, is_error, is_integer_value, is_string_value}
 
 some_integer : (b : Bool) (ds : List ℕ) → is_some (integer_if b ds) ≡ b

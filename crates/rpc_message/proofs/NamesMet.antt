@@ -14,12 +14,12 @@ use Rattle.json_text.specs.declared.span.Span.{Span}
 use Rattle.json_text.specs.Json.{Json, object, Members, no_members, member}
 use Rattle.json_text.specs.Named.{named, if_named, or_else}
 use Rattle.json_text.specs.String.{SpellsCharacters}
-use Rattle.json_nodes.specs.At.{At, ChildAt, FoundChild}
-use Rattle.json_nodes.specs.Doc.{Doc}
-use Rattle.json_nodes.specs.Same.{drop_members}
-use Rattle.json_nodes.specs.Texts.{names}
-use Rattle.json_nodes.proofs.Members.{Inside, Follows, found_child_is, no_child, inside_more}
-use Rattle.json_nodes.proofs.Spelling.{IsMember, decided, is_member, members_end}
+use Rattle.json_span.specs.json_nodes.specs.At.{At, ChildAt, FoundChild}
+use Rattle.json_span.specs.json_nodes.specs.Doc.{Doc}
+use Rattle.json_span.specs.json_nodes.specs.Same.{drop_members}
+use Rattle.json_span.specs.json_nodes.specs.Texts.{names}
+use Rattle.json_span.specs.json_nodes.proofs.Members.{Inside, Follows, found_child_is, no_child, inside_more}
+use Rattle.json_span.specs.json_nodes.proofs.Spelling.{IsMember, decided, is_member, members_end}
 use Rattle.rpc_message.specs.Message.{no_name_twice}
 use Rattle.rpc_message.specs.Names.{has_name}
 

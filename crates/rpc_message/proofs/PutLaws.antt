@@ -16,11 +16,11 @@ use Rattle.json_text.proofs.Laws.{tree_sound}
 use Rattle.json_text.proofs.Paths.{path_swaps, named_step}
 use Rattle.json_text.proofs.Put.{named_put, named_put_other, bare_bare, depth_bare}
 use Rattle.json_text.proofs.Swaps.{Swaps, span_is, in_object, Replaced, replaced}
-use Rattle.json_nodes.specs.At.{At, Found}
-use Rattle.json_nodes.specs.Doc.{Doc, Holds}
-use Rattle.json_nodes.specs.Puts.{member_edits, put_edits, put_members}
-use Rattle.json_nodes.proofs.PutBare.{path_put_bare, members_put_bare}
-use Rattle.json_nodes.proofs.Swapped.{Says, put_swaps, put_rise, rise_in}
+use Rattle.json_span.specs.json_nodes.specs.At.{At, Found}
+use Rattle.json_span.specs.json_nodes.specs.Doc.{Doc, Holds}
+use Rattle.json_span.specs.json_nodes.specs.Puts.{member_edits, put_edits, put_members}
+use Rattle.json_span.specs.json_nodes.proofs.PutBare.{path_put_bare, members_put_bare}
+use Rattle.json_span.specs.json_nodes.proofs.Swapped.{Says, put_swaps, put_rise, rise_in}
 use Rattle.rpc_message.specs.Changed.{id_edits, changed_text}
 use Rattle.rpc_message.specs.Envelopes.{by_names, not_null}
 use Rattle.rpc_message.specs.Message.{Id, Message, request, notification, result, error, not_json, not_message, no_name_twice, is_two, is_null, is_error, id_of, response_id, are_params, given, result_tree, request_if, notification_if, called, error_if, outcome, response_with, answered, by_method, message_in, message_of}

@@ -6,10 +6,10 @@ use Rattle.json_text.specs.declared.span.Span.{Span}
 use Rattle.json_text.specs.Json.{Json, word, number, string, array, object, Members, IsText, depth}
 use Rattle.json_text.specs.Tree.{tree_of}
 use Rattle.json_text.proofs.Laws.{syntax_none, deep_none, tree_complete, tree_sound}
-use Rattle.json_nodes.specs.At.{At, Found}
-use Rattle.json_nodes.specs.Doc.{Doc, Holds}
-use Rattle.json_nodes.proofs.Bounds.{at_inside, root_inside}
-use Rattle.json_nodes.proofs.Numbers.{root_at}
+use Rattle.json_span.specs.json_nodes.specs.At.{At, Found}
+use Rattle.json_span.specs.json_nodes.specs.Doc.{Doc, Holds}
+use Rattle.json_span.specs.json_nodes.proofs.Bounds.{at_inside, root_inside}
+use Rattle.json_span.specs.json_nodes.proofs.Numbers.{root_at}
 use Rattle.rpc_message.specs.declared.envelope.Envelope.{Envelope}
 use Rattle.rpc_message.specs.declared.envelope.Envelope.TheVariants.{Request, Notification, Outcome, Failure}
 use Rattle.json_text.specs.Named.{named}

@@ -5,7 +5,7 @@ use Rattle.std.proofs.lemmas.Bool.Decides.{nat_tests}
 use Rattle.json_text.specs.Json.{Json, word, number, string, array, object, value, quoted, spells, byte, ◌then◌}
 use Rattle.json_text.specs.Number.{is_digit}
 use Rattle.json_text.specs.String.{SpellsCharacters}
-use Rattle.json_nodes.proofs.Spelling.{decided}
+use Rattle.json_span.specs.json_nodes.proofs.Spelling.{decided}
 use Rattle.rpc_message.specs.Message.{Id, integer, text, id_of, is_integer, integer_if, same_id}
 use Rattle.rpc_message.specs.ValueTexts.{IsIdText}
 use Rattle.rpc_message.specs.Ids.{is_quoted}

@@ -5,9 +5,9 @@ use Rattle.json_text.specs.declared.span.Span.{Span}
 use Rattle.json_text.specs.Json.{Json, word, number, string, array, object, span_of}
 use Rattle.json_text.specs.Named.{named, named_in}
 use Rattle.json_text.specs.Tree.{tree_of}
-use Rattle.json_nodes.specs.At.{At, Found}
-use Rattle.json_nodes.specs.Doc.{Doc, Holds}
-use Rattle.json_nodes.specs.Values.{bytes_at}
+use Rattle.json_span.specs.json_nodes.specs.At.{At, Found}
+use Rattle.json_span.specs.json_nodes.specs.Doc.{Doc, Holds}
+use Rattle.json_span.specs.json_nodes.specs.Values.{bytes_at}
 use Rattle.rpc_message.specs.Message.{place_in, slice_of, member_bytes}
 use Rattle.rpc_message.proofs.Reading.{held_tree}
 

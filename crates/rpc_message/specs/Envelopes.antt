@@ -6,8 +6,8 @@ use Rattle.json_text.specs.declared.span.Span.{Span}
 use Rattle.json_text.specs.Bare.{bare}
 use Rattle.json_text.specs.Json.{Json, word, number, string, array, object}
 use Rattle.json_text.specs.Named.{named, named_in}
-use Rattle.json_nodes.specs.At.{At, Found}
-use Rattle.json_nodes.specs.Doc.{Doc}
+use Rattle.json_span.specs.json_nodes.specs.At.{At, Found}
+use Rattle.json_span.specs.json_nodes.specs.Doc.{Doc}
 use Rattle.rpc_message.specs.declared.envelope.Envelope.{Envelope}
 use Rattle.rpc_message.specs.declared.envelope.Envelope.TheVariants.{Request, Notification, Outcome, Failure}
 use Rattle.rpc_message.specs.Message.{Id, Message, not_message, request, notification, result, error, id_of, response_id, is_null, is_two, no_name_twice, result_tree, called, answered}

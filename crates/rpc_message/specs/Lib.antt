@@ -9,3 +9,5 @@ pub mod Sorts
 pub mod Texts
 pub mod ValueTexts
 pub mod Values
+pub use Rattle.json_span
+pub use Rattle.json_text

@@ -5,8 +5,8 @@ use Rattle.std.specs.Option.{option_map}
 use Rattle.json_text.specs.Bare.{bare}
 use Rattle.json_text.specs.Json.{Json}
 use Rattle.json_text.specs.Named.{named_in}
-use Rattle.json_nodes.specs.At.{Found}
-use Rattle.json_nodes.specs.Doc.{Doc, Holds}
+use Rattle.json_span.specs.json_nodes.specs.At.{Found}
+use Rattle.json_span.specs.json_nodes.specs.Doc.{Doc, Holds}
 use Rattle.rpc_message.specs.declared.envelope.Envelope.{Envelope}
 use Rattle.rpc_message.specs.Envelopes.{Tells, AreMembers, not_null}
 use Rattle.rpc_message.specs.Message.{Message, request, notification, result, error, not_json, not_message, message_of, result_tree}

@@ -1,17 +1,17 @@
 //! What a body is, by the members of its object (JSON-RPC 2.0, sections 4 and 5; LSP 3.17, Base Protocol).
 ghost use Rattle.std.specs.Prelude.{◌≡◌, ◌<◌, length, true, is_some, IfOk, IfSome, MatchOption, Option, None, Some};
 ghost use Rattle.json_text.specs.Json.{Json};
-ghost use Rattle.json_nodes.specs.At.{At, Found};
-ghost use Rattle.json_nodes.specs.Values.{doc_of};
+ghost use Rattle.json_span.specs.json_nodes.specs.At.{At, Found};
+ghost use Rattle.json_span.specs.json_nodes.specs.Values.{doc_of};
 ghost use Rattle.rpc_message.specs.Envelopes.{AreMembers, IsMadeOf, TellsIf, by_names, is_enveloped, not_null};
 ghost use Rattle.rpc_message.specs.Message.{are_params, answered, id_of, is_error, is_integer, is_integer_value, is_string_value, is_two, message_in, response_id};
 
 use crate::id::is_integer;
 use crate::names::names_once;
-use json_nodes::Values;
+use json_span::json_nodes::Values;
 use json_span::spells_text;
 use json_text::Kind;
-use message_body::Memory;
+use json_text::message_body::Memory;
 use std::alloc::Global;
 
 /// What a message is: which of its values are its id, its method, its params, its result and its error, by their numbers. Params

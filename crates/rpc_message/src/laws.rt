@@ -10,7 +10,7 @@ ghost use Rattle.json_text.specs.declared.span.Span.{Span};
 ghost use Rattle.json_text.specs.Paths.{Step, key, put_at, value_at};
 ghost use Rattle.json_text.specs.Replace.{Rise, replace};
 ghost use Rattle.json_text.specs.Tree.{tree_of};
-ghost use Rattle.json_nodes.specs.Puts.{member_edits, put_edits, put_members};
+ghost use Rattle.json_span.specs.json_nodes.specs.Puts.{member_edits, put_edits, put_members};
 ghost use Rattle.rpc_message.specs.Changed.{changed_text, id_edits};
 ghost use Rattle.rpc_message.specs.Message.{Id, are_params, error, given, id_bytes, integer, message_of, not_json, notification, request, result as outcome, result_bytes};
 ghost use Rattle.rpc_message.specs.Texts.{Code, error_reply_text, error_text, error_tree, failure_tree, initialize_params, initialize_text, initialized_text, notification_text, ok_text, request_text, with_id_text};

@@ -14,6 +14,7 @@ mod texts;
 pub use code::ErrorCode;
 pub use envelope::Envelope;
 pub use id::{is_integer, is_quoted, same_id};
+pub use json_span;
 pub use json_span::Tape;
 pub use laws::{
     answers_law, calls_law, opening_law, parts_law, puts_law, refusals_law, renamed_law,

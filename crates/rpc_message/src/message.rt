@@ -3,8 +3,8 @@ ghost use Rattle.std.specs.Prelude.{◌≡◌, ◌≤◌, ◌<◌, ℕ, List, le
 ghost use Rattle.json_text.specs.Changes.{edits_of};
 ghost use Rattle.json_text.specs.Replace.{replace, Rise};
 ghost use Rattle.json_text.specs.Tree.{tree_of};
-ghost use Rattle.json_nodes.specs.At.{Found};
-ghost use Rattle.json_nodes.specs.Values.{doc_of};
+ghost use Rattle.json_span.specs.json_nodes.specs.At.{Found};
+ghost use Rattle.json_span.specs.json_nodes.specs.Values.{doc_of};
 ghost use Rattle.rpc_message.specs.Changed.{changed_text, id_edits};
 ghost use Rattle.rpc_message.specs.Envelopes.{Tells};
 ghost use Rattle.rpc_message.specs.Message.{Message as Meaning, id_bytes, message_of, place_in, result_bytes};
@@ -15,10 +15,10 @@ ghost use Rattle.rpc_message.specs.Texts.{with_id_text};
 use crate::envelope::{Envelope, envelope_in};
 use crate::parts::{member_bytes, member_span, with_id_change};
 use crate::sort::{Malformed, Sort};
-use json_nodes::Values;
+use json_span::json_nodes::Values;
 use json_span::{JsonFault, Tape};
+use json_text::message_body::{Body, Memory};
 use json_text::{Change, Span, splice};
-use message_body::{Body, Memory};
 use std::alloc::Global;
 use std::marker::Model;
 

@@ -3,14 +3,14 @@ ghost use Rattle.std.specs.Prelude.{◌≡◌, ◌<◌, ◌||◌, ℕ, List, byt
 ghost use Rattle.json_text.specs.declared.span.Span.{Span};
 ghost use Rattle.json_text.specs.Json.{Members, object};
 ghost use Rattle.json_text.specs.String.{SpellsCharacters};
-ghost use Rattle.json_nodes.specs.At.{At};
-ghost use Rattle.json_nodes.specs.Values.{doc_of};
+ghost use Rattle.json_span.specs.json_nodes.specs.At.{At};
+ghost use Rattle.json_span.specs.json_nodes.specs.Values.{doc_of};
 ghost use Rattle.rpc_message.specs.Message.{no_name_twice};
 ghost use Rattle.rpc_message.specs.Names.{has_name};
 
-use json_nodes::Values;
 use json_span::decode;
-use message_body::Memory;
+use json_span::json_nodes::Values;
+use json_text::message_body::Memory;
 use std::alloc::Global;
 use std::collections::BTreeSet;
 

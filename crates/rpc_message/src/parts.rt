@@ -5,15 +5,15 @@ ghost use Rattle.json_text.specs.Changes.{edits_of};
 ghost use Rattle.json_text.specs.Json.{Json};
 ghost use Rattle.json_text.specs.Named.{named_in};
 ghost use Rattle.json_text.specs.Tree.{tree_of};
-ghost use Rattle.json_nodes.specs.At.{Found};
-ghost use Rattle.json_nodes.specs.Doc.{Holds};
-ghost use Rattle.json_nodes.specs.Values.{doc_of};
+ghost use Rattle.json_span.specs.json_nodes.specs.At.{Found};
+ghost use Rattle.json_span.specs.json_nodes.specs.Doc.{Holds};
+ghost use Rattle.json_span.specs.json_nodes.specs.Values.{doc_of};
 ghost use Rattle.rpc_message.specs.Changed.{beside, id_edits_at, is_in_front};
 ghost use Rattle.rpc_message.specs.Message.{member_bytes, place_in};
 
-use json_nodes::Values;
+use json_span::json_nodes::Values;
+use json_text::message_body::{Body, Memory};
 use json_text::{Change, Span};
-use message_body::{Body, Memory};
 use std::alloc::Global;
 
 // The member of this name, in a body that is an object.

@@ -7,7 +7,7 @@ ghost use Rattle.rpc_message.specs.Texts.{error_reply_text, error_text, initiali
 use crate::code::ErrorCode;
 use itoa::Buffer;
 use json_span::quote;
-use message_body::{Body, Memory};
+use json_text::message_body::{Body, Memory};
 use std::alloc::Global;
 
 /// The answer of a request: its id, and the result's bytes (JSON-RPC 2.0, section 5).

@@ -10,7 +10,7 @@ use Rattle.event_model.specs.Event.{Event, took, requests, heard, said, with_cau
 use Rattle.event_model.specs.Phases.{Desk, desk_of, desk_behind, desk_hears, has_id, phase_told, is_there, makes_running, phase_closed, editors_of}
 use Rattle.event_model.specs.Always.{Always}
 use Rattle.event_model.specs.Parts.{editor_part, is_of_editor}
-use Rattle.mux_model.specs.Fits.{fits_behind}
+use Rattle.mux_facts.specs.mux_model.specs.Fits.{fits_behind}
 use Rattle.mux_facts.proofs.Editors.{Editors}
 use Rattle.mux_facts.proofs.Folds.{desk_more}
 use Rattle.mux_facts.proofs.Rules.{rule_more, word_more}

@@ -18,7 +18,7 @@ use Rattle.mux_facts.proofs.Folds.{desk_more}
 use Rattle.mux_facts.proofs.Rules.{rule_more, word_more}
 use Rattle.mux_facts.proofs.Words.{number_same, same_id_itself}
 use Rattle.mux_history.specs.declared.cause.Cause.{Cause}
-use Rattle.mux_model.specs.Fits.{fits_behind}
+use Rattle.mux_facts.specs.mux_model.specs.Fits.{fits_behind}
 use Rattle.mux_facts.proofs.Editors.{Editors}
 
 -- no `initialize` is open, and none got a result
@@ -39,7 +39,7 @@ Link New i o = Fresh o
 Link Waiting i o = Expects i o
 Link Answered i o = (o.initializes ≡ []) × (o.answered ≡ true)
 Link Running i o = (o.initializes ≡ []) × (o.spoke ≡ true)
-Link Down i o = o.initializes ≡ []
+Link Down i o = (o.initializes ≡ []) × (o.spoke ≡ true)
 Link Closed i o = Unit {0}
 Link Gone i o = Unit {0}
 
@@ -74,6 +74,14 @@ well_formed : (a b : Bool) → not (a || b) ≡ true → a ≡ false
 well_formed false b h = refl
 well_formed true b h = absurd (cc)
 
+asked_well : (m : Message) → requests (codes "shutdown") m ≡ true → is_malformed m ≡ false
+asked_well (request id method params) h = refl
+asked_well (notification method params) h = absurd (cc)
+asked_well (result id r) h = absurd (cc)
+asked_well (error id x) h = absurd (cc)
+asked_well not_json h = absurd (cc)
+asked_well not_message h = absurd (cc)
+
 -- which isn't a second `initialize`
 hears : (phase : Phase) (i body : List ℕ) (o : Opening) (m : Message) → message_of body ≡ m → (not (is_new phase) && requests (codes "initialize") m) ≡ false → Link phase i o → LinkAt (desk_hears phase i body m) (opening_hears o m)
 hears Absent i body o m says none h = (same_initializes o m [] none h.0, h.1)
@@ -83,18 +91,18 @@ hears New i body o m says none h = go (requests (codes "initialize") m) refl
     go true e = founds body o m says e h
     go false e = (same_initializes o m [] e h.0, h.1)
 hears Waiting i body o m says none h = record { id = h.id; params = h.params; asks = h.asks; only = same_initializes o m (h.id ∷ []) none h.only; not_yet = h.not_yet }
-hears Answered i body o m says none h = go (requests (codes "shutdown") m) (makes_running m) refl (same_initializes o m [] none h.0)
+hears Answered i body o m says none h = go (requests (codes "shutdown") m) refl (makes_running m) refl (same_initializes o m [] none h.0)
   where
-    go : (a b : Bool) → makes_running m ≡ b → (opening_hears o m).initializes ≡ [] → Link (if a then Down else if b then Running else Answered) i (opening_hears o m)
-    go true b runs e = e
-    go false true runs e = (e, speaks_now o.spoke o.answered (is_malformed m) h.1 (well_formed (is_malformed m) _ runs))
-    go false false runs e = (e, h.1)
+    go : (a : Bool) → requests (codes "shutdown") m ≡ a → (b : Bool) → makes_running m ≡ b → (opening_hears o m).initializes ≡ [] → Link (if a then Down else if b then Running else Answered) i (opening_hears o m)
+    go true shuts b runs e = (e, speaks_now o.spoke o.answered (is_malformed m) h.1 (asked_well m shuts))
+    go false on true runs e = (e, speaks_now o.spoke o.answered (is_malformed m) h.1 (well_formed (is_malformed m) _ runs))
+    go false on false runs e = (e, h.1)
 hears Running i body o m says none h = go (requests (codes "shutdown") m) (same_initializes o m [] none h.0)
   where
     go : (a : Bool) → (opening_hears o m).initializes ≡ [] → Link (if a then Down else Running) i (opening_hears o m)
-    go true e = e
+    go true e = (e, ap (λ b. b || (o.answered && not (is_malformed m))) h.1)
     go false e = (e, ap (λ b. b || (o.answered && not (is_malformed m))) h.1)
-hears Down i body o m says none h = same_initializes o m [] none h
+hears Down i body o m says none h = (same_initializes o m [] none h.0, ap (λ b. b || (o.answered && not (is_malformed m))) h.1)
 hears Closed i body o m says none h = tt
 hears Gone i body o m says none h = tt
 
@@ -123,8 +131,8 @@ late_told Answered i o id m (is_result r e) late h = subst (λ z. Link Answered 
 late_told Answered i o id m (is_error x e) late h = subst (λ z. Link Answered i (opening_told o z)) (sym e) (ap (without (Some id)) h.0, h.1)
 late_told Running i o id m (is_result r e) late h = subst (λ z. Link Running i (opening_told o z)) (sym e) (ap (without (Some id)) h.0, h.1)
 late_told Running i o id m (is_error x e) late h = subst (λ z. Link Running i (opening_told o z)) (sym e) (ap (without (Some id)) h.0, h.1)
-late_told Down i o id m (is_result r e) late h = subst (λ z. (opening_told o z).initializes ≡ []) (sym e) (ap (without (Some id)) h)
-late_told Down i o id m (is_error x e) late h = subst (λ z. (opening_told o z).initializes ≡ []) (sym e) (ap (without (Some id)) h)
+late_told Down i o id m (is_result r e) late h = subst (λ z. Link Down i (opening_told o z)) (sym e) (ap (without (Some id)) h.0, h.1)
+late_told Down i o id m (is_error x e) late h = subst (λ z. Link Down i (opening_told o z)) (sym e) (ap (without (Some id)) h.0, h.1)
 late_told Closed i o id m k late h = tt
 late_told Gone i o id m k late h = tt
 
@@ -134,7 +142,7 @@ none_open New i o there late h = absurd (cc)
 none_open Waiting i o there late h = absurd (cc)
 none_open Answered i o there late h = h.0
 none_open Running i o there late h = h.0
-none_open Down i o there late h = h
+none_open Down i o there late h = h.0
 none_open Closed i o there late h = absurd (cc)
 none_open Gone i o there late h = absurd (cc)
 

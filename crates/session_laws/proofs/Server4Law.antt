@@ -7,7 +7,7 @@ use Rattle.document_model.specs.Helds.{HeldText, number_of, changed_held, told}
 use Rattle.document_model.specs.Sayings.{Saying, opens, changes, closes, misshapen, nothing, saying_of}
 use Rattle.mux_history.specs.declared.cause.Cause.TheVariants.{Joined, FromEditor, EditorGone, Started, StartFailed, FromServer, ServerGone, Drained, Tick}
 use Rattle.mux_history.specs.declared.out.Out.TheVariants.{ToEditor, ToServer, Spawn, CloseEditor, EndServer}
-use Rattle.mux_model.specs.Documents.{Sent, held_behind, sent_behind}
+use Rattle.mux_facts.specs.mux_model.specs.Documents.{Sent, held_behind, sent_behind}
 use Rattle.event_model.specs.Event.{Event, took, did}
 use Rattle.event_model.specs.Parts.{server_part, is_of_server}
 use Rattle.mux_facts.specs.Allowed.{AllowsSaying, IsNext}

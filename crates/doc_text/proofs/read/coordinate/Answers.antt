@@ -1,6 +1,6 @@
 use Rattle.json_text.specs.Named.{named_in}
 use Rattle.std.specs.Str.{chars}
-use Rattle.json_nodes.specs.Values.{doc_of}
+use Rattle.json_span.specs.json_nodes.specs.Values.{doc_of}
 use Rattle.doc_text.proofs.Reading.{number_found}
 use Rattle.doc_text.proofs.read.coordinate.Goals as goal
 

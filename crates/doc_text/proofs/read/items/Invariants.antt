@@ -1,5 +1,5 @@
 use Rattle.std.proofs.Common.{length}
-use Rattle.json_nodes.proofs.Members.{left}
+use Rattle.json_span.specs.json_nodes.proofs.Members.{left}
 use Rattle.doc_text.proofs.Items.{ReadSoFar}
 use Rattle.doc_text.proofs.read.items.Given as goal
 

@@ -1,6 +1,6 @@
 use Rattle.std.proofs.Common.{sym, subst}
-use Rattle.json_nodes.specs.At.{At}
-use Rattle.json_nodes.specs.Values.{doc_of}
+use Rattle.json_span.specs.json_nodes.specs.At.{At}
+use Rattle.json_span.specs.json_nodes.specs.Values.{doc_of}
 use Rattle.doc_text.proofs.Reading.{no_string, string_given}
 use Rattle.doc_text.proofs.read.string_text.Goals as goal
 

@@ -3,8 +3,8 @@ use Rattle.std.specs.Option.{option_and_then}
 use Rattle.std.specs.Str.{chars}
 use Rattle.json_text.specs.Named.{named_in}
 use Rattle.json_nodes.specs.At.{Found}
-use Rattle.doc_text.specs.Changes.{string_text}
-use Rattle.document_model.specs.Notices.{document_in, integer_text}
+use Rattle.document_table.specs.doc_text.specs.Changes.{string_text}
+use Rattle.document_table.specs.document_model.specs.Notices.{document_in, integer_text}
 use Rattle.focus_switch.proofs.Noticed.{change_found, uri_chars, version_chars, changes_chars}
 use Rattle.focus_switch.proofs.notice.did_change.Goals as goal
 

@@ -2,7 +2,7 @@ use Rattle.std.proofs.Common.{◌≡◌, IfOk, Some, sym, subst}
 use Rattle.json_text.specs.Changes.{edits_of}
 use Rattle.json_text.specs.Json.{Json}
 use Rattle.json_nodes.specs.At.{At, Found}
-use Rattle.document_model.specs.Notices.{edits_in}
+use Rattle.document_table.specs.document_model.specs.Notices.{edits_in}
 use Rattle.focus_switch.proofs.Noticed.{found_some, version_edits}
 use Rattle.focus_switch.proofs.notice.version_changes.Goals as goal
 

@@ -4,8 +4,8 @@ use Rattle.std.specs.Prelude.{IfOk}
 use Rattle.rpc_message.specs.Message.{message_of}
 use Rattle.event_model.specs.Stages.{is_ready, life_of}
 use Rattle.event_model.proofs.Places.{item_at}
-use Rattle.group_facts.specs.Built.{built_from_server, built_ready}
-use Rattle.mux_tables.proofs.Starts.{start_at_place}
+use Rattle.mux_turns.specs.group_facts.specs.Built.{built_from_server, built_ready}
+use Rattle.mux_turns.specs.mux_tables.proofs.Starts.{start_at_place}
 use Rattle.mux_turns.proofs.Ready.{is_that_ready}
 use Rattle.mux_causes.proofs.Askings.{kept_stage}
 use Rattle.mux_causes.proofs.Meant.{as_here, late_built, other_built, read_well}

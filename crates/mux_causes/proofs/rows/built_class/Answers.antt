@@ -1,6 +1,6 @@
 -- What a start asks, by its class.
 use Rattle.std.proofs.Common.{◌∙◌, ap}
-use Rattle.group_facts.specs.Built.{built_asking}
+use Rattle.mux_turns.specs.group_facts.specs.Built.{built_asking}
 use Rattle.mux_causes.proofs.rows.built_class.Goals as goal
 
 pub returns : goal.returns

@@ -5,8 +5,8 @@ use Rattle.lsp_method.specs.Class.{class_of}
 use Rattle.lsp_method.specs.declared.variants.Origin.TheVariants.{Server}
 use Rattle.rpc_message.specs.ValueTexts.{IsIdText}
 use Rattle.rpc_message.proofs.Ids.{request_id_bytes}
-use Rattle.group_facts.specs.Built.{built_asking}
-use Rattle.group_rows.specs.Asks.{asking_of, is_taken}
+use Rattle.mux_turns.specs.group_facts.specs.Built.{built_asking}
+use Rattle.mux_turns.specs.group_rows.specs.Asks.{asking_of, is_taken}
 use Rattle.mux_causes.proofs.Meant.{or_first, or_second}
 use Rattle.mux_causes.proofs.rows.built_question.Goals as goal
 

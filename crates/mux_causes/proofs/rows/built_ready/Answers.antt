@@ -1,7 +1,7 @@
 -- A message of a start that is ready.
 use Rattle.std.proofs.Common.{◌≡◌, ap, sym, subst, ◌∙◌}
 use Rattle.std.specs.Prelude.{Some}
-use Rattle.group_facts.specs.Built.{built_ready}
+use Rattle.mux_turns.specs.group_facts.specs.Built.{built_ready}
 use Rattle.rpc_message.specs.Message.{message_of}
 use Rattle.mux_causes.proofs.Meant.{answer_built, is_notification, is_request}
 use Rattle.mux_causes.proofs.rows.built_ready.Goals as goal

@@ -1,6 +1,6 @@
 -- A notification of a start that is ready.
 use Rattle.std.proofs.Common.{◌∙◌, ap}
-use Rattle.group_facts.specs.Built.{built_telling}
+use Rattle.mux_turns.specs.group_facts.specs.Built.{built_telling}
 use Rattle.mux_causes.proofs.rows.built_telling.Goals as goal
 
 pub returns : goal.returns

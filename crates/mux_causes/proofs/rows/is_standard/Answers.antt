@@ -1,6 +1,6 @@
 -- Whether a request is one of the standard.
 use Rattle.std.proofs.Common.{ap, ◌∙◌}
-use Rattle.group_facts.specs.Built.{is_standard}
+use Rattle.mux_turns.specs.group_facts.specs.Built.{is_standard}
 use Rattle.mux_causes.proofs.rows.is_standard.Goals as goal
 
 pub returns : goal.returns

@@ -1,6 +1,6 @@
 -- Whether a group lives.
 use Rattle.std.proofs.Common.{ap}
-use Rattle.group_facts.specs.Lively.{lives}
+use Rattle.mux_turns.specs.group_facts.specs.Lively.{lives}
 use Rattle.mux_causes.proofs.rows.lives.Goals as goal
 
 pub returns-in-Some : goal.returns-in-Some

@@ -4,7 +4,7 @@ use Rattle.event_model.specs.Event.{with_cause}
 use Rattle.group_rows.specs.Rows.{status_row}
 use Rattle.group_rows.specs.Status.{items_of, status_text}
 use Rattle.group_rows.proofs.Statuses.{told_tree}
-use Rattle.group_facts.proofs.RequestRow.{status_said}
+use Rattle.mux_turns.specs.group_facts.proofs.RequestRow.{status_said}
 use Rattle.mux_history.specs.declared.cause.Cause.TheVariants.{FromEditor}
 use Rattle.rpc_message.specs.Message.{id_bytes, message_of}
 use Rattle.rpc_message.specs.Texts.{ok_text}

@@ -2,7 +2,7 @@
 use Rattle.std.proofs.Common.{◌≡◌, true, false, codes, sym, ◌∙◌}
 use Rattle.event_model.specs.Event.{notifies}
 use Rattle.rpc_message.specs.Message.{message_of}
-use Rattle.mux_tables.specs.Documents.{AllStand}
+use Rattle.mux_starts.specs.mux_tables.specs.Documents.{AllStand}
 use Rattle.mux_entries.proofs.EditorBuilt.{unserved_keeps}
 use Rattle.mux_entries.proofs.EditorRows.{done_alike, done_quietly, exit_named, exit_silent}
 use Rattle.mux_entries.proofs.editors.from_aside.Goals as goal

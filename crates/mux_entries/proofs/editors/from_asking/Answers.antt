@@ -5,10 +5,10 @@ use Rattle.lsp_method.specs.declared.variants.Origin.TheVariants.{Editor}
 use Rattle.mux_model.specs.Built.{is_other}
 use Rattle.mux_model.specs.Methods.{is_shutdown, is_wrong}
 use Rattle.event_model.proofs.Turns.{alike_then}
-use Rattle.group_facts.specs.Built.{is_standard}
+use Rattle.mux_starts.specs.group_facts.specs.Built.{is_standard}
 use Rattle.group_rows.specs.Rows.{is_misplaced}
 use Rattle.rpc_message.specs.Message.{message_of}
-use Rattle.mux_tables.specs.Documents.{AllStand}
+use Rattle.mux_starts.specs.mux_tables.specs.Documents.{AllStand}
 use Rattle.mux_editors.proofs.Classes.{not_own, shutdown_later, shutdown_named, swapped}
 use Rattle.mux_editors.proofs.Runs.{aside_row, shutdown_stays}
 use Rattle.mux_editors.proofs.Turns.{is_first, is_second}

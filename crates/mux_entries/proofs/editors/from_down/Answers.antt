@@ -5,7 +5,7 @@ use Rattle.event_model.specs.Phases.{is_served}
 use Rattle.event_model.proofs.Turns.{alike}
 use Rattle.group_rows.specs.Rows.{down_row}
 use Rattle.rpc_message.specs.Message.{message_of}
-use Rattle.mux_tables.specs.Documents.{AllStand}
+use Rattle.mux_starts.specs.mux_tables.specs.Documents.{AllStand}
 use Rattle.mux_entries.proofs.EditorRows.{aside_down, asks_by_sort, done_alike, not_request}
 use Rattle.mux_entries.proofs.editors.from_down.Goals as goal
 

@@ -5,7 +5,7 @@ use Rattle.event_model.specs.Phases.{desk_of}
 use Rattle.event_model.proofs.Turns.{alike}
 use Rattle.group_rows.specs.Rows.{early_row}
 use Rattle.rpc_message.specs.Message.{message_of}
-use Rattle.mux_tables.specs.Documents.{AllStand}
+use Rattle.mux_starts.specs.mux_tables.specs.Documents.{AllStand}
 use Rattle.mux_entries.proofs.EditorBuilt.{early_unserved}
 use Rattle.mux_entries.proofs.EditorRows.{aside_early, asks_by_sort, done_alike, not_request}
 use Rattle.mux_entries.proofs.editors.from_early.Goals as goal

@@ -1,6 +1,6 @@
 -- A body that is no message.
 use Rattle.rpc_message.specs.Message.{message_of}
-use Rattle.mux_tables.specs.Documents.{AllStand}
+use Rattle.mux_starts.specs.mux_tables.specs.Documents.{AllStand}
 use Rattle.mux_entries.proofs.EditorRows.{done_alike, malformed, refused_malformed}
 use Rattle.mux_entries.proofs.editors.from_malformed.Goals as goal
 

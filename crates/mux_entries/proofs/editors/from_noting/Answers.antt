@@ -8,7 +8,7 @@ use Rattle.lsp_method.specs.Class.{class_of}
 use Rattle.lsp_method.specs.declared.variants.Origin.TheVariants.{Editor}
 use Rattle.mux_model.specs.Methods.{goes_on}
 use Rattle.rpc_message.specs.Message.{message_of, notification}
-use Rattle.mux_tables.specs.Documents.{AllStand}
+use Rattle.mux_starts.specs.mux_tables.specs.Documents.{AllStand}
 use Rattle.mux_editors.proofs.Runs.{aside_row, exit_stays}
 use Rattle.mux_editors.proofs.Turns.{is_first, is_second}
 use Rattle.mux_entries.proofs.EditorBuilt.{served_needs}
@@ -35,6 +35,15 @@ returns-in_ok-take_cancel-clause-does c = λ settings before body method params 
     done_alike (λ k events. AllStand settings k events) (alike_behind (alike_then (is_second refl stays) (alike_then (is_second refl off) (is_first refl cancels))))
     (c.in_ok-take_cancel.ensures.does settings before body params read (says ∙ ap (λ w. notification w params) (sym ((bytes_eq-Decides (codes "$/cancelRequest") method).0 cancels))) served first known st ds)
 
+pub returns-in_ok-take_work_cancel-clause-does : goal.returns-in_ok-take_work_cancel-clause-does
+returns-in_ok-take_work_cancel-clause-does c = λ settings before body method params read says served first known settled st ds.
+    let stays : bytes_eq (codes "exit") method ≡ false = ap (notifies (codes "exit")) (sym says) ∙ (sym (c.is_exit.ensures body read) ∙ c.if-is_exit.false) in
+    let off : goes_on (class_of method Editor true) ≡ false = sym (c.goes_on.ensures body method params read says) ∙ c.if-goes_on.false in
+    let other : bytes_eq (codes "$/cancelRequest") method ≡ false = ap (notifies (codes "$/cancelRequest")) (sym says) ∙ (sym (c.is_cancel.ensures body read) ∙ c.if-is_cancel.false) in
+    let works : bytes_eq (codes "window/workDoneProgress/cancel") method ≡ true = ap (notifies (codes "window/workDoneProgress/cancel")) (sym says) ∙ (sym (c.cancels_work.ensures body read) ∙ c.if-cancels_work.true) in
+    done_alike (λ k events. AllStand settings k events) (alike_behind (alike_then (is_second refl stays) (alike_then (is_second refl off) (alike_then (is_second refl other) (is_first refl works)))))
+    (c.in_ok-take_work_cancel.ensures.does settings before body params read (says ∙ ap (λ w. notification w params) (sym ((bytes_eq-Decides (codes "window/workDoneProgress/cancel") method).0 works))) served first st ds)
+
 pub returns-in_ok-take_notice-clause-does : goal.returns-in_ok-take_notice-clause-does
 returns-in_ok-take_notice-clause-does c = λ settings before body method params read says served first known settled st ds.
     let e = c.args.e in
@@ -42,5 +51,6 @@ returns-in_ok-take_notice-clause-does c = λ settings before body method params 
     let seat = settled.seated e (served_needs (desk_of e before).phase served) in
     let off : goes_on (class_of method Editor true) ≡ false = sym (c.goes_on.ensures body method params read says) ∙ c.if-goes_on.false in
     let other : bytes_eq (codes "$/cancelRequest") method ≡ false = ap (notifies (codes "$/cancelRequest")) (sym says) ∙ (sym (c.is_cancel.ensures body read) ∙ c.if-is_cancel.false) in
-    done_alike (λ k events. AllStand settings k events) (alike_behind (alike_then (is_second refl stays) (alike_then (is_second refl off) (is_second refl other))))
+    let idle : bytes_eq (codes "window/workDoneProgress/cancel") method ≡ false = ap (notifies (codes "window/workDoneProgress/cancel")) (sym says) ∙ (sym (c.cancels_work.ensures body read) ∙ c.if-cancels_work.false) in
+    done_alike (λ k events. AllStand settings k events) (alike_behind (alike_then (is_second refl stays) (alike_then (is_second refl off) (alike_then (is_second refl other) (is_second refl idle)))))
     (c.in_ok-take_notice.ensures.does settings before body method params seat.group seat.start read says stays served seat.home seat.last first st ds)

@@ -1,7 +1,7 @@
 -- A request of the multiplexer's own.
 use Rattle.std.proofs.Common.{sym, ◌∙◌}
 use Rattle.rpc_message.specs.Message.{message_of}
-use Rattle.mux_tables.specs.Documents.{AllStand}
+use Rattle.mux_starts.specs.mux_tables.specs.Documents.{AllStand}
 use Rattle.mux_editors.proofs.Lspmux.{other_status}
 use Rattle.mux_entries.proofs.EditorRows.{done_alike, opens, tells}
 use Rattle.mux_entries.proofs.editors.from_own.Goals as goal

@@ -2,12 +2,11 @@
 use Rattle.std.proofs.Common.{ap, sym, ◌∙◌}
 use Rattle.std.specs.Prelude.{Some}
 use Rattle.event_model.specs.Phases.{desk_of}
-use Rattle.event_model.specs.Requests.{open_of}
-use Rattle.group_facts.specs.Built.{built_from_editor}
+use Rattle.mux_starts.specs.group_facts.specs.Built.{built_from_editor}
 use Rattle.rpc_message.specs.Message.{message_of, notification, request}
-use Rattle.mux_tables.specs.Documents.{AllStand}
+use Rattle.mux_starts.specs.mux_tables.specs.Documents.{AllStand}
 use Rattle.mux_entries.proofs.EditorAsks.{asked_by_one, ended_unasked}
-use Rattle.mux_entries.proofs.EditorBuilt.{served_needs, served_standard, served_there, unasked_when}
+use Rattle.mux_entries.proofs.EditorBuilt.{served_needs, served_there, standard_built, unasked_when}
 use Rattle.mux_entries.proofs.EditorRows.{answered, asks_by_sort, done_alike, is_answer, notes_by_sort, read_well, served, unasking, unnoting}
 use Rattle.mux_entries.proofs.editors.from_served.Goals as goal
 
@@ -17,7 +16,7 @@ returns-in_ok-from_asking-in-Request-clause-does c = λ settings before body rea
     let m = message_of body in
     let p = (desk_of e before).phase in
     let asks = asks_by_sort m (c.sort.ensures body read ∙ ap (λ x. Some x) c.in-Request.is) in
-    let sort = served_standard before e p asks.id asks.method asks.params (unasked_when p m asks.id asks.method asks.params asks.is (served_there p serves) none) serves (ap (built_from_editor p (open_of e before)) (sym asks.is) ∙ built) in
+    let sort = standard_built asks.id asks.method asks.params (unasked_when p m asks.id asks.method asks.params asks.is (served_there p serves) none) (ap built_from_editor (sym asks.is) ∙ built) in
     done_alike (λ k events. AllStand settings k events) (served settings before e body (request asks.id asks.method asks.params) asks.is serves (read_well c.args.message.now body read) single none)
     (c.in_ok-from_asking-in-Request.ensures.does settings before body asks.method asks.id asks.params read asks.is sort serves first st ds)
 

@@ -3,7 +3,7 @@ use Rattle.std.proofs.Common.{◌≡◌, ◌&&◌, true, sym, ◌∙◌}
 use Rattle.event_model.specs.Phases.{desk_of, is_there}
 use Rattle.group_rows.specs.Rows.{asks_lspmux}
 use Rattle.rpc_message.specs.Message.{message_of}
-use Rattle.mux_tables.specs.Documents.{AllStand}
+use Rattle.mux_starts.specs.mux_tables.specs.Documents.{AllStand}
 use Rattle.mux_entries.proofs.EditorBuilt.{second_of}
 use Rattle.mux_entries.proofs.EditorRows.{done_alike, read_well, told}
 use Rattle.mux_entries.proofs.editors.from_single.Goals as goal

@@ -6,7 +6,7 @@ use Rattle.rpc_message.specs.ValueTexts.{IsIdText}
 use Rattle.rpc_message.proofs.Ids.{request_id_bytes}
 use Rattle.event_model.specs.Phases.{desk_of, is_begun}
 use Rattle.event_model.specs.Requests.{open_of}
-use Rattle.group_facts.specs.Built.{doubles}
+use Rattle.mux_starts.specs.group_facts.specs.Built.{doubles}
 use Rattle.group_words.specs.Houses.{is_doubled}
 use Rattle.mux_entries.proofs.EditorRows.{asks_by_sort, not_request, undoubled}
 use Rattle.mux_entries.proofs.editors.is_doubled.Goals as goal

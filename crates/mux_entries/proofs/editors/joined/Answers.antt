@@ -4,7 +4,7 @@ use Rattle.event_model.specs.Event.{with_cause}
 use Rattle.event_model.specs.Row.{nothing}
 use Rattle.event_model.proofs.Turns.{does_nothing}
 use Rattle.mux_history.specs.declared.cause.Cause.TheVariants.{Joined}
-use Rattle.mux_tables.specs.Documents.{AllStand, nothing_owed}
+use Rattle.mux_starts.specs.mux_tables.specs.Documents.{AllStand, nothing_owed}
 use Rattle.mux_editors.proofs.Turns.{whole_entry}
 use Rattle.mux_entries.proofs.editors.joined.Goals as goal
 

@@ -2,10 +2,10 @@
 use Rattle.std.proofs.Common.{◌≡◌, [], sym, subst, true}
 use Rattle.event_model.specs.Does.{Done}
 use Rattle.event_model.specs.Event.{with_cause}
-use Rattle.group_facts.specs.Built.{built_behind}
+use Rattle.mux_starts.specs.group_facts.specs.Built.{built_behind}
 use Rattle.group_rows.specs.Rows.{row_of}
 use Rattle.mux_model.specs.Fits.{fits_behind}
-use Rattle.mux_tables.specs.Documents.{AllStand, nothing_owed}
+use Rattle.mux_starts.specs.mux_tables.specs.Documents.{AllStand, nothing_owed}
 use Rattle.mux_entries.proofs.EditorRows.{done_quietly, drained_entry}
 use Rattle.mux_entries.proofs.entry.follow.Goals as goal
 

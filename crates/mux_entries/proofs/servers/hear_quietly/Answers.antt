@@ -6,8 +6,8 @@ use Rattle.event_model.proofs.Places.{item_at}
 use Rattle.event_model.proofs.Turns.{does_alike, does_nothing}
 use Rattle.group_rows.specs.Rows.{row_of}
 use Rattle.mux_history.specs.declared.cause.Cause.TheVariants.{FromServer}
-use Rattle.mux_tables.specs.Documents.{AllStand, nothing_owed}
-use Rattle.mux_tables.specs.Stands.{is_early}
+use Rattle.mux_starts.specs.mux_tables.specs.Documents.{AllStand, nothing_owed}
+use Rattle.mux_starts.specs.mux_tables.specs.Stands.{is_early}
 use Rattle.mux_starts.proofs.Parking.{unasked, unasked_keeps}
 use Rattle.mux_editors.proofs.Turns.{whole_entry}
 use Rattle.mux_entries.proofs.Said.{runs_late, stage_here}

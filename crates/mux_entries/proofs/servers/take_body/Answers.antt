@@ -7,7 +7,7 @@ use Rattle.mux_history.specs.declared.cause.Cause.TheVariants.{FromServer}
 use Rattle.rpc_message.specs.Message.{message_of}
 use Rattle.rpc_message.specs.Parsed.{IsRead}
 use Rattle.rpc_message.specs.Sorts.{Refuses}
-use Rattle.mux_tables.specs.Documents.{AllStand, nothing_owed}
+use Rattle.mux_starts.specs.mux_tables.specs.Documents.{AllStand, nothing_owed}
 use Rattle.mux_entries.proofs.servers.take_body.Goals as goal
 
 pub returns-in_ok-take_message-in-Ok-clause-does : goal.returns-in_ok-take_message-in-Ok-clause-does

@@ -3,11 +3,11 @@ use Rattle.std.proofs.Common.{◌≡◌, ap, sym, ◌∙◌}
 use Rattle.event_model.proofs.Turns.{alike}
 use Rattle.lsp_method.specs.Class.{class_of}
 use Rattle.lsp_method.specs.declared.variants.Origin.TheVariants.{Server}
-use Rattle.group_facts.specs.Built.{built_asking}
+use Rattle.mux_starts.specs.group_facts.specs.Built.{built_asking}
 use Rattle.group_rows.specs.AskRows.{asking_row}
 use Rattle.group_rows.specs.Asks.{goes_to_one, may_wait}
 use Rattle.group_rows.specs.Live.{changes_live}
-use Rattle.mux_tables.specs.Documents.{AllStand}
+use Rattle.mux_starts.specs.mux_tables.specs.Documents.{AllStand}
 use Rattle.mux_entries.proofs.EditorRows.{done_alike}
 use Rattle.mux_entries.proofs.Questions.{unbuilt_class}
 use Rattle.mux_entries.proofs.servers.take_class.Goals as goal

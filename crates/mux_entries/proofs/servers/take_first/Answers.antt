@@ -3,7 +3,7 @@ use Rattle.std.proofs.Common.{sym, ◌∙◌}
 use Rattle.event_model.specs.Stages.{life_of}
 use Rattle.event_model.proofs.Places.{item_at}
 use Rattle.rpc_message.specs.Message.{message_of}
-use Rattle.mux_tables.specs.Documents.{AllStand}
+use Rattle.mux_starts.specs.mux_tables.specs.Documents.{AllStand}
 use Rattle.mux_entries.proofs.EditorRows.{done_alike}
 use Rattle.mux_entries.proofs.Said.{asking, first_entry, refused_here, stage_here}
 use Rattle.mux_entries.proofs.servers.take_first.Goals as goal

@@ -4,7 +4,7 @@ use Rattle.std.specs.Prelude.{Some}
 use Rattle.event_model.specs.Stages.{life_of}
 use Rattle.event_model.proofs.Places.{item_at}
 use Rattle.rpc_message.specs.Message.{message_of}
-use Rattle.mux_tables.specs.Documents.{AllStand}
+use Rattle.mux_starts.specs.mux_tables.specs.Documents.{AllStand}
 use Rattle.mux_entries.proofs.EditorRows.{asks_by_sort, done_alike, done_quietly, not_request}
 use Rattle.mux_entries.proofs.Questions.{no_request}
 use Rattle.mux_entries.proofs.Said.{hasty_here, other_row, stage_here}

@@ -6,11 +6,11 @@ use Rattle.lsp_method.specs.Class.{class_of}
 use Rattle.lsp_method.specs.declared.variants.Origin.TheVariants.{Server}
 use Rattle.rpc_message.specs.ValueTexts.{IsIdText}
 use Rattle.rpc_message.proofs.Ids.{request_id_bytes}
-use Rattle.group_facts.specs.Built.{built_asking}
+use Rattle.mux_starts.specs.group_facts.specs.Built.{built_asking}
 use Rattle.group_rows.specs.Asks.{asking_of, is_taken}
-use Rattle.mux_tables.specs.Documents.{AllStand}
-use Rattle.mux_tables.proofs.Homes.{group_seen}
-use Rattle.mux_tables.proofs.Starts.{start_at_place}
+use Rattle.mux_starts.specs.mux_tables.specs.Documents.{AllStand}
+use Rattle.mux_starts.specs.mux_tables.proofs.Homes.{group_seen}
+use Rattle.mux_starts.specs.mux_tables.proofs.Starts.{start_at_place}
 use Rattle.mux_editors.proofs.Turns.{is_first, is_second}
 use Rattle.mux_entries.proofs.EditorRows.{done_alike, done_quietly}
 use Rattle.mux_entries.proofs.Questions.{built_else, question_there}

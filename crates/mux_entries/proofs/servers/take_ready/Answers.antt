@@ -3,7 +3,7 @@ use Rattle.std.proofs.Common.{ap, sym, ◌∙◌}
 use Rattle.std.specs.Prelude.{Some}
 use Rattle.event_model.proofs.Places.{item_at}
 use Rattle.rpc_message.specs.Message.{message_of, notification, request}
-use Rattle.mux_tables.specs.Documents.{AllStand}
+use Rattle.mux_starts.specs.mux_tables.specs.Documents.{AllStand}
 use Rattle.mux_entries.proofs.EditorRows.{asks_by_sort, done_alike, notes_by_sort, unasking, unnoting}
 use Rattle.mux_entries.proofs.Said.{answer_here, asked, stage_here}
 use Rattle.mux_entries.proofs.Questions.{asks_here, built_here, no_request}

@@ -1,7 +1,7 @@
 use Rattle.std.proofs.Common.{◌≡◌, List, take}
 use Rattle.event_model.specs.Event.{Event, behind}
 use Rattle.event_model.specs.Settings.{Settings}
-use Rattle.mux_tables.specs.Stands.{Stands}
+use Rattle.mux_causes.specs.mux_tables.specs.Stands.{Stands}
 use Rattle.mux_hub.specs.Starts.{servers_of}
 use Rattle.mux_hub.proofs.starts.note_spawns.Given as goal
 

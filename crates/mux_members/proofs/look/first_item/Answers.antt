@@ -1,7 +1,7 @@
 use Rattle.std.proofs.Common.{sym, ◌∙◌, subst}
 use Rattle.mux_members.specs.Finds.{Rest}
 use Rattle.mux_members.proofs.Walks.{array_listed, other_listed, rest_none}
-use Rattle.event_model.specs.Members.{listed}
+use Rattle.mux_model.specs.event_model.specs.Members.{listed}
 use Rattle.mux_members.proofs.look.first_item.Goals as goal
 
 pub returns-then-is_array-clause-rest : goal.returns-then-is_array-clause-rest

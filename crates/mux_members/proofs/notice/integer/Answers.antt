@@ -3,7 +3,7 @@ use Rattle.std.specs.Option.{option_and_then}
 use Rattle.mux_model.specs.Sayings.{integer_text}
 use Rattle.json_text.specs.Json.{Json}
 use Rattle.json_nodes.specs.At.{Found}
-use Rattle.event_model.specs.Members.{named_of}
+use Rattle.mux_model.specs.event_model.specs.Members.{named_of}
 use Rattle.mux_members.proofs.Notices.{integer_digits, member_same}
 use Rattle.mux_members.proofs.notice.integer.Goals as goal
 

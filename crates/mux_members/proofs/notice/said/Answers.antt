@@ -1,5 +1,5 @@
 use Rattle.std.proofs.Common.{IfOk, codes, refl, sym, ◌∙◌, subst}
-use Rattle.event_model.specs.Members.{named_of}
+use Rattle.mux_model.specs.event_model.specs.Members.{named_of}
 use Rattle.mux_members.specs.Notices.{Says}
 use Rattle.mux_members.specs.declared.notice.Notice.TheVariants.{Nothing}
 use Rattle.mux_members.proofs.Notices.{said_open, said_change, said_close, said_other}

@@ -1,7 +1,7 @@
 use Rattle.std.proofs.Common.{Option, sym, ◌∙◌}
 use Rattle.json_text.specs.Json.{Json}
 use Rattle.json_nodes.specs.At.{Found}
-use Rattle.event_model.specs.Members.{named_of}
+use Rattle.mux_model.specs.event_model.specs.Members.{named_of}
 use Rattle.mux_members.proofs.Notices.{text_utf8}
 use Rattle.mux_members.proofs.notice.string.Goals as goal
 

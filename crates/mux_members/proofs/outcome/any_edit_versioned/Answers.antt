@@ -1,5 +1,5 @@
 use Rattle.std.proofs.Common.{◌≡◌, ◌∙◌, true, false, refl, sym, Some, codes}
-use Rattle.event_model.specs.Members.{named_of, has_versions}
+use Rattle.mux_model.specs.event_model.specs.Members.{named_of, has_versions}
 use Rattle.json_text.specs.Named.{named_in}
 use Rattle.mux_members.specs.Results.{any_edit_versioned}
 use Rattle.mux_members.proofs.Results.{any_here, any_on}

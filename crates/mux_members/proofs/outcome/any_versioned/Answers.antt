@@ -1,5 +1,5 @@
 use Rattle.std.proofs.Common.{◌≡◌, ◌∙◌, true, false, refl, sym, Some, codes}
-use Rattle.event_model.specs.Members.{named_of, is_versioned_edit}
+use Rattle.mux_model.specs.event_model.specs.Members.{named_of, is_versioned_edit}
 use Rattle.mux_members.specs.Results.{any_versioned}
 use Rattle.mux_members.proofs.Results.{any_here, any_on}
 use Rattle.mux_members.proofs.Walks.{walking_on, walking_here, walking_ends}

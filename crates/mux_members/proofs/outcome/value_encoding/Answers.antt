@@ -1,7 +1,7 @@
 use Rattle.std.proofs.Common.{refl, sym, ◌∙◌, codes}
 use Rattle.json_nodes.specs.At.{Found}
 use Rattle.position_codec.specs.declared.Encoding.TheVariants.{Utf16, Utf32}
-use Rattle.event_model.specs.Members.{named_of}
+use Rattle.mux_model.specs.event_model.specs.Members.{named_of}
 use Rattle.mux_members.proofs.Encodings.{by_name, name_in, name_other, name_utf32, named_other, named_utf8, no_name}
 use Rattle.mux_members.proofs.outcome.value_encoding.Goals as goal
 

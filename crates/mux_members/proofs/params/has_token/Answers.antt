@@ -1,5 +1,5 @@
 use Rattle.std.proofs.Common.{◌∙◌, sym, ap, codes, refl}
-use Rattle.event_model.specs.Members.{has_token, is_token, named_of}
+use Rattle.mux_model.specs.event_model.specs.Members.{has_token, is_token, named_of}
 use Rattle.rpc_message.specs.Parsed.{FoundBare}
 use Rattle.rpc_message.specs.Message.{message_of}
 use Rattle.mux_members.proofs.Bared.{params_token, either_first, either_second}

@@ -3,8 +3,8 @@ use Rattle.std.proofs.Common.{ap, sym, ◌∙◌}
 use Rattle.std.specs.Prelude.{Some, option_map, slice_get}
 use Rattle.rpc_message.specs.Message.{id_bytes}
 use Rattle.rpc_message.specs.Texts.{ok_text}
-use Rattle.group_facts.specs.Settled.{AreUtf8}
-use Rattle.group_facts.proofs.Forwards.{get_all}
+use Rattle.mux_turns.specs.group_facts.specs.Settled.{AreUtf8}
+use Rattle.mux_turns.specs.group_facts.proofs.Forwards.{get_all}
 use Rattle.group_words.specs.declared.kept.Kept.{Kept}
 use Rattle.group_words.specs.Houses.{groups_of}
 use Rattle.group_words.specs.Rows.{folders_text}

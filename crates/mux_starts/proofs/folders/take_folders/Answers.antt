@@ -8,8 +8,8 @@ use Rattle.event_model.specs.Event.{behind, with_cause}
 use Rattle.event_model.specs.Row.{nothing, on, send}
 use Rattle.event_model.specs.Stages.{is_first_result}
 use Rattle.event_model.proofs.Turns.{alike, does_alike, does_nothing}
-use Rattle.group_facts.specs.Facts.{IsWritten}
-use Rattle.group_facts.proofs.Forwards.{get_all}
+use Rattle.mux_turns.specs.group_facts.specs.Facts.{IsWritten}
+use Rattle.mux_turns.specs.group_facts.proofs.Forwards.{get_all}
 use Rattle.group_rows.specs.AskRows.{folders_row}
 use Rattle.group_rows.specs.Asks.{asking_of}
 use Rattle.group_words.specs.declared.kept.Kept.{Kept}

@@ -9,7 +9,7 @@ use Rattle.group_rows.specs.Asks.{goes_to_one, may_wait}
 use Rattle.group_rows.specs.Live.{live_of, unregister_text}
 use Rattle.group_rows.specs.LiveRows.{call, unregister_row}
 use Rattle.group_rows.proofs.LiveTexts.{again_written, live_written}
-use Rattle.registrations.specs.Items.{again}
+use Rattle.group_rows.specs.registrations.specs.Items.{again}
 use Rattle.mux_tables.specs.Documents.{AllStand, nothing_owed}
 use Rattle.mux_tables.proofs.Starts.{start_at_place}
 use Rattle.mux_turns.proofs.Called.{unregister_call}

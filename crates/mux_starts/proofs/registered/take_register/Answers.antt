@@ -11,7 +11,7 @@ use Rattle.group_rows.specs.Live.{live_of}
 use Rattle.group_rows.specs.LiveRows.{register_row, registering}
 use Rattle.group_rows.proofs.LiveTexts.{again_written, live_written, registered_written}
 use Rattle.group_words.specs.Houses.{is_first_error}
-use Rattle.registrations.specs.Items.{again}
+use Rattle.group_rows.specs.registrations.specs.Items.{again}
 use Rattle.rpc_message.specs.Message.{message_of}
 use Rattle.mux_tables.specs.Documents.{AllStand, nothing_owed}
 use Rattle.mux_tables.proofs.Registering.{unregistered_live}

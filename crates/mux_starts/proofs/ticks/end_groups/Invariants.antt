@@ -4,7 +4,7 @@ use Rattle.event_model.specs.Does.{Does}
 use Rattle.event_model.specs.Event.{Event, behind}
 use Rattle.event_model.specs.Row.{each}
 use Rattle.event_model.specs.Settings.{Settings}
-use Rattle.group_facts.specs.Facts.{Numbered}
+use Rattle.mux_turns.specs.group_facts.specs.Facts.{Numbered}
 use Rattle.group_words.specs.Rows.{end_group}
 use Rattle.mux_tables.specs.Documents.{AllStand, nothing_owed}
 use Rattle.mux_starts.proofs.ticks.end_groups.Given as goal

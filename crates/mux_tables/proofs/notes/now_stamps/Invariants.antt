@@ -1,6 +1,6 @@
 use Rattle.std.proofs.Common.{◌≡◌, ℕ, List, ◌++◌, length, map}
 use Rattle.focus_switch.specs.declared.version.DocumentVersion.{DocumentVersion}
-use Rattle.response_route.specs.Versions.{stamp_of}
+use Rattle.id_rewrite.specs.response_route.specs.Versions.{stamp_of}
 use Rattle.mux_tables.specs.Notes.{now_version, stamp_in}
 use Rattle.mux_tables.proofs.notes.now_stamps.Given as goal
 

@@ -1,6 +1,6 @@
 use Rattle.std.proofs.Common.{◌≡◌, ℕ, List, ◌++◌, length}
 use Rattle.focus_switch.specs.declared.version.DocumentVersion.{DocumentVersion}
-use Rattle.response_route.specs.Versions.{stamp_of}
+use Rattle.id_rewrite.specs.response_route.specs.Versions.{stamp_of}
 use Rattle.mux_tables.specs.Notes.{stamp_in}
 use Rattle.mux_tables.proofs.notes.stamps.Given as goal
 

@@ -4,7 +4,7 @@ use Rattle.mux_history.specs.declared.out.Out.TheVariants.{ToEditor}
 use Rattle.event_model.specs.Does.{Does}
 use Rattle.event_model.specs.Event.{behind}
 use Rattle.event_model.specs.Row.{send}
-use Rattle.group_rows.specs.Live.{unregister_text}
+use Rattle.group_facts.specs.group_rows.specs.Live.{unregister_text}
 use Rattle.mux_tables.specs.Documents.{AllStand}
 use Rattle.mux_tables.proofs.DocumentOwed.{all_does}
 use Rattle.mux_tables.proofs.Numbering.{none_numbered, one_numbered}

@@ -1,7 +1,7 @@
 -- An editor is told of what is taken back, where there is any.
 use Rattle.std.proofs.Common.{refl}
 use Rattle.event_model.proofs.Turns.{does_nothing}
-use Rattle.group_rows.specs.LiveRows.{has_some}
+use Rattle.group_facts.specs.group_rows.specs.LiveRows.{has_some}
 use Rattle.mux_turns.proofs.Called.{none_there, some_there}
 use Rattle.mux_turns.proofs.Keeping.{chosen, unchosen}
 use Rattle.mux_turns.proofs.calls.call_unregistered_any.Goals as goal

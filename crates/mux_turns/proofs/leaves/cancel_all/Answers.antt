@@ -2,9 +2,9 @@
 use Rattle.std.proofs.Common.{ap, ◌∙◌, arith, codes, refl, get_or}
 use Rattle.std.specs.Prelude.{Some, slice_get}
 use Rattle.event_model.proofs.Turns.{does_next, does_whole}
-use Rattle.group_rows.specs.Leaves.{cancel, cancel_text}
+use Rattle.group_facts.specs.group_rows.specs.Leaves.{cancel, cancel_text}
 use Rattle.rpc_message.specs.Message.{message_of}
-use Rattle.group_rows.proofs.Cancels.{cancel_says, params_tree}
+use Rattle.group_facts.specs.group_rows.proofs.Cancels.{cancel_says, params_tree}
 use Rattle.mux_turns.proofs.Cancels.{cancel_said}
 use Rattle.mux_turns.proofs.leaves.cancel_all.Goals as goal
 

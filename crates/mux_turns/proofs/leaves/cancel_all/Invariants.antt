@@ -5,7 +5,7 @@ use Rattle.event_model.specs.Does.{Does}
 use Rattle.event_model.specs.Event.{Event, behind}
 use Rattle.event_model.specs.Row.{each}
 use Rattle.event_model.specs.Settings.{Settings}
-use Rattle.group_rows.specs.Leaves.{cancel}
+use Rattle.group_facts.specs.group_rows.specs.Leaves.{cancel}
 use Rattle.mux_tables.specs.Documents.{DocumentsStand, Owed}
 use Rattle.mux_tables.specs.Refusals.{asks_in}
 use Rattle.mux_tables.specs.Stands.{Stands, house_in, number_in, stage_in}

@@ -4,7 +4,7 @@ use Rattle.event_model.specs.Does.{Does}
 use Rattle.event_model.specs.Row.{each}
 use Rattle.event_model.proofs.Places.{item_at}
 use Rattle.event_model.proofs.Turns.{does_alike, does_then}
-use Rattle.group_rows.specs.Leaves.{cancel}
+use Rattle.group_facts.specs.group_rows.specs.Leaves.{cancel}
 use Rattle.mux_tables.specs.Stands.{Stands, number_in}
 use Rattle.mux_turns.proofs.Departing.{mapped_on}
 use Rattle.mux_turns.proofs.Stays.{refuses_as, stays}

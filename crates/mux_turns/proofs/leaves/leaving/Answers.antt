@@ -6,7 +6,7 @@ use Rattle.mux_tables.proofs.Homes.{group_seen}
 use Rattle.mux_tables.proofs.Starts.{start_there}
 use Rattle.mux_tables.specs.Stands.{number_in, of_asks}
 use Rattle.mux_tables.proofs.Refusing.{ready_asks}
-use Rattle.group_rows.specs.Asks.{asks_of}
+use Rattle.group_facts.specs.group_rows.specs.Asks.{asks_of}
 use Rattle.mux_turns.proofs.Departing.{mapped_on}
 use Rattle.mux_turns.proofs.Stays.{kept_stage}
 use Rattle.mux_turns.proofs.Ready.{is_that_ready}

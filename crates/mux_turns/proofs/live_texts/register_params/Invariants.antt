@@ -1,6 +1,6 @@
 -- What is written, and what is left to write.
 use Rattle.std.proofs.Common.{codes}
-use Rattle.registrations.specs.declared.registration.Registration.{Registration}
+use Rattle.group_facts.specs.registrations.specs.declared.registration.Registration.{Registration}
 use Rattle.mux_turns.proofs.LiveTexts.{Left}
 use Rattle.mux_turns.proofs.live_texts.register_params.Given as goal
 

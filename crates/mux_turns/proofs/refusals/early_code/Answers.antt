@@ -1,7 +1,7 @@
 -- The code for a request that comes too early.
 use Rattle.std.proofs.Common.{ap, codes, if◌then◌else◌, sym, ◌∙◌}
 use Rattle.event_model.specs.Event.{requests}
-use Rattle.group_rows.specs.Rows.{wrong_code}
+use Rattle.group_facts.specs.group_rows.specs.Rows.{wrong_code}
 use Rattle.rpc_message.specs.Texts.{invalid_request, server_not_initialized}
 use Rattle.mux_turns.proofs.refusals.early_code.Goals as goal
 

@@ -1,7 +1,7 @@
 -- A request comes too early.
 use Rattle.std.proofs.Common.{subst}
 use Rattle.event_model.specs.Does.{Does}
-use Rattle.group_rows.specs.Rows.{answer_error}
+use Rattle.group_facts.specs.group_rows.specs.Rows.{answer_error}
 use Rattle.mux_tables.specs.Stands.{Stands}
 use Rattle.mux_turns.proofs.refusals.refuse_early.Goals as goal
 

@@ -4,7 +4,7 @@ use Rattle.std.specs.Prelude.{None}
 use Rattle.rpc_message.specs.Message.{message_of}
 use Rattle.rpc_message.specs.Texts.{error_text, error_tree}
 use Rattle.event_model.specs.Event.{behind}
-use Rattle.mux_model.specs.Rows.{malformed_code, malformed_text}
+use Rattle.group_facts.specs.mux_model.specs.Rows.{malformed_code, malformed_text}
 use Rattle.mux_turns.proofs.Keeping.{chosen, keeps_error, malformed_says, told_as}
 use Rattle.mux_turns.proofs.refusals.reject.Goals as goal
 

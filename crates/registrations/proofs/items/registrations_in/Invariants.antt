@@ -1,5 +1,5 @@
 use Rattle.std.proofs.Common.{length}
-use Rattle.json_nodes.proofs.Members.{left}
+use Rattle.mux_members.specs.json_nodes.proofs.Members.{left}
 use Rattle.registrations.proofs.Gathering.{Gathering}
 use Rattle.registrations.proofs.items.registrations_in.Given as goal
 

@@ -2,8 +2,8 @@ use Rattle.std.proofs.Common.{Option, Some, List, ℕ, ◌∙◌, sym, ap, subst
 use Rattle.std.specs.Option.{option_and_then}
 use Rattle.std.proofs.lemmas.Result.{IfOk-weaker}
 use Rattle.json_text.specs.Json.{Json}
-use Rattle.json_nodes.specs.At.{Found}
-use Rattle.json_nodes.specs.Doc.{Doc, Holds}
+use Rattle.mux_members.specs.json_nodes.specs.At.{Found}
+use Rattle.mux_members.specs.json_nodes.specs.Doc.{Doc, Holds}
 use Rattle.mux_members.specs.Members.{named_of}
 use Rattle.mux_members.proofs.Roots.{read_params}
 use Rattle.registrations.specs.Items.{if_distinct, registrations_at}

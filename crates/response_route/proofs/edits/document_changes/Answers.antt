@@ -2,7 +2,7 @@ use Rattle.std.proofs.Common.{Some, ap, codes, sym, subst, ◌∙◌}
 use Rattle.std.specs.Option.{option_and_then}
 use Rattle.std.specs.Str.{chars}
 use Rattle.json_text.specs.Named.{named_in}
-use Rattle.doc_text.specs.Changes.{string_text}
+use Rattle.document_model.specs.doc_text.specs.Changes.{string_text}
 use Rattle.document_model.specs.Notices.{integer_text}
 use Rattle.response_route.specs.Edits.{renamed}
 use Rattle.response_route.specs.Reading.{Gives}

@@ -1,6 +1,6 @@
 use Rattle.std.proofs.Common.{true, refl, sym}
-use Rattle.json_nodes.specs.Values.{doc_of}
-use Rattle.json_nodes.specs.Doc.{Doc}
+use Rattle.json_span.specs.json_nodes.specs.Values.{doc_of}
+use Rattle.json_span.specs.json_nodes.specs.Doc.{Doc}
 use Rattle.rpc_message.proofs.Enveloped.{told_called, told_answered, made_called, made_answered}
 use Rattle.rpc_message.proofs.envelope.by_members.Goals as goal
 

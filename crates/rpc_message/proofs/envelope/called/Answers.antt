@@ -1,7 +1,7 @@
 use Rattle.std.proofs.Common.{sym, ◌∙◌, Some, subst}
-use Rattle.json_nodes.specs.Values.{doc_of}
-use Rattle.json_nodes.specs.At.{Found}
-use Rattle.json_nodes.specs.Doc.{Doc}
+use Rattle.json_span.specs.json_nodes.specs.Values.{doc_of}
+use Rattle.json_span.specs.json_nodes.specs.At.{Found}
+use Rattle.json_span.specs.json_nodes.specs.Doc.{Doc}
 use Rattle.rpc_message.proofs.Enveloped.{method_no_text, no_params, is_request, is_notification}
 use Rattle.rpc_message.proofs.envelope.called.Goals as goal
 use Rattle.rpc_message.proofs.envelope.called.Goals.{then-not-is_string_value-via-then-not-is_string_value, then-not-is_string_value-via-else-not-is_string_value+then-not-are_params}

@@ -1,8 +1,8 @@
 use Rattle.std.proofs.Common.{codes}
 use Rattle.std.specs.Str.{chars}
 use Rattle.json_text.specs.Named.{named_in}
-use Rattle.json_nodes.specs.Values.{doc_of}
-use Rattle.json_nodes.specs.Doc.{Doc}
+use Rattle.json_span.specs.json_nodes.specs.Values.{doc_of}
+use Rattle.json_span.specs.json_nodes.specs.Doc.{Doc}
 use Rattle.rpc_message.proofs.Enveloped.{both_tests, first_fails, not_enveloped}
 use Rattle.rpc_message.proofs.envelope.is_enveloped.Goals as goal
 

@@ -1,6 +1,6 @@
-use Rattle.json_nodes.specs.Values.{doc_of}
-use Rattle.json_nodes.specs.At.{Found}
-use Rattle.json_nodes.specs.Doc.{Doc}
+use Rattle.json_span.specs.json_nodes.specs.Values.{doc_of}
+use Rattle.json_span.specs.json_nodes.specs.At.{Found}
+use Rattle.json_span.specs.json_nodes.specs.Doc.{Doc}
 use Rattle.std.proofs.Common.{subst}
 use Rattle.rpc_message.proofs.KindTests.{text_two}
 use Rattle.rpc_message.proofs.envelope.is_two.Goals as goal

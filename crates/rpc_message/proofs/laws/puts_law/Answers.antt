@@ -1,4 +1,4 @@
-use Rattle.json_nodes.proofs.PutBare.{flat_put}
+use Rattle.json_span.specs.json_nodes.proofs.PutBare.{flat_put}
 use Rattle.rpc_message.proofs.PutLaws.{request_puts, result_puts, notification_puts, puts_rise}
 use Rattle.rpc_message.proofs.laws.puts_law.Goals as goal
 

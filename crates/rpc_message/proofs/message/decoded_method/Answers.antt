@@ -1,5 +1,5 @@
-use Rattle.json_nodes.specs.Values.{doc_of}
-use Rattle.json_nodes.specs.Doc.{Doc}
+use Rattle.json_span.specs.json_nodes.specs.Values.{doc_of}
+use Rattle.json_span.specs.json_nodes.specs.Doc.{Doc}
 use Rattle.rpc_message.proofs.Reading.{method_inside, method_named}
 use Rattle.rpc_message.proofs.message.decoded_method.Goals as goal
 

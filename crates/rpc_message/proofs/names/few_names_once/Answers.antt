@@ -1,8 +1,8 @@
 use Rattle.std.proofs.Common.{refl, ap, not}
 use Rattle.json_text.specs.Json.{object}
-use Rattle.json_nodes.specs.Values.{doc_of}
-use Rattle.json_nodes.specs.Doc.{Doc}
-use Rattle.json_nodes.proofs.Sames.{walk_on, walk_fails, walk_holds}
+use Rattle.json_span.specs.json_nodes.specs.Values.{doc_of}
+use Rattle.json_span.specs.json_nodes.specs.Doc.{Doc}
+use Rattle.json_span.specs.json_nodes.proofs.Sames.{walk_on, walk_fails, walk_holds}
 use Rattle.rpc_message.specs.Message.{no_name_twice}
 use Rattle.rpc_message.proofs.Enveloped.{once_first, once_by}
 use Rattle.rpc_message.proofs.names.few_names_once.Goals as goal

@@ -1,8 +1,8 @@
 use Rattle.std.proofs.Common.{length}
 use Rattle.rpc_message.specs.Message.{no_name_twice}
-use Rattle.json_nodes.specs.Values.{doc_of}
-use Rattle.json_nodes.proofs.Members.{left}
-use Rattle.json_nodes.proofs.Sames.{MembersWalk}
+use Rattle.json_span.specs.json_nodes.specs.Values.{doc_of}
+use Rattle.json_span.specs.json_nodes.proofs.Members.{left}
+use Rattle.json_span.specs.json_nodes.proofs.Sames.{MembersWalk}
 use Rattle.rpc_message.proofs.names.few_names_once.Given as goal
 
 abbrev pub invariant-loop-next : goal.invariant-loop-next

@@ -1,5 +1,5 @@
 use Rattle.std.proofs.Common.{length}
-use Rattle.json_nodes.proofs.Members.{Inside}
+use Rattle.json_span.specs.json_nodes.proofs.Members.{Inside}
 use Rattle.rpc_message.proofs.names.has_few.Given as goal
 
 abbrev pub invariant-loop : goal.invariant-loop

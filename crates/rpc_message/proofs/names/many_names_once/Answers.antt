@@ -1,5 +1,5 @@
-use Rattle.json_nodes.specs.Values.{doc_of}
-use Rattle.json_nodes.specs.Doc.{Doc}
+use Rattle.json_span.specs.json_nodes.specs.Values.{doc_of}
+use Rattle.json_span.specs.json_nodes.specs.Doc.{Doc}
 use Rattle.rpc_message.specs.Names.{has_name}
 use Rattle.rpc_message.proofs.NamesMet.{has_none, met_starts, met_fails, met_more, met_ends}
 use Rattle.rpc_message.proofs.names.many_names_once.Goals as goal

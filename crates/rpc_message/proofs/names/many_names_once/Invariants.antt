@@ -1,6 +1,6 @@
 use Rattle.std.proofs.Common.{length}
-use Rattle.json_nodes.specs.Values.{doc_of}
-use Rattle.json_nodes.proofs.Members.{left}
+use Rattle.json_span.specs.json_nodes.specs.Values.{doc_of}
+use Rattle.json_span.specs.json_nodes.proofs.Members.{left}
 use Rattle.rpc_message.specs.Names.{has_name}
 use Rattle.rpc_message.proofs.NamesMet.{Met}
 use Rattle.rpc_message.proofs.names.many_names_once.Given as goal

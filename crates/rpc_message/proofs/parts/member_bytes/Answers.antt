@@ -1,7 +1,7 @@
 use Rattle.std.proofs.Common.{◌∙◌}
 use Rattle.std.specs.Str.{chars}
-use Rattle.json_nodes.specs.Values.{doc_of}
-use Rattle.json_nodes.specs.Doc.{Doc}
+use Rattle.json_span.specs.json_nodes.specs.Values.{doc_of}
+use Rattle.json_span.specs.json_nodes.specs.Doc.{Doc}
 use Rattle.rpc_message.proofs.Standing.{member_part, no_member}
 use Rattle.rpc_message.proofs.parts.member_bytes.Goals as goal
 

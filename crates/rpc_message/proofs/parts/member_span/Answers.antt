@@ -1,6 +1,6 @@
 use Rattle.std.specs.Str.{chars}
-use Rattle.json_nodes.specs.Values.{doc_of}
-use Rattle.json_nodes.specs.Doc.{Doc}
+use Rattle.json_span.specs.json_nodes.specs.Values.{doc_of}
+use Rattle.json_span.specs.json_nodes.specs.Doc.{Doc}
 use Rattle.rpc_message.proofs.Standing.{placed, not_placed}
 use Rattle.rpc_message.proofs.parts.member_span.Goals as goal
 

@@ -1,8 +1,8 @@
 use Rattle.std.proofs.Common.{Some, None, sym, ◌∙◌, ap, subst, find, option_map}
 use Rattle.json_nodes.specs.At.{At}
 use Rattle.json_nodes.specs.Doc.{Doc}
-use Rattle.document_model.specs.Notices.{did_change}
-use Rattle.document_model.specs.Opens.{is_open_at}
+use Rattle.document_table.specs.document_model.specs.Notices.{did_change}
+use Rattle.document_table.specs.document_model.specs.Opens.{is_open_at}
 use Rattle.document_table.specs.Shown.{shown}
 use Rattle.focus_switch.specs.Documents.{Documents}
 use Rattle.focus_switch.specs.Noted.{FoundChange}

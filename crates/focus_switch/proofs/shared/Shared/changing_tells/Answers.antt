@@ -1,5 +1,5 @@
 use Rattle.std.proofs.Common.{◌∙◌, sym, ap, option_map}
-use Rattle.document_model.specs.Opens.{holder}
+use Rattle.document_table.specs.document_model.specs.Opens.{holder}
 use Rattle.document_table.specs.Shown.{shown}
 use Rattle.focus_switch.specs.Documents.{Documents, version_held}
 use Rattle.focus_switch.proofs.Changing.{change_told}

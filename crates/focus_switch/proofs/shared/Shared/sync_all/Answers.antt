@@ -1,6 +1,6 @@
 use Rattle.std.proofs.Common.{◌≡◌, ◌∙◌, ap, subst}
 use Rattle.std.specs.Prelude.{IfOk}
-use Rattle.document_model.specs.Orderly.{Once}
+use Rattle.document_table.specs.document_model.specs.Orderly.{Once}
 use Rattle.document_table.specs.Rows.{uris_of}
 use Rattle.document_table.specs.Shown.{all_bytes}
 use Rattle.focus_switch.specs.Documents.{Documents}

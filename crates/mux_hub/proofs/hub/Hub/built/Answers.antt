@@ -1,6 +1,6 @@
 use Rattle.std.proofs.Common.{◌≡◌, subst, false}
 use Rattle.std.specs.Prelude.{IfOk}
-use Rattle.group_facts.specs.Built.{built}
+use Rattle.group_sessions.specs.group_facts.specs.Built.{built}
 use Rattle.mux_hub.specs.Hubs.{HubView, HubStands}
 use Rattle.mux_hub.proofs.HubLaw.{built_answer}
 use Rattle.mux_hub.proofs.hub.Hub.built.Goals as goal

@@ -2,7 +2,7 @@
 use Rattle.std.proofs.Common.{◌≡◌, ◌+◌, [], ◌∷◌, ◌++◌, length, nat_lt, if◌then◌else◌, Some, None, ap, sym, subst, ◌∙◌, true, false}
 use Rattle.std.specs.Prelude.{IsTrue}
 use Rattle.std.proofs.lemmas.Result.{err_from_is_err_and}
-use Rattle.group_facts.specs.Built.{built}
+use Rattle.group_sessions.specs.group_facts.specs.Built.{built}
 use Rattle.mux_hub.specs.Entries.{emits, entry_of, most_events, passes}
 use Rattle.mux_hub.specs.Hubs.{HubView, HubStands}
 use Rattle.mux_hub.proofs.HubLaw.{append_says, few_says, many_says, stepped}

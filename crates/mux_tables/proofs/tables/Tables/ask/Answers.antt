@@ -19,7 +19,7 @@ pub returns-clause-does : goal.returns-clause-does
 returns-clause-does c = λ settings base s name method ps at says own sends works x here.
     let z = c.index_mut-last.result.now in
     let stamps = subst (λ xs. StampsAt c.in_ok-noted.noted (versions_of c.args.e) (slice_get xs c.args.g)) c.as_slice.ensures.value c.in_ok-noted.ensures in
-    asked_does settings c.args.self.now _ c.args.outs.now c.push.new.self c.in_ok-told.told base c.args.g s c.start.result c.args.e z c.keep.new.ids _ c.in_ok-noted.noted c.args.text c.args.id method name ps at c.requires.group c.index_mut-last.ensures.value
+    asked_does settings c.args.self.now _ c.args.outs.now c.push.new.self c.in_ok-told.told base c.args.g s c.start.result c.args.e z c.keep.new.ids _ c.in_ok-noted.noted c.args.text c.args.id c.args.work c.args.partial method name ps at c.requires.group c.index_mut-last.ensures.value
     (c.requires.ready z (read_here c.args.self.now.lasts.items c.args.g z c.requires.group c.index_mut-last.ensures.value)) says own sends works refl
     c.in_ok-keep.ensures.requests c.in_ok-keep.ensures.next c.in_ok-keep.ensures.limit c.in_ok-keep.ensures.order refl refl refl refl refl refl refl c.in_ok-told.ensures refl refl stamps c.start.ensures
     (c.in_ok-push.ensures.ok ∙ ap (λ ws. ws ++ ToServer c.start.result c.args.text ∷ []) c.in_ok-append.ensures.ok) x.life.group (ap (λ (w : Start). w.life.group) (read_same c.args.self.now.lasts.items c.args.g z x c.requires.group c.index_mut-last.ensures.value here))

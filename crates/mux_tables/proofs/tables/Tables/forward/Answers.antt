@@ -12,5 +12,5 @@ returns-clause-starts c = starts_stay c.args.self.now.lasts.items c.args.g c.ind
 
 pub returns-clause-does : goal.returns-clause-does
 returns-clause-does c = λ settings base s name method ps at says own sends.
-    forward_does settings c.args.self.now _ c.args.outs.now c.push.new.self base c.args.g s c.start.result c.args.e c.index_mut-last.result.now c.keep.new.ids _ c.args.text c.args.id method name ps at c.requires.group c.index_mut-last.ensures.value says own sends refl
+    forward_does settings c.args.self.now _ c.args.outs.now c.push.new.self base c.args.g s c.start.result c.args.e c.index_mut-last.result.now c.keep.new.ids _ c.args.text c.args.id c.args.work c.args.partial method name ps at c.requires.group c.index_mut-last.ensures.value says own sends refl
     c.in_ok-keep.ensures.requests c.in_ok-keep.ensures.next c.in_ok-keep.ensures.limit c.in_ok-keep.ensures.order refl refl refl refl refl refl c.start.ensures c.in_ok-push.ensures.ok

@@ -3,7 +3,7 @@ use Rattle.std.proofs.Common.{refl, ap, ◌∙◌}
 use Rattle.std.specs.Prelude.{Some, None, if◌then◌else◌}
 use Rattle.rpc_message.specs.Message.{message_of}
 use Rattle.event_model.specs.Stages.{is_initializing}
-use Rattle.registrations.specs.Items.{again, are_live}
+use Rattle.group_laws.specs.registrations.specs.Items.{again, are_live}
 use Rattle.mux_tables.proofs.DocumentHeard.{answer_documents_by}
 use Rattle.mux_tables.proofs.Parking.{not_spawning, request_no_result}
 use Rattle.mux_tables.proofs.Registered.{live_seen, unregister_by}

@@ -1,7 +1,7 @@
 use Rattle.std.proofs.Common.{◌≡◌, ◌∙◌, ap, ap₂, sym, subst}
 use Rattle.json_text.specs.Tree.{tree_of}
-use Rattle.json_nodes.specs.Doc.{Doc, Holds}
-use Rattle.json_nodes.specs.Values.{doc_of}
+use Rattle.json_span.specs.json_nodes.specs.Doc.{Doc, Holds}
+use Rattle.json_span.specs.json_nodes.specs.Values.{doc_of}
 use Rattle.rpc_message.specs.Message.{place_in}
 use Rattle.rpc_message.specs.Parsed.{Parsed}
 use Rattle.rpc_message.proofs.Standing.{id_chars}

@@ -1,5 +1,5 @@
 use Rattle.std.proofs.Common.{◌≡◌, ◌∙◌, ap, codes}
-use Rattle.json_nodes.specs.Values.{doc_of}
+use Rattle.json_span.specs.json_nodes.specs.Values.{doc_of}
 use Rattle.rpc_message.specs.Parsed.{Parsed}
 use Rattle.rpc_message.proofs.Reading.{read_bytes}
 use Rattle.rpc_message.proofs.Standing.{id_chars}

@@ -1,0 +1,6 @@
+pub use Rattle.group_facts
+pub use Rattle.group_rows
+pub use Rattle.session_laws
+pub use Rattle.group_facts
+pub use Rattle.group_rows
+pub use Rattle.session_laws
