@@ -1,19 +1,24 @@
 //! Sends bodies through the lanes of a small core, which gives each back, for `bench/lanes`. With the words `lanes PORTS COUNT` each of
 //! so many ports has one link that sends so many bodies, and the own link asks for a stop behind them; with `loop PORTS COUNT` one thread
-//! takes the same steps one after the other. It writes how many bytes the ports' links were written. Without words it sends three bodies to
-//! each of two ports.
+//! takes the same steps one after the other, and with `beside BERTHS COUNT` the lane of one port goes beside those of so many berths in which
+//! nothing is started. It writes how many bytes the ports' links were written. With `idle PORTS BERTHS` the ports'
+//! links say nothing until the standard input ends; it writes how many editors joined. Without words it sends three bodies to each of two
+//! ports.
 #![tactic(auto)]
 
+mod idle;
+
+use crate::idle::{berths, run_idle};
 use base_frame::{FrameReader, Next, frame};
 use lane_echo::Echo;
 use message_body::Body;
 use mux_daemon::{Answer, Lanes, serve_core};
 use mux_history::{Cause, Out, Steps};
 use mux_serve::LaneJob;
-use outside_io::{MemBerth, MemPort, MemSink, MemSource, SetClock, write_whole};
+use outside_io::{MemPort, MemSink, MemSource, SetClock, write_whole};
 use std::alloc::Global;
 use std::env;
-use std::io::Write;
+use std::io::{Stdin, Write};
 use std::process::ExitCode;
 use std::sync::Wait;
 use std::thread::Threads;
@@ -21,12 +26,14 @@ use std::thread::Threads;
 const HOVER: &[u8] = b"Content-Length: 5\r\n\r\nhover";
 
 // The limit of a content.
-const LIMIT: u32 = 1024;
+pub const LIMIT: u32 = 1024;
 
 #[derive(Clone, Copy)]
 enum Way {
     Lanes,
     Loop,
+    Beside,
+    Idle,
 }
 
 // What a link sends: so many frames.
@@ -48,7 +55,7 @@ fn port(alloc: Global, bytes: Vec<u8>) -> Option<LaneJob<MemPort>> {
 }
 
 // A link that asks the core to stop.
-fn own(alloc: Global) -> Option<LaneJob<MemPort>> {
+pub fn own(alloc: Global) -> Option<LaneJob<MemPort>> {
     port(alloc, b"Content-Length: 0\r\n\r\n".to_vec(alloc).ok()?)
 }
 
@@ -64,17 +71,17 @@ fn run_lanes<R: Threads + Wait + Sync>(
     rt: &R,
     alloc: Global,
     ports: u64,
+    starts: u64,
     count: u64,
 ) -> Option<u64> {
     let mut links = Vec::new(alloc);
     for _ in 0..ports {
         links.push(port(alloc, frames(alloc, count)?)?).ok()?;
     }
-    let berths: Vec<LaneJob<MemBerth>> = Vec::new(alloc);
     let lanes = Lanes {
         ports: links,
         own: own(alloc)?,
-        berths,
+        berths: berths(alloc, starts)?,
         clock: LaneJob::new(SetClock::new(Vec::new(alloc))),
     };
     let served = serve_core(rt, alloc, Echo::new(alloc), LIMIT, &[], lanes);
@@ -138,8 +145,19 @@ fn way_of(word: &str) -> Option<Way> {
     match word {
         "lanes" => Some(Way::Lanes),
         "loop" => Some(Way::Loop),
+        "beside" => Some(Way::Beside),
+        "idle" => Some(Way::Idle),
         _ => None,
     }
+}
+
+// So many handles on the standard input.
+fn inputs(rt: &HostRuntime, count: u64) -> Option<Vec<Stdin>> {
+    let mut all = Vec::new(rt.alloc());
+    for _ in 0..count {
+        all.push(rt.stdin()).ok()?;
+    }
+    Some(all)
 }
 
 // What the three words behind the program's name ask for.
@@ -154,13 +172,18 @@ fn asked(rt: &HostRuntime) -> Option<(Way, u64, u64)> {
 fn main(rt: HostRuntime) -> ExitCode {
     let (way, ports, count) = asked(&rt).unwrap_or((Way::Lanes, 2, 3));
     let ran = match way {
-        Way::Lanes => run_lanes(&rt, rt.alloc(), ports, count),
+        Way::Lanes => run_lanes(&rt, rt.alloc(), ports, 0, count),
+        Way::Beside => run_lanes(&rt, rt.alloc(), 1, ports, count),
         Way::Loop => run_loop(rt.alloc(), ports, count),
+        Way::Idle => match inputs(&rt, ports) {
+            Some(inputs) => run_idle(&rt, rt.alloc(), inputs, count),
+            None => None,
+        },
     };
-    let Some(bytes) = ran else {
+    let Some(number) = ran else {
         return ExitCode::from(1);
     };
-    match writeln!(rt.stdout(), "{bytes}") {
+    match writeln!(rt.stdout(), "{number}") {
         Ok(_) => ExitCode::SUCCESS,
         Err(_) => ExitCode::from(2),
     }

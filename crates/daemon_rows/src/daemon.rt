@@ -9,33 +9,33 @@ use std::sync::Wait;
 use std::test::Fail;
 use std::thread::Threads;
 
-const HOVER: &[u8] = b"Content-Length: 5\r\n\r\nhover";
+pub(crate) const HOVER: &[u8] = b"Content-Length: 5\r\n\r\nhover";
 
 // A body of one byte, which asks the core for a start.
-const START: &[u8] = b"Content-Length: 1\r\n\r\ns";
+pub(crate) const START: &[u8] = b"Content-Length: 1\r\n\r\ns";
 
-const STOP: &[u8] = b"Content-Length: 0\r\n\r\n";
+pub(crate) const STOP: &[u8] = b"Content-Length: 0\r\n\r\n";
 
 // How long a read waits for a meter.
-const TURNS: u64 = 100_000_000;
+pub(crate) const TURNS: u64 = 100_000_000;
 
-type Link = (MemSource, MemSink);
+pub(crate) type Link = (MemSource, MemSink);
 
 type Left = Served<Echo, MemPort, MemBerth, SetClock>;
 
-fn hold(holds: bool, what: &str) -> Result<(), Fail> {
+pub(crate) fn hold(holds: bool, what: &str) -> Result<(), Fail> {
     if holds { Ok(()) } else { Err(Fail::new(what)) }
 }
 
 // A peer that says these bytes.
-fn plain(alloc: Global, bytes: &[u8]) -> Result<Link, Fail> {
+pub(crate) fn plain(alloc: Global, bytes: &[u8]) -> Result<Link, Fail> {
     let source = MemSource::new(bytes.to_vec(alloc)?, Vec::new(alloc), None);
     Ok((source, MemSink::new(alloc, Vec::new(alloc), None)))
 }
 
 // A peer that says these bytes, with the read of this number only once the first meter shows so many bytes. What is written to
 // it raises the second.
-fn metered(
+pub(crate) fn metered(
     alloc: Global,
     bytes: &[u8],
     read: u64,
@@ -57,7 +57,7 @@ fn metered(
 }
 
 // These bytes so many times.
-fn times(alloc: Global, bytes: &[u8], count: usize) -> Result<Vec<u8>, Fail> {
+pub(crate) fn times(alloc: Global, bytes: &[u8], count: usize) -> Result<Vec<u8>, Fail> {
     let mut all = Vec::new(alloc);
     for _ in 0..count {
         all.extend_from_slice(bytes)?;
@@ -66,12 +66,12 @@ fn times(alloc: Global, bytes: &[u8], count: usize) -> Result<Vec<u8>, Fail> {
 }
 
 // The lane of a port of one link.
-fn port(alloc: Global, link: Link) -> Result<LaneJob<MemPort>, Fail> {
+pub(crate) fn port(alloc: Global, link: Link) -> Result<LaneJob<MemPort>, Fail> {
     Ok(LaneJob::new(MemPort::new(alloc, vec![in alloc; link]?)))
 }
 
 // The lane of a berth of one run.
-fn berth(alloc: Global, run: Link, fails: Vec<u64>) -> Result<LaneJob<MemBerth>, Fail> {
+pub(crate) fn berth(alloc: Global, run: Link, fails: Vec<u64>) -> Result<LaneJob<MemBerth>, Fail> {
     Ok(LaneJob::new(MemBerth::new(alloc, vec![in alloc; run]?, fails)))
 }
 
@@ -286,5 +286,30 @@ fn a_start_that_fails_makes_room(rt: HostRuntime) -> Result<(), Fail> {
     let berths = vec![in alloc; berth(alloc, run, vec![in alloc; 0u64]?)?]?;
     let left = serve_starts(&rt, alloc, 2, berths, &program, &own)?;
     ended(&left, Answer::PortsClosed, 2, &[0])?;
+    started(&left, HOVER.len())
+}
+
+// 32 editors and 16 starts, of which none goes before each was written what it said.
+#[test]
+fn editors_and_starts_are_there_at_once(rt: HostRuntime) -> Result<(), Fail> {
+    let alloc = rt.alloc();
+    let all = Meter::new(alloc)?;
+    let own = Meter::new(alloc)?;
+    let until = HOVER.len().saturating_mul(48);
+    let mut first = HOVER.to_vec(alloc)?;
+    first.extend_from_slice(times(alloc, START, 16)?.as_slice())?;
+    let mut ports = Vec::new(alloc);
+    for number in 0..32 {
+        let says = if number == 0 { first.as_slice() } else { HOVER };
+        ports.push(port(alloc, metered(alloc, says, 1, &all, until, &all)?)?)?;
+    }
+    let mut berths = Vec::new(alloc);
+    for _ in 0..16 {
+        let run = metered(alloc, HOVER, 1, &own, STOP.len(), &all)?;
+        berths.push(berth(alloc, run, Vec::new(alloc))?)?;
+    }
+    let stops = metered(alloc, STOP, 0, &all, until, &own)?;
+    let left = serve_with(&rt, alloc, ports, stops, berths)?;
+    ended(&left, Answer::PortsClosed, 33, &[HOVER.len(); 32])?;
     started(&left, HOVER.len())
 }

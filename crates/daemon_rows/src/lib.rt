@@ -3,3 +3,7 @@
 
 #[cfg(test)]
 mod daemon;
+#[cfg(test)]
+mod faults;
+#[cfg(test)]
+mod peers;

@@ -8,6 +8,7 @@ ghost use Rattle.lane_desk.specs.Stops.{Tells, WasDone, is_done};
 
 use crate::desk::{Counts, take_turn};
 use crate::seats::Seats;
+use crate::woken::Woken;
 use lane_lists::LaneName;
 use lane_queue::HubEnds;
 use mux_history::{StepFault, Steps};
@@ -82,8 +83,8 @@ impl<K: Steps + Drop, N: Naming> Model for Desk<K, N> {
 }
 
 impl<K: Steps + Drop, N: Naming> Desk<K, N> {
-    /// Takes one item of a lane, and does what it means.
-    pub fn take<R: Wait>(&mut self, rt: &R, lane: LaneName) -> Took
+    /// Takes one item of a lane, does what it means, and notes the lanes that are given orders.
+    pub fn take<R: Wait>(&mut self, rt: &R, lane: LaneName, woken: &mut Woken) -> Took
         ensures over { self.old.spent ≡ true → (result ≡ Took.Over) × (self.new ≡ self.old) }
         ensures spent { (result ≡ Took.Over) ↔ (self.new.spent ≡ true) }
         ensures done { (history : List Entry) → K.stands self.new.core history → result ≡ Took.Done → is_done K.stops history self.new.seats ≡ true }
@@ -101,6 +102,7 @@ impl<K: Steps + Drop, N: Naming> Desk<K, N> {
             &mut self.seats,
             &mut self.last,
             lane,
+            woken,
         );
         self.spent = turned.spent;
         self.why = turned.why;
@@ -203,18 +205,19 @@ impl<K: Steps + Drop, N: Naming> Deck<K, N> {
         })
     }
 
-    /// Takes one item of a lane, and does what it means.
-    pub fn turn<R: Wait>(&self, rt: &R, lane: LaneName) -> Took
+    /// Takes one item of a lane, does what it means, and notes the lanes that are given orders.
+    pub fn turn<R: Wait>(&self, rt: &R, lane: LaneName, woken: &mut Woken) -> Took
         ensures done { result ≡ Took.Done → WasDone K.stands K.stops N.editors N.servers }
     {
-        self.desk.lock(rt).take(rt, lane)
+        self.desk.lock(rt).take(rt, lane, woken)
     }
 
     /// Takes what it finds in a lane's queues. False says that the core goes on no more, or that a stop is done.
     pub fn pump<R: Wait>(&self, rt: &R, lane: LaneName) -> bool {
         let mut goes_on = false;
+        let mut woken = Woken::none();
         for _ in rt.forever() {
-            match self.turn(rt, lane) {
+            match self.turn(rt, lane, &mut woken) {
                 Took::Item => {}
                 Took::Nothing => {
                     goes_on = true;

@@ -13,6 +13,7 @@ ghost use Rattle.lane_lists.specs.Origins.{IsIn};
 use crate::given::Orders;
 use crate::kinds::{Kind, Mark, is_side, kind_of, mark_of};
 use crate::seats::Seats;
+use crate::woken::Woken;
 use lane_lists::{Item, LaneName, Meaning, Order};
 use lane_queue::HubEnds;
 use mux_history::{Cause, Outs, StepFault, Steps};
@@ -88,9 +89,15 @@ fn give<R: Wait>(
     }
 }
 
-// Pushes the orders, each at its lane, up to one that memory is wanted for.
+// Pushes the orders, each at its lane, up to one that memory is wanted for, and notes the lanes.
 #[tactic(auto, using(crate::proofs::Ends::deal_one, crate::proofs::Ends::deal_stop, crate::proofs::Ends::none_given))]
-fn deal<R: Wait>(rt: &R, counts: Counts, ends: &mut Vec<HubEnds>, orders: Orders) -> bool
+fn deal<R: Wait>(
+    rt: &R,
+    counts: Counts,
+    ends: &mut Vec<HubEnds>,
+    orders: Orders,
+    woken: &mut Woken,
+) -> bool
     requires counts { counts.editors + counts.servers < 2 ^ 63 }
     requires ends { length ends.old.items ≡ counts.editors + counts.servers + 1 }
     ensures { Pairwise (λ i. Dealt (name counts.editors counts.servers i) orders.items [] result) ends.old.items ends.new.items }
@@ -99,6 +106,7 @@ fn deal<R: Wait>(rt: &R, counts: Counts, ends: &mut Vec<HubEnds>, orders: Orders
         if !give(rt, counts, ends, lane, order) {
             return false;
         }
+        woken.note(lane);
     }
     true
 }
@@ -165,6 +173,7 @@ fn give_entry<R: Wait>(
     taken: Taken,
     kind: Kind,
     outs: Outs,
+    woken: &mut Woken,
 ) -> bool
     requires counts { counts.editors + counts.servers < 2 ^ 63 }
     requires ends { length ends.old.items ≡ counts.editors + counts.servers + 1 }
@@ -176,7 +185,7 @@ fn give_entry<R: Wait>(
     let Ok(orders) = seats.give(taken.lane, is_side(taken.mark), kind, outs) else {
         return false;
     };
-    deal(rt, counts, ends, orders)
+    deal(rt, counts, ends, orders, woken)
 }
 
 // Has the core take a cause, and gives what it orders.
@@ -188,6 +197,7 @@ fn act<K: Steps, R: Wait>(
     seats: &mut Seats,
     taken: Taken,
     cause: Cause,
+    woken: &mut Woken,
 ) -> Turned
     requires small { body_length cause ≤ 268435456 }
     requires counts { counts.editors + counts.servers < 2 ^ 63 }
@@ -210,7 +220,7 @@ fn act<K: Steps, R: Wait>(
         Ok(outs) => outs,
         Err(why) => return Turned::over(Some(why)),
     };
-    if give_entry(rt, counts, ends, seats, taken, kind, outs) {
+    if give_entry(rt, counts, ends, seats, taken, kind, outs, woken) {
         Turned::on()
     } else {
         Turned::over(None)
@@ -237,7 +247,7 @@ fn last_behind(counts: Counts, seats: &Seats, lane: LaneName, kind: Kind, last: 
     }
 }
 
-/// Takes one item of a lane, and does what it means. `last` says whether the last editor that joined is of the last lane, and
+/// Takes one item of a lane, does what it means, and notes the lanes that are given orders. `last` says whether the last editor that joined is of the last lane, and
 /// found no other there.
 pub fn take_turn<K: Steps, R: Wait>(
     rt: &R,
@@ -247,6 +257,7 @@ pub fn take_turn<K: Steps, R: Wait>(
     seats: &mut Seats,
     last: &mut bool,
     lane: LaneName,
+    woken: &mut Woken,
 ) -> Turned
     requires counts { counts.editors + counts.servers < 2 ^ 63 }
     requires ends { length ends.old.items ≡ counts.editors + counts.servers + 1 }
@@ -279,7 +290,16 @@ pub fn take_turn<K: Steps, R: Wait>(
         Meaning::Stray => Turned::over(None),
         Meaning::Means(cause) => {
             let is_last = last_behind(counts, seats, lane, kind_of(&cause), *last);
-            let turned = act(rt, counts, core, ends, seats, Taken { lane, mark }, cause);
+            let turned = act(
+                rt,
+                counts,
+                core,
+                ends,
+                seats,
+                Taken { lane, mark },
+                cause,
+                woken,
+            );
             *last = turned.took && is_last;
             turned
         }

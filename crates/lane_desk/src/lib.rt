@@ -8,7 +8,9 @@ mod kinds;
 mod meaning;
 mod seat;
 mod seats;
+mod woken;
 
 pub use deck::{Closed, Deck, Desk, Naming, Took};
 pub use seat::Seat;
 pub use seats::Seats;
+pub use woken::Woken;

@@ -1,5 +1,5 @@
 -- What each event of the history came of, by the sessions of the links and the starts of the berths.
-use Rattle.std.proofs.Common.{◌≡◌, ◌≢◌, ℕ, zero, suc, ◌<◌, ◌+◌, ◌==◌, ◌⊎◌, inl, inr, Bool, true, false, List, [], ◌∷◌, ◌++◌, length, map, slice_get, refl, ap, sym, ◌∙◌, subst, arith, append_assoc, append-nil, ⊎_elim}
+use Rattle.std.proofs.Common.{◌≡◌, ◌≢◌, ℕ, zero, suc, ◌<◌, ◌≤◌, ◌+◌, ◌==◌, ◌⊎◌, inl, inr, Bool, true, false, List, [], ◌∷◌, ◌++◌, length, map, slice_get, refl, ap, sym, ◌∙◌, subst, arith, append_assoc, append-nil, ⊎_elim}
 use Rattle.std.specs.Prelude.{Option, Some}
 use Rattle.outside_io.specs.Sessions.{Session}
 use Rattle.outside_io.specs.Told.{append_to, prepend_to}
@@ -10,25 +10,28 @@ use Rattle.mux_history.specs.declared.cause.Why.TheVariants as why
 use Rattle.lane_lists.specs.declared.item.LaneName.TheVariants as lane
 use Rattle.lane_lists.specs.declared.item.Order.{Order}
 use Rattle.lane_lists.specs.declared.item.Order.TheVariants as order
-use Rattle.lane_lists.specs.Deeds.{gather, sessions}
+use Rattle.lane_lists.specs.declared.item.Side.{Side}
+use Rattle.lane_lists.specs.declared.item.Side.TheVariants as side
+use Rattle.lane_lists.specs.Deeds.{Fair, gather, orders, sessions, sides}
+use Rattle.lane_lists.specs.Sides.{Answered, DrainedAnswered, FailedAnswered, answers, tagged}
 use Rattle.lane_lists.specs.Sessions.{chain}
 use Rattle.lane_lists.specs.History.{bodies_to, end_to}
 use Rattle.lane_lists.specs.StartHistory.{tried_by}
-use Rattle.lane_lists.specs.Origins.{SitsIn, TriedIn}
+use Rattle.lane_lists.specs.Origins.{AllIn, SitsIn, TriedIn}
 use Rattle.lane_lists.specs.StartOrders.{bodies_to_start, end_to_start}
 use Rattle.session_io.specs.declared.part.End.TheVariants as end
 use Rattle.session_io.specs.declared.read.Stop.{Stop}
 use Rattle.session_io.specs.declared.read.Stop.TheVariants as stop
 use Rattle.session_io.specs.Reads.{StoppedBy}
-use Rattle.mux_lanes.specs.Lanes.{Turn}
+use Rattle.mux_lanes.specs.Lanes.{Turn, all_rises}
 use Rattle.mux_lanes.specs.Runs.{IsRun, IsWholeRun, Run, order_of}
 use Rattle.mux_daemon.specs.declared.open.Lanes.{Lanes}
 use Rattle.mux_daemon.specs.declared.serve.Answer.{Answer}
 use Rattle.mux_daemon.specs.Served.{Story, history, is_end}
-use Rattle.mux_daemon.specs.Sessions.{PortSessions, WrittenAs}
+use Rattle.mux_daemon.specs.Sessions.{PortSessions, SaidIn, WrittenAs}
 use Rattle.mux_daemon.specs.Starts.{BerthStarts, StartFailedAs, StartRan}
 use Rattle.mux_daemon.specs.Events.{CameOf}
-use Rattle.mux_daemon.specs.Causes.{CameFrom, EditorCame, EventsOf, FailureCame, JoinedBy, ProgramCame, SourceOver, StartedBy, came_up, failed, of_own, of_port}
+use Rattle.mux_daemon.specs.Causes.{BodySaid, CameFrom, EditorCame, EventsOf, FailureCame, JoinedBy, ProgramCame, SourceOver, StartedBy, by_own, by_port, came_up, failed, of_own, of_port}
 use Rattle.mux_daemon.proofs.Places.{same_item}
 
 item_at : {X : Type 0} (xs : List X) (i : ℕ) → i < length xs → (x : X) × (slice_get xs i ≡ Some x)
@@ -89,6 +92,21 @@ module _ {P : Type 0} (limit : ℕ) (s : Story) (went : Bool) (i : ℕ) (back le
         bad_frame = λ gone. ⊎_elim (λ t. record { fed = read.fed; rest = t.0; read = read.read; splits = t.1.0; fault = t.2 }) (λ t. absurd (let none = t.0 in cc)) (read.ended why.BadFrame gone (λ h. absurd cc));
       }
 
+  -- what was said of a body, in the session of its editor
+  said_came : went ≡ true → (k e bytes : ℕ) (what : Side)
+      → slice_get (answers (sides s.editors s.servers (lane.Editor i) s.deeds) (tagged (sessions s.editors s.servers (lane.Editor i) s.deeds) (orders s.editors s.servers (lane.Editor i) s.deeds))) k ≡ Some ((e, bytes), what)
+      → (came : EditorCame limit (history s) went back left old new e) × SaidIn came.run bytes what
+  unfolding editor_came
+  said_came w k e bytes what at =
+      let t = f.said w k e bytes what at in
+      let r = f.served t.place e t.of in
+      (editor_came t.place e t.of, subst (λ run. SaidIn run bytes what) (same_item t.run r.0 (sym t.at ∙ r.1)) t.said)
+
+rises_at : (turns : List Turn) (k : ℕ) (turn : Turn) → slice_get turns k ≡ Some turn → turn.rises ≤ all_rises turns
+rises_at [] k turn at = absurd cc
+rises_at (t ∷ turns) zero turn at = let same = ap (λ (t : Turn). t.rises) (same_item t turn at) in omega (arith, same)
+rises_at (t ∷ turns) (suc k) turn at = let more = rises_at turns k turn at in omega (arith, more)
+
 abbrev ran_as : (A W : Type 0) (limit servers : ℕ) (history : List Entry) (start : ℕ) (turn : Turn) → (W → A) → StartRan A limit servers history start turn → StartRan W limit servers history start turn
 ran_as A W limit servers history start turn f r = record { run = r.run; is = r.is; is_run = r.is_run; whole = λ w. r.whole (f w); read = r.read; written = r.written }
 
@@ -131,7 +149,7 @@ module _ {B : Type 0} (limit : ℕ) (s : Story) (went : Bool) (i : ℕ) (runs le
   failure_came k x turn at did = record {
     turn = turn;
     did = failed_as (k < length f.turns) (went ≡ true) s.servers (history s) x turn (not_cut k turn at) did;
-    rose = f.rose k turn at (ap (λ (t : Turn). t.rises) did.is);
+    rose = (let one = ap (λ (t : Turn). t.rises) did.is in let least = rises_at (f.turns ++ f.last) k turn at in let by = f.rose in omega (arith, one, least, by));
   }
 
 module _ {P B C : Type 0} (links_back links : P → Option (List Session)) (runs left : B → Option (List Session)) (misses : B → ℕ) (given moments : C → Option (List ℕ)) (limit : ℕ) (s : Story) (x : Answer) (old new : Lanes P B C)
@@ -169,5 +187,28 @@ module _ {P B C : Type 0} (links_back links : P → Option (List Session)) (runs
       (λ did. came_up i p.0 q.0 p.1 q.1 (program_came limit s (is_end x) i runs left misses p.0.outside q.0.outside b tried.place n r.0 r.1 did))
       r.2
 
-  pub events_of : s.editors ≡ length old.ports.items + 1 → EventsOf links_back links runs left misses limit s x old new
-  events_of n = record { editors = λ e below. joined_by e (f.editors e below) n; starts = λ k some. started_by k (f.starts k some) n }
+  body_said : is_end x ≡ true → (e bytes : ℕ) (what : Side) → Answered s.editors s.servers s.deeds e bytes what → s.editors ≡ length old.ports.items + 1 → BodySaid links_back links runs left misses limit s x old new e bytes what
+  body_said went e bytes what a n =
+      let i = a.number in
+      let w = a.within in
+      ⊎_elim
+      (λ (t : ((i == length old.ports.items) ≡ true) × (i ≡ length old.ports.items)).
+      let at = subst (λ (k : ℕ). slice_get (answers (sides s.editors s.servers (lane.Editor k) s.deeds) (tagged (sessions s.editors s.servers (lane.Editor k) s.deeds) (orders s.editors s.servers (lane.Editor k) s.deeds))) a.place ≡ Some ((e, bytes), what)) t.1 a.at in
+      let said = said_came limit s (is_end x) (length old.ports.items) port.ghosts.sessions port.ghosts.links old.own.outside new.own.outside f.own went a.place e bytes what at in
+      let sits = (f.own.said went a.place e bytes what at) in
+      by_own (λ stopped. let none : slice_get [] sits.place ≡ Some e = subst (λ l. slice_get l sits.place ≡ Some e) (f.stopped stopped) sits.of in absurd cc) said.0 said.1)
+      (λ (t : ((i == length old.ports.items) ≡ false) × (i ≢ length old.ports.items)).
+      let apart = t.1 in
+      let p = item_at old.ports.items i (omega (arith, w, n, apart)) in
+      let q = item_at new.ports.items i (omega (arith, w, n, apart, ports_len)) in
+      let said = said_came limit s (is_end x) i links_back links p.0.outside q.0.outside (f.ports i p.0 q.0 p.1 q.1) went a.place e bytes what a.at in
+      by_port i p.0 q.0 p.1 q.1 said.0 said.1)
+      (eqb_tells i (length old.ports.items))
+
+  pub events_of : Fair s.editors s.servers s.deeds → AllIn s.editors s.servers s.deeds → DrainedAnswered → FailedAnswered → s.editors ≡ length old.ports.items + 1 → EventsOf links_back links runs left misses limit s x old new
+  events_of fair lanes drained_law failed_law n = record {
+    editors = λ e below. joined_by e (f.editors e below) n;
+    starts = λ k some. started_by k (f.starts k some) n;
+    drained = λ went k e bytes at. body_said went e bytes side.Wrote (drained_law s.editors s.servers s.deeds fair lanes k e bytes at) n;
+    broke = λ went k e at. let a = failed_law s.editors s.servers s.deeds fair lanes k e at in (a.0, body_said went e a.0 side.Broke a.1 n);
+  }

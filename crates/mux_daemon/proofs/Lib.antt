@@ -7,6 +7,8 @@ mod Serving
 mod Reading
 mod EndSessions
 mod Writing
+mod Rising
+mod Saying
 mod Sessions
 mod ReadStarts
 mod WriteStarts

@@ -1,5 +1,5 @@
 -- The bodies from a start are the first frames that its program's session read.
-use Rattle.std.proofs.Common.{◌≡◌, ℕ, zero, suc, ◌≤◌, ◌<◌, ◌⊎◌, inl, inr, true, List, [], ◌∷◌, ◌++◌, length, map, slice_get, refl, ap, sym, ◌∙◌, subst, arith, append_assoc}
+use Rattle.std.proofs.Common.{◌≡◌, ℕ, zero, suc, ◌≤◌, ◌<◌, ◌⊎◌, inl, inr, List, [], ◌∷◌, ◌++◌, length, map, slice_get, refl, ap, sym, ◌∙◌, subst, arith, append_assoc}
 use Rattle.std.specs.Prelude.{All, Option, Some, None}
 use Rattle.std.proofs.lemmas.List.Elements.{All-head, All-tail}
 use Rattle.base_frame.specs.Frames.{Splits}
@@ -51,7 +51,7 @@ behind_begin start rest = record rest { orders = order.Begin start ∷ rest.orde
 run_shown : (Whole : Type 0) (limit start : ℕ) (turn rest : Turn) (run : Run) → turn ≡ behind_begin start rest → IsRun limit run → rest ≡ linked posted.Up run → (Whole → IsWholeRun run) → Shown Whole limit turn
 run_shown Whole limit start turn rest run is r e whole = inr (record { start = start; run = run; is_run = r; is = is ∙ ap (behind_begin start) e; whole = whole })
 
-none_shown : (Whole : Type 0) (limit start : ℕ) (turn rest : Turn) (orders : List Order) → turn ≡ behind_begin start rest → rest ≡ begins.idle true (posted.NoStart ∷ []) orders → (Whole → (o : End) × (orders ≡ order_of o ∷ [])) → Shown Whole limit turn
+none_shown : (Whole : Type 0) (limit start : ℕ) (turn rest : Turn) (orders : List Order) → turn ≡ behind_begin start rest → rest ≡ begins.idle 1 (posted.NoStart ∷ []) orders → (Whole → (o : End) × (orders ≡ order_of o ∷ [])) → Shown Whole limit turn
 none_shown Whole limit start turn rest orders is e whole = inl (record { start = start; orders = orders; is = is ∙ ap (behind_begin start) e; whole = whole })
 
 whole_shown : (Whole : Type 0) (limit : ℕ) (turn : Turn) → Begun (WholeStart limit) turn → Shown Whole limit turn

@@ -64,6 +64,7 @@ pub record RunsOf (limit : ℕ) (turns : List Turn) (Whole : Type 0) : Type 0 wh
   pub back : chain (map (λ (t : Turn). t.back) turns) ≡ map (λ (r : Run). r.ended) runs ++ refused
   pub posts : chain (map (λ (t : Turn). t.posts) turns) ≡ chain (map (λ (r : Run). posted.Link ∷ r.posts) runs)
   pub orders : chain (map (λ (t : Turn). t.orders) turns) ≡ chain (map (λ (r : Run). r.orders) runs)
+  pub sides : chain (map (λ (t : Turn). t.sides) turns) ≡ chain (map (λ (r : Run). r.sides) runs)
 
 run_first : (limit : ℕ) (Whole : Type 0) (run : Run) (turn : Turn) (turns : List Turn) → IsRun limit run → turn ≡ linked posted.Link run → (f : RunsOf limit turns Whole) → (f.runs ≢ [] → IsWholeRun run) → (Whole → IsWholeRun run) → RunsOf limit (turn ∷ turns) Whole
 run_first limit Whole run turn turns is e f front whole = record {
@@ -77,6 +78,7 @@ run_first limit Whole run turn turns is e f front whole = record {
   back = ap (λ (t : Turn). t.back ++ chain (map (λ (t : Turn). t.back) turns)) e ∙ ap (λ l. run.ended ∷ l) f.back;
   posts = ap (λ (t : Turn). t.posts ++ chain (map (λ (t : Turn). t.posts) turns)) e ∙ ap (λ l. (posted.Link ∷ run.posts) ++ l) f.posts;
   orders = ap (λ (t : Turn). t.orders ++ chain (map (λ (t : Turn). t.orders) turns)) e ∙ ap (λ l. run.orders ++ l) f.orders;
+  sides = ap (λ (t : Turn). t.sides ++ chain (map (λ (t : Turn). t.sides) turns)) e ∙ ap (λ l. run.sides ++ l) f.sides;
 }
   where
     first : (k : ℕ) (r : Run) → slice_get (run ∷ f.runs) k ≡ Some r → IsRun limit r
@@ -84,7 +86,7 @@ run_first limit Whole run turn turns is e f front whole = record {
     first (suc k) r at = f.each k r at
 
 abbrev no_runs : (limit : ℕ) (Whole : Type 0) → RunsOf limit [] Whole
-no_runs limit Whole = record { runs = []; refused = []; one = omega arith; front = tt; whole = λ _. (refl, tt); each = λ k r at. absurd cc; came = refl; back = refl; posts = refl; orders = refl }
+no_runs limit Whole = record { runs = []; refused = []; one = omega arith; front = tt; whole = λ _. (refl, tt); each = λ k r at. absurd cc; came = refl; back = refl; posts = refl; orders = refl; sides = refl }
 
 one_refused : (limit : ℕ) (Whole : Type 0) (session : Session) (turn : Turn) → turn ≡ unlinked session → (Whole → ⊥) → RunsOf limit (turn ∷ []) Whole
 one_refused limit Whole session turn e torn = record {
@@ -98,6 +100,7 @@ one_refused limit Whole session turn e torn = record {
   back = ap (λ (t : Turn). t.back ++ []) e;
   posts = ap (λ (t : Turn). t.posts ++ []) e;
   orders = ap (λ (t : Turn). t.orders ++ []) e;
+  sides = ap (λ (t : Turn). t.sides ++ []) e;
 }
 
 last_runs : (limit : ℕ) (last : List Turn) → All (CutLink posted.Link limit) last → length last ≤ 1 → RunsOf limit last (last ≡ [])

@@ -58,7 +58,7 @@ ran_none Whole Cut at end over = record {
     left = prepended_none at.left;
     back = appended_none at.back;
     later = omega arith;
-    rise = λ e. absurd cc;
+    rise = omega arith;
     posts = sym (append-nil at.posts);
     orders = sym (append-nil at.orders);
   };

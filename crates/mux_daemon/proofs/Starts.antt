@@ -1,5 +1,5 @@
 -- The starts of a berth's lane, by what the lane did and what the deck took of it.
-use Rattle.std.proofs.Common.{◌≡◌, ℕ, zero, suc, ◌<◌, ◌⊎◌, inl, inr, Bool, true, false, ◌||◌, List, [], ◌∷◌, ◌++◌, length, map, slice_get, ap, sym, ◌∙◌, append_assoc, append-nil, subst, refl}
+use Rattle.std.proofs.Common.{◌≡◌, ℕ, zero, suc, ◌<◌, ◌⊎◌, inl, inr, Bool, List, [], ◌∷◌, ◌++◌, length, map, slice_get, ap, sym, ◌∙◌, append_assoc, append-nil, subst}
 use Rattle.std.specs.Prelude.{Option, Some}
 use Rattle.outside_io.specs.Sessions.{Session}
 use Rattle.mux_history.specs.declared.entry.Entry.{Entry}
@@ -10,11 +10,10 @@ use Rattle.lane_lists.specs.Sessions.{chain}
 use Rattle.lane_lists.specs.StartHistory.{ByStartParts, StartPart, tried_by}
 use Rattle.lane_lists.specs.StartOrders.{ByStartOrders, ByTried, began}
 use Rattle.lane_desk.specs.Desks.{posted_at}
-use Rattle.mux_lanes.specs.Lanes.{Turn, any_rises}
+use Rattle.mux_lanes.specs.Lanes.{Turn}
 use Rattle.mux_lanes.specs.Starts.{Begun, CutBegun, WholeStart}
 use Rattle.mux_daemon.specs.Served.{LaneServed, Story, history}
 use Rattle.mux_daemon.specs.Starts.{BerthStarts, StartFailedAs, StartRan, failed_turn, up_turn}
-use Rattle.mux_daemon.proofs.Places.{same_item}
 use Rattle.mux_daemon.proofs.Reading.{zip_at}
 use Rattle.mux_daemon.proofs.ReadStarts.{Shown, all_kept, no_run, turn_at, up_run}
 use Rattle.mux_daemon.proofs.WriteStarts.{ToldAt, all_begun, begun_at, none_start, told_at, written_start}
@@ -23,15 +22,6 @@ front_item : (xs ys : List ℕ) (k x : ℕ) → slice_get xs k ≡ Some x → sl
 front_item [] ys k x at = absurd cc
 front_item (y ∷ xs) ys zero x at = at
 front_item (y ∷ xs) ys (suc k) x at = front_item xs ys k x at
-
-or_true : (b : Bool) → (b || true) ≡ true
-or_true true = refl
-or_true false = refl
-
-rises_at : (turns : List Turn) (k : ℕ) (turn : Turn) → slice_get turns k ≡ Some turn → turn.rises ≡ true → any_rises turns ≡ true
-rises_at [] k turn at is = absurd cc
-rises_at (t ∷ turns) zero turn at is = ap (λ b. b || any_rises turns) (ap (λ (t : Turn). t.rises) (same_item t turn at) ∙ is)
-rises_at (t ∷ turns) (suc k) turn at is = ap (λ b. t.rises || b) (rises_at turns k turn at is) ∙ or_true t.rises
 
 start_served : (Whole : Type 0) (limit servers : ℕ) (history : List Entry) (start : ℕ) (turn : Turn) (part more : List Posted) → StartPart history start part → turn.posts ≡ part ++ more → Shown Whole limit turn → ToldAt servers history start turn
     → StartFailedAs Whole servers history start turn ⊎ StartRan Whole limit servers history start turn
@@ -70,7 +60,7 @@ berth_starts limit s went i runs left misses old new cut told tried f =
       whole = λ e. ran.whole (f.whole e);
       back_are = ran.adds.back;
       left_are = ran.adds.left;
-      rose = λ k turn at is. ran.adds.rise (rises_at (ran.turns ++ ran.last) k turn at is);
+      rose = ran.adds.rise;
       start = λ k turn at. begun_at limit s.servers (history s) ran.turns ran.last q.unheard begun told.made ran.each told.each ordered k turn at;
       all = λ e.
           let none = ran.whole (f.whole e) in

@@ -12,7 +12,10 @@ use Rattle.mux_history.specs.declared.cause.Why.{Why}
 use Rattle.mux_history.specs.declared.cause.Why.TheVariants as why
 use Rattle.mux_history.specs.Cores.{joined}
 use Rattle.lane_lists.specs.declared.item.Order.TheVariants as order
+use Rattle.lane_lists.specs.declared.item.Side.{Side}
+use Rattle.lane_lists.specs.declared.item.Side.TheVariants as side
 use Rattle.lane_lists.specs.History.{bodies_from, end_to, gone_of}
+use Rattle.lane_lists.specs.Sides.{drained_in, failed_in, told_of}
 use Rattle.lane_lists.specs.StartHistory.{causes_from}
 use Rattle.lane_lists.specs.StartOrders.{end_to_start}
 use Rattle.session_io.specs.declared.part.End.TheVariants as end
@@ -25,7 +28,7 @@ use Rattle.mux_daemon.specs.declared.open.Lanes.{Lanes}
 use Rattle.mux_daemon.specs.declared.serve.Answer.{Answer}
 use Rattle.mux_daemon.specs.declared.serve.Answer.TheVariants as answer
 use Rattle.mux_daemon.specs.Served.{ServedAs, Story, history, is_end}
-use Rattle.mux_daemon.specs.Sessions.{ReadOf, WrittenOf}
+use Rattle.mux_daemon.specs.Sessions.{ReadOf, SaidIn, WrittenOf}
 use Rattle.mux_daemon.specs.Starts.{StartFailedAs, StartRan}
 
 -- the link or the program of a run came from here, and was handed back here as the run left it
@@ -90,9 +93,18 @@ module _ {P B C : Type 0} (links_back links : P → Option (List Session)) (runs
     came_up : (i : ℕ) (p q : LaneJob B) → slice_get old.berths.items i ≡ Some p → slice_get new.berths.items i ≡ Some q → ProgramCame limit s.servers (history s) (is_end x) runs left p.outside q.outside n → StartedBy s x old new n
     failed : (i : ℕ) (p q : LaneJob B) → slice_get old.berths.items i ≡ Some p → slice_get new.berths.items i ≡ Some q → FailureCame s.servers (history s) (is_end x) misses p.outside q.outside n → StartedBy s x old new n
 
+  -- what the history has of a body to an editor was so in that editor's session, of a link of a port or of the own one
+  pub data BodySaid (s : Story) (x : Answer) (old new : Lanes P B C) (e bytes : ℕ) (what : Side) : Type 0 where
+    by_port : (i : ℕ) (p q : LaneJob P) → slice_get old.ports.items i ≡ Some p → slice_get new.ports.items i ≡ Some q
+        → (came : EditorCame limit (history s) (is_end x) links_back links p.outside q.outside e) → SaidIn came.run bytes what → BodySaid s x old new e bytes what
+    by_own : x ≢ answer.Stopped → (came : EditorCame limit (history s) (is_end x) port.ghosts.sessions port.ghosts.links old.own.outside new.own.outside e) → SaidIn came.run bytes what → BodySaid s x old new e bytes what
+
   pub record EventsOf (s : Story) (x : Answer) (old new : Lanes P B C) : Type 0 where
     pub editors : (e : ℕ) → e < joined (history s) → JoinedBy s x old new e
     pub starts : (n : ℕ) → causes_from n (history s) ≢ [] → StartedBy s x old new n
+    -- where the work was done: each body of which the history has that it was drained was written whole, and each editor that went by a failed write had one in its session
+    pub drained : is_end x ≡ true → (k e bytes : ℕ) → slice_get (told_of drained_in (history s)) k ≡ Some (e, bytes) → BodySaid s x old new e bytes side.Wrote
+    pub broke : is_end x ≡ true → (k e : ℕ) → slice_get (told_of failed_in (history s)) k ≡ Some e → (bytes : ℕ) × BodySaid s x old new e bytes side.Broke
 
 module _ {K P B C : Type 0} (stands : K → List Entry → Type 0) (stops : List Entry → Bool) (links_back links : P → Option (List Session)) (faults : P → ℕ) (runs left : B → Option (List Session)) (misses : B → ℕ) (given moments : C → Option (List ℕ)) where
   abbrev pub EventsLaw : Type 0

@@ -1,7 +1,7 @@
 -- What the link of each editor of a port carried, by the history.
 use Rattle.std.specs.Prelude.{◌≡◌, ◌≢◌, ◌⊎◌, ℕ, ◌≤◌, ◌+◌, ◌<◌, Bool, true, false, List, [], ◌∷◌, ◌++◌, Option, Some, map, length, slice_get}
 use Rattle.std.specs.Io.KnownBytes.{append_known}
-use Rattle.base_frame.specs.Frames.{Splits, all_framed}
+use Rattle.base_frame.specs.Frames.{Splits, all_framed, framed}
 use Rattle.outside_io.specs.Faults.{Rose}
 use Rattle.outside_io.specs.Sessions.{Session}
 use Rattle.outside_io.specs.Told.{append_to, prepend_to}
@@ -12,8 +12,11 @@ use Rattle.lane_lists.specs.declared.item.LaneName.TheVariants as lane
 use Rattle.lane_lists.specs.declared.item.Order.{Order}
 use Rattle.lane_lists.specs.declared.item.Order.TheVariants as order
 use Rattle.lane_lists.specs.declared.item.Posted.TheVariants as posted
-use Rattle.lane_lists.specs.Deeds.{Fair, sessions}
+use Rattle.lane_lists.specs.declared.item.Side.{Side}
+use Rattle.lane_lists.specs.declared.item.Side.TheVariants as side
+use Rattle.lane_lists.specs.Deeds.{Fair, orders, sessions, sides}
 use Rattle.lane_lists.specs.History.{bodies_from, bodies_to, end_to, gone_of}
+use Rattle.lane_lists.specs.Sides.{answers, tagged}
 use Rattle.session_io.specs.declared.read.Stop.TheVariants as stop
 use Rattle.session_io.specs.Reads.{StoppedBy}
 use Rattle.mux_lanes.specs.Runs.{IsRun, IsWholeRun, Run, order_of}
@@ -45,6 +48,27 @@ pub record WrittenAs (bodies : List (List ℕ)) (given : List Order) (run : Run)
 abbrev pub WrittenOf : List Entry → ℕ → Run → Type 0
 WrittenOf history e run = WrittenAs (bodies_to e history) (end_to e history) run
 
+-- a body of so many bytes was written whole: its frame stands behind other frames in what the session wrote
+pub record BodyWritten (run : Run) (bytes : ℕ) : Type 0 where
+  pub before : List (List ℕ)
+  pub body : List ℕ
+  pub behind : List ℕ
+  pub is : length body ≡ bytes
+  pub written : run.ended.written ≡ append_known run.began.written (all_framed before ++ (framed body ++ behind))
+
+-- what a session said of a body of so many bytes, and so it was: it was written whole, or its write failed
+abbrev pub SaidIn : Run → ℕ → Side → Type 0
+SaidIn run bytes side.Wrote = BodyWritten run bytes
+SaidIn run bytes side.Broke = (run.wrote.broke ≡ true) × Rose run.began.sink_faults run.ended.sink_faults
+
+-- what was said of a body to an editor was said in that editor's session
+pub record SaidBy (ids : List ℕ) (runs : List Run) (editor bytes : ℕ) (what : Side) : Type 0 where
+  pub place : ℕ
+  pub of : slice_get ids place ≡ Some editor
+  pub run : Run
+  pub at : slice_get runs place ≡ Some run
+  pub said : SaidIn run bytes what
+
 -- the sessions of a port's lane: each link that came, but a last one that was refused, has a run, and the editors of the lane have the first ones, in their order
 pub record PortSessions {P : Type 0} (limit : ℕ) (s : Story) (went : Bool) (i : ℕ) (back left : P → Option (List Session)) (old new : P) : Type 0 where
   pub runs : List Run
@@ -57,6 +81,8 @@ pub record PortSessions {P : Type 0} (limit : ℕ) (s : Story) (went : Bool) (i 
   pub whole : went ≡ true → (refused ≡ []) × ((k : ℕ) (run : Run) → slice_get runs k ≡ Some run → IsWholeRun run)
   pub editor : (k : ℕ) (run : Run) → slice_get runs k ≡ Some run → IsWholeRun run → (e : ℕ) × (slice_get (sessions s.editors s.servers (lane.Editor i) s.deeds) k ≡ Some e)
   pub served : (k e : ℕ) → slice_get (sessions s.editors s.servers (lane.Editor i) s.deeds) k ≡ Some e → (run : Run) × (slice_get runs k ≡ Some run) × ReadOf limit (history s) e run × WrittenOf (history s) e run
+  pub said : went ≡ true → (k e bytes : ℕ) (what : Side) → slice_get (answers (sides s.editors s.servers (lane.Editor i) s.deeds) (tagged (sessions s.editors s.servers (lane.Editor i) s.deeds) (orders s.editors s.servers (lane.Editor i) s.deeds))) k ≡ Some ((e, bytes), what)
+      → SaidBy (sessions s.editors s.servers (lane.Editor i) s.deeds) runs e bytes what
 
 abbrev pub PortLaw : {P : Type 0} → (P → Option (List Session)) → (P → Option (List Session)) → (P → ℕ) → Type 0
 PortLaw {P} back left faults =

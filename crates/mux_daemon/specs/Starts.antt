@@ -2,7 +2,6 @@
 use Rattle.std.specs.Prelude.{◌≡◌, ◌⊎◌, ℕ, ◌≤◌, ◌<◌, Bool, true, List, [], ◌∷◌, ◌++◌, All, Option, Some, length, map, slice_get}
 use Rattle.std.specs.Io.KnownBytes.{append_known}
 use Rattle.base_frame.specs.Frames.{Splits}
-use Rattle.outside_io.specs.Faults.{Rose}
 use Rattle.outside_io.specs.Sessions.{Session}
 use Rattle.outside_io.specs.Told.{append_to, prepend_to}
 use Rattle.mux_history.specs.declared.entry.Entry.{Entry}
@@ -19,7 +18,7 @@ use Rattle.lane_lists.specs.StartHistory.{causes_from, tried_by}
 use Rattle.lane_lists.specs.StartOrders.{began, bodies_to_start, end_to_start}
 use Rattle.session_io.specs.declared.part.End.{End}
 use Rattle.mux_lanes.specs.Runs.{IsRun, IsWholeRun, Run, order_of}
-use Rattle.mux_lanes.specs.Lanes.{Turn, linked}
+use Rattle.mux_lanes.specs.Lanes.{RoseBy, Turn, all_rises, linked}
 use Rattle.mux_lanes.specs.Starts.{Begun, CutBegun, WholeStart, idle}
 use Rattle.mux_daemon.specs.Served.{LaneServed, Story, history}
 use Rattle.mux_daemon.specs.Sessions.{WrittenAs}
@@ -29,7 +28,7 @@ abbrev pub up_turn : ℕ → Run → Turn
 up_turn start run = record (linked posted.Up run) { orders = order.Begin start ∷ run.orders }
 
 abbrev pub failed_turn : ℕ → List Order → Turn
-failed_turn start orders = idle true (posted.NoStart ∷ []) (order.Begin start ∷ orders)
+failed_turn start orders = idle 1 (posted.NoStart ∷ []) (order.Begin start ∷ orders)
 
 -- the history has of a start that it came up, then its bodies, which are the contents of the first frames of the bytes read, and perhaps that it went
 pub record StartRead (limit : ℕ) (history : List Entry) (start : ℕ) (run : Run) : Type 0 where
@@ -69,7 +68,8 @@ pub record BerthStarts {B : Type 0} (limit : ℕ) (s : Story) (went : Bool) (i :
   pub whole : went ≡ true → last ≡ []
   pub back_are : runs new ≡ append_to (runs old) (chain (map (λ (t : Turn). t.back) (turns ++ last)))
   pub left_are : left old ≡ prepend_to (chain (map (λ (t : Turn). t.came) (turns ++ last))) (left new)
-  pub rose : (k : ℕ) (turn : Turn) → slice_get (turns ++ last) k ≡ Some turn → turn.rises ≡ true → Rose (misses old) (misses new)
+  -- the count rose once for each start that failed
+  pub rose : RoseBy (all_rises (turns ++ last)) (misses old) (misses new)
   pub start : (k : ℕ) (turn : Turn) → slice_get turns k ≡ Some turn → (x : ℕ) × (slice_get (began s.servers i (history s)) k ≡ Some x) × ((rest : List Order) × (turn.orders ≡ order.Begin x ∷ rest))
   pub all : went ≡ true → length (began s.servers i (history s)) ≡ length turns
   pub served : (k x : ℕ) → slice_get (gather s.editors s.servers (tried_by (lane.Server i)) s.deeds) k ≡ Some x → (turn : Turn) × (slice_get (turns ++ last) k ≡ Some turn)

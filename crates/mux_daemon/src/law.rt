@@ -4,7 +4,7 @@ ghost use Rattle.mux_daemon.specs.Starts.{BerthLaw};
 ghost use Rattle.mux_daemon.specs.Events.{ServedLaw};
 ghost use Rattle.mux_daemon.specs.Causes.{EventsLaw};
 
-use lane_lists::{origins_law, sessions_law, start_sessions_law};
+use lane_lists::{origins_law, sessions_law, sides_law, start_sessions_law};
 use mux_history::Steps;
 use outside_io::{Berth, Clock, MemPort, Port};
 
@@ -43,9 +43,12 @@ pub fn served_law<K: Steps, P: Port, B: Berth, C: Clock>()
 /// frame only where a fault stands in the bytes that were read, and by the end of its source, in a whole session, only where its source
 /// has no bytes left or it was closed before. Each start of which there is a cause came up in a berth that gave a program for it, or
 /// failed in one whose count rose. A program's whole session is over only since its source stopped, since it was ended before, or
-/// since its writing part was told first that it went. With `Stopped` and `PortsClosed` each session is whole.
+/// since its writing part was told first that it went. With `Stopped` and `PortsClosed` each session is whole, each body that was
+/// drained was written whole in the session of its editor, and an editor went by a failed write only where one failed in its
+/// session, whose sink's count rose.
 pub fn events_law<K: Steps, P: Port, B: Berth, C: Clock>()
     ensures { EventsLaw K.stands K.stops P.sessions P.links P.faults B.runs B.left B.faults C.given C.left }
 {
     served_law::<K, P, B, C>();
+    sides_law();
 }

@@ -1,5 +1,5 @@
 -- What the session of a link adds.
-use Rattle.std.proofs.Common.{◌≤◌, ◌≡◌, ◌↔◌, ℕ, List, [], ◌∷◌, ◌++◌, Bool, true, false, length, replicate, refl, sym, ap, ◌∙◌, append_assoc, append-nil}
+use Rattle.std.proofs.Common.{◌≤◌, ◌≡◌, ◌↔◌, ℕ, List, [], ◌∷◌, ◌++◌, Bool, true, false, length, replicate, refl, sym, ap, ◌∙◌, arith, append_assoc, append-nil}
 use Rattle.outside_io.specs.Sessions.{Session}
 use Rattle.outside_io.specs.Told.{append_to, prepend_to}
 use Rattle.lane_lists.specs.declared.item.Order.{Order}
@@ -40,6 +40,7 @@ module _ (first : Posted) (limit : ℕ) (began ended : Session) (posts posts' : 
       front = written.front;
       all = written.all;
       items = λ _. refl;
+      failing = written.failing;
       fault = written.fault;
       ends = written.ends;
       no_body = written.no_body;
@@ -55,7 +56,7 @@ module _ (first : Posted) (limit : ℕ) (began ended : Session) (posts posts' : 
       left = ap (prepend_to (began ∷ [])) (sym left);
       back = back;
       later = later;
-      rise = λ e. absurd cc;
+      rise = omega (arith, later);
       posts = p ∙ read.posted ∙ ap (λ l. l ++ run_of.posts) linked_before ∙ append_assoc before.posts (first ∷ []) run_of.posts;
       orders = o' ∙ written.took ∙ ap (λ l. l ++ run_of.orders) (sym o);
     };
@@ -67,7 +68,7 @@ pub link_refused : (first : Posted) (limit : ℕ) (came : Session) (before after
     → Takes (WholeLink first limit) (CutLink first limit) (record before { left = prepend_to (came ∷ []) before.left }) after false
 link_refused first limit came before after p o back left later = record {
   turn = unlinked came;
-  adds = record { left = ap (prepend_to (came ∷ [])) (sym left); back = back; later = later; rise = λ e. absurd cc; posts = p ∙ sym (append-nil before.posts); orders = o ∙ sym (append-nil before.orders) };
+  adds = record { left = ap (prepend_to (came ∷ [])) (sym left); back = back; later = later; rise = omega (arith, later); posts = p ∙ sym (append-nil before.posts); orders = o ∙ sym (append-nil before.orders) };
   whole = λ e. absurd cc;
   cut = λ _. refused came refl;
 }

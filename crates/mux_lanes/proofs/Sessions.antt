@@ -21,6 +21,7 @@ closed_behind w w' w'' b n m taken taken' sides sides' x f e later = record {
   front = f.front;
   all = f.all;
   items = f.items;
+  failing = f.failing;
   fault = λ h. (let r = f.fault h in omega (arith, r, later));
   ends = f.ends;
   no_body = f.no_body;

@@ -1,5 +1,5 @@
 -- What a start adds.
-use Rattle.std.proofs.Common.{◌≡◌, ℕ, ◌≤◌, List, [], ◌∷◌, ◌++◌, Bool, true, false, inl, inr, refl, sym, ap, ap₂, ◌∙◌, arith, append_assoc, append-nil}
+use Rattle.std.proofs.Common.{◌≡◌, ℕ, ◌≤◌, List, [], ◌∷◌, ◌++◌, Bool, false, inl, inr, refl, sym, ap, ap₂, ◌∙◌, arith, append_assoc, append-nil}
 use Rattle.outside_io.specs.Faults.{Rose}
 use Rattle.outside_io.specs.Told.{append_to}
 use Rattle.lane_lists.specs.declared.item.Order.{Order}
@@ -22,7 +22,7 @@ took_up limit b b' c w back left later posts orders sides f = record {
     left = left ∙ f.adds.left;
     back = f.adds.back ∙ ap (λ x. append_to x f.turn.back) back;
     later = (let x = f.adds.later in omega (arith, x, later));
-    rise = λ r. (let x = f.adds.rise r in omega (arith, x, later));
+    rise = (let x = f.adds.rise in omega (arith, x, later));
     posts = f.adds.posts ∙ ap (λ l. l ++ f.turn.posts) posts;
     orders = f.adds.orders ∙ ap (λ l. l ++ f.turn.orders) orders;
   };
@@ -33,25 +33,25 @@ took_up limit b b' c w back left later posts orders sides f = record {
 pub took_failed : (limit : ℕ) (b c : Standing) (w : Bool) → c.back ≡ b.back → c.left ≡ b.left → b.faults ≤ c.faults → Rose b.faults c.faults → c.sides ≡ b.sides → RefusedAs b.posts c.posts b.orders c.orders w
     → Takes (WholeStart limit) (CutStart limit) b c w
 took_failed limit b c w back left later rose sides f = record {
-  turn = idle true f.more f.taken;
-  adds = record { left = sym left ∙ prepended_none c.left; back = back ∙ appended_none b.back; later = later; rise = λ _. rose; posts = f.posts_are; orders = f.orders_are };
-  whole = λ e. (let x = f.whole e in (failed x.0 (ap₂ (idle true) x.1 x.2), sides ∙ sym (append-nil b.sides)));
-  cut = λ e. elim f.cut [ inl none ↦ wanted true (ap₂ (idle true) none.0 none.1) | inr some ↦ cut_failed f.taken some.1 (f.unended e) (ap (λ l. idle true l f.taken) some.0) ];
+  turn = idle 1 f.more f.taken;
+  adds = record { left = sym left ∙ prepended_none c.left; back = back ∙ appended_none b.back; later = later; rise = rose; posts = f.posts_are; orders = f.orders_are };
+  whole = λ e. (let x = f.whole e in (failed x.0 (ap₂ (idle 1) x.1 x.2), sides ∙ sym (append-nil b.sides)));
+  cut = λ e. elim f.cut [ inl none ↦ wanted 1 (ap₂ (idle 1) none.0 none.1) | inr some ↦ cut_failed f.taken some.1 (f.unended e) (ap (λ l. idle 1 l f.taken) some.0) ];
 }
 
 pub took_none : (limit : ℕ) (b c : Standing) → c.back ≡ b.back → c.left ≡ b.left → b.faults ≤ c.faults → c.posts ≡ b.posts → c.orders ≡ b.orders → Takes (WholeStart limit) (CutStart limit) b c false
 took_none limit b c back left later posts orders = record {
-  turn = idle false [] [];
+  turn = idle 0 [] [];
   adds = record {
     left = sym left ∙ prepended_none c.left;
     back = back ∙ appended_none b.back;
     later = later;
-    rise = λ e. absurd cc;
+    rise = omega (arith, later);
     posts = posts ∙ sym (append-nil b.posts);
     orders = orders ∙ sym (append-nil b.orders);
   };
   whole = λ e. absurd cc;
-  cut = λ _. wanted false refl;
+  cut = λ _. wanted 0 refl;
 }
 
 -- behind the order to begin
@@ -63,7 +63,7 @@ took_begun limit start b b' c w back left later posts orders sides f = record {
     left = left ∙ f.adds.left;
     back = f.adds.back ∙ ap (λ x. append_to x f.turn.back) back;
     later = (let x = f.adds.later in omega (arith, x, later));
-    rise = λ r. (let x = f.adds.rise r in omega (arith, x, later));
+    rise = (let x = f.adds.rise in omega (arith, x, later));
     posts = f.adds.posts ∙ ap (λ l. l ++ f.turn.posts) posts;
     orders = f.adds.orders ∙ ap (λ l. l ++ f.turn.orders) orders ∙ append_assoc b.orders (order.Begin start ∷ []) f.turn.orders;
   };
@@ -73,8 +73,8 @@ took_begun limit start b b' c w back left later posts orders sides f = record {
 
 pub took_misled : (limit : ℕ) (o : Order) (b c : Standing) → c.back ≡ b.back → c.left ≡ b.left → b.faults ≤ c.faults → c.posts ≡ b.posts → c.orders ≡ b.orders ++ o ∷ [] → Takes (Begun (WholeStart limit)) (CutBegun limit) b c false
 took_misled limit o b c back left later posts orders = record {
-  turn = idle false [] (o ∷ []);
-  adds = record { left = sym left ∙ prepended_none c.left; back = back ∙ appended_none b.back; later = later; rise = λ e. absurd cc; posts = posts ∙ sym (append-nil b.posts); orders = orders };
+  turn = idle 0 [] (o ∷ []);
+  adds = record { left = sym left ∙ prepended_none c.left; back = back ∙ appended_none b.back; later = later; rise = omega (arith, later); posts = posts ∙ sym (append-nil b.posts); orders = orders };
   whole = λ e. absurd cc;
   cut = λ _. misled o refl;
 }

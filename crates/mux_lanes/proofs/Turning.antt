@@ -1,5 +1,5 @@
 -- One turn more.
-use Rattle.std.proofs.Common.{◌≤◌, ℕ, Bool, not, ◌≡◌, List, [], ◌∷◌, ◌++◌, true, false, map, refl, sym, ap, ◌∙◌, ◌⊎◌, inl, inr, ◌||◌, arith, append_assoc, append-nil}
+use Rattle.std.proofs.Common.{◌≤◌, ℕ, ◌+◌, Bool, not, ◌≡◌, List, [], ◌∷◌, ◌++◌, true, false, map, refl, sym, ap, ◌∙◌, arith, append_assoc, append-nil}
 use Rattle.std.specs.Prelude.{Option}
 use Rattle.outside_io.specs.Sessions.{Session}
 use Rattle.lane_lists.specs.declared.item.Order.{Order}
@@ -10,7 +10,7 @@ use Rattle.outside_io.specs.Told.{append_to, prepend_to}
 use Rattle.lane_lists.specs.Sessions.{chain}
 use Rattle.mux_lanes.specs.declared.lane_end.LaneEnd.{LaneEnd}
 use Rattle.mux_lanes.specs.declared.lane_end.LaneEnd.TheVariants as lane_end
-use Rattle.mux_lanes.specs.Lanes.{Standing, Turn, Adds, Takes, all_turns, any_rises, RanSoFar, RanAs}
+use Rattle.mux_lanes.specs.Lanes.{Standing, Turn, Adds, Takes, all_turns, all_rises, RanSoFar, RanAs}
 use Rattle.mux_lanes.proofs.Told.{appended_none, prepended_none, appended_more, prepended_more}
 
 is_true : (b : Bool) → not b ≡ false → b ≡ true
@@ -21,18 +21,6 @@ is_false : (b : Bool) → not b ≡ true → b ≡ false
 is_false true e = absurd cc
 is_false false e = refl
 
-or_of : (a b : Bool) → (a || b) ≡ true → (a ≡ true) ⊎ (b ≡ true)
-or_of true b e = inl refl
-or_of false b e = inr e
-
-or_left : (a b : Bool) → a ≡ true → (a || b) ≡ true
-or_left true b e = refl
-or_left false b e = absurd cc
-
-or_right : (a b : Bool) → b ≡ true → (a || b) ≡ true
-or_right true b e = refl
-or_right false b e = e
-
 chain_more : {X : Type 0} (f : Turn → List X) (turns : List Turn) (turn : Turn) → chain (map f (turns ++ turn ∷ [])) ≡ chain (map f turns) ++ f turn
 chain_more f [] turn = append-nil (f turn)
 chain_more f (t ∷ turns) turn = ap (λ l. f t ++ l) (chain_more f turns turn) ∙ sym (append_assoc (f t) (chain (map f turns)) (f turn))
@@ -40,19 +28,16 @@ chain_more f (t ∷ turns) turn = ap (λ l. f t ++ l) (chain_more f turns turn) 
 list_more : {X : Type 0} (f : Turn → List X) (turns : List Turn) (turn : Turn) (a b c : List X) → b ≡ a ++ chain (map f turns) → c ≡ b ++ f turn → c ≡ a ++ chain (map f (turns ++ turn ∷ []))
 list_more f turns turn a b c e g = g ∙ ap (λ l. l ++ f turn) e ∙ append_assoc a (chain (map f turns)) (f turn) ∙ ap (λ l. a ++ l) (sym (chain_more f turns turn))
 
-any_more : (turns : List Turn) (turn : Turn) → any_rises (turns ++ turn ∷ []) ≡ true → (any_rises turns ≡ true) ⊎ (turn.rises ≡ true)
-any_more [] turn e = elim (or_of turn.rises false e) [ inl r ↦ inr r | inr r ↦ inl r ]
-any_more (t ∷ turns) turn e = elim (or_of t.rises (any_rises (turns ++ turn ∷ [])) e) [
-  | inl first ↦ inl (or_left t.rises (any_rises turns) first)
-  | inr rest ↦ elim (any_more turns turn rest) [ inl r ↦ inl (or_right t.rises (any_rises turns) r) | inr r ↦ inr r ]
-]
+rises_more : (turns : List Turn) (turn : Turn) → all_rises (turns ++ turn ∷ []) ≡ all_rises turns + turn.rises
+rises_more [] turn = omega arith
+rises_more (t ∷ turns) turn = let more = rises_more turns turn in omega (arith, more)
 
 adds_more : (turns : List Turn) (turn : Turn) (a b c : Standing) → Adds (all_turns turns) a b → Adds turn b c → Adds (all_turns (turns ++ turn ∷ [])) a c
 adds_more turns turn a b c f g = record {
   left = f.left ∙ ap (prepend_to (chain (map (λ t. t.came) turns))) g.left ∙ prepended_more c.left (chain (map (λ t. t.came) turns)) turn.came ∙ ap (λ l. prepend_to l c.left) (sym (chain_more (λ t. t.came) turns turn));
   back = g.back ∙ ap (λ x. append_to x turn.back) f.back ∙ appended_more a.back (chain (map (λ t. t.back) turns)) turn.back ∙ ap (append_to a.back) (sym (chain_more (λ t. t.back) turns turn));
   later = (let x = f.later in let y = g.later in omega arith);
-  rise = λ e. elim (any_more turns turn e) [ inl r ↦ (let x = f.rise r in let y = g.later in omega arith) | inr r ↦ (let x = f.later in let y = g.rise r in omega arith) ];
+  rise = (let x = f.rise in let y = g.rise in let z = g.later in let sum = rises_more turns turn in omega (arith, x, y, z, sum));
   posts = list_more (λ t. t.posts) turns turn a.posts b.posts c.posts f.posts g.posts;
   orders = list_more (λ t. t.orders) turns turn a.orders b.orders c.orders f.orders g.orders;
 }
@@ -61,7 +46,7 @@ pub ran_none : (Whole : Turn → Type 0) (a : Standing) → RanSoFar Whole a a
 ran_none Whole a = record {
   turns = [];
   each = All-nil Whole;
-  adds = record { left = prepended_none a.left; back = appended_none a.back; later = omega arith; rise = λ e. absurd cc; posts = sym (append-nil a.posts); orders = sym (append-nil a.orders) };
+  adds = record { left = prepended_none a.left; back = appended_none a.back; later = omega arith; rise = omega arith; posts = sym (append-nil a.posts); orders = sym (append-nil a.orders) };
   sides = sym (append-nil a.sides);
 }
 
@@ -113,7 +98,7 @@ stays Whole a back back' left left' n m posts orders sides e g later f = record 
     left = f.adds.left ∙ ap (prepend_to (chain (map (λ t. t.came) f.turns))) g;
     back = e ∙ f.adds.back;
     later = (let x = f.adds.later in omega (arith, x, later));
-    rise = λ r. (let x = f.adds.rise r in omega (arith, x, later));
+    rise = (let x = f.adds.rise in omega (arith, x, later));
     posts = f.adds.posts;
     orders = f.adds.orders;
   };
@@ -129,7 +114,7 @@ still Whole a b b' back left later posts orders sides f = record {
     left = f.adds.left ∙ ap (prepend_to (chain (map (λ t. t.came) f.turns))) left;
     back = back ∙ f.adds.back;
     later = (let x = f.adds.later in omega (arith, x, later));
-    rise = λ r. (let x = f.adds.rise r in omega (arith, x, later));
+    rise = (let x = f.adds.rise in omega (arith, x, later));
     posts = posts ∙ f.adds.posts;
     orders = orders ∙ f.adds.orders;
   };

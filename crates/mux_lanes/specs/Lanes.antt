@@ -1,7 +1,6 @@
 -- What a lane did: session by session, what it accepted and handed back, what it posted, took and said.
-use Rattle.std.specs.Prelude.{◌≡◌, ℕ, ◌≤◌, List, [], ◌∷◌, ◌++◌, Bool, true, false, ◌||◌, All, map, length, Option}
+use Rattle.std.specs.Prelude.{◌≡◌, ℕ, ◌≤◌, ◌+◌, ◌-◌, ◌^◌, min, List, [], ◌∷◌, ◌++◌, Bool, true, false, All, map, length, Option}
 use Rattle.outside_io.specs.Sessions.{Session}
-use Rattle.outside_io.specs.Faults.{Rose}
 use Rattle.outside_io.specs.Told.{append_to, prepend_to}
 use Rattle.lane_lists.specs.Sessions.{chain}
 use Rattle.lane_lists.specs.declared.item.Order.{Order}
@@ -30,20 +29,24 @@ pub record Standing : Type 0 where
 abbrev pub standing : {P : Type 0} → (P → Option (List Session)) → (P → Option (List Session)) → (P → ℕ) → P → Ends → Standing
 standing back left faults port ends = record { back = back port; left = left port; faults = faults port; posts = ends.inn.pushed; orders = ends.out.orders.taken; sides = ends.out.sides.pushed }
 
--- what one thing that a lane did adds: to what is handed back, and to what goes through its ends; what it took off the front of what was left; and whether the count of faults rose in it
+-- what one thing that a lane did adds: to what is handed back, and to what goes through its ends; what it took off the front of what was left; and how often the count of faults rose in it, at least
 pub record Turn : Type 0 where
   pub came : List Session
   pub back : List Session
-  pub rises : Bool
+  pub rises : ℕ
   pub posts : List Posted
   pub orders : List Order
   pub sides : List Side
+
+-- the count rose so often, or stands at its end
+abbrev pub RoseBy : ℕ → ℕ → ℕ → Type 0
+RoseBy times before now = min (before + times) (2 ^ 64 - 1) ≤ now
 
 pub record Adds (turn : Turn) (before after : Standing) : Type 0 where
   pub left : before.left ≡ prepend_to turn.came after.left
   pub back : after.back ≡ append_to before.back turn.back
   pub later : before.faults ≤ after.faults
-  pub rise : turn.rises ≡ true → Rose before.faults after.faults
+  pub rise : RoseBy turn.rises before.faults after.faults
   pub posts : after.posts ≡ before.posts ++ turn.posts
   pub orders : after.orders ≡ before.orders ++ turn.orders
 
@@ -57,15 +60,15 @@ pub record Takes (Whole Cut : Turn → Type 0) (before after : Standing) (is_who
   pub whole : is_whole ≡ true → Whole turn × AddsSides turn before after
   pub cut : is_whole ≡ false → Cut turn
 
-abbrev pub any_rises : List Turn → Bool
-any_rises [] = false
-any_rises (t ∷ turns) = t.rises || any_rises turns
+abbrev pub all_rises : List Turn → ℕ
+all_rises [] = 0
+all_rises (t ∷ turns) = t.rises + all_rises turns
 
 abbrev pub all_turns : List Turn → Turn
 all_turns turns = record {
   came = chain (map (λ t. t.came) turns);
   back = chain (map (λ t. t.back) turns);
-  rises = any_rises turns;
+  rises = all_rises turns;
   posts = chain (map (λ t. t.posts) turns);
   orders = chain (map (λ t. t.orders) turns);
   sides = chain (map (λ t. t.sides) turns);
@@ -91,11 +94,11 @@ pub record RanAs (Whole Cut : Turn → Type 0) (before after : Standing) (end : 
 
 -- a session, behind the item that says that it begins
 abbrev pub linked : Posted → Run → Turn
-linked first run = record { came = run.began ∷ []; back = run.ended ∷ []; rises = false; posts = first ∷ run.posts; orders = run.orders; sides = run.sides }
+linked first run = record { came = run.began ∷ []; back = run.ended ∷ []; rises = 0; posts = first ∷ run.posts; orders = run.orders; sides = run.sides }
 
 -- a session whose first item was refused, which is handed back as it came
 abbrev pub unlinked : Session → Turn
-unlinked session = record { came = session ∷ []; back = session ∷ []; rises = false; posts = []; orders = []; sides = [] }
+unlinked session = record { came = session ∷ []; back = session ∷ []; rises = 0; posts = []; orders = []; sides = [] }
 
 pub record WholeLink (first : Posted) (limit : ℕ) (turn : Turn) : Type 0 where
   pub run : Run

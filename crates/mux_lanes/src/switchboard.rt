@@ -4,7 +4,7 @@ ghost use Rattle.lane_desk.specs.Stops.{WasDone};
 
 use crate::bell::{Bell, bells};
 use crate::lane_end::LaneEnd;
-use lane_desk::{Deck, Naming, Took};
+use lane_desk::{Deck, Naming, Took, Woken};
 use lane_lists::LaneName;
 use mux_history::Steps;
 use std::alloc::Global;
@@ -12,8 +12,7 @@ use std::sync::Wait;
 
 /// A deck with a bell for each lane of an editor or of a server. No lock of it is held while a lane reads or writes.
 ///
-/// A bell wakes its lane where the core took something, of whatever lane, or goes on no more: so a lane that was woken may
-/// find nothing to do.
+/// A bell wakes its lane where it was given an order, where a stop is done, and where the core goes on no more.
 pub struct Switchboard<K: Steps + Drop, N: Naming> {
     deck: Deck<K, N>,
     editors: Vec<Bell>,
@@ -48,6 +47,20 @@ impl<K: Steps + Drop, N: Naming> Switchboard<K, N> {
         }
     }
 
+    // Wakes the lanes that were given orders.
+    fn wake<R: Wait>(&self, rt: &R, woken: &Woken) {
+        for (bell, number) in self.editors.iter().zip(0u32..) {
+            if woken.has(LaneName::Editor(number)) {
+                bell.ring(rt);
+            }
+        }
+        for (bell, number) in self.servers.iter().zip(0u32..) {
+            if woken.has(LaneName::Server(number)) {
+                bell.ring(rt);
+            }
+        }
+    }
+
     // Wakes all lanes.
     fn ring<R: Wait>(&self, rt: &R) {
         for bell in &self.editors {
@@ -58,18 +71,19 @@ impl<K: Steps + Drop, N: Naming> Switchboard<K, N> {
         }
     }
 
-    /// Has the core take what it finds in a lane's queues, and wakes the lanes where it took something. It says how the lane
-    /// ends that has no session then: where a stop is done, and where the core goes on no more.
+    /// Has the core take what it finds in a lane's queues, and wakes the lanes that are given orders. It says how the lane
+    /// ends that has no session then: where a stop is done, and where the core goes on no more; then all lanes are woken.
     pub fn look<R: Wait>(&self, rt: &R, lane: LaneName) -> Option<LaneEnd>
         ensures stopped { result ≡ Some LaneEnd.Stopped → WasDone K.stands K.stops N.editors N.servers }
         ensures ends { IfSome result (λ end. (end ≡ LaneEnd.Stopped) ⊎ (end ≡ LaneEnd.Over)) }
     {
         let mut has_taken = false;
+        let mut woken = Woken::none();
         for _ in rt.forever() {
-            match self.deck.turn(rt, lane) {
+            match self.deck.turn(rt, lane, &mut woken) {
                 Took::Item => has_taken = true,
                 Took::Nothing => {
-                    self.ring_if(rt, has_taken);
+                    self.wake(rt, &woken);
                     return None;
                 }
                 Took::Done => {

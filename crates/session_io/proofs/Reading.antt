@@ -1,12 +1,10 @@
 -- One more frame, and one more piece.
-use Rattle.std.proofs.Common.{◌≡◌, ℕ, List, [], ◌∷◌, ◌++◌, length, refl, sym, ap, ◌∙◌, subst, append_assoc, append-nil, arith}
+use Rattle.std.proofs.Common.{◌≡◌, ℕ, List, [], ◌∷◌, ◌++◌, refl, sym, ap, ◌∙◌, subst, append_assoc, append-nil}
 use Rattle.std.proofs.Common.{Option, Some, None}
 use Rattle.std.specs.Io.KnownBytes.{append_known}
 use Rattle.mux_history.specs.declared.cause.Why.{Why}
 use Rattle.mux_history.specs.declared.cause.Why.TheVariants as why
 use Rattle.base_frame.specs.Frames.{Splits, HasNoFrame, HasNoFault}
-use Rattle.base_frame.specs.Grammar.{IsFrame, IsFault}
-use Rattle.base_frame.specs.declared.block.BadWhy.{BadWhy}
 use Rattle.base_frame.specs.Laws.{FramesStay}
 use Rattle.base_frame.specs.Reader.{Held, Stands}
 use Rattle.lane_lists.specs.declared.item.Posted.{Posted}

@@ -1,5 +1,5 @@
 -- One frame, and one order more.
-use Rattle.std.proofs.Common.{Bool, ◌≡◌, ℕ, ◌≤◌, List, [], ◌∷◌, ◌++◌, true, false, length, take, drop, replicate, refl, sym, ap, ◌∙◌, arith, append_assoc, append-nil}
+use Rattle.std.proofs.Common.{Bool, ◌≡◌, ◌≢◌, ℕ, ◌≤◌, List, [], ◌∷◌, ◌++◌, true, false, length, take, drop, replicate, refl, sym, ap, ◌∙◌, arith, append_assoc, append-nil}
 use Rattle.std.specs.Prelude.{Option, Some, None}
 use Rattle.std.specs.Io.KnownBytes.{append_known}
 use Rattle.std.proofs.lemmas.List.{take-append-drop}
@@ -31,6 +31,10 @@ wrotes_more : (a : List (List ℕ)) (body : List ℕ) → replicate (length (a +
 wrotes_more [] body = refl
 wrotes_more (x ∷ a) body = ap (λ l. side.Wrote ∷ l) (wrotes_more a body)
 
+one_more : (others : List (List ℕ)) (body : List ℕ) → others ++ body ∷ [] ≢ []
+one_more [] body e = absurd cc
+one_more (x ∷ others) body e = absurd cc
+
 module _ (w0 w w1 : Option (List ℕ)) (b0 b b1 : ℕ) (t0 t t1 : List Order) (s0 s s1 : List Side) (body : List ℕ) where
   took_more : (whole others : List (List ℕ)) → t ≡ t0 ++ body_orders (whole ++ others) → t1 ≡ t ++ order.Body body ∷ [] → t1 ≡ t0 ++ body_orders ((whole ++ others) ++ body ∷ [])
   took_more whole others e f = f ∙ ap (λ l. l ++ order.Body body ∷ []) e ∙ append_assoc t0 (body_orders (whole ++ others)) (order.Body body ∷ []) ∙ ap (λ l. t0 ++ l) (sym (orders_append (whole ++ others) (body ∷ [])))
@@ -52,6 +56,7 @@ module _ (w0 w w1 : Option (List ℕ)) (b0 b b1 : ℕ) (t0 t t1 : List Order) (s
     items = items ∙ ap (λ l. l ++ side.Wrote ∷ []) (f.items ∙ ap (λ l. s0 ++ l) (append-nil (replicate (length f.whole) side.Wrote))) ∙ append_assoc s0 (replicate (length f.whole) side.Wrote) (side.Wrote ∷ [])
         ∙ ap (λ l. s0 ++ l) (sym (wrotes_more f.whole body) ∙ sym (append-nil (replicate (length (f.whole ++ body ∷ [])) side.Wrote)));
     unbroken = λ _. (refl, refl);
+    failing = λ h. absurd cc;
     fault = λ h. absurd cc;
     later = (let x = f.later in let y = g.later in omega arith);
   }
@@ -70,6 +75,7 @@ module _ (w0 w w1 : Option (List ℕ)) (b0 b b1 : ℕ) (t0 t t1 : List Order) (s
     front = append-nil (framed body) ∙ g.front;
     items = items ∙ ap (λ l. l ++ side.Broke ∷ []) (f.items ∙ ap (λ l. s0 ++ l) (append-nil (replicate (length f.whole) side.Wrote))) ∙ append_assoc s0 (replicate (length f.whole) side.Wrote) (side.Broke ∷ []);
     unbroken = λ h. absurd cc;
+    failing = λ _ none. absurd cc;
     fault = λ _. (let x = f.later in let y = g.fault refl in omega arith);
     later = (let x = f.later in let y = g.later in omega arith);
   }
@@ -86,13 +92,14 @@ module _ (w0 w w1 : Option (List ℕ)) (b0 b b1 : ℕ) (t0 t t1 : List Order) (s
     front = all_framed_append f.others (body ∷ []) ∙ ap (λ l. l ++ all_framed (body ∷ [])) f.front ∙ append_assoc f.part f.rest (all_framed (body ∷ []));
     items = f.items;
     unbroken = λ h. absurd cc;
+    failing = λ _. one_more f.others body;
     fault = f.fault;
     later = f.later;
   }
 
 -- nothing was taken yet
 pub nothing_wrote : (w : Option (List ℕ)) (b : ℕ) (t : List Order) (s : List Side) → WroteSoFar w w b b t t s s false
-nothing_wrote w b t s = record { whole = []; others = []; part = []; rest = []; took = sym (append-nil t); wrote = known_none w; front = refl; items = sym (append-nil s); unbroken = λ _. (refl, refl); fault = λ h. absurd cc; later = omega arith }
+nothing_wrote w b t s = record { whole = []; others = []; part = []; rest = []; took = sym (append-nil t); wrote = known_none w; front = refl; items = sym (append-nil s); unbroken = λ _. (refl, refl); failing = λ h. absurd cc; fault = λ h. absurd cc; later = omega arith }
 
 pub front_none : (body : List ℕ) (w w' : Option (List ℕ)) (b n : ℕ) → w' ≡ w → b ≤ n → WroteFront body w w' b n
 front_none body w w' b n e later = record { part = []; rest = framed body; front = refl; wrote = e ∙ known_none w; later = later }
@@ -120,6 +127,7 @@ module _ (w0 w : Option (List ℕ)) (b0 b : ℕ) (t0 t t1 : List Order) (s0 s : 
     front = f.front;
     all = λ _. f.unbroken;
     items = λ _. f.items;
+    failing = f.failing;
     fault = f.fault;
     ends = λ cut h. absurd (cc);
     no_body = λ body h. none body (cc);
@@ -138,6 +146,7 @@ module _ (w0 w : Option (List ℕ)) (b0 b : ℕ) (t0 t t1 : List Order) (s0 s : 
     front = f.front;
     all = λ h. absurd cc;
     items = λ h. absurd cc;
+    failing = f.failing;
     fault = f.fault;
     ends = λ cut. absurd (cc);
     no_body = λ body h. absurd (cc);
@@ -159,6 +168,7 @@ cut_in w0 w w1 b0 b b1 t0 t t1 s0 s s1 body f took g = record {
   front = append-nil (framed body) ∙ g.front;
   all = λ h. absurd cc;
   items = λ h. absurd cc;
+  failing = λ h. absurd cc;
   fault = λ h. absurd cc;
   ends = λ cut. absurd (cc);
   no_body = λ other h. absurd (cc);

@@ -1,5 +1,5 @@
 -- What is written of the orders that a session takes (LSP 3.17, Base Protocol).
-use Rattle.std.specs.Prelude.{◌≡◌, ℕ, ◌≤◌, List, [], ◌∷◌, ◌++◌, Bool, true, false, not, map, length, replicate, if◌then◌else◌}
+use Rattle.std.specs.Prelude.{◌≡◌, ◌≢◌, ℕ, ◌≤◌, List, [], ◌∷◌, ◌++◌, Bool, true, false, not, map, length, replicate, if◌then◌else◌}
 use Rattle.std.specs.Prelude.{Option, Some, None}
 use Rattle.std.specs.Io.KnownBytes.{append_known}
 use Rattle.outside_io.specs.Faults.{Rose}
@@ -28,6 +28,7 @@ pub record WroteSoFar (written written' : Option (List ℕ)) (before now : ℕ) 
   pub front : all_framed others ≡ part ++ rest
   pub items : sides' ≡ sides ++ (replicate (length whole) side.Wrote ++ broken broke)
   pub unbroken : broke ≡ false → (others ≡ []) × (part ≡ [])
+  pub failing : broke ≡ true → others ≢ []
   pub fault : broke ≡ true → Rose before now
   pub later : before ≤ now
 
@@ -56,6 +57,7 @@ pub record WroteAs (written written' : Option (List ℕ)) (before now : ℕ) (ta
   pub front : all_framed others ≡ part ++ rest
   pub all : x.cut ≡ false → x.broke ≡ false → (others ≡ []) × (part ≡ [])
   pub items : x.cut ≡ false → sides' ≡ sides ++ (replicate (length whole) side.Wrote ++ broken x.broke)
+  pub failing : x.broke ≡ true → others ≢ []
   pub fault : x.broke ≡ true → Rose before now
   pub ends : x.cut ≡ false → x.end ≡ None → ⊥
   pub no_body : (body : List ℕ) → x.end ≡ Some (order.Body body) → ⊥
