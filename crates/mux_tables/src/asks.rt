@@ -12,6 +12,7 @@ ghost use Rattle.group_laws.specs.group_rows.specs.Asks.{Ask as Open, asks_of, i
 ghost use Rattle.group_words.specs.Houses.{is_first_open, places, stops};
 ghost use Rattle.mux_history.specs.declared.cause.Cause.TheVariants.{FromEditor};
 ghost use Rattle.rpc_message.specs.Message.{message_of};
+ghost use Rattle.mux_tokens.specs.Stands.{TakesNone};
 ghost use Rattle.mux_tables.specs.declared.tables.Start.{Start};
 ghost use Rattle.mux_tables.specs.Documents.{DocumentsStand, Owed, changes_documents};
 ghost use Rattle.mux_tables.specs.Refusals.{Given, Left, of_editor, refusal, refusals};
@@ -64,6 +65,7 @@ impl Tables {
             → result ≡ option_map (λ (a : Open). a.bytes) (find (is_seated e (answered_id (message_of body))) (asks_of settings x.life.start events)) }
         ensures stands { (settings : Settings) (events : List Event) (body : List ℕ) (x : Start) → slice_get self.old.lasts.items g ≡ Some x
             → NamesAsk (answered_id (message_of body)) n → AnswersOne settings x.life.start e (message_of body) events
+            → TakesNone settings e (message_of body) events
             → places (desk_of e events).phase (message_of body) ≡ false → stops events e (message_of body) ≡ false
             → is_first_open settings.servers events e (message_of body) ≡ false
             → (desk_of e (events ++ heard (FromEditor e body) ∷ [])).phase ≡ phase

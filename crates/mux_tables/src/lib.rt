@@ -3,6 +3,7 @@
 
 mod answers;
 mod asks;
+mod created;
 mod documents;
 mod hears;
 mod looks;
@@ -22,5 +23,6 @@ mod tokens;
 
 pub use ask_route;
 pub use id_rewrite;
+pub use mux_tokens;
 pub use tables::{Origins, Start, Tables};
 pub use tokens::Told;
