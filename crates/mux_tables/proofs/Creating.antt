@@ -1,19 +1,19 @@
 -- A start creates a token (S8) or tells of one (S13), and an editor is asked to take one, as the code has it.
 use Rattle.std.proofs.Common.{◌≡◌, ℕ, ◌<◌, Bool, true, false, not, ◌&&◌, List, [], ◌∷◌, ◌++◌, decimal, find, map, length, get_or, refl, ap, sym, subst, ◌∙◌}
-use Rattle.std.specs.Prelude.{Option, Some, None, is_some, option_map, slice_get, slice_set}
+use Rattle.std.specs.Prelude.{Option, Some, None, MatchOption, codes, is_some, option_map, slice_get, slice_set, if◌then◌else◌}
 use Rattle.json_text.specs.Json.{Json}
 use Rattle.lsp_method.specs.Class.{class_of}
 use Rattle.lsp_method.specs.declared.variants.Class.{Class}
 use Rattle.lsp_method.specs.declared.variants.Class.TheVariants.{Create}
 use Rattle.lsp_method.specs.declared.variants.Origin.TheVariants.{Server}
-use Rattle.mux_history.specs.declared.cause.Cause.TheVariants.{FromServer}
+use Rattle.mux_history.specs.declared.cause.Cause.TheVariants.{FromEditor, FromServer}
 use Rattle.mux_history.specs.declared.out.Out.{Out}
 use Rattle.mux_history.specs.declared.out.Out.TheVariants.{ToEditor}
 use Rattle.rpc_message.specs.Message.{Id, message_of, notification, request}
 use Rattle.rpc_message.specs.ValueTexts.{IsIdText}
 use Rattle.event_model.specs.declared.stage.Stage.TheVariants.{Ready}
 use Rattle.event_model.specs.Does.{Does}
-use Rattle.event_model.specs.Event.{Event, behind, said, took}
+use Rattle.event_model.specs.Event.{Event, behind, heard, requests, said, took}
 use Rattle.event_model.specs.Phases.{desk_of, is_running}
 use Rattle.event_model.specs.Requests.{answered_id}
 use Rattle.event_model.specs.Row.{Row, send}
@@ -25,19 +25,21 @@ use Rattle.editor_session.specs.Sessions as sessions
 use Rattle.editor_session.specs.Sessions.{session_of, unless_gone, with_session}
 use Rattle.group_words.specs.Houses.{is_first_error}
 use Rattle.group_laws.specs.group_rows.specs.Asks.{asking_of, has_number, is_patient, is_taken, may_wait, next_ask}
-use Rattle.group_laws.specs.group_rows.specs.Created.{Created, Token, created_of, created_token, is_begin, is_creating, is_end, is_numbered, is_progress, named_token, names_create, token_called}
+use Rattle.group_laws.specs.group_rows.specs.Created as fold
+use Rattle.group_laws.specs.group_rows.specs.Created.{Created, Taking, Token, created_of, created_token, is_answered, is_begin, is_creating, is_end, is_numbered, is_progress, named_token, names_create, token_called}
 use Rattle.group_laws.specs.group_rows.specs.Forwarded.{names}
 use Rattle.group_laws.specs.group_rows.specs.Live.{changes_live, is_heard, is_registering}
 use Rattle.mux_tokens.specs.progress_route.specs.declared.kind.Kind.{Kind}
 use Rattle.mux_tokens.specs.progress_route.specs.Tables.{created, put_to}
 use Rattle.mux_tokens.specs.progress_route.specs.Tables as table
+use Rattle.mux_tokens.specs.progress_route.specs.declared.tokens.Handed.{Handed}
 use Rattle.mux_tokens.specs.Rows.{Rows, changed, edited, table_of}
-use Rattle.mux_tokens.specs.Stands.{AreFresh, CreatedStand, IsOffer}
-use Rattle.mux_tokens.proofs.Seen.{number_seen}
-use Rattle.mux_tokens.proofs.Standing.{asked_moves, create_moves, next_token, told_moves}
+use Rattle.mux_tokens.specs.Stands.{AreFresh, CreatedStand, IsOffer, TakesOne}
+use Rattle.mux_tokens.proofs.Seen.{given_seen, none_named, number_seen}
+use Rattle.mux_tokens.proofs.Standing.{answer_moves as reply_tokens, asked_moves, create_moves, next_token, stay_stands, told_moves, unnamed_answers}
 use Rattle.mux_tables.specs.declared.tables.Start.{Start}
 use Rattle.mux_tables.specs.declared.tables.Tables.{Tables}
-use Rattle.mux_tables.specs.Stands.{Stands, is_request, number_in, of_life}
+use Rattle.mux_tables.specs.Stands.{NamesAsk, Stands, is_request, number_in, of_life}
 use Rattle.mux_tables.proofs.Created.{OriginsMove}
 use Rattle.mux_tables.proofs.Frames.{asks_stay, live_stay}
 use Rattle.mux_tables.proofs.Moves.{house_moves}
@@ -143,3 +145,28 @@ number_is xs g x z n at within read own = own ∙ ap number_in (read_same xs g z
 pub some_number : (o : Option Token) → is_some (option_map (λ (t : Token). t.number) o) ≡ is_some o
 some_number None = refl
 some_number (Some t) = refl
+
+-- E19: what an editor answers of what the last start of its group asked of it
+pub reply_moves : (settings : Settings) (t u : Tables) (events : List Event) (s m e : ℕ) (n : Option ℕ) (takes : Bool) (body : List ℕ) → m ≡ s → u.origins.groups ≡ t.origins.groups → u.origins.stopping ≡ t.origins.stopping
+    → MatchOption n (u.origins.created ≡ t.origins.created) (λ k. u.origins.created ≡ edited m (table.answered e k takes) t.origins.created) → NamesAsk (answered_id (message_of body)) n → takes ≡ fold.accepts (message_of body) → requests (codes "shutdown") (message_of body) ≡ false
+    → TakesOne settings s e (message_of body) events → OriginsMove settings t.origins u.origins events (heard (FromEditor e body))
+reply_moves settings t u events s m e None takes body own og sk cr named accepted runs others = record {
+  groups = og;
+  stopping = sk;
+  created = λ h. subst (λ (rows : Rows). CreatedStand settings rows (events ++ heard (FromEditor e body) ∷ [])) (sym cr)
+      (stay_stands settings t.origins.created events (heard (FromEditor e body)) (λ j. ap (λ b. if b then fold.left e (created_of settings j events) else fold.answered e (message_of body) (created_of settings j events)) runs ∙ unnamed_answers settings t.origins.created events j e (message_of body) named h) h);
+}
+reply_moves settings t u events s m e (Some k) takes body own og sk cr named accepted runs others = record {
+  groups = og;
+  stopping = sk;
+  created = λ h. subst (λ (rows : Rows). CreatedStand settings rows (events ++ heard (FromEditor e body) ∷ [])) (sym (cr ∙ ap (λ j. edited j (table.answered e k takes) t.origins.created) own))
+      (reply_tokens settings t.origins.created events s e k body (message_of body) takes runs named accepted others h);
+}
+
+-- what it gives
+pub handed_seen : (settings : Settings) (t : Tables) (events : List Event) (s m e : ℕ) (n : Option ℕ) (takes : Bool) (body : List ℕ) (o : Option Handed) → m ≡ s → MatchOption n (o ≡ None) (λ k. option_map (λ h. (h.token, h.bodies.items)) o ≡ table.given e k takes (table_of m t.origins.created)) → NamesAsk (answered_id (message_of body)) n → Stands settings t events
+    → option_map (λ h. (h.token, h.bodies.items)) o ≡ option_map (λ (c : Taking). (c.token, if takes then c.held else [])) (find (is_answered e (answered_id (message_of body))) (created_of settings s events).takings)
+handed_seen settings t events s m e None takes body o own is named st =
+    ap (option_map (λ h. (h.token, h.bodies.items))) is ∙ sym (ap (option_map (λ (c : Taking). (c.token, if takes then c.held else []))) (none_named e (message_of body) named (created_of settings s events).takings (st.created.each s).small))
+handed_seen settings t events s m e (Some k) takes body o own is named st =
+    is ∙ (ap (λ j. table.given e k takes (table_of j t.origins.created)) own ∙ given_seen settings t.origins.created events st.created s e k (message_of body) takes named)

@@ -38,7 +38,7 @@ fn refuse_all(alloc: Global, outs: &mut Outs, s: u64, asks: &[Ask]) -> Result<()
 }
 
 // The ask that an editor has under this number is taken out, if one is named and kept: its id.
-fn answer(asks: &mut Asks, e: u64, n: Option<u64>) -> Option<Body>
+pub fn answer(asks: &mut Asks, e: u64, n: Option<u64>) -> Option<Body>
     ensures given { Given e n asks.old result }
     ensures left { Left e n asks.old asks.new }
 {

@@ -11,3 +11,4 @@ pub mod Stays
 pub mod Standing
 pub mod TokenIds
 pub mod Seen
+pub mod Below

@@ -1,21 +1,24 @@
 -- What is read of the tables.
-use Rattle.std.proofs.Common.{◌≡◌, ℕ, ◌+◌, ◌≤◌, Bool, true, false, not, ◌&&◌, ◌||◌, cond, List, [], ◌∷◌, find, map, is_some, refl, sym, subst, ◌∙◌, ap, ap₂, arith, nat_eq}
+use Rattle.std.proofs.Common.{◌≡◌, ℕ, ◌+◌, ◌<◌, ◌≤◌, ◌^◌, Bool, true, false, not, ◌&&◌, ◌||◌, cond, List, [], ◌∷◌, find, map, is_some, refl, sym, subst, ◌∙◌, ap, ap₂, arith, nat_eq, if◌then◌else◌}
 use Rattle.std.specs.Prelude.{Option, Some, None, option_map}
 use Rattle.std.specs.List.{AllByRecursion, list_any}
 use Rattle.std.specs.Option.{option_and_then}
 use Rattle.std.specs.Map.{keys_of}
-use Rattle.rpc_message.specs.Message.{Id}
+use Rattle.rpc_message.specs.Message.{Id, Message}
 use Rattle.rpc_message.specs.ValueTexts.{IsIdText}
 use Rattle.event_model.specs.Event.{Event}
+use Rattle.event_model.specs.Requests.{answered_id}
 use Rattle.event_model.specs.Settings.{Settings}
-use Rattle.group_rows.specs.Created.{Created, Taking, Token, created_of, has_accepted, is_at as is_with, is_numbered, token_called}
+use Rattle.group_rows.specs.Created.{Created, Taking, Token, created_of, has_accepted, is_answered, is_at as is_with, is_numbered, token_called}
+use Rattle.group_rows.specs.Forwarded.{names}
 use Rattle.progress_route.specs.Names.{Text}
-use Rattle.progress_route.specs.Tables.{Part, accepted_in, all_in, all_of, at, number_in}
+use Rattle.progress_route.specs.Tables.{Part, accepted_in, all_in, all_of, at, bodies_of, given, given_to, held_in, number_in, token_at, token_in}
 use Rattle.progress_route.specs.Tables as table
 use Rattle.mux_tokens.specs.Rows.{Rows, table_of}
-use Rattle.mux_tokens.specs.Stands.{CreatedStand, TokensStand, Up, accepted_at, begin_at, is_held_by, part_in, row_of}
+use Rattle.mux_tokens.specs.Stands.{CreatedStand, PartStands, TokensStand, Up, accepted_at, begin_at, held_of, is_held_by, is_open_as, part_in, row_of}
 use Rattle.mux_tokens.proofs.Finding.{all_both, all_so}
 use Rattle.mux_tokens.proofs.Rows.{hit, num_back, num_below, num_itself}
+use Rattle.mux_tokens.proofs.Settled.{seat}
 use Rattle.mux_tokens.proofs.TokenIds.{number_called, tokens_spelled}
 
 module _ (settings : Settings) (rows : Rows) (events : List Event) (st : CreatedStand settings rows events) (s : ℕ) where
@@ -77,3 +80,45 @@ module _ (settings : Settings) (rows : Rows) (events : List Event) (st : Created
       ap (λ (rs : List (ℕ × Text)). all_in rs (table_of s rows).begins) k.names
       ∙ listed (table_of s rows).begins x.tokens (all_so (λ (u : Token). begin_at u.number x.tokens ≡ u.begin) (λ (u : Token). at u.number (table_of s rows).begins ≡ u.begin) (λ u h. k.begins u.number ∙ h) x.tokens
       (own_begins 0 x.tokens (subst (λ (rs : List (ℕ × Text)). Up 0 rs) k.names k.names_rise)))
+
+  -- what an editor's answer gives
+  module _ (e n : ℕ) (m : Message) (takes : Bool) (named : (j : ℕ) → j < 2 ^ 64 → names (answered_id m) j ≡ nat_eq j n) where
+    find_as : (cs : List Taking) → AllByRecursion (λ (c : Taking). c.number < 2 ^ 64) cs → find (is_answered e (answered_id m)) cs ≡ find (is_open_as e n) cs
+    find_as [] h = refl
+    find_as (c ∷ cs) h = ap₂ (λ b (o : Option Taking). cond b (Some c) o) (ap (λ b. not c.accepted && (is_with e c && b)) (named c.number h.0)) (find_as cs h.1)
+
+    abbrev handing : Taking → ℕ × List (List ℕ)
+    handing c = (c.token, if takes then c.held else [])
+
+    token_part : (o : Option Part) → token_in n o ≡ at n (part_in o).creates
+    token_part None = refl
+    token_part (Some p) = refl
+
+    held_part : (k : ℕ) (o : Option Part) → held_in k o ≡ bodies_of (at k (part_in o).waits)
+    held_part k None = refl
+    held_part k (Some p) = refl
+
+    pub given_seen : given e n takes (table_of s rows) ≡ option_map handing (find (is_answered e (answered_id m)) x.takings)
+    given_seen = go (find (is_open_as e n) x.takings) refl ∙ sym (ap (option_map handing) (find_as x.takings (st.each s).small))
+      where
+        parts : PartStands e x.takings (part_in (at e (table_of s rows).parts))
+        parts = (st.each s).parts e
+
+        seen : token_at e n (table_of s rows).parts ≡ option_map (λ (c : Taking). c.token) (find (is_open_as e n) x.takings)
+        seen = token_part (at e (table_of s rows).parts) ∙ parts.creates n
+
+        go : (o : Option Taking) → find (is_open_as e n) x.takings ≡ o → given_to e takes (token_at e n (table_of s rows).parts) (table_of s rows) ≡ option_map handing (find (is_open_as e n) x.takings)
+        go None found = ap (λ o. given_to e takes o (table_of s rows)) (seen ∙ ap (option_map (λ (c : Taking). c.token)) found) ∙ sym (ap (option_map handing) found)
+        go (Some one) found = ap (λ o. given_to e takes o (table_of s rows)) (seen ∙ ap (option_map (λ (c : Taking). c.token)) found)
+            ∙ (ap (λ bs. Some (one.token, if takes then bs else [])) (held_part one.token (at e (table_of s rows).parts) ∙ ap bodies_of (parts.waits one.token ∙ ap (option_map held_of) (seat e n takes one x.takings (st.each s).apart found)))
+            ∙ sym (ap (option_map handing) found))
+
+-- a response that names no number
+pub none_named : (e : ℕ) (m : Message) → ((j : ℕ) → j < 2 ^ 64 → names (answered_id m) j ≡ false) → (cs : List Taking) → AllByRecursion (λ (c : Taking). c.number < 2 ^ 64) cs → find (is_answered e (answered_id m)) cs ≡ None
+none_named e m named [] h = refl
+none_named e m named (c ∷ cs) h = ap₂ (λ b (o : Option Taking). cond b (Some c) o) (ap (λ b. not c.accepted && (is_with e c && b)) (named c.number h.0) ∙ off c.accepted (is_with e c)) (none_named e m named cs h.1)
+  where
+    off : (a b : Bool) → (not a && (b && false)) ≡ false
+    off true b = refl
+    off false true = refl
+    off false false = refl

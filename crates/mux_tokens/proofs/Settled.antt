@@ -180,22 +180,25 @@ module _ (e n : ℕ) (holds : Bool) where
         other : (c : Taking) → c.token ≡ k → nat_eq c.token i ≡ false
         other c t = ap (λ j. nat_eq j i) t ∙ (num_back k i ∙ is)
 
-    begun_so : (part : Part) → PartStands e cs part → begun_of (at k part.waits) ≡ one.begun
-    begun_so part s = ap begun_of (s.waits k ∙ ap (option_map held_of) (seat cs same_number found))
+    -- the first of its token is the one under its number
+    seat_in : (xs : List Taking) → AllByRecursion (λ c. is_open_of e k c ≡ true → hits c ≡ true) xs → find (is_open_as e n) xs ≡ Some one → find (is_open_of e k) xs ≡ Some one
+    seat_in [] h at = absurd (cc)
+    seat_in (x ∷ xs) h at = go (is_open_as e n x) refl (is_open_of e k x) refl at
       where
-        -- the first of its token is the one under its number
-        seat : (xs : List Taking) → AllByRecursion (λ c. is_open_of e k c ≡ true → hits c ≡ true) xs → find (is_open_as e n) xs ≡ Some one → find (is_open_of e k) xs ≡ Some one
-        seat [] h at = absurd (cc)
-        seat (x ∷ xs) h at = go (is_open_as e n x) refl (is_open_of e k x) refl at
-          where
-            go : (a : Bool) → is_open_as e n x ≡ a → (b : Bool) → is_open_of e k x ≡ b → cond a (Some x) (find (is_open_as e n) xs) ≡ Some one → cond b (Some x) (find (is_open_of e k) xs) ≡ Some one
-            go true p true q at = at
-            go true p false q at = let same : x ≡ one = cc in never (sym q ∙ (ap (is_open_of e k) same ∙ of_one))
-              where
-                of_one : is_open_of e k one ≡ true
-                of_one = ap (λ a. not a && (is_with e one && nat_eq one.token k)) (hit_open one one_hits) ∙ both one.editor e one.token k (hit_editor one one_hits) refl
-            go false p true q at = never (sym p ∙ h.0 q)
-            go false p false q at = seat xs h.1 at
+        of_one : is_open_of e k one ≡ true
+        of_one = ap (λ a. not a && (is_with e one && nat_eq one.token k)) (hit_open one one_hits) ∙ both one.editor e one.token k (hit_editor one one_hits) refl
+
+        go : (a : Bool) → is_open_as e n x ≡ a → (b : Bool) → is_open_of e k x ≡ b → cond a (Some x) (find (is_open_as e n) xs) ≡ Some one → cond b (Some x) (find (is_open_of e k) xs) ≡ Some one
+        go true p true q at = at
+        go true p false q at = let same : x ≡ one = cc in never (sym of_one ∙ (ap (is_open_of e k) (sym same) ∙ q))
+        go false p true q at = never (sym (h.0 q) ∙ p)
+        go false p false q at = seat_in xs h.1 at
+
+    pub seat : find (is_open_of e k) cs ≡ Some one
+    seat = seat_in cs same_number found
+
+    begun_so : (part : Part) → PartStands e cs part → begun_of (at k part.waits) ≡ one.begun
+    begun_so part s = ap begun_of (s.waits k ∙ ap (option_map held_of) seat)
 
   module _ (one : Taking) (cs : List Taking) (apart : AreApart cs) (found : find (is_open_as e n) cs ≡ Some one) (part : Part) (s : PartStands e cs part) (i : ℕ) where
     abbrev begun : Bool

@@ -2,6 +2,7 @@
 use Rattle.std.proofs.Common.{◌≡◌, ℕ, ◌<◌, ◌^◌, Bool, true, false, not, ◌&&◌, cond, List, [], ◌∷◌, ◌++◌, codes, decimal, find, refl, sym, subst, ◌∙◌, ap, absurd, nat_eq, if◌then◌else◌}
 use Rattle.std.specs.Prelude.{Option, Some, None, is_some, option_map}
 use Rattle.std.specs.Option.{option_and_then}
+use Rattle.std.specs.List.{AllByRecursion}
 use Rattle.std.specs.List.Sorted.{IsStrictlySortedBy}
 use Rattle.std.specs.Map.{keys_of}
 use Rattle.std.specs.Ordering.{nat_cmp}
@@ -16,7 +17,7 @@ use Rattle.event_model.specs.Stages.{is_ready, life_of}
 use Rattle.event_model.proofs.Frames.{never}
 use Rattle.group_words.proofs.Frames.{past_more}
 use Rattle.group_rows.specs.Asks.{next_ask}
-use Rattle.group_rows.specs.Created.{Created, Token, accepts, answered, created_next, created_of, created_token, if_new, is_begin, is_called, is_creating, is_end, is_numbered, is_progress, left, may_create, named_token, no_created, progressed, spoken, token_called, token_marked, token_of, with_asked, with_token}
+use Rattle.group_rows.specs.Created.{Created, Taking, Token, accepts, answered, settled, is_answered, is_at as is_with, created_next, created_of, created_token, if_new, is_begin, is_called, is_creating, is_end, is_numbered, is_progress, left, may_create, named_token, no_created, progressed, spoken, token_called, token_marked, token_of, with_asked, with_token}
 use Rattle.event_model.specs.Members.{params_of}
 use Rattle.group_rows.specs.Forwarded.{names, token_in}
 use Rattle.group_rows.specs.Live.{is_heard}
@@ -25,6 +26,7 @@ use Rattle.progress_route.specs.Tables.{Table, at, created, less, nothing, put_t
 use Rattle.progress_route.specs.Tables as table
 use Rattle.mux_tokens.specs.Rows.{Rows, changed, edited, left_each, table_in, table_of}
 use Rattle.mux_tokens.specs.Stands.{AreFresh, CreatedStand, CreatedStay, TokensStand, TokensStay, Up}
+use Rattle.mux_tokens.proofs.Finding.{all_so, spread_still}
 use Rattle.mux_tokens.proofs.Leaving.{all_left, up_left}
 use Rattle.mux_tokens.proofs.Rows.{at_less, num_back, num_itself, num_same, of_changed, of_edited, up_changed, up_edited, up_less}
 use Rattle.mux_tokens.proofs.Stays.{passes_by, passes_stay}
@@ -175,3 +177,15 @@ asked_moves settings rows events s e body method m id params token says creates 
     step : (n : ℕ) → created_next settings n events (created_of settings n events) (did (ToEditor e body) m) ≡ with_asked e (next_ask e events) (token_marked n params (created_of settings n events)) (created_of settings n events)
     step n = ap (λ k. created_next settings n events (created_of settings n events) (did (ToEditor e body) k)) says
         ∙ ap (λ b. if b then with_asked e (next_ask e events) (token_marked n params (created_of settings n events)) (created_of settings n events) else created_of settings n events) creates
+
+-- a response that names no number answers nothing
+pub unnamed_answers : (settings : Settings) (rows : Rows) (events : List Event) (s e : ℕ) (m : Message) → ((j : ℕ) → j < 2 ^ 64 → names (answered_id m) j ≡ false) → CreatedStand settings rows events → answered e m (created_of settings s events) ≡ created_of settings s events
+unnamed_answers settings rows events s e m named st =
+    let x : Created = created_of settings s events in
+    ap (λ cs. record { next = x.next; tokens = x.tokens; takings = cs }) (spread_still (is_answered e (answered_id m)) (settled m x) x.takings
+    (all_so (λ (c : Taking). c.number < 2 ^ 64) (λ c. is_answered e (answered_id m) c ≡ false) (λ c h. ap (λ b. not c.accepted && (is_with e c && b)) (named c.number h) ∙ off c.accepted (is_with e c)) x.takings (st.each s).small))
+  where
+    off : (a b : Bool) → (not a && (b && false)) ≡ false
+    off true b = refl
+    off false true = refl
+    off false false = refl
