@@ -161,7 +161,7 @@ module _ (k : ℕ) (body : List ℕ) (params : Option Json) where
   gone_at ts on = ap (option_and_then (λ (t : Token). t.begin)) (find_gone (is_numbered k) stays (λ u h. out (is_numbered k u) (ap (λ c. not (c && is_numbered k u)) (sym on) ∙ h)) (map b ts))
     where
       out : (c : Bool) → not (true && c) ≡ true → c ≡ false
-      out true h = never h
+      out true h = never (sym h)
       out false h = refl
 
   here_at : (ts : List Token) (t : Token) → t.number ≡ k → find (is_numbered k) ts ≡ Some t → is_end params ≡ false → begin_at k (progressed_tokens ts) ≡ first_begin body params t.begin

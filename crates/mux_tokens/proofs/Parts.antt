@@ -33,7 +33,7 @@ none_stands e cs h = record {
     off : (a b c : Bool) → c ≡ false → (a && (c && b)) ≡ false
     off true b false h = refl
     off false b false h = refl
-    off a b true h = never (sym h)
+    off a b true h = never h
 
 -- An editor is asked
 

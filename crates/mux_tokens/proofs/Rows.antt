@@ -34,8 +34,8 @@ num_back m n = go (nat_eq m n) (nat_eq n m) refl refl
     go : (a b : Bool) → nat_eq m n ≡ a → nat_eq n m ≡ b → a ≡ b
     go true true p q = refl
     go false false p q = refl
-    go true false p q = never (sym q ∙ (ap (λ k. nat_eq n k) (num_same m n p) ∙ num_itself n))
-    go false true p q = never (sym p ∙ (ap (λ k. nat_eq m k) (num_same n m q) ∙ num_itself m))
+    go true false p q = never (sym (sym q ∙ (ap (λ k. nat_eq n k) (num_same m n p) ∙ num_itself n)))
+    go false true p q = never (sym (sym p ∙ (ap (λ k. nat_eq m k) (num_same n m q) ∙ num_itself m)))
 
 -- a number is at its own place alone
 pub hit : (m n : ℕ) → is_at (nat_cmp m) n ≡ nat_eq m n

@@ -22,12 +22,12 @@ second false false c h = h
 
 third : (a b c : Bool) → (a && (b && c)) ≡ true → c ≡ true
 third true true c h = h
-third true false c h = never h
-third false b c h = never h
+third true false c h = never (sym h)
+third false b c h = never (sym h)
 
 unaccepted : (a : Bool) → not a ≡ true → a ≡ false
 unaccepted false h = refl
-unaccepted true h = never h
+unaccepted true h = never (sym h)
 
 off_last : (a b c : Bool) → c ≡ false → (a && (b && c)) ≡ false
 off_last true true c h = h

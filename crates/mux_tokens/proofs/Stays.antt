@@ -51,7 +51,7 @@ passes_by s other = true
 
 other_start : (b : Bool) → not b ≡ true → b ≡ false
 other_start false h = refl
-other_start true h = never h
+other_start true h = never (sym h)
 
 pub passes_stay : (settings : Settings) (s : ℕ) (events : List Event) (x : Created) (ev : Event) → passes_by s ev ≡ true → created_next settings s events x ev ≡ x
 passes_stay settings s events x (took (FromEditor e body) m) h = never (sym h)

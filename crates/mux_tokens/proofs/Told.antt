@@ -24,12 +24,12 @@ first false b c h = h
 
 third : (a b c : Bool) → (a && (b && c)) ≡ true → c ≡ true
 third true true c h = h
-third true false c h = never h
-third false b c h = never h
+third true false c h = never (sym h)
+third false b c h = never (sym h)
 
 unaccepted : (a : Bool) → not a ≡ true → a ≡ false
 unaccepted false h = refl
-unaccepted true h = never h
+unaccepted true h = never (sym h)
 
 same_tests : (p : Bool → Bool) (a b : Bool) (e e' n n' : ℕ) (m i : ℕ) → b ≡ a → e' ≡ e → n' ≡ n → (p b && (nat_eq e' m && nat_eq n' i)) ≡ (p a && (nat_eq e m && nat_eq n i))
 same_tests p a b e e' n n' m i x y z = ap (λ c. p c && (nat_eq e' m && nat_eq n' i)) x ∙ (ap (λ k. p a && (nat_eq k m && nat_eq n' i)) y ∙ ap (λ k. p a && (nat_eq e m && nat_eq k i)) z)
@@ -202,7 +202,7 @@ module _ (k : ℕ) (body : List ℕ) (params : Option Json) (m : ℕ) (cs : List
       stays c = not (is_over k params c)
 
       gone : (a b c : Bool) → not (true && (a && c)) ≡ true → (a && (b && c)) ≡ false
-      gone true b true h = never h
+      gone true b true h = never (sym h)
       gone true true false h = refl
       gone true false false h = refl
       gone false b c h = refl
