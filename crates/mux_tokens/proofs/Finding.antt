@@ -1,5 +1,5 @@
 -- What is found in a list that changed.
-use Rattle.std.proofs.Common.{◌≡◌, ℕ, Bool, true, false, not, cond, List, [], ◌∷◌, ◌++◌, filter, find, flat_map, map, refl, sym, ◌∙◌, ap, absurd, if◌then◌else◌}
+use Rattle.std.proofs.Common.{◌≡◌, ℕ, Bool, true, false, not, cond, List, [], ◌∷◌, ◌++◌, filter, find, flat_map, map, refl, sym, ◌∙◌, ap, if◌then◌else◌}
 use Rattle.std.specs.Prelude.{Option, Some, None, option_map}
 use Rattle.std.specs.List.{AllByRecursion}
 use Rattle.event_model.proofs.Frames.{never}
@@ -27,11 +27,11 @@ module _ {A : Type 0} (p : A → Bool) where
 
   pub none_found : (xs : List A) → find p xs ≡ None → AllByRecursion (λ x. p x ≡ false) xs
   none_found [] h = tt
-  none_found (x ∷ xs) h = go (p x) refl h
+  none_found (x ∷ xs) h = go (p x) refl h (λ k. none_found xs k)
     where
-      go : (b : Bool) → p x ≡ b → cond b (Some x) (find p xs) ≡ None → (p x ≡ false) × AllByRecursion (λ x. p x ≡ false) xs
-      go true e k = absurd (cc)
-      go false e k = (e, none_found xs k)
+      go : (b : Bool) → p x ≡ b → cond b (Some x) (find p xs) ≡ None → (find p xs ≡ None → AllByRecursion (λ x. p x ≡ false) xs) → (p x ≡ false) × AllByRecursion (λ x. p x ≡ false) xs
+      go true e k rest = absurd (cc)
+      go false e k rest = (e, rest k)
 
   pub find_passes : (xs : List A) (y : A) → find p xs ≡ Some y → p y ≡ true
   find_passes [] y h = absurd (cc)

@@ -1,5 +1,5 @@
 -- The live tokens of a start, one step further.
-use Rattle.std.proofs.Common.{◌≡◌, ℕ, ◌+◌, ◌<◌, ◌≤◌, Bool, true, false, not, ◌&&◌, cond, List, [], ◌∷◌, ◌++◌, filter, find, map, refl, sym, subst, ◌∙◌, ap, absurd, arith, nat_eq, is_some, if◌then◌else◌}
+use Rattle.std.proofs.Common.{◌≡◌, ℕ, ◌+◌, ◌<◌, ◌≤◌, Bool, true, false, not, ◌&&◌, cond, List, [], ◌∷◌, ◌++◌, filter, find, map, refl, sym, subst, ◌∙◌, ap, arith, nat_eq, is_some, if◌then◌else◌}
 use Rattle.std.specs.Prelude.{Option, Some, None, option_map}
 use Rattle.std.specs.List.{AllByRecursion}
 use Rattle.std.specs.Option.{option_and_then}
@@ -47,29 +47,27 @@ past_all from k (u ∷ ts) l h =
     let p : from ≤ u.number = h.0 in
     ap (λ b. cond b (Some u) (find (is_numbered k) ts)) (num_above u.number k (omega (arith, l, p))) ∙ past_all (u.number + 1) k ts (omega (arith, l, p)) h.1
 
+-- what is found isn't below the first number
+found_from : (p : Token → Bool) (from : ℕ) (ts : List Token) (t : Token) → Up from (map row_of ts) → find p ts ≡ Some t → from ≤ t.number
+found_from p from [] t h at = absurd (cc)
+found_from p from (u ∷ ts) t h at = go (p u) at (λ k. found_from p (u.number + 1) ts t h.1 k)
+  where
+    go : (b : Bool) → cond b (Some u) (find p ts) ≡ Some t → (find p ts ≡ Some t → u.number + 1 ≤ t.number) → from ≤ t.number
+    go true k rest = let same : u ≡ t = cc in subst (λ (y : Token). from ≤ y.number) same h.0
+    go false k rest = let q : u.number + 1 ≤ t.number = rest k in let r : from ≤ u.number = h.0 in omega (arith, q, r)
+
 -- what is found by another test is found by its number
 pub by_number : (p : Token → Bool) (from : ℕ) (ts : List Token) (t : Token) → Up from (map row_of ts) → find p ts ≡ Some t → find (is_numbered t.number) ts ≡ Some t
 by_number p from [] t h at = absurd (cc)
-by_number p from (u ∷ ts) t h at = go (p u) at
+by_number p from (u ∷ ts) t h at = go (p u) at (λ k. by_number p (u.number + 1) ts t h.1 k)
   where
-    later : (n : ℕ) (xs : List Token) → Up n (map row_of xs) → find p xs ≡ Some t → n ≤ t.number
-    later n [] up at = absurd (cc)
-    later n (x ∷ xs) up at = by (p x) at
-      where
-        by : (b : Bool) → cond b (Some x) (find p xs) ≡ Some t → n ≤ t.number
-        by true k = let same : x ≡ t = cc in subst (λ (y : Token). n ≤ y.number) same up.0
-        by false k = let q : x.number + 1 ≤ t.number = later (x.number + 1) xs up.1 k in let r : n ≤ x.number = up.0 in omega (arith, q, r)
-
-    go : (b : Bool) → cond b (Some u) (find p ts) ≡ Some t → cond (nat_eq u.number t.number) (Some u) (find (is_numbered t.number) ts) ≡ Some t
-    go true k =
+    go : (b : Bool) → cond b (Some u) (find p ts) ≡ Some t → (find p ts ≡ Some t → find (is_numbered t.number) ts ≡ Some t) → cond (nat_eq u.number t.number) (Some u) (find (is_numbered t.number) ts) ≡ Some t
+    go true k rest =
         let same : u ≡ t = cc in
-        ap (λ b. cond b (Some u) (find (is_numbered t.number) ts)) (ap (λ (y : Token). nat_eq u.number y.number) (sym same) ∙ itself u.number) ∙ ap Some same
-      where
-        itself : (n : ℕ) → nat_eq n n ≡ true
-        itself n = num_itself n
-    go false k =
-        let q : u.number + 1 ≤ t.number = later (u.number + 1) ts h.1 k in
-        ap (λ b. cond b (Some u) (find (is_numbered t.number) ts)) (num_below u.number t.number (omega (arith, q))) ∙ by_number p (u.number + 1) ts t h.1 k
+        ap (λ b. cond b (Some u) (find (is_numbered t.number) ts)) (ap (λ (y : Token). nat_eq u.number y.number) (sym same) ∙ num_itself u.number) ∙ ap Some same
+    go false k rest =
+        let q : u.number + 1 ≤ t.number = found_from p (u.number + 1) ts t h.1 k in
+        ap (λ b. cond b (Some u) (find (is_numbered t.number) ts)) (num_below u.number t.number (omega (arith, q))) ∙ rest k
 
 -- Progress of a token
 
@@ -118,17 +116,17 @@ module _ (k : ℕ) (body : List ℕ) (params : Option Json) where
 
   less_names : is_end params ≡ true → (from : ℕ) (ts : List Token) → Up from (map row_of ts) → less k (map row_of ts) ≡ map row_of (progressed_tokens ts)
   less_names on from [] h = refl
-  less_names on from (u ∷ ts) h = go (is_at (nat_cmp k) u.number) refl
+  less_names on from (u ∷ ts) h = go (is_at (nat_cmp k) u.number) refl (less_names on (u.number + 1) ts h.1)
     where
       ended : (c : Bool) → is_at (nat_cmp k) u.number ≡ c → is_ended_by k params (b u) ≡ c
       ended c e = ap (λ x. x && is_numbered k (b u)) on ∙ (numbered_so k u ∙ (num_back u.number k ∙ (sym (hit k u.number) ∙ e)))
 
-      go : (c : Bool) → is_at (nat_cmp k) u.number ≡ c → cond c (map row_of ts) (row_of u ∷ less k (map row_of ts)) ≡ map row_of (cond (not (is_ended_by k params (b u))) (b u ∷ progressed_tokens ts) (progressed_tokens ts))
-      go true e =
+      go : (c : Bool) → is_at (nat_cmp k) u.number ≡ c → less k (map row_of ts) ≡ map row_of (progressed_tokens ts) → cond c (map row_of ts) (row_of u ∷ less k (map row_of ts)) ≡ map row_of (cond (not (is_ended_by k params (b u))) (b u ∷ progressed_tokens ts) (progressed_tokens ts))
+      go true e rest =
           let same : k ≡ u.number = num_same k u.number (sym (hit k u.number) ∙ e) in
           stay_names ts (above_ended (u.number + 1) ts (omega (arith, same)) h.1)
           ∙ sym (ap (λ c. map row_of (cond (not c) (b u ∷ progressed_tokens ts) (progressed_tokens ts))) (ended true e))
-      go false e = ap (λ rs. row_of u ∷ rs) (less_names on (u.number + 1) ts h.1) ∙ (ap (λ r. r ∷ map row_of (progressed_tokens ts)) (sym (same_row u))
+      go false e rest = ap (λ rs. row_of u ∷ rs) rest ∙ (ap (λ r. r ∷ map row_of (progressed_tokens ts)) (sym (same_row u))
           ∙ sym (ap (λ c. map row_of (cond (not c) (b u ∷ progressed_tokens ts) (progressed_tokens ts))) (ended false e)))
 
   pub names_so : (kind : Kind) → table.is_end kind ≡ is_end params → (ts : List Token) → Up 0 (map row_of ts) → names_after k kind (map row_of ts) ≡ map row_of (progressed_tokens ts)

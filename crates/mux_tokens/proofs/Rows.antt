@@ -1,5 +1,5 @@
 -- What stands at a number of a table, after it changed; and its keys, which rise.
-use Rattle.std.proofs.Common.{◌≡◌, ℕ, ◌+◌, ◌<◌, ◌≤◌, Bool, true, false, cond, List, [], ◌∷◌, ◌++◌, map, refl, sym, ◌∙◌, ap, subst, absurd, arith, nat_eq, if◌then◌else◌}
+use Rattle.std.proofs.Common.{◌≡◌, ℕ, ◌+◌, ◌<◌, ◌≤◌, Bool, true, false, cond, List, [], ◌∷◌, ◌++◌, map, refl, sym, ◌∙◌, ap, subst, arith, nat_eq, if◌then◌else◌}
 use Rattle.std.specs.Prelude.{Option, Some, None, option_map}
 use Rattle.std.specs.List.{AllByRecursion}
 use Rattle.std.specs.Map.{lookup, remove_entry, set_value}
@@ -159,28 +159,28 @@ module _ {X : Type 0} where
 
   pub up_put : (n from : ℕ) (x : X) (rows : List (ℕ × X)) → from ≤ n → Up from rows → Up from (put n x rows)
   up_put n from x [] l h = (l, tt)
-  up_put n from x (r ∷ rs) l h = go (nat_cmp n r.0) refl
+  up_put n from x (r ∷ rs) l h = go (nat_cmp n r.0) refl (λ k. up_put n (r.0 + 1) x rs k h.1)
     where
-      go : (o : Ordering) → nat_cmp n r.0 ≡ o → Up from (match_ordering o ((n, x) ∷ r ∷ rs) ((r.0, x) ∷ rs) (r ∷ put n x rs))
-      go Less e = (l, (let k : n < r.0 = ranked n r.0 Less (sym e) in omega (arith, k), h.1))
-      go Equal e = (h.0, h.1)
-      go Greater e = (h.0, up_put n (r.0 + 1) x rs (let k : r.0 < n = ranked n r.0 Greater (sym e) in omega (arith, k)) h.1)
+      go : (o : Ordering) → nat_cmp n r.0 ≡ o → (r.0 + 1 ≤ n → Up (r.0 + 1) (put n x rs)) → Up from (match_ordering o ((n, x) ∷ r ∷ rs) ((r.0, x) ∷ rs) (r ∷ put n x rs))
+      go Less e rest = (l, (let k : n < r.0 = ranked n r.0 Less (sym e) in omega (arith, k), h.1))
+      go Equal e rest = (h.0, h.1)
+      go Greater e rest = (h.0, rest (let k : r.0 < n = ranked n r.0 Greater (sym e) in omega (arith, k)))
 
   pub up_less : (n from : ℕ) (rows : List (ℕ × X)) → Up from rows → Up from (less n rows)
   up_less n from [] h = tt
-  up_less n from (r ∷ rs) h = go (is_at (nat_cmp n) r.0)
+  up_less n from (r ∷ rs) h = go (is_at (nat_cmp n) r.0) (up_less n (r.0 + 1) rs h.1)
     where
-      go : (c : Bool) → Up from (cond c rs (r ∷ less n rs))
-      go true = up_from from (r.0 + 1) rs (let k : from ≤ r.0 = h.0 in omega (arith, k)) h.1
-      go false = (h.0, up_less n (r.0 + 1) rs h.1)
+      go : (c : Bool) → Up (r.0 + 1) (less n rs) → Up from (cond c rs (r ∷ less n rs))
+      go true rest = up_from from (r.0 + 1) rs (let k : from ≤ r.0 = h.0 in omega (arith, k)) h.1
+      go false rest = (h.0, rest)
 
   pub up_set : (n from : ℕ) (w : X) (rows : List (ℕ × X)) → Up from rows → Up from (set_value (is_at (nat_cmp n)) rows w)
   up_set n from w [] h = tt
-  up_set n from w (r ∷ rs) h = go (is_at (nat_cmp n) r.0)
+  up_set n from w (r ∷ rs) h = go (is_at (nat_cmp n) r.0) (up_set n (r.0 + 1) w rs h.1)
     where
-      go : (c : Bool) → Up from (cond c ((r.0, w) ∷ rs) (r ∷ set_value (is_at (nat_cmp n)) rs w))
-      go true = (h.0, h.1)
-      go false = (h.0, up_set n (r.0 + 1) w rs h.1)
+      go : (c : Bool) → Up (r.0 + 1) (set_value (is_at (nat_cmp n)) rs w) → Up from (cond c ((r.0, w) ∷ rs) (r ∷ set_value (is_at (nat_cmp n)) rs w))
+      go true rest = (h.0, h.1)
+      go false rest = (h.0, rest)
 
   pub up_last : (n from : ℕ) (x : X) (rows : List (ℕ × X)) → from ≤ n → AllByRecursion (λ (r : ℕ × X). r.0 < n) rows → Up from rows → Up from (rows ++ (n, x) ∷ [])
   up_last n from x [] l b h = (l, tt)

@@ -1,5 +1,5 @@
 -- What editors were asked to take, apart from one another.
-use Rattle.std.proofs.Common.{◌≡◌, ℕ, Bool, true, false, not, ◌&&◌, cond, List, [], ◌∷◌, ◌++◌, filter, find, flat_map, map, refl, sym, subst, ◌∙◌, ap, absurd, nat_eq, if◌then◌else◌}
+use Rattle.std.proofs.Common.{◌≡◌, ℕ, Bool, true, false, not, ◌&&◌, cond, List, [], ◌∷◌, ◌++◌, filter, find, flat_map, map, refl, sym, subst, ◌∙◌, ap, nat_eq, if◌then◌else◌}
 use Rattle.std.specs.Prelude.{Option, Some, None}
 use Rattle.std.specs.List.{AllByRecursion}
 use Rattle.std.proofs.lemmas.Bool.{and_parts}
@@ -86,10 +86,10 @@ apart_last (d ∷ cs) c h fresh = (all_last (IsOther d) cs c h.0 (back d.number 
 -- what holds of one that is found, and of those beside it, holds of all
 pub all_beside : (P : Taking → Type 0) (p : Taking → Bool) (one : Taking) → P one → ((c : Taking) → IsOther one c → P c) → ((c : Taking) → IsOther c one → P c) → (cs : List Taking) → AreApart cs → find p cs ≡ Some one → AllByRecursion P cs
 all_beside P p one mine right left [] h at = absurd (cc)
-all_beside P p one mine right left (c ∷ cs) h at = go (p c) at
+all_beside P p one mine right left (c ∷ cs) h at = go (p c) at (λ k. all_beside P p one mine right left cs h.1 k)
   where
-    go : (b : Bool) → cond b (Some c) (find p cs) ≡ Some one → P c × AllByRecursion P cs
-    go true k =
+    go : (b : Bool) → cond b (Some c) (find p cs) ≡ Some one → (find p cs ≡ Some one → AllByRecursion P cs) → P c × AllByRecursion P cs
+    go true k rest =
         let same : c ≡ one = cc in
         (subst P (sym same) mine, all_so (IsOther c) P (λ d o. right d (subst (λ a. IsOther a d) same o)) cs h.0)
-    go false k = (left c (found_one (IsOther c) p one cs h.0 k), all_beside P p one mine right left cs h.1 k)
+    go false k rest = (left c (found_one (IsOther c) p one cs h.0 k), rest k)

@@ -1,5 +1,5 @@
 -- What is kept of one editor, where it answers what it was asked to take.
-use Rattle.std.proofs.Common.{◌≡◌, ℕ, Bool, true, false, not, ◌&&◌, cond, List, [], ◌∷◌, ◌++◌, find, flat_map, refl, sym, subst, ◌∙◌, ap, absurd, arith, nat_eq, if◌then◌else◌}
+use Rattle.std.proofs.Common.{◌≡◌, ℕ, Bool, true, false, not, ◌&&◌, cond, List, [], ◌∷◌, ◌++◌, find, flat_map, refl, sym, subst, ◌∙◌, ap, arith, nat_eq, if◌then◌else◌}
 use Rattle.std.specs.Prelude.{Option, Some, None, option_map}
 use Rattle.std.specs.List.{AllByRecursion}
 use Rattle.event_model.proofs.Frames.{never}
@@ -183,16 +183,16 @@ module _ (e n : ℕ) (holds : Bool) where
     -- the first of its token is the one under its number
     seat_in : (xs : List Taking) → AllByRecursion (λ c. is_open_of e k c ≡ true → hits c ≡ true) xs → find (is_open_as e n) xs ≡ Some one → find (is_open_of e k) xs ≡ Some one
     seat_in [] h at = absurd (cc)
-    seat_in (x ∷ xs) h at = go (is_open_as e n x) refl (is_open_of e k x) refl at
+    seat_in (x ∷ xs) h at = go (is_open_as e n x) refl (is_open_of e k x) refl at (λ q. seat_in xs h.1 q)
       where
         of_one : is_open_of e k one ≡ true
         of_one = ap (λ a. not a && (is_with e one && nat_eq one.token k)) (hit_open one one_hits) ∙ both one.editor e one.token k (hit_editor one one_hits) refl
 
-        go : (a : Bool) → is_open_as e n x ≡ a → (b : Bool) → is_open_of e k x ≡ b → cond a (Some x) (find (is_open_as e n) xs) ≡ Some one → cond b (Some x) (find (is_open_of e k) xs) ≡ Some one
-        go true p true q at = at
-        go true p false q at = let same : x ≡ one = cc in never (sym of_one ∙ (ap (is_open_of e k) (sym same) ∙ q))
-        go false p true q at = never (sym (h.0 q) ∙ p)
-        go false p false q at = seat_in xs h.1 at
+        go : (a : Bool) → is_open_as e n x ≡ a → (b : Bool) → is_open_of e k x ≡ b → cond a (Some x) (find (is_open_as e n) xs) ≡ Some one → (find (is_open_as e n) xs ≡ Some one → find (is_open_of e k) xs ≡ Some one) → cond b (Some x) (find (is_open_of e k) xs) ≡ Some one
+        go true p true q at rest = at
+        go true p false q at rest = let same : x ≡ one = cc in never (sym of_one ∙ (ap (is_open_of e k) (sym same) ∙ q))
+        go false p true q at rest = never (sym (h.0 q) ∙ p)
+        go false p false q at rest = rest at
 
     pub seat : find (is_open_of e k) cs ≡ Some one
     seat = seat_in cs same_number found

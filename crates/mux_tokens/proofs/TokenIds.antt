@@ -1,5 +1,5 @@
 -- The bytes of the tokens that live are texts of what they are, whatever the events are; so they are found by their bytes as by their ids.
-use Rattle.std.proofs.Common.{◌≡◌, ℕ, Bool, true, false, not, ◌&&◌, cond, List, [], ◌∷◌, ◌++◌, codes, filter, find, map, nat_eq, if◌then◌else◌, is_some, refl, sym, subst, ◌∙◌, ap, ap₂, absurd}
+use Rattle.std.proofs.Common.{◌≡◌, ℕ, Bool, true, false, not, ◌&&◌, cond, List, [], ◌∷◌, ◌++◌, codes, filter, find, map, nat_eq, if◌then◌else◌, is_some, refl, sym, subst, ◌∙◌, ap, ap₂}
 use Rattle.std.specs.Prelude.{Option, Some, None}
 use Rattle.std.specs.List.{AllByRecursion}
 use Rattle.std.specs.Option.{option_and_then, option_map}
