@@ -39,8 +39,8 @@ use Rattle.mux_tokens.proofs.Seen.{given_seen, none_named, number_seen}
 use Rattle.mux_tokens.proofs.Standing.{answer_moves as reply_tokens, asked_moves, create_moves, next_token, stay_stands, told_moves, unnamed_answers}
 use Rattle.mux_tables.specs.declared.tables.Start.{Start}
 use Rattle.mux_tables.specs.declared.tables.Tables.{Tables}
-use Rattle.mux_tables.specs.Stands.{NamesAsk, Stands, is_request, number_in, of_life}
-use Rattle.mux_tables.proofs.Created.{OriginsMove}
+use Rattle.mux_tables.specs.Stands.{NamesAsk, Stands, is_early, is_request, number_in, of_life}
+use Rattle.mux_tables.proofs.TokenMoves.{OriginsMove}
 use Rattle.mux_tables.proofs.Frames.{asks_stay, live_stay}
 use Rattle.mux_tables.proofs.Moves.{house_moves}
 use Rattle.mux_tables.proofs.Parking.{impatient_stay}
@@ -87,7 +87,7 @@ module _ (settings : Settings) (t u : Tables) (events : List Event) (g s n : ℕ
   create_by body method token id params new cr says creates untaken makes text =
       let next = next_token body (created_of settings s events) new makes in
       let heard : is_heard settings s events id ≡ true = ap (λ k. is_ready k && not (is_taken (Some id) (asking_of settings s events))) stage ∙ ap (λ b. not b) untaken in
-      answer_moves settings t u events g s x z body None z.ids is at within read (ap (λ m. is_first_result m && _) says) (ap (λ m. is_first_error m && _) says)
+      answer_moves settings t u events g s x z body None z.ids is at within read (ap (λ m. is_first_result m && is_early x.life.stage) says) (ap (λ m. is_first_error m && is_initializing x.life.stage) says)
       (impatient_stay settings s events body method (message_of body) id params says (creates_impatient method creates)) (other_live settings s s events body method (message_of body) id params says (creates_apart method creates))
       (λ k small. ap (λ m. names (answered_id m) k) says) refl refl refl (λ o. o) set es gs now
       (record {
@@ -102,7 +102,7 @@ module _ (settings : Settings) (t u : Tables) (events : List Event) (g s n : ℕ
       → table.is_begin kind ≡ is_begin params → table.is_end kind ≡ is_end params → Stands settings u (events ++ took (FromServer s body) (message_of body) ∷ [])
   progress_by body method token params i kind cr says tells names_it text begun ends =
       let x_now : Created = created_of settings s events in
-      answer_moves settings t u events g s x z body None z.ids is at within read (ap (λ m. is_first_result m && _) says) (ap (λ m. is_first_error m && _) says)
+      answer_moves settings t u events g s x z body None z.ids is at within read (ap (λ m. is_first_result m && is_early x.life.stage) says) (ap (λ m. is_first_error m && is_initializing x.life.stage) says)
       (asks_stay settings s events (took (FromServer s body) (message_of body)) (ap is_request says)).parked (live_stay settings s events (took (FromServer s body) (message_of body)) (ap is_request says))
       (λ k small. ap (λ m. names (answered_id m) k) says) refl refl refl (λ o. o) set es gs now
       (record {
@@ -164,9 +164,15 @@ reply_moves settings t u events s m e (Some k) takes body own og sk cr named acc
 }
 
 -- what it gives
-pub handed_seen : (settings : Settings) (t : Tables) (events : List Event) (s m e : ℕ) (n : Option ℕ) (takes : Bool) (body : List ℕ) (o : Option Handed) → m ≡ s → MatchOption n (o ≡ None) (λ k. option_map (λ h. (h.token, h.bodies.items)) o ≡ table.given e k takes (table_of m t.origins.created)) → NamesAsk (answered_id (message_of body)) n → Stands settings t events
-    → option_map (λ h. (h.token, h.bodies.items)) o ≡ option_map (λ (c : Taking). (c.token, if takes then c.held else [])) (find (is_answered e (answered_id (message_of body))) (created_of settings s events).takings)
+abbrev pub handed_pair : Handed → ℕ × List (List ℕ)
+handed_pair h = (h.token, h.bodies.items)
+
+abbrev pub taken_pair : Bool → Taking → ℕ × List (List ℕ)
+taken_pair takes c = (c.token, if takes then c.held else [])
+
+pub handed_seen : (settings : Settings) (t : Tables) (events : List Event) (s m e : ℕ) (n : Option ℕ) (takes : Bool) (body : List ℕ) (o : Option Handed) → m ≡ s → MatchOption n (o ≡ None) (λ k. option_map handed_pair o ≡ table.given e k takes (table_of m t.origins.created)) → NamesAsk (answered_id (message_of body)) n → Stands settings t events
+    → option_map handed_pair o ≡ option_map (taken_pair takes) (find (is_answered e (answered_id (message_of body))) (created_of settings s events).takings)
 handed_seen settings t events s m e None takes body o own is named st =
-    ap (option_map (λ h. (h.token, h.bodies.items))) is ∙ sym (ap (option_map (λ (c : Taking). (c.token, if takes then c.held else []))) (none_named e (message_of body) named (created_of settings s events).takings (st.created.each s).small))
+    ap (option_map handed_pair) is ∙ sym (ap (option_map (taken_pair takes)) (none_named e (message_of body) named (created_of settings s events).takings (st.created.each s).small))
 handed_seen settings t events s m e (Some k) takes body o own is named st =
     is ∙ (ap (λ j. table.given e k takes (table_of j t.origins.created)) own ∙ given_seen settings t.origins.created events st.created s e k (message_of body) takes named)

@@ -22,7 +22,7 @@ use Rattle.std.specs.List.Sorted.{IsStrictlySortedBy}
 use Rattle.std.specs.Ordering.{nat_cmp}
 use Rattle.group_laws.specs.group_rows.specs.Created.{created_of}
 use Rattle.mux_tokens.specs.Rows.{left_each}
-use Rattle.mux_tables.proofs.Created.{origins_left, shutdown_takes}
+use Rattle.mux_tables.proofs.TokenMoves.{origins_left, shutdown_takes}
 use Rattle.mux_tables.proofs.Heard.{asks_silent, set_moves}
 use Rattle.mux_tables.proofs.Phased.{phased}
 

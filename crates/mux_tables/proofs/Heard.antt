@@ -40,7 +40,7 @@ use Rattle.std.specs.List.Sorted.{IsStrictlySortedBy}
 use Rattle.std.specs.Ordering.{nat_cmp}
 use Rattle.mux_tokens.specs.Rows.{left_each}
 use Rattle.mux_tokens.specs.Stands.{TakesNone}
-use Rattle.mux_tables.proofs.Created.{OriginsMove, origins_left, origins_stay, request_takes}
+use Rattle.mux_tables.proofs.TokenMoves.{OriginsMove, origins_left, origins_stay, request_takes}
 use Rattle.mux_tables.proofs.Moves.{house_moves, quiet_moves}
 use Rattle.mux_tables.proofs.Named.{Goes, goes_heard, goes_so, goes_then, meant_by, named_by, named_new}
 use Rattle.mux_tables.proofs.Phased.{heard_plain, heard_same, phased}

@@ -3,7 +3,7 @@ pub mod Refusing
 pub mod Putting
 pub mod Searched
 pub mod Apart
-pub mod Created
+pub mod TokenMoves
 pub mod Asking
 pub mod Counted
 pub mod Awaited

@@ -18,7 +18,7 @@ use Rattle.group_laws.specs.group_rows.specs.Created.{created_of}
 use Rattle.mux_tokens.specs.Stands.{CreatedStand}
 use Rattle.mux_tokens.proofs.Standing.{stay_stands}
 use Rattle.mux_tokens.proofs.Stays.{passes_stay}
-use Rattle.mux_tables.proofs.Created.{CreatedMove, OriginsMove}
+use Rattle.mux_tables.proofs.TokenMoves.{CreatedMove, OriginsMove}
 use Rattle.mux_tables.proofs.Frames.{passes_quiet, asks_alone, names_start, names_editor, spawns, ticks, editors_stand, groups_stand, origins_stand, start_alone, group_alone, life_alone, time_alone}
 use Rattle.mux_tables.proofs.Lasts.{last_forgotten, lasts_stand, one_last}
 use Rattle.mux_tables.proofs.Awaited.{StopsMove, stopping_more, stops_kept}

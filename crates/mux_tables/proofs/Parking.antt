@@ -22,7 +22,7 @@ use Rattle.mux_tables.specs.Stands.{HasOwnId, HaveOwnIds, IsFree, MayWait, Names
 use Rattle.group_laws.specs.group_rows.specs.Created.{created_next, created_of}
 use Rattle.mux_tokens.specs.Stands.{CreatedStay}
 use Rattle.mux_tokens.proofs.Stays.{other_request}
-use Rattle.mux_tables.proofs.Created.{heard_all, origins_stay, patient_creates}
+use Rattle.mux_tables.proofs.TokenMoves.{heard_all, origins_stay, patient_creates}
 use Rattle.mux_tables.proofs.Apart.{id_flip}
 use Rattle.mux_tables.proofs.Asking.{asking_more, asks_more}
 use Rattle.mux_tables.proofs.Frames.{itself, open_stay}

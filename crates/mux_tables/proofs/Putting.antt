@@ -48,7 +48,7 @@ use Rattle.mux_tables.proofs.Frames.{part_quiet}
 use Rattle.mux_tables.proofs.Lasts.{asked_last, same_place}
 use Rattle.group_laws.specs.group_rows.specs.Created.{created_of, is_creating}
 use Rattle.mux_tokens.proofs.Stays.{called_stays}
-use Rattle.mux_tables.proofs.Created.{origins_stay}
+use Rattle.mux_tables.proofs.TokenMoves.{origins_stay}
 use Rattle.mux_tables.proofs.Moves.{house_and_lasts, house_moves}
 use Rattle.mux_tables.proofs.Noting.{left_stays}
 use Rattle.mux_tables.proofs.Refusing.{ready_asks, rest_same, same_does, same_stands}

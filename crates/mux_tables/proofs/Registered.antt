@@ -37,7 +37,7 @@ use Rattle.mux_tables.proofs.Frames.{open_stay}
 use Rattle.group_laws.specs.group_rows.specs.Created.{created_next, created_of, is_creating, names_create}
 use Rattle.mux_tokens.specs.Stands.{CreatedStay}
 use Rattle.mux_tokens.proofs.Stays.{called_stays, other_request}
-use Rattle.mux_tables.proofs.Created.{heard_all, origins_stay}
+use Rattle.mux_tables.proofs.TokenMoves.{heard_all, origins_stay}
 use Rattle.mux_tables.proofs.Moves.{house_moves}
 use Rattle.mux_tables.proofs.Parking.{impatient_stay}
 use Rattle.mux_tables.proofs.Putting.{asked_so, none_left}

@@ -30,7 +30,7 @@ use Rattle.mux_tables.proofs.Asking.{asking_more, asks_later, none_answered, par
 use Rattle.mux_tables.proofs.Frames.{part_quiet}
 use Rattle.mux_tables.proofs.Heard.{set_house}
 use Rattle.mux_tables.proofs.Lasts.{asked_last}
-use Rattle.mux_tables.proofs.Created.{OriginsMove}
+use Rattle.mux_tables.proofs.TokenMoves.{OriginsMove}
 use Rattle.mux_tables.proofs.Moves.{house_and_lasts}
 use Rattle.mux_tables.proofs.Phased.{phased}
 use Rattle.mux_tables.proofs.Refusing.{ready_asks}

@@ -42,7 +42,7 @@ use Rattle.mux_tables.proofs.Frames.{itself, part_quiet}
 use Rattle.mux_tables.proofs.Lasts.{asked_last}
 use Rattle.group_laws.specs.group_rows.specs.Created.{created_of}
 use Rattle.mux_tokens.proofs.Stays.{called_stays}
-use Rattle.mux_tables.proofs.Created.{origins_stay, patient_creates}
+use Rattle.mux_tables.proofs.TokenMoves.{origins_stay, patient_creates}
 use Rattle.mux_tables.proofs.Moves.{house_and_lasts}
 use Rattle.mux_tables.proofs.Putting.{asked_does, asked_so, below, one_left, put_stands, running_told, text_says, unasked_does}
 use Rattle.mux_tables.proofs.Refusing.{ready_asks, same_does, same_stands}

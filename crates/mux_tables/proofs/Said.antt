@@ -32,7 +32,7 @@ use Rattle.std.specs.List.Sorted.{IsStrictlySortedBy}
 use Rattle.std.specs.Ordering.{nat_cmp}
 use Rattle.group_laws.specs.group_rows.specs.Created.{created_of}
 use Rattle.mux_tokens.specs.Rows.{left_each}
-use Rattle.mux_tables.proofs.Created.{origins_left, origins_stay, told_tokens}
+use Rattle.mux_tables.proofs.TokenMoves.{origins_left, origins_stay, told_tokens}
 use Rattle.mux_tables.proofs.Moves.{house_moves}
 use Rattle.mux_tables.proofs.Named.{Goes, goes_so, goes_then, goes_told, meant_by, named_by}
 use Rattle.mux_tables.proofs.Phased.{closed_gone, phased, plain, told_plain, told_same}

@@ -36,7 +36,7 @@ use Rattle.mux_tables.proofs.IdMoves.{cancelled_ids, sent_as, sent_ids}
 use Rattle.mux_tables.proofs.Lasts.{known}
 use Rattle.mux_tables.proofs.Said.{does_send}
 use Rattle.mux_tables.proofs.Starts.{groups_kept, is_late, late_asks, late_live, late_parked, late_shown, no_stop, part_ids, part_life, read_here, start_at_place, start_moves, still_asks, still_ids, still_life, still_live, still_parked, still_shown, still_stop}
-use Rattle.mux_tables.proofs.Created.{same_created}
+use Rattle.mux_tables.proofs.TokenMoves.{same_created}
 use Rattle.mux_tables.proofs.Awaited.{Added, StopsMove, stop_added, stopping_less, told_stops}
 
 pub same_set : (xs : List Start) (g : ℕ) (z : Start) → slice_get xs g ≡ Some z → slice_set xs g z ≡ xs

@@ -40,7 +40,7 @@ use Rattle.mux_tokens.proofs.Rows.{num_back}
 use Rattle.mux_tokens.proofs.Standing.{over_moves as ended_tokens}
 use Rattle.mux_tokens.proofs.Stays.{passes_by, passes_stay}
 use Rattle.group_laws.specs.group_rows.specs.Created.{Created, created_next, created_of, no_created}
-use Rattle.mux_tables.proofs.Created.{CreatedMove, OriginsMove, first_error_tokens, first_result_tokens, origins_stay, same_created}
+use Rattle.mux_tables.proofs.TokenMoves.{CreatedMove, OriginsMove, first_error_tokens, first_result_tokens, origins_stay, same_created}
 use Rattle.mux_tables.proofs.Registering.{begun_live, first_live, live_by_stay}
 use Rattle.mux_tables.proofs.Starts.{groups_kept, is_late, late_asks, late_live, late_parked, late_shown, no_stop, not_refused, part_ids, part_life, part_shown, read_back, read_here, start_at_place, start_moves, still_asks, still_ids, still_live, still_parked, still_shown, still_stop}
 use Rattle.mux_tables.proofs.Awaited.{StopsMove, hears_same, same_either, started_same, stopping_less, stops_kept}

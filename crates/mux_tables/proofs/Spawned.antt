@@ -29,7 +29,7 @@ use Rattle.group_laws.specs.group_rows.specs.Asks.{asks_of, parked_of}
 use Rattle.group_laws.specs.group_rows.specs.Live.{live_of}
 use Rattle.mux_tables.specs.Stands.{AsksAt, IsLost, IsNew, Lost, OriginsStand, Rise, IdsAt, IdsStand, Part, of_life, of_ids, of_shown, of_stop, of_asks, of_parked, of_live, LiveAt, ParkedAt, PartStands, ShownAt, blank, LastStands, LastsStand, Stands}
 use Rattle.mux_tables.proofs.Asking.{asks_more, parked_more}
-use Rattle.mux_tables.proofs.Created.{same_created}
+use Rattle.mux_tables.proofs.TokenMoves.{same_created}
 use Rattle.mux_tables.proofs.Frames.{groups_stand, itself, last_stands, life_alone, part_apart}
 use Rattle.mux_tables.proofs.Lasts.{Last, known, same_place}
 use Rattle.mux_tables.proofs.Moves.{house_stands}

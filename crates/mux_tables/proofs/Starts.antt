@@ -28,7 +28,7 @@ use Rattle.mux_tables.specs.Refusals.{asks_in}
 use Rattle.mux_tables.specs.Stands.{AsksAt, GroupsStand, IdsAt, IdsStand, Part, of_life, of_ids, of_shown, of_stop, of_asks, of_parked, of_live, LiveAt, ParkedAt, PartStands, ShownAt, StopAt, Stands, house_in, number_in, stage_in}
 use Rattle.mux_tables.proofs.Frames.{names_start, names_editor, spawns, ticks, touches, part_quiet}
 use Rattle.mux_tables.proofs.IdMoves.{ids_more}
-use Rattle.mux_tables.proofs.Created.{CreatedMove}
+use Rattle.mux_tables.proofs.TokenMoves.{CreatedMove}
 use Rattle.mux_tables.proofs.Moves.{parts_move}
 use Rattle.mux_tables.proofs.Awaited.{StopsMove}
 

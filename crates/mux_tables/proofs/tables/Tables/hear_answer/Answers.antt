@@ -2,7 +2,7 @@
 use Rattle.std.proofs.Common.{refl}
 use Rattle.mux_history.specs.declared.cause.Cause.TheVariants.{FromServer}
 use Rattle.event_model.specs.Event.{heard}
-use Rattle.mux_tables.proofs.Created.{heard_all, origins_stay}
+use Rattle.mux_tables.proofs.TokenMoves.{heard_all, origins_stay}
 use Rattle.mux_tables.proofs.Starts.{stages_stay, starts_stay}
 use Rattle.mux_tables.proofs.Served.{answer_moves, answer_found, found_of}
 use Rattle.mux_tables.proofs.DocumentHeard.{answer_documents_by}

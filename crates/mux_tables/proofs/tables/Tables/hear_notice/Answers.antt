@@ -2,7 +2,7 @@
 use Rattle.std.proofs.Common.{refl, subst, sym, ◌∙◌}
 use Rattle.mux_history.specs.declared.cause.Cause.TheVariants.{FromEditor}
 use Rattle.event_model.specs.Event.{heard}
-use Rattle.mux_tables.proofs.Created.{origins_stay}
+use Rattle.mux_tables.proofs.TokenMoves.{origins_stay}
 use Rattle.mux_tables.specs.Stands.{IsPlace}
 use Rattle.mux_tables.proofs.DocumentLeft.{home_seen}
 use Rattle.mux_tables.proofs.DocumentNoticed.{noticed_documents}

@@ -4,7 +4,7 @@ use Rattle.event_model.specs.Requests.{answered_id}
 use Rattle.rpc_message.specs.Message.{message_of}
 use Rattle.mux_history.specs.declared.cause.Cause.TheVariants.{FromEditor}
 use Rattle.event_model.specs.Event.{heard}
-use Rattle.mux_tables.proofs.Created.{origins_stay}
+use Rattle.mux_tables.proofs.TokenMoves.{origins_stay}
 use Rattle.mux_tables.proofs.DocumentHeard.{reply_documents}
 use Rattle.mux_tables.proofs.Replying.{answer_seen, replied_by}
 use Rattle.mux_tables.proofs.Starts.{read_here, read_same, stages_stay, starts_stay}

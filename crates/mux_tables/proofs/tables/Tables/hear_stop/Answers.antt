@@ -2,7 +2,7 @@
 use Rattle.std.proofs.Common.{refl, ◌∙◌}
 use Rattle.mux_history.specs.declared.cause.Cause.TheVariants.{FromEditor}
 use Rattle.event_model.specs.Event.{heard}
-use Rattle.mux_tables.proofs.Created.{origins_stay}
+use Rattle.mux_tables.proofs.TokenMoves.{origins_stay}
 use Rattle.mux_tables.proofs.Heard.{stop_moves, stop_silent, stop_takes}
 use Rattle.mux_tables.proofs.DocumentHeard.{heard_documents, stop_unchanged}
 use Rattle.rpc_message.specs.Message.{message_of}
