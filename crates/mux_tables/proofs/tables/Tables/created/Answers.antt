@@ -8,6 +8,6 @@ use Rattle.mux_tables.proofs.Creating.{number_is}
 use Rattle.mux_tables.proofs.tables.Tables.created.Goals as goal
 
 pub returns : goal.returns
-returns c = λ settings events x at st. IfOk-weaker c.all.result
+returns c = λ settings events x at st. IfOk-weaker c.all.result _ _
     (λ all is. is ∙ (ap (λ n. all_of (table_of n c.args.self.now.origins.created)) (number_is c.args.self.now.lasts.items c.args.g x c.index.result.now c.start.result at c.requires c.index.ensures c.start.ensures) ∙ all_seen settings c.args.self.now.origins.created events st.created x.life.start))
     c.all.ensures
