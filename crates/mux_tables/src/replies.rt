@@ -75,7 +75,7 @@ impl Tables {
             → IfOk result (λ r. r.ask ≡ option_map (λ (a : Open). a.bytes) (find (is_seated e (answered_id (message_of body))) (asks_of settings x.life.start events))) }
         ensures handed { (settings : Settings) (events : List Event) (body : List ℕ) (x : Start) → slice_get self.old.lasts.items g ≡ Some x
             → NamesAsk (answered_id (message_of body)) n → Stands settings self.old events
-            → IfOk result (λ r. option_map (λ h. (h.token, h.bodies.items)) r.handed ≡ option_map (λ (c : Taking). (c.token, if accepts then c.held else []))
+            → IfOk result (λ r. option_map (λ h. (h.token, h.bodies.items)) r.handed ≡ option_map {U = ℕ × List (List ℕ)} (λ (c : Taking). (c.token, if accepts then c.held else []))
             (find (is_answered e (answered_id (message_of body))) (created_of settings x.life.start events).takings)) }
         ensures stands { (settings : Settings) (events : List Event) (body : List ℕ) (x : Start) → slice_get self.old.lasts.items g ≡ Some x
             → NamesAsk (answered_id (message_of body)) n → accepts ≡ fold.accepts (message_of body) → requests (codes "shutdown") (message_of body) ≡ false
