@@ -28,7 +28,7 @@ pub returns-clause-stands : goal.returns-clause-stands
 returns-clause-stands c = λ settings events body x at named accepted runs one takes stays goes off step st.
     replied_by settings c.args.self.now _ events c.args.g c.args.e body c.args.phase c.args.n x c.index_mut-last.result.now c.answer-ask.new.asks c.requires.editor at (read_same c.args.self.now.lasts.items c.args.g c.index_mut-last.result.now x c.requires.group c.index_mut-last.ensures.value at) c.set.ensures
     refl refl refl
-    (reply_moves settings c.args.self.now _ events x.life.start c.start-s.result c.args.e c.args.n c.args.accepts body (number_is c.args.self.now.lasts.items c.args.g x c.index.result.now c.start-s.result at c.requires.group c.index.ensures c.start-s.ensures) refl refl c.in_ok-handed.ensures.rows named accepted runs takes)
+    (reply_moves settings c.args.self.now (record c.args.self.now { origins = record c.args.self.now.origins { created = c.hand_out.new.created } }) events x.life.start c.start-s.result c.args.e c.args.n c.args.accepts body (number_is c.args.self.now.lasts.items c.args.g x c.index.result.now c.start-s.result at c.requires.group c.index.ensures c.start-s.ensures) refl refl c.in_ok-handed.ensures.rows named accepted runs takes)
     refl named c.answer-ask.ensures.left one stays goes off step st
 
 pub returns-clause-documents : goal.returns-clause-documents
