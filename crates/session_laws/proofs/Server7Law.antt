@@ -1,5 +1,5 @@
 -- The requests that a start has to answer, with their tokens, behind one more event of its part.
-use Rattle.std.proofs.Common.{◌≡◌, ℕ, Bool, true, false, cond, List, [], ◌∷◌, ◌++◌, bytes_eq, codes, Option, refl, sym, subst}
+use Rattle.std.proofs.Common.{◌≡◌, ℕ, Bool, true, false, cond, List, [], ◌∷◌, ◌++◌, bytes_eq, codes, filter, Option, refl, sym, subst}
 use Rattle.std.proofs.lemmas.Slice.Eq.{bytes_eq-Decides}
 use Rattle.json_text.specs.Json.{Json}
 use Rattle.document_model.specs.Sayings.{saying_by, saying_of, speaks}
@@ -8,9 +8,11 @@ use Rattle.mux_history.specs.declared.out.Out.TheVariants.{ToEditor, ToServer, S
 use Rattle.rpc_message.specs.Message.{Id, Message, request, notification, result, error, not_json, not_message}
 use Rattle.event_model.specs.Event.{Event, took, did}
 use Rattle.event_model.specs.Parts.{server_part, is_of_server}
+use Rattle.event_model.specs.Requests.{is_open}
 use Rattle.mux_facts.proofs.Rules.{word_more}
-use Rattle.session_laws.specs.Progress.{Tokened, names_one, tokens_at}
-use Rattle.session_laws.specs.ServerRules.{ServerRule7, working_behind, working_of}
+use Rattle.mux_facts.proofs.Words.{open_more}
+use Rattle.session_laws.specs.Progress.{Creates, Tokened, is_answered, names_one, no_creates, tokens_at, tokens_in}
+use Rattle.session_laws.specs.ServerRules.{ServerRule7, creates_behind, creates_of, working_behind, working_of}
 use Rattle.session_laws.proofs.PartLaws.{is_to_server}
 use Rattle.session_laws.proofs.Tokens.{holds, holds_more}
 
@@ -59,6 +61,41 @@ working_grows s events event off id token h = subst (λ rs. holds id token rs �
   where
     go : (b : Bool) → holds id token (cond b (working_behind (working s events) event) (working s events)) ≡ true
     go true = grown id token (working s events) event off h
+    go false = h
+
+-- what a start created stays so until a message of it
+abbrev pub creates : ℕ → List Event → Creates
+creates s events = creates_of (server_part s events)
+
+creates_more : (s : ℕ) (events : List Event) (event : Event) → creates s (events ++ event ∷ []) ≡ cond (is_of_server s event) (creates_behind (creates s events) event) (creates s events)
+creates_more s events event = word_more creates_behind no_creates (is_of_server s) events event
+
+created_grown : (token : Id) (x : Creates) (event : Event) → is_from_server event ≡ false → is_open token x.created ≡ true → is_open token (creates_behind x event).created ≡ true
+created_grown token x (did (ToServer s body) (result i r)) off h = open_more token x.created (tokens_in (filter (is_answered i) x.asked)) h
+created_grown token x (did (ToServer s body) (error i r)) off h = h
+created_grown token x (did (ToServer s body) (request i method params)) off h = h
+created_grown token x (did (ToServer s body) (notification method params)) off h = h
+created_grown token x (did (ToServer s body) not_json) off h = h
+created_grown token x (did (ToServer s body) not_message) off h = h
+created_grown token x (did (ToEditor e body) m) off h = h
+created_grown token x (did (Spawn s g) m) off h = h
+created_grown token x (did (CloseEditor e) m) off h = h
+created_grown token x (did (EndServer s) m) off h = h
+created_grown token x (took (FromServer s body) m) off h = absurd (cc)
+created_grown token x (took (FromEditor e body) m) off h = h
+created_grown token x (took (Joined e) m) off h = h
+created_grown token x (took (EditorGone e why) m) off h = h
+created_grown token x (took (Started s) m) off h = h
+created_grown token x (took (StartFailed s) m) off h = h
+created_grown token x (took (ServerGone s) m) off h = h
+created_grown token x (took (Drained e k) m) off h = h
+created_grown token x (took (Tick t) m) off h = h
+
+pub creates_grows : (s : ℕ) (events : List Event) (event : Event) → is_from_server event ≡ false → (token : Id) → is_open token (creates s events).created ≡ true → is_open token (creates s (events ++ event ∷ [])).created ≡ true
+creates_grows s events event off token h = subst (λ (x : Creates). is_open token x.created ≡ true) (sym (creates_more s events event)) (go (is_of_server s event))
+  where
+    go : (b : Bool) → is_open token (cond b (creates_behind (creates s events) event) (creates s events)).created ≡ true
+    go true = created_grown token (creates s events) event off h
     go false = h
 
 -- what speaks of a document cancels no work
