@@ -1,5 +1,5 @@
 -- The tokens that a request brings: what is kept of one is its text, and the request's params name it.
-use Rattle.std.proofs.Common.{◌≡◌, ℕ, Bool, true, false, ◌||◌, List, [], ◌∷◌, bytes_eq, codes, if◌then◌else◌, Option, Some, None, refl, sym, ◌∙◌, ap, subst}
+use Rattle.std.proofs.Common.{◌≡◌, ℕ, Bool, true, false, ◌||◌, List, [], ◌∷◌, codes, if◌then◌else◌, Option, Some, None, refl, sym, ◌∙◌, ap, subst}
 use Rattle.std.specs.Option.{option_and_then, option_map}
 use Rattle.json_text.specs.declared.kind.Word.TheVariants.{Null, False, True}
 use Rattle.json_text.specs.declared.span.Span.{Span}
@@ -13,7 +13,7 @@ use Rattle.json_text.proofs.Laws.{tree_sound}
 use Rattle.json_text.proofs.Moves.{Placed, moved}
 use Rattle.json_text.proofs.Put.{named_bare}
 use Rattle.rpc_message.specs.Envelopes.{by_names}
-use Rattle.rpc_message.specs.Message.{Id, integer, text, are_params, given, id_of, integer_if, is_integer, message_of, request, request_if, slice_of}
+use Rattle.rpc_message.specs.Message.{Id, integer, text as of_string, are_params, given, id_of, integer_if, is_integer, message_of, request, request_if, slice_of}
 use Rattle.rpc_message.specs.ValueTexts.{IsIdText, IsValueText}
 use Rattle.rpc_message.proofs.Bodies.{Envelope, envelope, has_id}
 use Rattle.rpc_message.proofs.Ids.{answered_no_call}
@@ -43,7 +43,7 @@ scalar (number s ds) bytes w k = go (is_integer ds) refl k
     go : (b : Bool) → is_integer ds ≡ b → (b || false) ≡ true → Scalar (number s ds) bytes
     go true e h = scalar_of (number s ds) bytes (integer ds) w (ap (λ b. integer_if b ds) e)
     go false e h = absurd (cc)
-scalar (string s cs) bytes w k = scalar_of (string s cs) bytes (text cs) w refl
+scalar (string s cs) bytes w k = scalar_of (string s cs) bytes (of_string cs) w refl
 scalar (word s x) bytes w k = absurd (cc)
 scalar (array s js) bytes w k = absurd (cc)
 scalar (object s ms) bytes w k = absurd (cc)

@@ -12,7 +12,7 @@ use Rattle.mux_history.specs.declared.out.Out.{Out}
 use Rattle.mux_history.specs.declared.out.Out.TheVariants.{ToEditor, ToServer, Spawn, CloseEditor, EndServer}
 use Rattle.lsp_method.specs.Class.{class_of, editor_notification, own_notification}
 use Rattle.lsp_method.specs.declared.variants.Origin.TheVariants.{Editor}
-use Rattle.rpc_message.specs.Message.{Id, Message, id_of, integer, message_of, notification, text}
+use Rattle.rpc_message.specs.Message.{Id, Message, id_of, integer, message_of, text}
 use Rattle.rpc_message.specs.ValueTexts.{IsIdText, IsValueText}
 use Rattle.event_model.specs.declared.stage.Stage.{Stage}
 use Rattle.event_model.specs.declared.stage.Stage.TheVariants.{Ended, Ready, Spawning}

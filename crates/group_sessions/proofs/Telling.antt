@@ -225,7 +225,7 @@ module _ (settings : Settings) (before : List Event) (cause : Cause) (events : L
   apart_all alone s = go (answered_id (message_of body)) refl
     where
       go : (o : Option Id) → answered_id (message_of body) ≡ o → AllByRecursion (λ (f : Forwarded). (i : Id) → answered_id (message_of body) ≡ Some i → f.editor ≡ n → IsIdText i f.id → ⊥) (forwarding_of s events).open_requests
-      go None at = each_of (λ (f : Forwarded). (i : Id) → answered_id (message_of body) ≡ Some i → f.editor ≡ n → IsIdText i f.id → ⊥) (λ f i is same text. let clash : ◌≡◌ {A = Option Id} None (Some i) = sym at ∙ is in absurd (cc)) (forwarding_of s events).open_requests
+      go None at = each_of (λ (f : Forwarded). (i : Id) → answered_id (message_of body) ≡ Some i → f.editor ≡ n → IsIdText i f.id → ⊥) (λ f i is same text. absurd (let clash : ◌≡◌ {A = Option Id} None (Some i) = sym at ∙ is in cc)) (forwarding_of s events).open_requests
       go (Some k) at = all_of (λ (f : Forwarded). f.editor ≡ n → IsIdText k f.id → ⊥) (λ (f : Forwarded). (i : Id) → answered_id (message_of body) ≡ Some i → f.editor ≡ n → IsIdText i f.id → ⊥)
           (λ f a i is same text. a same (subst (λ z. IsIdText z f.id) (some_same i k (sym is ∙ at)) text)) (forwarding_of s events).open_requests (alone k at s)
 

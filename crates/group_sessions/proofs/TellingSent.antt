@@ -120,7 +120,7 @@ quiet_question e (Spawn s g) h = tt
 quiet_question e (CloseEditor n) h = tt
 quiet_question e (EndServer s) h = tt
 
-quiet_sent : (s : ℕ) (bodies : List (List ℕ)) → AllByRecursion Quiet (map (λ text. ToServer s text) bodies)
+quiet_sent : (s : ℕ) (bodies : List (List ℕ)) → AllByRecursion Quiet (map (λ z. ToServer s z) bodies)
 quiet_sent s [] = tt
 quiet_sent s (b ∷ bodies) = (tt, quiet_sent s bodies)
 
@@ -187,7 +187,7 @@ module _ (settings : Settings) (before : List Event) (cause : Cause) (events : L
     e = (k.sender).editor
 
     abbrev outs : List Out
-    outs = (k.synced).questions ++ map (λ text. ToServer n text) (sync_bodies settings.limits.versions (λ u. held_at n u before) e (texts_of settings (k.synced).group before).opens)
+    outs = (k.synced).questions ++ map (λ z. ToServer n z) (sync_bodies settings.limits.versions (λ u. held_at n u before) e (texts_of settings (k.synced).group before).opens)
 
     its : AtWork e k.asked k.sender
     its = at_work e k.asked k.sender (sym (sender_still n before e k.asked outs) ∙ ap (λ z. (forwarding_of n z).sender) (sym (k.synced).place) ∙ k.at_work)
@@ -195,7 +195,7 @@ module _ (settings : Settings) (before : List Event) (cause : Cause) (events : L
     -- its tokens are those of its message, and stay there
     there : (token : Id) → holds its.id token (tokened e (with_cause before (FromEditor e k.asked))) ≡ true → holds its.id token (tokened e sent) ≡ true
     there token h = tokened_grows e events (said (ToServer n body)) refl its.id token (subst (λ z. holds its.id token (tokened e z) ≡ true) (sym (k.synced).place)
-        (all_quiet e its.id token (with_cause before (FromEditor e k.asked)) outs (all_join Quiet (k.synced).questions (map (λ text. ToServer n text) (sync_bodies settings.limits.versions (λ u. held_at n u before) e (texts_of settings (k.synced).group before).opens))
+        (all_quiet e its.id token (with_cause before (FromEditor e k.asked)) outs (all_join Quiet (k.synced).questions (map (λ z. ToServer n z) (sync_bodies settings.limits.versions (λ u. held_at n u before) e (texts_of settings (k.synced).group before).opens))
         (all_of (IsQuestion e) Quiet (quiet_question e) (k.synced).questions (k.synced).asks) (quiet_sent n (sync_bodies settings.limits.versions (λ u. held_at n u before) e (texts_of settings (k.synced).group before).opens))) h))
 
     work : (bytes : List ℕ) → (k.sender).work ≡ Some bytes → HasToken e its.id sent bytes

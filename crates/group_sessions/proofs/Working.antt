@@ -1,5 +1,5 @@
 -- The daemon's tokens for the work of open requests: each is one of a request that the start has to answer, by its part.
-use Rattle.std.proofs.Common.{◌≡◌, ℕ, ◌+◌, ◌<◌, ◌^◌, Bool, true, false, not, ◌&&◌, cond, List, [], ◌∷◌, ◌++◌, append-nil, append_assoc, bytes_eq, codes, decimal, filter, map, nat_eq, nat_lt, if◌then◌else◌, Option, Some, None, ltb-true, refl, sym, ◌∙◌, ap, ap₂, subst, arith}
+use Rattle.std.proofs.Common.{◌≡◌, ℕ, ◌+◌, ◌<◌, ◌^◌, Bool, true, false, not, ◌&&◌, cond, List, [], ◌∷◌, ◌++◌, append-nil, append_assoc, bytes_eq, codes, decimal, filter, map, nat_eq, if◌then◌else◌, Option, Some, None, ltb-true, refl, sym, ◌∙◌, ap, ap₂, subst, arith}
 use Rattle.std.specs.List.{AllByRecursion}
 use Rattle.std.specs.Option.{option_map_or}
 use Rattle.json_text.specs.Json.{Json}
@@ -9,7 +9,7 @@ use Rattle.mux_history.specs.declared.cause.Cause.TheVariants.{Joined, FromEdito
 use Rattle.mux_history.specs.declared.out.Out.{Out}
 use Rattle.mux_history.specs.declared.out.Out.TheVariants.{ToEditor, ToServer, Spawn, CloseEditor, EndServer}
 use Rattle.rpc_message.specs.Message.{Id, Message, request, notification, result, error, not_json, not_message, integer, message_of, text}
-use Rattle.event_model.specs.Event.{Event, behind, heard, said, same_id, took, did, with_cause}
+use Rattle.event_model.specs.Event.{Event, behind, heard, said, same_id, did, with_cause}
 use Rattle.event_model.specs.Members.{bytes_if, is_token, named_of, params_of}
 use Rattle.event_model.specs.Requests.{answered_id, is_open, is_own, next_number}
 use Rattle.event_model.specs.Settings.{Settings}
@@ -194,7 +194,7 @@ module _ (settings : Settings) (range : InRange settings) (before : List Event) 
     next = (forwarding_of n events).next
 
     abbrev outs : List Out
-    outs = (k.synced).questions ++ map (λ text. ToServer n text) (sync_bodies settings.limits.versions (λ u. held_at n u before) (k.sender).editor (texts_of settings (k.synced).group before).opens)
+    outs = (k.synced).questions ++ map (λ z. ToServer n z) (sync_bodies settings.limits.versions (λ u. held_at n u before) (k.sender).editor (texts_of settings (k.synced).group before).opens)
 
     its : AtWork (k.sender).editor k.asked k.sender
     its = at_work (k.sender).editor k.asked k.sender (sym (sender_still n before (k.sender).editor k.asked outs) ∙ ap (λ z. (forwarding_of n z).sender) (sym (k.synced).place) ∙ k.at_work)
