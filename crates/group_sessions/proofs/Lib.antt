@@ -30,6 +30,9 @@ pub mod Walk
 pub mod Accepted
 pub mod Client6Law
 pub mod SentWork
+pub mod Behind
+pub mod CreatedTies
 pub mod Creating
 pub mod Working
 pub mod Server7Law
+pub mod CreatedFold

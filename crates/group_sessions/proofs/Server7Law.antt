@@ -1,5 +1,5 @@
 -- A cancel of work names the token of a request that the start has to answer, as it was sent, or one that the start created.
-use Rattle.std.proofs.Common.{◌≡◌, ℕ, ◌<◌, ◌^◌, Bool, true, false, not, cond, List, [], ◌∷◌, ◌++◌, bytes_eq, codes, decimal, find, nat_eq, if◌then◌else◌, Option, Some, None, is_some, IsTrue, refl, sym, ◌∙◌, ap, subst, arith}
+use Rattle.std.proofs.Common.{◌≡◌, ℕ, ◌<◌, ◌^◌, Bool, true, false, not, cond, List, [], ◌∷◌, ◌++◌, bytes_eq, codes, decimal, find, Option, Some, None, is_some, IsTrue, refl, sym, ◌∙◌, ap, subst, arith}
 use Rattle.std.specs.List.{AllByRecursion}
 use Rattle.std.proofs.lemmas.Bool.{and_parts}
 use Rattle.std.proofs.lemmas.Slice.Eq.{bytes_eq-Decides}
@@ -14,21 +14,19 @@ use Rattle.lsp_method.specs.Class.{class_of, editor_notification, own_notificati
 use Rattle.lsp_method.specs.declared.variants.Origin.TheVariants.{Editor}
 use Rattle.rpc_message.specs.Message.{Id, Message, id_of, integer, message_of, text}
 use Rattle.rpc_message.specs.ValueTexts.{IsIdText, IsValueText}
-use Rattle.event_model.specs.declared.stage.Stage.{Stage}
-use Rattle.event_model.specs.declared.stage.Stage.TheVariants.{Ended, Ready, Spawning}
+use Rattle.event_model.specs.declared.stage.Stage.TheVariants.{Ready}
 use Rattle.event_model.specs.Always.{Always}
 use Rattle.event_model.specs.Event.{Event, behind, events_of, heard, said, with_cause}
 use Rattle.event_model.specs.Members.{named_of}
 use Rattle.event_model.specs.Parts.{is_of_server, server_part}
 use Rattle.event_model.specs.Requests.{is_open}
 use Rattle.event_model.specs.Settings.{Settings}
-use Rattle.event_model.specs.Stages.{Life, is_ready, life_behind, life_of, stage_ending, stage_told}
+use Rattle.event_model.specs.Stages.{is_ready, life_of}
 use Rattle.event_model.proofs.Frames.{never}
 use Rattle.mux_model.specs.Fits.{fits_behind}
 use Rattle.mux_model.specs.Methods.{goes_on}
 use Rattle.mux_facts.specs.Ranges.{InRange}
 use Rattle.mux_facts.proofs.DocumentRow.{ready_is}
-use Rattle.mux_facts.proofs.Folds.{life_more}
 use Rattle.mux_facts.proofs.Keeps.{behind_both, behind_nothing}
 use Rattle.mux_facts.proofs.Lists.{found_is}
 use Rattle.mux_facts.proofs.Reasons.{reasons_keep}
@@ -51,7 +49,8 @@ use Rattle.group_facts.proofs.Facts.{Facts}
 use Rattle.group_facts.proofs.Known.{Here, facts_hold, here_did, here_took}
 use Rattle.group_facts.proofs.LeaveRows.{IsSmall, numbers_small}
 use Rattle.group_facts.proofs.Table.{reasons}
-use Rattle.group_sessions.proofs.Creating.{IsCreated, all_created, created_behind}
+use Rattle.group_sessions.proofs.Behind.{created_behind, ready_asked, ready_outs}
+use Rattle.group_sessions.proofs.Creating.{IsCreated, all_created}
 use Rattle.group_sessions.proofs.Marked.{Marked, id_bare, marked}
 use Rattle.group_sessions.proofs.Walk.{walk}
 use Rattle.group_sessions.proofs.Working.{IsWorking, Ties, Waits, ties_free, ties_sent, ties_took, waits_behind, waits_took}
@@ -68,45 +67,6 @@ apart name method off going = go (bytes_eq method name) refl
 not_work : (method : List ℕ) → goes_on (class_of method Editor true) ≡ true → bytes_eq method (codes "window/workDoneProgress/cancel") ≡ false
 unfolding editor_notification own_notification
 not_work method going = apart (codes "window/workDoneProgress/cancel") method refl going
-
--- A start that is ready behind an editor's message was ready before it
-
-told_back : (stage : Stage) (m : Message) → is_ready (stage_told stage m) ≡ true → is_ready stage ≡ true
-told_back Ready m h = refl
-told_back _ m h = h
-
-ending_off : (stage : Stage) → is_ready (stage_ending stage) ≡ true → ⊥
-ending_off Ended h = never (sym h)
-ending_off _ h = never (sym h)
-
-ready_out : (s : ℕ) (events : List Event) (out : Out) → is_ready (life_of s (events ++ said out ∷ [])).stage ≡ true → is_ready (life_of s events).stage ≡ true
-ready_out s events out h = by_out out (sym (ap (λ (l : Life). is_ready l.stage) (life_more s events (said out))) ∙ h)
-  where
-    by_out : (o : Out) → is_ready (life_behind s (life_of s events) (said o)).stage ≡ true → is_ready (life_of s events).stage ≡ true
-    by_out (ToServer n body) k = go (nat_eq n s) k
-      where
-        go : (b : Bool) → is_ready (if b then record { stage = stage_told (life_of s events).stage (message_of body); started = (life_of s events).started } else life_of s events).stage ≡ true → is_ready (life_of s events).stage ≡ true
-        go true e = told_back (life_of s events).stage (message_of body) e
-        go false e = e
-    by_out (Spawn n g) k = go (nat_eq n s) k
-      where
-        go : (b : Bool) → is_ready (if b then record { stage = Spawning; started = false } else life_of s events).stage ≡ true → is_ready (life_of s events).stage ≡ true
-        go true e = never (sym e)
-        go false e = e
-    by_out (EndServer n) k = go (nat_eq n s) k
-      where
-        go : (b : Bool) → is_ready (if b then record { stage = stage_ending (life_of s events).stage; started = (life_of s events).started } else life_of s events).stage ≡ true → is_ready (life_of s events).stage ≡ true
-        go true e = absurd (ending_off (life_of s events).stage e)
-        go false e = e
-    by_out (ToEditor n body) k = k
-    by_out (CloseEditor n) k = k
-
-ready_outs : (s : ℕ) (events : List Event) (outs : List Out) → is_ready (life_of s (behind events outs)).stage ≡ true → is_ready (life_of s events).stage ≡ true
-ready_outs s events [] h = ap (λ z. is_ready (life_of s z).stage) (sym (behind_nothing events)) ∙ h
-ready_outs s events (out ∷ outs) h = ready_out s events out (ready_outs s (events ++ said out ∷ []) outs (sym (ap (λ z. is_ready (life_of s z).stage) (behind_both events (out ∷ []) outs)) ∙ h))
-
-ready_asked : (s : ℕ) (before : List Event) (e : ℕ) (asked : List ℕ) → is_ready (life_of s (with_cause before (FromEditor e asked))).stage ≡ true → is_ready (life_of s before).stage ≡ true
-ready_asked s before e asked h = sym (ap (λ (l : Life). is_ready l.stage) (life_more s before (heard (FromEditor e asked)))) ∙ h
 
 -- What a cancel of work names
 

@@ -142,7 +142,7 @@ and_both : (a b : Bool) → a ≡ true → b ≡ true → (a && b) ≡ true
 and_both a b h k = ap₂ (λ x y. x && y) h k
 
 -- a token of this name is among these
-one_token : (name : List ℕ) (params : Option Json) (token : Id) → token_at name params ≡ Some token → is_open token (tokens_at name params) ≡ true
+pub one_token : (name : List ℕ) (params : Option Json) (token : Id) → token_at name params ≡ Some token → is_open token (tokens_at name params) ≡ true
 one_token name params token is = ap (λ o. is_open token (option_map_or (λ (t : Id). t ∷ []) o [])) is ∙ or_first (same_id token token) false (same_id_itself token)
 
 module _ (before : List Event) (e : ℕ) (asked : List ℕ) (id : Id) (method : List ℕ) (params : Option Json) (says : message_of asked ≡ request id method params) where

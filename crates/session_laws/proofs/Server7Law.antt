@@ -67,7 +67,7 @@ working_grows s events event off id token h = subst (λ rs. holds id token rs �
 abbrev pub creates : ℕ → List Event → Creates
 creates s events = creates_of (server_part s events)
 
-creates_more : (s : ℕ) (events : List Event) (event : Event) → creates s (events ++ event ∷ []) ≡ cond (is_of_server s event) (creates_behind (creates s events) event) (creates s events)
+pub creates_more : (s : ℕ) (events : List Event) (event : Event) → creates s (events ++ event ∷ []) ≡ cond (is_of_server s event) (creates_behind (creates s events) event) (creates s events)
 creates_more s events event = word_more creates_behind no_creates (is_of_server s) events event
 
 created_grown : (token : Id) (x : Creates) (event : Event) → is_from_server event ≡ false → is_open token x.created ≡ true → is_open token (creates_behind x event).created ≡ true
