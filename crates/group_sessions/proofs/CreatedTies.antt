@@ -399,16 +399,16 @@ module _ (settings : Settings) (range : InRange settings) (before : List Event) 
 
   -- by its message
   module _ (body : List ℕ) (fits : fits_behind before (FromServer s body) ≡ true) (built : built_behind settings before (FromServer s body) ≡ true) where
-    abbrev asked : List Event
-    asked = with_cause before (FromServer s body)
+    abbrev heard_now : List Event
+    heard_now = with_cause before (FromServer s body)
 
     abbrev after : List Event
-    after = behind asked (outs_of settings before (FromServer s body))
+    after = behind heard_now (outs_of settings before (FromServer s body))
 
-    part_is : (m : Message) → message_of body ≡ m → creates s asked ≡ creates_told X m
+    part_is : (m : Message) → message_of body ≡ m → creates s heard_now ≡ creates_told X m
     part_is m says = creates_more s before (heard (FromServer s body)) ∙ ap₂ (λ b z. cond b (creates_told X z) X) (same_number s) says
 
-    later_open : (ts : List Token) → Open (creates s asked) ts → Open (creates s after) ts
+    later_open : (ts : List Token) → Open (creates s heard_now) ts → Open (creates s after) ts
     later_open ts o = from_now settings range before facts h (FromServer s body) fits built s ts o
 
     same_open : (m : Message) → message_of body ≡ m → (creates_told X m).created ≡ X.created → (ts : List Token) → Open X ts → Open (creates s after) ts
