@@ -12,7 +12,6 @@ use Rattle.event_model.specs.Parts.{editor_part}
 use Rattle.event_model.specs.Requests.{is_open}
 use Rattle.event_model.specs.Settings.{Settings}
 use Rattle.mux_model.specs.Fits.{fits_behind}
-use Rattle.mux_facts.specs.Ranges.{InRange}
 use Rattle.mux_facts.proofs.Reasons.{Reasons}
 use Rattle.session_laws.specs.ClientRules.{accepted_of}
 use Rattle.session_laws.specs.Progress.{Creates}
@@ -46,7 +45,7 @@ abbrev pub Heard : Settings → List Event → Cause → List Event → Out → 
 Heard settings before cause events (ToEditor e body) = (told : Telling settings before cause events e body) → Hears settings before cause events e body told
 Heard settings before cause events other = Unit {0}
 
--- Open: the part of rule 6 that is about created tokens
-pub all_heard : (settings : Settings) → InRange settings → (before : List Entry) → Legal settings before → (cause : Cause) → fits_behind (events_of before) cause ≡ true → built_behind settings (events_of before) cause ≡ true
+-- Not proved yet: each out of every entry is so. It is the part of rule 6 that is about created tokens.
+abbrev pub AllHeard : Settings → Type 0
+AllHeard settings = (before : List Entry) → Legal settings before → (cause : Cause) → fits_behind (events_of before) cause ≡ true → built_behind settings (events_of before) cause ≡ true
     → Reasons (Heard settings (events_of before) cause) (with_cause (events_of before) cause) (outs_of settings (events_of before) cause)
-all_heard settings range before legal cause fits built = ?

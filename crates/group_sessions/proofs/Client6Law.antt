@@ -1,4 +1,4 @@
--- Progress that an editor is told has the token of an open request of it, or one that it accepted.
+-- Progress that an editor is told has the token of an open request of it, or one that it accepted; of the latter it isn't proved yet, and is a premise here.
 use Rattle.std.proofs.Common.{◌≡◌, ℕ, Bool, true, false, not, ◌||◌, List, [], ◌∷◌, ◌++◌, bytes_eq, codes, filter, if◌then◌else◌, Option, Some, None, ◌⊎◌, inl, inr, is_some, IsTrue, refl, sym, ◌∙◌, ap, ap₂, subst}
 use Rattle.std.specs.Option.{option_and_then}
 use Rattle.std.proofs.lemmas.Slice.Eq.{bytes_eq-Decides}
@@ -44,7 +44,7 @@ use Rattle.group_facts.proofs.Facts.{Facts}
 use Rattle.group_facts.proofs.Forwards.{forwarding_more}
 use Rattle.group_facts.proofs.Known.{Here, facts_hold, here_did, here_took}
 use Rattle.group_facts.proofs.Table.{reasons}
-use Rattle.group_sessions.proofs.Accepted.{Heard, Hears, accepted, all_heard}
+use Rattle.group_sessions.proofs.Accepted.{AllHeard, Heard, Hears, accepted}
 use Rattle.group_sessions.proofs.Marked.{Marked, id_bare, marked}
 use Rattle.group_sessions.proofs.Telling.{AllTold, HasToken, IsTold, Ties, outs_back, ties_free, ties_told, ties_took, unfiltered}
 use Rattle.group_sessions.proofs.TellingSent.{ties_sent}
@@ -187,7 +187,8 @@ record Rests (events : List Event) : Type 0 where
   ties : Ties events
   rules : (e : ℕ) → Always ClientRule6 (editor_part e events)
 
-module _ (settings : Settings) (range : InRange settings) where
+-- where what editors are told of created tokens is as it should be
+module _ (settings : Settings) (range : InRange settings) (all_heard : AllHeard settings) where
   entry : (before : List Entry) → Legal settings before → (cause : Cause) → fits_behind (events_of before) cause ≡ true → built_behind settings (events_of before) cause ≡ true
       → Rests (events_of before) → Rests (behind (with_cause (events_of before) cause) (outs_of settings (events_of before) cause))
   entry before so_far cause fits built h =
@@ -195,7 +196,7 @@ module _ (settings : Settings) (range : InRange settings) where
       let now : List Event = with_cause (events_of before) cause in
       let last : At settings range (events_of before) facts cause built (behind now (outs_of settings (events_of before) cause)) = reasons_keep (Both settings range (events_of before) facts cause built) (At settings range (events_of before) facts cause built) (step settings range (events_of before) facts cause built)
       now (outs_of settings (events_of before) cause)
-      (both settings range (events_of before) facts cause built now (outs_of settings (events_of before) cause) (reasons settings range (events_of before) facts cause built).why (all_heard settings range before so_far cause fits built))
+      (both settings range (events_of before) facts cause built now (outs_of settings (events_of before) cause) (reasons settings range (events_of before) facts cause built).why (all_heard before so_far cause fits built))
       (record {
         here = here_took settings range (events_of before) cause fits built facts;
         outs = [];
