@@ -119,7 +119,7 @@ module _ (settings : Settings) (range : InRange settings) (before : List Event) 
         let own_one : (is_some (named_of (codes "token") given) ≡ true) × ((request.work ≡ Some token) ⊎ (request.partial ≡ Some token)) = own_is (named_of (codes "token") given) request token own in
         let has : HasToken request.editor told.id events token = chosen own_one.1 in
         may_tell has.token token asked method (marked has.token token asked method given has.text says own_one.0) bytes
-            (open_more has.token (tokens_in (tokened n events)) (accepted n events).created (subst (λ z. is_open has.token (tokens_in (tokened z events)) ≡ true) editor (holds_open told.id has.token (tokened request.editor events) has.there)))
+        (open_more has.token (tokens_in (tokened n events)) (accepted n events).created (subst (λ z. is_open has.token (tokens_in (tokened z events)) ≡ true) editor (holds_open told.id has.token (tokened request.editor events) has.there)))
       where
         chosen : (request.work ≡ Some token) ⊎ (request.partial ≡ Some token) → HasToken request.editor told.id events token
         chosen (inl h) = told.work token h
@@ -130,12 +130,12 @@ module _ (settings : Settings) (range : InRange settings) (before : List Event) 
         of_editor asked k.method given request token k.asks (found_is (IsTold events) (is_told before (named_of (codes "token") given)) request (forwarding_of s before).open_requests (kept s asked given k) found) own editor bytes
     telling (of_token s asked given token k called takes bytes) h =
         may_tell (text (created_mark s token.number)) (created_text s token.number) asked k.method
-            (marked (text (created_mark s token.number)) (created_text s token.number) asked k.method given (created_id s token.number) k.asks (called_some (named_of (codes "token") given) (created_of settings s before) token called)) bytes
-            (open_behind (text (created_mark s token.number)) (tokens_in (tokened n events)) (accepted n events).created h)
+        (marked (text (created_mark s token.number)) (created_text s token.number) asked k.method given (created_id s token.number) k.asks (called_some (named_of (codes "token") given) (created_of settings s before) token called)) bytes
+        (open_behind (text (created_mark s token.number)) (tokens_in (tokened n events)) (accepted n events).created h)
     telling (of_held s taking earlier held later taken order place bytes) h =
         may_tell (text (created_mark s taking.token)) (created_text s taking.token) held h.0.method
-            (marked (text (created_mark s taking.token)) (created_text s taking.token) held h.0.method h.0.params (created_id s taking.token) h.0.says h.0.names) bytes
-            (open_behind (text (created_mark s taking.token)) (tokens_in (tokened n events)) (accepted n events).created h.1)
+        (marked (text (created_mark s taking.token)) (created_text s taking.token) held h.0.method h.0.params (created_id s taking.token) h.0.says h.0.names) bytes
+        (open_behind (text (created_mark s taking.token)) (tokens_in (tokened n events)) (accepted n events).created h.1)
 
     may_go : WhyToEditor settings before cause events n body → Heard settings before cause events (ToEditor n body) → May (message_of body)
     may_go (rejects k) h = subst May (sym k.says) refl

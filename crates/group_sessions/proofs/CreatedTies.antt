@@ -183,9 +183,9 @@ apart_found id (v ∷ ts) t h at = go (same_id id v.id) refl (λ k. apart_found 
     go : (b : Bool) → same_id id v.id ≡ b → (find (is_called id) ts ≡ Some t → AllByRecursion (λ (u : Token). nat_eq u.number t.number ≡ false → same_id id u.id ≡ false) ts) → cond b (Some v) (find (is_called id) ts) ≡ Some t
         → (nat_eq v.number t.number ≡ false → same_id id v.id ≡ false) × AllByRecursion (λ (u : Token). nat_eq u.number t.number ≡ false → same_id id u.id ≡ false) ts
     go true e rest k = let same : v ≡ t = cc in (
-        λ off. never (sym (same_number v.number) ∙ ap (λ (z : Token). nat_eq v.number z.number) same ∙ off),
-        all_of (IsApart v) (λ (u : Token). nat_eq u.number t.number ≡ false → same_id id u.id ≡ false) (λ u a off. ap (λ z. same_id z u.id) (id_same id v.id e) ∙ a.1) ts h.0,
-      )
+      λ off. never (sym (same_number v.number) ∙ ap (λ (z : Token). nat_eq v.number z.number) same ∙ off),
+      all_of (IsApart v) (λ (u : Token). nat_eq u.number t.number ≡ false → same_id id u.id ≡ false) (λ u a off. ap (λ z. same_id z u.id) (id_same id v.id e) ∙ a.1) ts h.0,
+    )
     go false e rest k = (λ off. e, rest k)
 
 not_so : (b : Bool) → not b ≡ true → b ≡ false
