@@ -22,3 +22,17 @@ pub mod Changes
 pub mod Told
 pub mod Begins
 pub mod Client7Law
+pub mod Marked
+pub mod Brought
+pub mod Telling
+pub mod TellingSent
+pub mod Walk
+pub mod Accepted
+pub mod Client6Law
+pub mod SentWork
+pub mod Behind
+pub mod CreatedTies
+pub mod Creating
+pub mod Working
+pub mod Server7Law
+pub mod CreatedFold

@@ -17,6 +17,7 @@ use Rattle.group_sessions.proofs.Server3Law.{server_3_law}
 use Rattle.group_sessions.proofs.Server4Law.{server_4_law}
 use Rattle.group_sessions.proofs.Server5Law.{server_5_law}
 use Rattle.group_sessions.proofs.Server6Law.{server_6_law}
+use Rattle.group_sessions.proofs.Server7Law.{server_7_law}
 use Rattle.group_sessions.proofs.Server8Law.{server_8_law}
 
 -- a legal history of several editors and groups keeps them
@@ -34,5 +35,6 @@ sessions_kept settings range history legal = record {
   server_4 = server_4_law settings range history legal;
   server_5 = server_5_law settings range history legal;
   server_6 = server_6_law settings range history legal;
+  server_7 = server_7_law settings range history legal;
   server_8 = server_8_law settings range history legal;
 }

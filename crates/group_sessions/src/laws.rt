@@ -8,7 +8,7 @@ ghost use Rattle.event_model.specs.Spawns.{starts_of};
 ghost use Rattle.mux_facts.specs.Ranges.{InRange};
 ghost use Rattle.group_facts.specs.Legal.{Legal};
 ghost use Rattle.session_laws.specs.ClientRules.{KeepsClient1, KeepsClient2, KeepsClient3, KeepsClient4, KeepsClient5, KeepsClient7};
-ghost use Rattle.session_laws.specs.ServerRules.{KeepsServer1, KeepsServer2, KeepsServer3, KeepsServer4, KeepsServer5, KeepsServer6, KeepsServer8};
+ghost use Rattle.session_laws.specs.ServerRules.{KeepsServer1, KeepsServer2, KeepsServer3, KeepsServer4, KeepsServer5, KeepsServer6, KeepsServer7, KeepsServer8};
 
 /// A law: nothing goes to an editor whose link ended, or was to be ended (LSP 3.17, Base Protocol).
 pub fn client_1()
@@ -76,6 +76,12 @@ pub fn server_5()
 /// Cancellation Support).
 pub fn server_6()
     ensures { (settings : Settings) → InRange settings → (history : List Entry) → Legal settings history → KeepsServer6 history }
+{}
+
+/// A law: a cancel of work to a server names the token of a request that it has to answer, as it was sent, or one that it created and
+/// that hasn't ended (LSP 3.17, Work Done Progress).
+pub fn server_7()
+    ensures { (settings : Settings) → InRange settings → (history : List Entry) → Legal settings history → KeepsServer7 history }
 {}
 
 /// A law: behind `shutdown` a server gets `exit` alone, once it responded to `shutdown`; behind `exit` it gets nothing, and no `exit` without

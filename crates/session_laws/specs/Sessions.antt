@@ -2,7 +2,7 @@
 use Rattle.std.specs.Prelude.{List}
 use Rattle.mux_history.specs.declared.entry.Entry.{Entry}
 use Rattle.session_laws.specs.ClientRules.{KeepsClient1, KeepsClient2, KeepsClient3, KeepsClient4, KeepsClient5, KeepsClient7}
-use Rattle.session_laws.specs.ServerRules.{KeepsServer1, KeepsServer2, KeepsServer3, KeepsServer4, KeepsServer5, KeepsServer6, KeepsServer8}
+use Rattle.session_laws.specs.ServerRules.{KeepsServer1, KeepsServer2, KeepsServer3, KeepsServer4, KeepsServer5, KeepsServer6, KeepsServer7, KeepsServer8}
 
 pub record KeepsSessions (history : List Entry) : Type 0 where
   pub client_1 : KeepsClient1 history
@@ -17,4 +17,5 @@ pub record KeepsSessions (history : List Entry) : Type 0 where
   pub server_4 : KeepsServer4 history
   pub server_5 : KeepsServer5 history
   pub server_6 : KeepsServer6 history
+  pub server_7 : KeepsServer7 history
   pub server_8 : KeepsServer8 history
