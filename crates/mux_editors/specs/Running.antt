@@ -1,5 +1,5 @@
 -- L2: an editor that begins to run by its message is told of what is registered at its group's last start, and asked what waits there.
-use Rattle.std.specs.Prelude.{ℕ, Bool, true, false, List, []}
+use Rattle.std.specs.Prelude.{◌≡◌, ℕ, Bool, true, false, List, []}
 use Rattle.std.specs.List.{AllByRecursion}
 use Rattle.mux_history.specs.declared.cause.Cause.TheVariants.{FromEditor}
 use Rattle.mux_history.specs.declared.out.Out.{Out}
@@ -13,6 +13,7 @@ use Rattle.event_model.specs.Row.{Row, choose, nothing}
 use Rattle.event_model.specs.Settings.{Settings}
 use Rattle.mux_turns.specs.group_facts.specs.Why.{IsQuestion}
 use Rattle.group_rows.specs.AskRows.{run_row}
+use Rattle.group_rows.specs.Created.{Taking, is_at}
 use Rattle.mux_tables.specs.declared.tables.Tables.{Tables}
 use Rattle.mux_tables.specs.Documents.{AllStand, Owed}
 
@@ -32,3 +33,7 @@ running_row settings before e m = running_at settings before e m (desk_of e befo
 pub record Begun (settings : Settings) (before : List Event) (e : ℕ) (body : List ℕ) (owed : Owed) (t : Tables) (sent : List Out) : Type 0 where
   pub done : Done (λ k events. AllStand settings k events) (running_row settings before e (message_of body)) (with_cause before (FromEditor e body)) [] (t, owed) sent
   pub asks : AllByRecursion (IsQuestion e) sent
+
+-- an editor was asked to take no token
+abbrev pub AreUnasked : ℕ → List Taking → Type 0
+AreUnasked e cs = AllByRecursion (λ (c : Taking). is_at e c ≡ false) cs

@@ -8,7 +8,9 @@ use Rattle.rpc_message.specs.Message.{message_of, notification}
 use Rattle.event_model.specs.Event.{Event}
 use Rattle.event_model.specs.Members.{named_of}
 use Rattle.event_model.specs.Row.{nothing, on, send}
+use Rattle.event_model.specs.Settings.{Settings}
 use Rattle.event_model.proofs.Turns.{alike, alike_then}
+use Rattle.group_rows.specs.CreatedRows.{created_row}
 use Rattle.group_rows.specs.Forwarded.{Forwarded, forwarding_of}
 use Rattle.group_rows.specs.Tokens.{is_mark, is_told, marked_text, own_token, partial_mark, tell_progress, work_mark}
 use Rattle.group_rows.proofs.TokenTexts.{HasTokens, IsTokenText, marked_says, tokens_kept}
@@ -34,17 +36,17 @@ own_text token f text has is = go (is_mark token (work_mark f.number)) (is_mark 
     go false true e = has.partial text e
     go false false e = absurd (cc)
 
-module _ (s : ℕ) (before : List Event) (body method : List ℕ) (params : Option Json) where
+module _ (settings : Settings) (s : ℕ) (before : List Event) (body method : List ℕ) (params : Option Json) where
   abbrev token : Option Json
   token = named_of (codes "token") params
 
-  pub passes_nothing : find (is_told before token) (forwarding_of s before).open_requests ≡ None → Passes s before body method params None
-  passes_nothing none = alike (ap (λ o. on o nothing (tell_progress body token)) none)
+  pub passes_nothing : find (is_told before token) (forwarding_of s before).open_requests ≡ None → Passes settings s before body method params None
+  passes_nothing none = alike (ap (λ o. on o (created_row settings s before body params) (tell_progress body token)) none)
 
-  pub passes_one : (x : Telling) (own : List ℕ) → IsTold before token (forwarding_of s before).open_requests x.editor own → message_of body ≡ notification method params → x.text ≡ marked_text own body → Passes s before body method params (Some x)
+  pub passes_one : (x : Telling) (own : List ℕ) → IsTold before token (forwarding_of s before).open_requests x.editor own → message_of body ≡ notification method params → x.text ≡ marked_text own body → Passes settings s before body method params (Some x)
   passes_one x own told says is =
       let f = told.request in
       let text = own_text token f own (found_has HasTokens (is_told before token) (forwarding_of s before).open_requests f (tokens_kept s before) told.found) told.own in
       let new = marked_says own body method params text says in
-      let row = ap (λ o. on o nothing (tell_progress body token)) told.found ∙ ap (λ o. on o nothing (λ w. send (ToEditor f.editor (marked_text w body)))) told.own in
+      let row = ap (λ o. on o (created_row settings s before body params) (tell_progress body token)) told.found ∙ ap (λ o. on o nothing (λ w. send (ToEditor f.editor (marked_text w body)))) told.own in
       ((new.0, ap message_of is ∙ new.1), alike_then (alike row) (alike (ap (λ n. send (ToEditor n (marked_text own body))) told.asker ∙ ap (λ w. send (ToEditor x.editor w)) (sym is))))

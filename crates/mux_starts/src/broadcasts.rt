@@ -20,8 +20,8 @@ use mux_tables::Tables;
 use rpc_message::Message;
 use std::alloc::Global;
 
-// A notification goes to these editors, in this order.
-fn spread(
+/// A notification goes to these editors, in this order.
+pub fn spread(
     tables: &Tables,
     alloc: Global,
     outs: &mut Outs,
