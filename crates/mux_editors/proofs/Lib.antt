@@ -12,6 +12,7 @@ pub mod Passing
 pub mod Runs
 pub mod Serving
 pub mod Synced
+pub mod Takings
 mod Telling
 pub mod Turns
 pub mod Working

@@ -71,6 +71,15 @@ module _ (m : Message) (runs : makes_running m ≡ true) where
       go false false false true k = never (sym k)
       go false false false false k = refl
 
+  pub no_shutdown : requests (codes "shutdown") m ≡ false
+  no_shutdown = go (is_malformed m) (notifies (codes "exit") m) (requests (codes "shutdown") m) (is_multiplexer_request m) runs
+    where
+      go : (a b c d : Bool) → not (a || (b || (c || d))) ≡ true → c ≡ false
+      go true b c d k = never (sym k)
+      go false true c d k = never (sym k)
+      go false false true d k = never (sym k)
+      go false false false d k = refl
+
   unstopped : requests (codes "lspmux/stop") m ≡ false
   unstopped = go (requests (codes "lspmux/open") m) (requests (codes "lspmux/status") m) (requests (codes "lspmux/stop") m) unasked
     where

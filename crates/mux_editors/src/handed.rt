@@ -15,15 +15,16 @@ ghost use Rattle.group_rows.specs.Asks.{Ask, asking_of, asks_of, is_seated};
 ghost use Rattle.group_rows.specs.Created.{Taking, accepts, created_of, is_answered};
 ghost use Rattle.group_rows.specs.CreatedRows.{taking_row, tell};
 ghost use Rattle.group_words.specs.Houses.{home_of};
-ghost use Rattle.mux_editors.specs.Handing.{AllHeld, AreHeld, Fits, RunsTaking};
+ghost use Rattle.mux_editors.specs.Handing.{AllHeld, AreHeld, Fits};
 ghost use Rattle.mux_turns.specs.mux_facts.specs.Allowed.{is_response};
 ghost use Rattle.mux_history.specs.declared.cause.Cause.TheVariants.{FromEditor};
 ghost use Rattle.mux_tables.specs.declared.tables.Start.{Start};
 ghost use Rattle.mux_tables.specs.Documents.{AllStand, DocumentsStand, Owed, nothing_owed};
-ghost use Rattle.mux_tables.specs.mux_tokens.specs.Stands.{TakesOne};
 ghost use Rattle.mux_tables.specs.Stands.{AnswersOne, Stands, number_in};
 ghost use Rattle.rpc_message.specs.Message.{message_of};
 ghost use Rattle.rpc_message.specs.Parsed.{IsRead};
+ghost use Rattle.mux_turns.specs.group_facts.specs.Facts.{Meant};
+ghost use Rattle.mux_turns.specs.group_facts.specs.Settled.{Settled};
 
 use crate::running::{begin, hear_running, may_begin};
 use event_model::Phase;
@@ -169,9 +170,8 @@ fn reply_at(
     ensures does { (settings : Settings) (before : List Event) (body : List ℕ) (x : Start) → IsRead message.now body
         → is_response (message_of body) ≡ true → is_served (desk_of e before).phase ≡ true
         → slice_get tables.old.lasts.items g ≡ Some x → home_of settings e before ≡ Some x.life.group
-        → AnswersOne settings x.life.start e (message_of body) before → TakesOne settings x.life.start e (message_of body) before
-        → AllHeld (created_of settings x.life.start before).takings → RunsTaking settings before e → outs.old ≡ []
-        → Stands settings tables.old before → DocumentsStand settings nothing_owed tables.old before
+        → AnswersOne settings x.life.start e (message_of body) before → Meant before → outs.old ≡ []
+        → Settled settings before → Stands settings tables.old before → DocumentsStand settings nothing_owed tables.old before
         → OnOk result (Done (λ k events. AllStand settings k events)
         (running_row settings before e (message_of body) ⨾ response_row settings before e body (message_of body))
         (with_cause before (FromEditor e body)) [] (tables.new, nothing_owed) outs.new) }
@@ -205,10 +205,9 @@ pub fn take_reply(
     ensures versions { tables.new.versions ≡ tables.old.versions }
     ensures does { (settings : Settings) (before : List Event) (body : List ℕ) (g s : ℕ) → IsRead message.now body
         → is_response (message_of body) ≡ true → is_served (desk_of e before).phase ≡ true → home_of settings e before ≡ Some g
-        → start_of g before ≡ Some s → AnswersOne settings s e (message_of body) before → TakesOne settings s e (message_of body) before
-        → AllHeld (created_of settings s before).takings → RunsTaking settings before e
+        → start_of g before ≡ Some s → AnswersOne settings s e (message_of body) before → Meant before
         → ((life_of s before).stage ≡ Ended → asks_of settings s before ≡ []) → outs.old ≡ []
-        → Stands settings tables.old before → DocumentsStand settings nothing_owed tables.old before
+        → Settled settings before → Stands settings tables.old before → DocumentsStand settings nothing_owed tables.old before
         → OnOk result (Done (λ k events. AllStand settings k events)
         (running_row settings before e (message_of body) ⨾ response_row settings before e body (message_of body))
         (with_cause before (FromEditor e body)) [] (tables.new, nothing_owed) outs.new) }

@@ -18,6 +18,8 @@ ghost use Rattle.mux_tables.specs.Documents.{AllStand, DocumentsStand, Owed, cha
 ghost use Rattle.mux_tables.specs.Resumes.{unasked};
 ghost use Rattle.mux_tables.specs.Stands.{AnswersNone, Stands};
 ghost use Rattle.rpc_message.specs.Message.{message_of};
+ghost use Rattle.mux_turns.specs.group_facts.specs.Settled.{Settled};
+ghost use Rattle.mux_tables.specs.mux_tokens.specs.Stands.{TakesNone};
 
 use crate::passed::ready_at;
 use crate::quiet::phase_of;
@@ -136,6 +138,7 @@ pub fn begin(
     ensures rest { OnOk result (map unasked tables.new.lasts.items ≡ map unasked tables.old.lasts.items) }
     ensures begun { (settings : Settings) (owed : Owed) (before : List Event) (body : List ℕ) → is_served (desk_of e before).phase ≡ true
         → makes_running (message_of body) ≡ true → begins ≡ may_begin (desk_of e before).phase → outs.old ≡ []
+        → Settled settings before
         → Stands settings tables.old (with_cause before (FromEditor e body)) → DocumentsStand settings owed tables.old (with_cause before (FromEditor e body))
         → OnOk result (Begun settings before e body owed tables.new outs.new) }
 {
@@ -166,9 +169,9 @@ pub fn hear_running(
     ensures versions { tables.new.versions ≡ tables.old.versions }
     ensures rest { OnOk result (map unasked tables.new.lasts.items ≡ map unasked tables.old.lasts.items) }
     ensures begun { (settings : Settings) (before : List Event) (body : List ℕ) → is_served (desk_of e before).phase ≡ true
-        → makes_running (message_of body) ≡ true → AnswersNone settings e (message_of body) before
+        → makes_running (message_of body) ≡ true → AnswersNone settings e (message_of body) before → TakesNone settings e (message_of body) before
         → changes_documents before e (message_of body) ≡ false → outs.old ≡ []
-        → Stands settings tables.old before → DocumentsStand settings nothing_owed tables.old before
+        → Settled settings before → Stands settings tables.old before → DocumentsStand settings nothing_owed tables.old before
         → OnOk result (Begun settings before e body nothing_owed tables.new outs.new) }
 {
     let begins = may_begin(tables, e);
