@@ -4,6 +4,9 @@ use Rattle.std.specs.Prelude.{Option, None, Some}
 use Rattle.std.specs.List.{AllByRecursion}
 use Rattle.std.proofs.lemmas.Bool.Decides.{nat_tests}
 use Rattle.rpc_message.specs.Message.{Id, Message}
+use Rattle.mux_history.specs.declared.cause.Cause.TheVariants.{FromEditor}
+use Rattle.event_model.specs.declared.phase.Phase.{Phase}
+use Rattle.event_model.specs.declared.phase.Phase.TheVariants.{Answered}
 use Rattle.event_model.specs.declared.stage.Stage.TheVariants.{Ended, Ready}
 use Rattle.event_model.specs.Event.{Event, requests}
 use Rattle.event_model.specs.Phases.{desk_of, is_running, is_served}
@@ -12,13 +15,16 @@ use Rattle.event_model.specs.Settings.{Settings}
 use Rattle.event_model.specs.Spawns.{start_of, starts_of}
 use Rattle.event_model.specs.Stages.{is_ready, life_of}
 use Rattle.event_model.proofs.Frames.{never}
+use Rattle.mux_turns.specs.group_facts.specs.Facts.{NoStarts}
 use Rattle.mux_turns.specs.group_facts.specs.Settled.{HasTaken, Settled}
 use Rattle.group_rows.specs.Created.{Created, Taking, answered, created_of, is_answered, is_at, left, settled, spoken}
 use Rattle.group_rows.specs.Forwarded.{names}
 use Rattle.group_words.specs.Houses.{home_of}
 use Rattle.mux_tables.specs.mux_tokens.specs.Stands.{AreFresh, TakesNone, TakesOne}
 use Rattle.mux_tables.specs.declared.tables.Tables.{Tables}
-use Rattle.mux_tables.specs.Stands.{Stands}
+use Rattle.mux_tables.specs.Stands.{Stands, of_life}
+use Rattle.mux_turns.proofs.Offering.{small_heard}
+use Rattle.mux_editors.specs.Running.{CanBegin, may_begin}
 use Rattle.mux_tables.proofs.Lasts.{same_place}
 
 -- An editor that wasn't asked to take anything
@@ -135,3 +141,18 @@ module _ (settings : Settings) (before : List Event) (settled : Settled settings
 
   pub ended_untaken : (s : ℕ) → (life_of s before).stage ≡ Ended → (created_of settings s before).takings ≡ []
   ended_untaken s over = unready_untaken s (ap is_ready over)
+
+-- a start that wasn't spawned yet is as one that never was
+pub no_starts : (settings : Settings) (t : Tables) (events : List Event) → Stands settings t events → NoStarts events
+no_starts settings t events st s past = st.lasts.fresh s past of_life
+
+unrun : (p : Phase) → may_begin p ≡ true → is_running p ≡ false
+unrun Answered h = refl
+unrun other h = never (sym h)
+
+-- what an editor may be asked where it begins to run
+pub can_begin : (settings : Settings) (before : List Event) → Settled settings before → (t : Tables) (e : ℕ) (body : List ℕ) → Stands settings t before → CanBegin settings before e body
+can_begin settings before settled t e body st = record {
+  unasked = λ begins s. unrun_away settings before settled (few_starts settings t before st) e (unrun (desk_of e before).phase begins) s;
+  small = small_heard settings before (no_starts settings t before st) settled (few_starts settings t before st) (FromEditor e body);
+}

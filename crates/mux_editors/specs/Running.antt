@@ -13,9 +13,10 @@ use Rattle.event_model.specs.Row.{Row, choose, nothing}
 use Rattle.event_model.specs.Settings.{Settings}
 use Rattle.mux_turns.specs.group_facts.specs.Why.{IsQuestion}
 use Rattle.group_rows.specs.AskRows.{run_row}
-use Rattle.group_rows.specs.Created.{Taking, is_at}
+use Rattle.group_rows.specs.Created.{Taking, created_of, is_at}
 use Rattle.mux_tables.specs.declared.tables.Tables.{Tables}
 use Rattle.mux_tables.specs.Documents.{AllStand, Owed}
+use Rattle.mux_turns.specs.Creates.{AreSmall}
 
 -- its `initialize` was answered, and by no message since does it run
 abbrev pub may_begin : Phase → Bool
@@ -37,3 +38,8 @@ pub record Begun (settings : Settings) (before : List Event) (e : ℕ) (body : L
 -- an editor was asked to take no token
 abbrev pub AreUnasked : ℕ → List Taking → Type 0
 AreUnasked e cs = AllByRecursion (λ (c : Taking). is_at e c ≡ false) cs
+
+-- one that doesn't run yet was asked to take none, and numerals tell apart the starts that have tokens
+pub record CanBegin (settings : Settings) (before : List Event) (e : ℕ) (body : List ℕ) : Type 0 where
+  pub unasked : may_begin (desk_of e before).phase ≡ true → (s : ℕ) → AreUnasked e (created_of settings s before).takings
+  pub small : AreSmall settings (with_cause before (FromEditor e body))

@@ -11,7 +11,7 @@ ghost use Rattle.group_rows.specs.Created.{Token, created_of};
 ghost use Rattle.group_rows.specs.CreatedRows.{offer};
 ghost use Rattle.group_rows.specs.Live.{live_of};
 ghost use Rattle.group_rows.specs.LiveRows.{register_any};
-ghost use Rattle.mux_editors.specs.Running.{AreUnasked, Begun, may_begin};
+ghost use Rattle.mux_editors.specs.Running.{AreUnasked, Begun, CanBegin, may_begin};
 ghost use Rattle.mux_history.specs.declared.cause.Cause.TheVariants.{FromEditor};
 ghost use Rattle.mux_tables.specs.declared.tables.Start.{Start};
 ghost use Rattle.mux_tables.specs.Documents.{AllStand, DocumentsStand, Owed, changes_documents, nothing_owed};
@@ -138,7 +138,7 @@ pub fn begin(
     ensures rest { OnOk result (map unasked tables.new.lasts.items ≡ map unasked tables.old.lasts.items) }
     ensures begun { (settings : Settings) (owed : Owed) (before : List Event) (body : List ℕ) → is_served (desk_of e before).phase ≡ true
         → makes_running (message_of body) ≡ true → begins ≡ may_begin (desk_of e before).phase → outs.old ≡ []
-        → Settled settings before
+        → CanBegin settings before e body
         → Stands settings tables.old (with_cause before (FromEditor e body)) → DocumentsStand settings owed tables.old (with_cause before (FromEditor e body))
         → OnOk result (Begun settings before e body owed tables.new outs.new) }
 {

@@ -9,6 +9,7 @@ pub mod Ticking
 pub mod Parking
 pub mod Progressing
 pub mod Singles
+pub mod Creating
 pub mod Uncreated
 pub mod Refreshing
 pub mod Recalls

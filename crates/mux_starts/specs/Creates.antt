@@ -1,6 +1,7 @@
 -- What a request creates, and which editors are told of a token, as the rows read them.
-use Rattle.std.specs.Prelude.{◌≡◌, ℕ, ◌<◌, ◌^◌, List}
+use Rattle.std.specs.Prelude.{◌≡◌, ℕ, ◌<◌, ◌^◌, false, List, [], ◌∷◌, nat_eq}
 use Rattle.std.specs.Prelude.{Option, Some, None}
+use Rattle.std.specs.List.{AllByRecursion}
 use Rattle.std.specs.Option.{option_map}
 use Rattle.json_text.specs.Json.{Json}
 use Rattle.event_model.specs.Event.{Event}
@@ -13,6 +14,11 @@ use Rattle.mux_starts.specs.declared.creates.Due.{Due}
 abbrev pub Creates : List ℕ → Created → Option (List ℕ) → Type 0
 Creates body x None = created_token body x ≡ None
 Creates body x (Some text) = x.next < 2 ^ 64 → option_map (λ (t : Token). t.text) (created_token body x) ≡ Some text
+
+-- no two are the same
+abbrev pub AreApart : List ℕ → Type 0
+AreApart [] = Unit {0}
+AreApart (e ∷ es) = AllByRecursion (λ d. nat_eq e d ≡ false) es × AreApart es
 
 -- a notification of start s tells of this live token, and these editors are to hear it; or of none
 pub record IsDue (settings : Settings) (before : List Event) (g s : ℕ) (params : Option Json) (d : Due) : Type 0 where

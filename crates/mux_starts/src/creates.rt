@@ -1,8 +1,6 @@
 //! S8: a start creates a token for progress (LSP 3.17, Work Done Progress, Server Initiated Progress); and which editors S13 tells of one.
 ghost use Rattle.std.specs.Prelude.{◌≡◌, ◌<◌, ℕ, List, [], None, Option, Some, IfOk, OnOk, false, filter, find, length, map, true, slice_get};
 ghost use Rattle.std.specs.List.{All, AllByRecursion};
-ghost use Rattle.std.specs.List.Sorted.{IsStrictlySortedBy};
-ghost use Rattle.std.specs.Ordering.{nat_cmp};
 ghost use Rattle.event_model.specs.declared.stage.Stage.TheVariants.{Ready};
 ghost use Rattle.event_model.specs.Does.{Does, Done};
 ghost use Rattle.event_model.specs.Event.{Event, behind, with_cause};
@@ -17,11 +15,12 @@ ghost use Rattle.lsp_method.specs.Class.{class_of};
 ghost use Rattle.lsp_method.specs.declared.variants.Class.TheVariants.{Create};
 ghost use Rattle.lsp_method.specs.declared.variants.Origin.TheVariants.{Server};
 ghost use Rattle.mux_history.specs.declared.cause.Cause.TheVariants.{FromServer};
-ghost use Rattle.mux_starts.specs.Creates.{Creates, Dues};
+ghost use Rattle.mux_starts.specs.Creates.{AreApart, Creates, Dues};
 ghost use Rattle.mux_tables.specs.declared.tables.Start.{Start};
 ghost use Rattle.mux_tables.specs.Documents.{AllStand, DocumentsStand, nothing_owed};
 ghost use Rattle.mux_tables.specs.Stands.{Stands, number_in};
-ghost use Rattle.mux_turns.specs.Creates.{Unasked};
+ghost use Rattle.mux_turns.specs.Creates.{AreSmall, Unasked};
+ghost use Rattle.mux_turns.specs.group_facts.specs.Settled.{Settled};
 ghost use Rattle.rpc_message.specs.Message.{Id, message_of, notification, request};
 ghost use Rattle.rpc_message.specs.Parsed.{IsRead};
 
@@ -80,10 +79,11 @@ fn offer_each(
     ensures requests { tables.new.requests ≡ tables.old.requests }
     ensures versions { tables.new.versions ≡ tables.old.versions }
     ensures does { (settings : Settings) (base : List Event) (x : Start) (token : Token) → slice_get tables.old.lasts.items g ≡ Some x
-        → IsStrictlySortedBy nat_cmp numbers.now → AllByRecursion (λ e. is_running (desk_of e (behind base outs.old)).phase ≡ true) numbers.now
+        → AreApart numbers.now → AllByRecursion (λ e. is_running (desk_of e (behind base outs.old)).phase ≡ true) numbers.now
         → ((s : ℕ) → (asking_of settings s (behind base outs.old)).asker ≡ None)
         → find (is_numbered k) (created_of settings x.life.start (behind base outs.old)).tokens ≡ Some token
         → AllByRecursion (λ e. Unasked e k (created_of settings x.life.start (behind base outs.old)).takings) numbers.now
+        → AreSmall settings (behind base outs.old)
         → OnOk result (Does (λ u events. AllStand settings u events) (each (λ e. offer x.life.start e token) numbers.now) base
         (tables.old, nothing_owed) outs.old (tables.new, nothing_owed) outs.new) }
 {
@@ -110,7 +110,7 @@ pub fn take_create(
         → IsRead message.now body → message_of body ≡ request id method params → class_of method Server false ≡ Create
         → is_taken (Some id) (asking_of settings s before) ≡ false → outs.old ≡ []
         → slice_get tables.old.lasts.items g ≡ Some x → x.life.stage ≡ Ready → slice_get (map number_in tables.old.lasts.items) g ≡ Some s
-        → Stands settings tables.old before → DocumentsStand settings nothing_owed tables.old before
+        → Settled settings before → Stands settings tables.old before → DocumentsStand settings nothing_owed tables.old before
         → OnOk result (Done (λ k events. AllStand settings k events) (create_row settings before x.life.group s body)
         (with_cause before (FromServer s body)) [] (tables.new, nothing_owed) outs.new) }
 {

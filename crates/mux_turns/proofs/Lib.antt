@@ -1,5 +1,7 @@
 pub mod Stays
 pub mod Marks
+pub mod CreatedMarks
+pub mod Kinds
 pub mod Asked
 pub mod Called
 pub mod Cancels

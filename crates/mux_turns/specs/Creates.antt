@@ -1,5 +1,5 @@
 -- The daemon's own tokens for those that starts create, as they are read and offered.
-use Rattle.std.specs.Prelude.{◌≡◌, ℕ, ◌<◌, ◌^◌, ◌++◌, Bool, false, ◌&&◌, List, bytes_eq, codes, decimal, find, nat_eq}
+use Rattle.std.specs.Prelude.{◌≡◌, ℕ, ◌<◌, ◌≤◌, ◌^◌, ◌++◌, Bool, false, ◌&&◌, List, [], bytes_eq, codes, decimal, find, nat_eq}
 use Rattle.std.specs.Prelude.{Option, Some, None}
 use Rattle.std.specs.List.{AllByRecursion}
 use Rattle.std.specs.Option.{option_map_or}
@@ -30,7 +30,12 @@ CreatedAt s token (Some n) = (k : ℕ) → k < 2 ^ 64 → is_created_mark s toke
 abbrev pub Unasked : ℕ → ℕ → List Taking → Type 0
 Unasked e k cs = AllByRecursion (λ (c : Taking). (is_at e c && nat_eq c.token k) ≡ false) cs
 
+-- starts that have live tokens have numbers that numerals of 64 bits tell apart
+abbrev pub AreSmall : Settings → List Event → Type 0
+AreSmall settings events = (n : ℕ) → 2 ^ 64 ≤ n → (created_of settings n events).tokens ≡ []
+
 -- a live token of start s, which an editor may be asked to take
 pub record CanOffer (settings : Settings) (s e k : ℕ) (token : Token) (events : List Event) : Type 0 where
   pub live : find (is_numbered k) (created_of settings s events).tokens ≡ Some token
   pub unasked : Unasked e k (created_of settings s events).takings
+  pub small : AreSmall settings events

@@ -14,6 +14,7 @@ use Rattle.mux_editors.proofs.Asides.{old_unopened}
 use Rattle.mux_editors.proofs.Noticing.{noticed}
 use Rattle.mux_editors.proofs.Runs.{runs_now, then_rest}
 use Rattle.mux_editors.proofs.Serving.{not_new, notice_makes, notice_stops, unplaced}
+use Rattle.mux_editors.proofs.Takings.{can_begin}
 use Rattle.mux_editors.proofs.notices.take_notice.Goals as goal
 
 pub returns-clause-does : goal.returns-clause-does
@@ -27,6 +28,6 @@ returns-clause-does c = λ settings before body method params g s read says stay
     let heard = c.in_ok-owed.ensures.stands settings before body st (answers_none settings e m before (ap is_answer says)) (takes_none settings e m before (ap (requests (codes "shutdown")) says) (ap is_answer says)) (unplaced (desk_of e before).phase m served) (notice_stops before e m method params says)
     (old_unopened settings.servers before e m (not_new (desk_of e before).phase served)) (runs_now settings before e body served runs) in
     let owed = c.in_ok-owed.ensures.documents settings before body method params g s read says served home starts st ds in
-    let begun = c.in_ok-begin.ensures.begun settings (owes g (noticing settings before g s e body what)) before body served runs (c.may_begin-begins.ensures settings before st) first settled heard owed.1 in
+    let begun = c.in_ok-begin.ensures.begun settings (owes g (noticing settings before g s e body what)) before body served runs (c.may_begin-begins.ensures settings before st) first (can_begin settings before settled c.args.tables.now c.args.e body st) heard owed.1 in
     let rest = c.in_ok-begin.ensures.rest ∙ ap (λ ls. map unasked ls.items) c.hear_notice.ensures.lasts in
     then_rest begun.done (noticed settings c.args.tables.now u before e g s body what c.begin.new.outs c.pay.new.outs c.in_ok-owed.owed rest st home starts owed.0 c.in_ok-pay.ensures.outs (λ p z bodies at ready are. c.in_ok-pay.ensures.does settings base p z bodies at ready are))
