@@ -4,6 +4,7 @@ pub mod Asking
 pub mod Beginning
 pub mod Cancelling
 pub mod Classes
+pub mod CreatedWork
 pub mod Doubling
 pub mod Initializing
 pub mod Lspmux

@@ -1,11 +1,11 @@
 -- The daemon's own tokens for those that starts create, as they are read and written.
-use Rattle.std.proofs.Common.{◌≡◌, ℕ, ◌<◌, ◌^◌, Bool, true, false, List, [], ◌++◌, append_assoc, length, refl, ap, sym, ◌∙◌, arith, bytes_eq, codes, decimal, nat_eq}
+use Rattle.std.proofs.Common.{◌≡◌, ℕ, ◌<◌, ◌^◌, Bool, true, false, List, [], ◌++◌, refl, ap, sym, ◌∙◌, arith, bytes_eq, codes, decimal, nat_eq}
 use Rattle.std.specs.Prelude.{Option, Some, None, encode_utf8_all}
 use Rattle.std.specs.Option.{option_map_or}
 use Rattle.std.specs.Str.{IsAscii}
 use Rattle.std.proofs.lemmas.Bool.Decides.{nat_tests}
 use Rattle.std.proofs.lemmas.Fmt.{IsAscii-decimal}
-use Rattle.std.proofs.lemmas.List.{append_cancel_left, length_append}
+use Rattle.std.proofs.lemmas.List.{append_cancel_left}
 use Rattle.std.proofs.lemmas.Slice.Eq.{bytes_eq-Decides}
 use Rattle.std.proofs.lemmas.Str.{IsAscii-append, encodes-IsAscii, encodes_same}
 use Rattle.std.proofs.lemmas.Str.Ascii.{IsAscii-from_all}
@@ -17,7 +17,7 @@ use Rattle.mux_turns.specs.Creates.{CreatedAt, WritesCreated, created_front, is_
 use Rattle.mux_turns.proofs.Numbers.{decimals, tested, unread, unwritten}
 
 mark_is : (s k : ℕ) → created_mark s k ≡ created_front s ++ decimal k
-mark_is s k = ap (λ z. codes "lspmux:" ++ z) (sym (append_assoc (decimal s) (codes ":") (decimal k))) ∙ sym (append_assoc (codes "lspmux:") (decimal s ++ codes ":") (decimal k))
+mark_is s k = refl
 
 swapped : (xs ys : List ℕ) → bytes_eq xs ys ≡ bytes_eq ys xs
 swapped xs ys = tested ys xs (bytes_eq xs ys) (λ e. sym ((bytes_eq-Decides xs ys).0 e), λ q. (bytes_eq-Decides xs ys).1 (sym q))
@@ -70,8 +70,9 @@ same_encoded cs own ascii = sym (tested own cs (bytes_eq own (encode_utf8_all cs
     back e = (bytes_eq-Decides own (encode_utf8_all cs)).1 (sym itself ∙ ap encode_utf8_all e)
 
 created_ascii : (s k : ℕ) → s < 2 ^ 64 → k < 2 ^ 64 → IsAscii (created_mark s k)
-created_ascii s k l h = IsAscii-append (codes "lspmux:") (decimal s ++ codes ":" ++ decimal k) (IsAscii-from_all (codes "lspmux:") (λ i d l. grind arith))
-    (IsAscii-append (decimal s) (codes ":" ++ decimal k) (IsAscii-decimal s l) (IsAscii-append (codes ":") (decimal k) (IsAscii-from_all (codes ":") (λ i d l. grind arith)) (IsAscii-decimal k h)))
+created_ascii s k l h = IsAscii-append (codes "lspmux:" ++ decimal s ++ codes ":") (decimal k)
+    (IsAscii-append (codes "lspmux:" ++ decimal s) (codes ":") (IsAscii-append (codes "lspmux:") (decimal s) (IsAscii-from_all (codes "lspmux:") (λ i d l. grind arith)) (IsAscii-decimal s l)) (IsAscii-from_all (codes ":") (λ i d l. grind arith)))
+    (IsAscii-decimal k h)
 
 some_same : (x y : List ℕ) → ◌≡◌ {A = Option (List ℕ)} (Some x) (Some y) → x ≡ y
 some_same x y e = cc

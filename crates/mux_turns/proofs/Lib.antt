@@ -1,7 +1,7 @@
 pub mod Stays
 pub mod Marks
 pub mod CreatedMarks
-pub mod Kinds
+pub mod KindTexts
 pub mod Asked
 pub mod Called
 pub mod Cancels
