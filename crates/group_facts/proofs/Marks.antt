@@ -4,6 +4,7 @@ use Rattle.std.specs.Fmt.{digits, digits_onto, digit_glyph}
 use Rattle.std.specs.List.{AllByRecursion}
 use Rattle.std.proofs.lemmas.Fmt.{decimal_injective}
 use Rattle.std.proofs.lemmas.Slice.Eq.{bytes_eq-Decides}
+use Rattle.json_text.specs.Named.{named}
 use Rattle.event_model.specs.Members.{named_of}
 use Rattle.group_rows.specs.Created.{Token, created_mark, is_marked}
 use Rattle.group_rows.proofs.CreatedTexts.{create_tree}
@@ -57,8 +58,6 @@ pub mark_number : (s k n j : ℕ) → k < 2 ^ 64 → j < 2 ^ 64 → created_mark
 mark_number s k n j low other e = decimal_injective k j low other (mark_parts s k n j e).1
 
 -- the token that a create of the daemon's names
-pub is_marked_so : (n s k : ℕ) (t : Token) → is_marked n (named_of (codes "token") (Some (create_tree s k))) t ≡ bytes_eq (created_mark n t.number) (created_mark s k)
-is_marked_so n s k t = refl
-
 pub marked_same : (n s k : ℕ) (t : Token) → is_marked n (named_of (codes "token") (Some (create_tree s k))) t ≡ true → created_mark n t.number ≡ created_mark s k
+unfolding named
 marked_same n s k t h = (bytes_eq-Decides (created_mark n t.number) (created_mark s k)).0 h

@@ -247,6 +247,10 @@ patient_plain method h = go (is_creating method) refl
     go true is = never (sym h ∙ call_hurried method (or_last (is_registering method) (is_creating method) is))
     go false is = refl
 
+create_made : is_creating (codes "window/workDoneProgress/create") ≡ true
+unfolding server_request
+create_made = refl
+
 register_plain : is_creating (codes "client/registerCapability") ≡ false
 unfolding server_request
 register_plain = refl
@@ -344,8 +348,7 @@ module _ (settings : Settings) (before : List Event) (cause : Cause) where
 
             creating : (if is_creating (codes "window/workDoneProgress/create") then with_asked e (next_ask e events) (token_marked s (Some (create_tree t k)) (created_of settings s events)) (created_of settings s events) else created_of settings s events)
                 ≡ with_asked e (next_ask e events) (token_marked s (Some (create_tree t k)) (created_of settings s events)) (created_of settings s events)
-            unfolding server_request
-            creating = refl
+            creating = ap (λ b. if b then with_asked e (next_ask e events) (token_marked s (Some (create_tree t k)) (created_of settings s events)) (created_of settings s events) else created_of settings s events) create_made
 
       call_small : IsCall settings before cause events e body → next_ask e events < 2 ^ 128
       call_small k = let small : next_ask e events < 2 ^ 64 = ltb-true (next_ask e events) (2 ^ 64) k.room in omega (arith, small)
