@@ -56,7 +56,7 @@ module _ (settings : Settings) (before : List Event) (e : ℕ) (at : (desk_of e 
   heard_runs : (phase : Phase) (initialize body : List ℕ) (m : Message) → requests (codes "shutdown") m ≡ false → phase ≡ Running → (desk_hears phase initialize body m).phase ≡ Running
   heard_runs phase initialize body m other at = ap (λ p. (desk_hears p initialize body m).phase) at ∙ ap (λ b. if b then Down else Running) other
 
-  took_runs : (cause : Cause) → fits_behind before cause ≡ true → Editors before → shuts cause e ≡ false → (desk_of e (with_cause before cause)).phase ≡ Running
+  pub took_runs : (cause : Cause) → fits_behind before cause ≡ true → Editors before → shuts cause e ≡ false → (desk_of e (with_cause before cause)).phase ≡ Running
   took_runs (FromEditor n body) fits absent stays = ap (λ (d : Desk). d.phase) (desk_more e before (heard (FromEditor n body))) ∙ go (nat_eq n e) stays
     where
       go : (b : Bool) → (b && requests (codes "shutdown") (message_of body)) ≡ false → (if b then desk_hears (desk_of e before).phase (desk_of e before).initialize body (message_of body) else desk_of e before).phase ≡ Running
@@ -78,7 +78,7 @@ module _ (settings : Settings) (before : List Event) (e : ℕ) (at : (desk_of e 
   took_runs (Drained n k) fits absent stays = ap (λ (d : Desk). d.phase) (desk_more e before (heard (Drained n k))) ∙ at
   took_runs (Tick t) fits absent stays = ap (λ (d : Desk). d.phase) (desk_more e before (heard (Tick t))) ∙ at
 
-close_runs : (events : List Event) (n e : ℕ) → nat_eq n e ≡ false → (desk_of e events).phase ≡ Running → (desk_of e (events ++ said (CloseEditor n) ∷ [])).phase ≡ Running
+pub close_runs : (events : List Event) (n e : ℕ) → nat_eq n e ≡ false → (desk_of e events).phase ≡ Running → (desk_of e (events ++ said (CloseEditor n) ∷ [])).phase ≡ Running
 close_runs events n e other at = ap (λ (d : Desk). d.phase) (desk_more e events (said (CloseEditor n)) ∙ ap (λ b. if b then record { phase = phase_closed (desk_of e events).phase; initialize = (desk_of e events).initialize } else desk_of e events) other) ∙ at
 
 put_all : (P : Ask → Type 0) (o : Option Asker) (e n : ℕ) → ((a : Asker) → o ≡ Some a → P (record { id = a.id; bytes = a.bytes; editor = e; number = n })) → AllByRecursion P (put o e n)

@@ -52,7 +52,7 @@ use Rattle.group_rows.specs.registrations.specs.Items.{again}
 use Rattle.group_rows.specs.Leaves.{cancel_text}
 use Rattle.group_rows.specs.Tokens.{is_mark, is_told, listens, marked_text, own_token, partial_mark, work_mark}
 use Rattle.group_rows.proofs.TokenTexts.{HasTokens, IsTokenText, marked_says, tokens_kept}
-use Rattle.group_rows.specs.Created.{Taking, Token, accepts, created_of, created_text, has_accepted, is_answered, is_progress, named_token, names_progress, token_called}
+use Rattle.group_rows.specs.Created.{Taking, Token, accepts, created_of, created_text, has_accepted, is_answered, is_creating, is_progress, named_token, names_create, names_progress, token_called}
 use Rattle.group_rows.specs.CreatedRows.{create_row, create_text, created_row, taking_row, progress_row, takers, tell, tell_takers}
 use Rattle.group_rows.proofs.CreatedKept.{AreTellings, found_one}
 use Rattle.group_rows.proofs.CreatedTexts.{create_says, create_tree, created_token_text}
@@ -475,8 +475,8 @@ module _ (settings : Settings) (before : List Event) (s : ℕ) (body : List ℕ)
     ask_says : (e : ℕ) (events : List Event) → has_number e events ≡ true → message_of (with_id_text body (decimal (next_ask e events))) ≡ request (integer (decimal (next_ask e events))) method params
     ask_says e events room = request_with_id body (decimal (next_ask e events)) id (integer (decimal (next_ask e events))) method params says (decimal_law (next_ask e events) (ltb-true (next_ask e events) (2 ^ 64) room))
 
-    asked_why : is_edit method ≡ false → (is_patient method ≡ true → has_running settings before s ≡ true) → (e : ℕ) (events : List Event) → IsIn settings before g e → AtWork events → (is_single method ≡ true → events ≡ now) → (desk_of e events).phase ≡ Running → Because R events (ask body e)
-    asked_why plain attended e events seat asker first running = by_look (by_choose
+    asked_why : is_creating method ≡ false → is_edit method ≡ false → (is_patient method ≡ true → has_running settings before s ≡ true) → (e : ℕ) (events : List Event) → IsIn settings before g e → AtWork events → (is_single method ≡ true → events ≡ now) → (desk_of e events).phase ≡ Running → Because R events (ask body e)
+    asked_why apart plain attended e events seat asker first running = by_look (by_choose
         (λ room. by_send (asks (record {
           start = s;
           asked = body;
@@ -486,6 +486,7 @@ module _ (settings : Settings) (before : List Event) (s : ℕ) (body : List ℕ)
           params = params;
           source = record { from = refl; ready = stage; running = running };
           asks = says;
+          plain = apart;
           group = g;
           kept = at_home;
           home = seat.home;
@@ -509,10 +510,10 @@ module _ (settings : Settings) (before : List Event) (s : ℕ) (body : List ℕ)
         go true = f (with_id_text body (decimal (next_ask e events))) h
         go false = subst P (sym (append-nil events)) h
 
-    all_asked : is_edit method ≡ false → is_patient method ≡ false → (es : List ℕ) (events : List Event) → AllByRecursion (IsIn settings before g) es → is_single method ≡ false → AtWork events → AllRun settings before events es → Because R events (each (ask body) es)
-    all_asked plain hurried [] events seats many asker run = by_nothing
-    all_asked plain hurried (e ∷ es) events seats many asker run = by_then (asked_why plain (λ patient. never (sym patient ∙ hurried)) e events seats.0 asker (λ single. never (sym single ∙ many)) run.0)
-        (all_asked plain hurried es (behind events (outs (ask body e) events)) seats.1 many
+    all_asked : is_creating method ≡ false → is_edit method ≡ false → is_patient method ≡ false → (es : List ℕ) (events : List Event) → AllByRecursion (IsIn settings before g) es → is_single method ≡ false → AtWork events → AllRun settings before events es → Because R events (each (ask body) es)
+    all_asked apart plain hurried [] events seats many asker run = by_nothing
+    all_asked apart plain hurried (e ∷ es) events seats many asker run = by_then (asked_why apart plain (λ patient. never (sym patient ∙ hurried)) e events seats.0 asker (λ single. never (sym single ∙ many)) run.0)
+        (all_asked apart plain hurried es (behind events (outs (ask body e) events)) seats.1 many
         (behind_ask AtWork e events (λ text h. work_behind events e text h) asker)
         (behind_ask (λ z. AllRun settings before z es) e events (λ text h. all_still settings before events e text es h) run.1))
 
@@ -528,13 +529,17 @@ module _ (settings : Settings) (before : List Event) (s : ℕ) (body : List ℕ)
     unhurried : (c : Class) → class_of method Server false ≡ c → may_wait c ≡ false → is_patient method ≡ false
     unhurried c class off = ap may_wait class ∙ off
 
+    -- nor creates another one a token
+    uncreating : (c : Class) → class_of method Server false ≡ c → names_create c ≡ false → is_creating method ≡ false
+    uncreating c class off = ap names_create class ∙ off
+
     waits_now : is_open id (asked_by s now) ≡ true
     waits_now = ap (is_open id) (asked_by_more s before (heard (FromServer s body)) ∙ ap (λ b. if b then with_request (message_of body) (asked_by s before) else asked_by s before) (same_number s) ∙ ap (λ m. with_request m (asked_by s before)) says) ∙ open_last id (asked_by s before)
 
     refresh_why : class_of method Server false ≡ Refresh → Because R now (asking_row settings before g s body method Refresh)
     refresh_why class = by_then
         (by_send (resolves (record { id = id; resolution = granted body method params refl says class refl; ready = still_ready; stays = rests; response = ap is_response said_null; answers = ap answered_id said_null; waits = waits_now })))
-        (all_asked (other_method Refresh class refl) (unhurried Refresh class refl) (running_in settings g before) (now ++ said (ToServer s answer) ∷ []) (all_in settings before g) (ap goes_to_one class) (work_answered now s answer work_now)
+        (all_asked (uncreating Refresh class refl) (other_method Refresh class refl) (unhurried Refresh class refl) (running_in settings g before) (now ++ said (ToServer s answer) ∷ []) (all_in settings before g) (ap goes_to_one class) (work_answered now s answer work_now)
         (all_of (λ e. (desk_of e now).phase ≡ Running) (λ e. (desk_of e (now ++ said (ToServer s answer) ∷ [])).phase ≡ Running) (λ e at. ap (λ (d : Desk). d.phase) (desk_more e now (said (ToServer s answer))) ∙ at) (running_in settings g before) (run_now g)))
       where
         answer : List ℕ
@@ -701,6 +706,7 @@ module _ (settings : Settings) (before : List Event) (s : ℕ) (body : List ℕ)
               params = made.0;
               source = record { from = refl; ready = stage; running = k.0 };
               asks = says;
+              plain = uncreating Focused class refl;
               group = g;
               kept = at_home;
               home = (k.1).home;
@@ -720,8 +726,8 @@ module _ (settings : Settings) (before : List Event) (s : ℕ) (body : List ℕ)
     asking_why Focused class built = by_on
         (λ none. let is = refusal_says body id method params request_failed says in
         by_send (resolves (record { id = id; resolution = denied body method params refl says class refl; ready = still_ready; stays = rests; response = ap is_response is; answers = ap answered_id is; waits = waits_now })))
-        (λ e found. let k : Here e = focus_is Here (running_in settings g before) (forwarding_of s before).open_requests e all_here found in by_choose (λ edit. edit_why class e edit k) (λ plain. asked_why plain (λ patient. never (sym patient ∙ unhurried Focused class refl)) e now k.1 work_now (λ single. refl) k.0))
-    asking_why Lowest class built = by_on (λ none. by_nothing) (λ e found. let k : Here e = first_is Here (running_in settings g before) e all_here found in asked_why (other_method Lowest class refl) (λ patient. ap (λ o. option_map_or (λ h. is_some (first_in (running_in settings h before))) o false) at_home ∙ ap is_some found) e now k.1 work_now (λ single. refl) k.0)
+        (λ e found. let k : Here e = focus_is Here (running_in settings g before) (forwarding_of s before).open_requests e all_here found in by_choose (λ edit. edit_why class e edit k) (λ plain. asked_why (uncreating Focused class refl) plain (λ patient. never (sym patient ∙ unhurried Focused class refl)) e now k.1 work_now (λ single. refl) k.0))
+    asking_why Lowest class built = by_on (λ none. by_nothing) (λ e found. let k : Here e = first_is Here (running_in settings g before) e all_here found in asked_why (uncreating Lowest class refl) (other_method Lowest class refl) (λ patient. ap (λ o. option_map_or (λ h. is_some (first_in (running_in settings h before))) o false) at_home ∙ ap is_some found) e now k.1 work_now (λ single. refl) k.0)
     asking_why Folders class built = folders_why class
     asking_why Register class built = register_why class
     asking_why Unregister class built = unregister_why class

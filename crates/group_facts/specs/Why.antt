@@ -358,7 +358,7 @@ pub record IsFromStart (settings : Settings) (before : List Event) (cause : Caus
 abbrev pub asked_as : Settings → List Event → ℕ → ℕ → List ℕ → List ℕ → List ℕ → Option (List ℕ)
 asked_as settings before s e method asked number = if is_edit method then asked_text (current_version settings before s e) asked number else Some (with_id_text asked number)
 
--- a request of the start, under the editor's next number (S9, S11, S12); of two asks of the start none has the same id
+-- a request of the start that creates no token, under the editor's next number (S9, S11, S12); of two asks of the start none has the same id
 pub record IsAsk (settings : Settings) (before : List Event) (cause : Cause) (events : List Event) (e : ℕ) (body : List ℕ) : Type 0 where
   pub start : ℕ
   pub asked : List ℕ
@@ -368,6 +368,7 @@ pub record IsAsk (settings : Settings) (before : List Event) (cause : Cause) (ev
   pub params : Option Json
   pub source : IsFromStart settings before cause events e start asked
   pub asks : message_of asked ≡ request id method given
+  pub plain : is_creating method ≡ false
   pub group : ℕ
   pub kept : group_of start before ≡ Some group
   pub home : home_of settings e before ≡ Some group

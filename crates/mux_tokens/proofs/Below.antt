@@ -104,3 +104,66 @@ module _ (settings : Settings) (s : ℕ) where
 
   pub numbers_below : (events : List Event) → AllByRecursion (IsAsked events) (created_of settings s events).takings
   numbers_below events = all_asked [] no_created events tt
+
+-- Tokens
+
+-- those that live, and those that editors were asked to take, have numbers below the next one
+pub record AreBelow (x : Created) : Type 0 where
+  pub tokens : AllByRecursion (λ (t : Token). t.number < x.next) x.tokens
+  pub takings : AllByRecursion (λ (c : Taking). c.token < x.next) x.takings
+
+same_below : (n : ℕ) (c d : Taking) → d.editor ≡ c.editor → d.number ≡ c.number → d.token ≡ c.token → c.token < n → d.token < n
+same_below n c d p q r h = subst (λ k. k < n) (sym r) h
+
+new_below : (body : List ℕ) (x : Created) (o : Option Token) → created_token body x ≡ o → AreBelow x → AreBelow (with_token o x)
+new_below body x None is h = h
+new_below body x (Some t) is h = record {
+  tokens = all_last (λ (u : Token). u.number < x.next + 1) x.tokens t (all_so (λ (u : Token). u.number < x.next) (λ (u : Token). u.number < x.next + 1) (λ u k. omega (arith, k)) x.tokens h.tokens) (let number : t.number ≡ x.next = (next_token body x t is).0 in omega (arith, number));
+  takings = all_so (λ (c : Taking). c.token < x.next) (λ (c : Taking). c.token < x.next + 1) (λ c k. omega (arith, k)) x.takings h.takings;
+}
+
+told_below : (body : List ℕ) (params : Option Json) (o : Option Token) (x : Created) → AreBelow x → AreBelow (progressed body params o x)
+told_below body params None x h = h
+told_below body params (Some t) x h = record {
+  tokens = all_kept (λ (u : Token). u.number < x.next) (λ u. not (is_ended_by t.number params u)) (map (begun_by t.number body params) x.tokens)
+      (all_mapped (λ (u : Token). u.number < x.next) (λ (u : Token). u.number < x.next) (begun_by t.number body params) (λ u k. subst (λ n. n < x.next) (sym (same_number t.number body params u)) k) x.tokens h.tokens);
+  takings = told_all (λ (c : Taking). c.token < x.next) (same_below x.next) body params (Some t) x h.takings;
+}
+
+asked_below : (e n : ℕ) (test : Token → Bool) (x : Created) (o : Option Token) → find test x.tokens ≡ o → AreBelow x → AreBelow (with_asked e n o x)
+asked_below e n test x None is h = h
+asked_below e n test x (Some t) is h = record { tokens = h.tokens; takings = all_last (λ (c : Taking). c.token < x.next) x.takings (asked e n t) h.takings (found_one (λ (u : Token). u.number < x.next) test t x.tokens h.tokens is) }
+
+left_below : (e : ℕ) (x : Created) → AreBelow x → AreBelow (left e x)
+left_below e x h = record { tokens = h.tokens; takings = left_all (λ (c : Taking). c.token < x.next) (same_below x.next) e x h.takings }
+
+answered_below : (e : ℕ) (m : Message) (x : Created) → AreBelow x → AreBelow (answered e m x)
+answered_below e m x h = record { tokens = h.tokens; takings = answered_all (λ (c : Taking). c.token < x.next) (same_below x.next) e m x h.takings }
+
+none_below : AreBelow no_created
+none_below = record { tokens = tt; takings = tt }
+
+if_below : (b : Bool) (x y : Created) → AreBelow x → AreBelow y → AreBelow (if b then x else y)
+if_below true x y h k = h
+if_below false x y h k = k
+
+module _ (settings : Settings) (s : ℕ) where
+  step_below : (before : List Event) (x : Created) (ev : Event) → AreBelow x → AreBelow (created_next settings s before x ev)
+  step_below before x (took (FromServer n body) (request id method params)) h = if_below (nat_eq n s && (is_creating method && is_heard settings s before id)) (with_token (created_token body x) x) x (new_below body x (created_token body x) refl h) h
+  step_below before x (took (FromServer n body) (notification method params)) h = if_below (nat_eq n s && (is_progress method && is_ready (life_of s before).stage)) (progressed body params (token_called (named_token params) x) x) x
+      (told_below body params (token_called (named_token params) x) x h) h
+  step_below before x (took (FromEditor e body) m) h = if_below (requests (codes "shutdown") m) (left e x) (answered e m x) (left_below e x h) (answered_below e m x h)
+  step_below before x (took (EditorGone e why) m) h = left_below e x h
+  step_below before x (took (StartFailed n) m) h = if_below (nat_eq n s) no_created x none_below h
+  step_below before x (took (ServerGone n) m) h = if_below (nat_eq n s) no_created x none_below h
+  step_below before x (did (ToEditor e body) (request id method params)) h = if_below (is_creating method) (with_asked e (next_ask e before) (token_marked s params x) x) x
+      (asked_below e (next_ask e before) (is_marked s (named_of (codes "token") params)) x (token_marked s params x) refl h) h
+  step_below before x (did (CloseEditor e) m) h = left_below e x h
+  step_below before x other h = h
+
+  past_below : (before : List Event) (x : Created) (events : List Event) → AreBelow x → AreBelow (past (created_next settings s) before x events)
+  past_below before x [] h = h
+  past_below before x (ev ∷ events) h = past_below (before ++ ev ∷ []) (created_next settings s before x ev) events (step_below before x ev h)
+
+  pub tokens_below : (events : List Event) → AreBelow (created_of settings s events)
+  tokens_below events = past_below [] no_created events none_below

@@ -12,3 +12,4 @@ pub mod Standing
 pub mod TokenIds
 pub mod Seen
 pub mod Below
+pub mod Fresh
