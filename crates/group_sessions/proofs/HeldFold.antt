@@ -83,27 +83,27 @@ pub record Fair (x : Created) : Type 0 where
 
 alive_more : (k : ℕ) (ts more : List Token) → IsAlive ts k → IsAlive (ts ++ more) k
 alive_more k [] more h = never (sym h)
-alive_more k (t ∷ ts) more h = go (is_numbered k t) h
+alive_more k (t ∷ ts) more h = go (is_numbered k t) (λ e. alive_more k ts more e) h
   where
-    go : (b : Bool) → (b || list_any (is_numbered k) ts) ≡ true → (b || list_any (is_numbered k) (ts ++ more)) ≡ true
-    go true e = refl
-    go false e = alive_more k ts more e
+    go : (b : Bool) → (IsAlive ts k → IsAlive (ts ++ more) k) → (b || list_any (is_numbered k) ts) ≡ true → (b || list_any (is_numbered k) (ts ++ more)) ≡ true
+    go true f e = refl
+    go false f e = f e
 
 alive_less : (k : ℕ) (ts : List Token) (n : Token) → nat_eq n.number k ≡ false → IsAlive (ts ++ n ∷ []) k → IsAlive ts k
 alive_less k [] n other h = never (sym h ∙ ap (λ b. b || false) other)
-alive_less k (t ∷ ts) n other h = go (is_numbered k t) h
+alive_less k (t ∷ ts) n other h = go (is_numbered k t) (λ e. alive_less k ts n other e) h
   where
-    go : (b : Bool) → (b || list_any (is_numbered k) (ts ++ n ∷ [])) ≡ true → (b || list_any (is_numbered k) ts) ≡ true
-    go true e = refl
-    go false e = alive_less k ts n other e
+    go : (b : Bool) → (IsAlive (ts ++ n ∷ []) k → IsAlive ts k) → (b || list_any (is_numbered k) (ts ++ n ∷ [])) ≡ true → (b || list_any (is_numbered k) ts) ≡ true
+    go true f e = refl
+    go false f e = f e
 
 found_alive : (test : Token → Bool) (t : Token) (ts : List Token) → find test ts ≡ Some t → IsAlive ts t.number
 found_alive test t [] h = absurd (cc)
-found_alive test t (u ∷ ts) h = go (test u) h
+found_alive test t (u ∷ ts) h = go (test u) (λ e. found_alive test t ts e) h
   where
-    go : (b : Bool) → cond b (Some u) (find test ts) ≡ Some t → (is_numbered t.number u || list_any (is_numbered t.number) ts) ≡ true
-    go true e = let same : u ≡ t = cc in ap (λ (z : Token). nat_eq z.number t.number || list_any (is_numbered t.number) ts) same ∙ ap (λ b. b || list_any (is_numbered t.number) ts) (same_number t.number)
-    go false e = second (is_numbered t.number u) (found_alive test t ts e)
+    go : (b : Bool) → (find test ts ≡ Some t → IsAlive ts t.number) → cond b (Some u) (find test ts) ≡ Some t → (is_numbered t.number u || list_any (is_numbered t.number) ts) ≡ true
+    go true f e = let same : u ≡ t = cc in ap (λ (z : Token). nat_eq z.number t.number || list_any (is_numbered t.number) ts) same ∙ ap (λ b. b || list_any (is_numbered t.number) ts) (same_number t.number)
+    go false f e = second (is_numbered t.number u) (f e)
       where
         second : (b : Bool) → IsAlive ts t.number → (b || list_any (is_numbered t.number) ts) ≡ true
         second true k = refl
@@ -123,23 +123,23 @@ module _ (k : ℕ) (body : List ℕ) (params : Option Json) where
 
   alive_before : (j : ℕ) (ts : List Token) → IsAlive (rest ts) j → IsAlive ts j
   alive_before j [] h = h
-  alive_before j (t ∷ ts) h = go (not (is_ended_by k params (begun_by k body params t))) h
+  alive_before j (t ∷ ts) h = go (λ e. alive_before j ts e) (not (is_ended_by k params (begun_by k body params t))) h
     where
       second : (b : Bool) → IsAlive ts j → (b || list_any (is_numbered j) ts) ≡ true
       second true e = refl
       second false e = e
 
-      first : (b : Bool) → nat_eq (begun_by k body params t).number j ≡ b → (b || list_any (is_numbered j) (rest ts)) ≡ true → (is_numbered j t || list_any (is_numbered j) ts) ≡ true
-      first true same e = ap (λ b. b || list_any (is_numbered j) ts) (ap (λ n. nat_eq n j) (sym (begun_number t)) ∙ same)
-      first false other e = second (is_numbered j t) (alive_before j ts e)
+      first : (IsAlive (rest ts) j → IsAlive ts j) → (b : Bool) → nat_eq (begun_by k body params t).number j ≡ b → (b || list_any (is_numbered j) (rest ts)) ≡ true → (is_numbered j t || list_any (is_numbered j) ts) ≡ true
+      first f true same e = ap (λ b. b || list_any (is_numbered j) ts) (ap (λ n. nat_eq n j) (sym (begun_number t)) ∙ same)
+      first f false other e = second (is_numbered j t) (f e)
 
-      go : (b : Bool) → list_any (is_numbered j) (cond b (begun_by k body params t ∷ rest ts) (rest ts)) ≡ true → (is_numbered j t || list_any (is_numbered j) ts) ≡ true
-      go true e = first (nat_eq (begun_by k body params t).number j) refl e
-      go false e = second (is_numbered j t) (alive_before j ts e)
+      go : (IsAlive (rest ts) j → IsAlive ts j) → (b : Bool) → list_any (is_numbered j) (cond b (begun_by k body params t ∷ rest ts) (rest ts)) ≡ true → (is_numbered j t || list_any (is_numbered j) ts) ≡ true
+      go f true e = first f (nat_eq (begun_by k body params t).number j) refl e
+      go f false e = second (is_numbered j t) (f e)
 
   alive_behind : (j : ℕ) → (is_end params && nat_eq j k) ≡ false → (ts : List Token) → IsAlive ts j → IsAlive (rest ts) j
   alive_behind j apart [] h = h
-  alive_behind j apart (t ∷ ts) h = by_number (nat_eq t.number j) refl h
+  alive_behind j apart (t ∷ ts) h = by_number (λ e. alive_behind j apart ts e) (nat_eq t.number j) refl h
     where
       second : (b : Bool) → IsAlive (rest ts) j → list_any (is_numbered j) (cond b (begun_by k body params t ∷ rest ts) (rest ts)) ≡ true
       second true e = later (is_numbered j (begun_by k body params t)) e
@@ -152,20 +152,20 @@ module _ (k : ℕ) (body : List ℕ) (params : Option Json) where
       stays : nat_eq t.number j ≡ true → not (is_ended_by k params (begun_by k body params t)) ≡ true
       stays same = ap not (ap (λ n. is_end params && nat_eq n k) (begun_number t ∙ number_same t.number j same) ∙ apart)
 
-      by_number : (b : Bool) → nat_eq t.number j ≡ b → (b || list_any (is_numbered j) ts) ≡ true → list_any (is_numbered j) (rest (t ∷ ts)) ≡ true
-      by_number true same e = ap (λ b. list_any (is_numbered j) (cond b (begun_by k body params t ∷ rest ts) (rest ts))) (stays same)
+      by_number : (IsAlive ts j → IsAlive (rest ts) j) → (b : Bool) → nat_eq t.number j ≡ b → (b || list_any (is_numbered j) ts) ≡ true → list_any (is_numbered j) (rest (t ∷ ts)) ≡ true
+      by_number f true same e = ap (λ b. list_any (is_numbered j) (cond b (begun_by k body params t ∷ rest ts) (rest ts))) (stays same)
           ∙ ap (λ b. b || list_any (is_numbered j) (rest ts)) (ap (λ n. nat_eq n j) (begun_number t) ∙ same)
-      by_number false other e = second (not (is_ended_by k params (begun_by k body params t))) (alive_behind j apart ts e)
+      by_number f false other e = second (not (is_ended_by k params (begun_by k body params t))) (f e)
 
   -- an end ends it
   pub gone_behind : is_end params ≡ true → (ts : List Token) → list_any (is_numbered k) (rest ts) ≡ false
   gone_behind end [] = refl
-  gone_behind end (t ∷ ts) = by_number (nat_eq (begun_by k body params t).number k) refl
+  gone_behind end (t ∷ ts) = by_number (gone_behind end ts) (nat_eq (begun_by k body params t).number k) refl
     where
-      by_number : (b : Bool) → nat_eq (begun_by k body params t).number k ≡ b → list_any (is_numbered k) (rest (t ∷ ts)) ≡ false
-      by_number true same = ap (λ b. list_any (is_numbered k) (cond (not b) (begun_by k body params t ∷ rest ts) (rest ts))) (ap (λ b. b && nat_eq (begun_by k body params t).number k) end ∙ same) ∙ gone_behind end ts
-      by_number false other = ap (λ b. list_any (is_numbered k) (cond (not b) (begun_by k body params t ∷ rest ts) (rest ts))) (ap (λ b. b && nat_eq (begun_by k body params t).number k) end ∙ other)
-          ∙ ap (λ b. b || list_any (is_numbered k) (rest ts)) other ∙ gone_behind end ts
+      by_number : list_any (is_numbered k) (rest ts) ≡ false → (b : Bool) → nat_eq (begun_by k body params t).number k ≡ b → list_any (is_numbered k) (rest (t ∷ ts)) ≡ false
+      by_number none true same = ap (λ b. list_any (is_numbered k) (cond (not b) (begun_by k body params t ∷ rest ts) (rest ts))) (ap (λ b. b && nat_eq (begun_by k body params t).number k) end ∙ same) ∙ none
+      by_number none false other = ap (λ b. list_any (is_numbered k) (cond (not b) (begun_by k body params t ∷ rest ts) (rest ts))) (ap (λ b. b && nat_eq (begun_by k body params t).number k) end ∙ other)
+          ∙ ap (λ b. b || list_any (is_numbered k) (rest ts)) other ∙ none
 
 -- Steps
 
@@ -262,8 +262,8 @@ module _ (body : List ℕ) (method : List ℕ) (params : Option Json) (says : me
 
   -- one body more is held
   held_fair : (c : Taking) → nat_eq c.token k ≡ true → c.accepted ≡ false → IsFair x.tokens c → IsFair left_over (record c { held = c.held ++ body ∷ []; begun = c.begun || is_begin params })
-  held_fair c same open f = record {
-    alive = λ on. never (sym on ∙ open);
+  held_fair c same off f = record {
+    alive = λ on. never (sym on ∙ off);
     held = all_join NamesToken c.held (body ∷ []) f.held (names, tt);
     last = last_more c.held body goes;
     going = λ a. all_join (λ z. ends z ≡ false) c.held (body ∷ []) goes (ends_so ∙ unended (is_end params) refl a, tt);
@@ -288,20 +288,17 @@ module _ (body : List ℕ) (method : List ℕ) (params : Option Json) (says : me
       go : (a : Bool) → nat_eq c.token k ≡ a → (b : Bool) → c.accepted ≡ b → (d : Bool)
           → IsFair left_over (if a then (if b then record c { begun = c.begun || is_begin params } else (if d then record c { held = c.held ++ body ∷ []; begun = c.begun || is_begin params } else c)) else c)
       go true at true on d = record { alive = same.alive; held = same.held; last = same.last; going = same.going }
-      go true at false open true = held_fair c at open f
-      go true at false open false = same
+      go true at false off true = held_fair c at off f
+      go true at false off false = same
       go false at b on d = same
 
   told_all : (cs : List Taking) → AllByRecursion (IsFair x.tokens) cs → AllByRecursion (IsFair left_over) (map (told k body params) (filter (λ c. not (is_over k params c)) cs))
   told_all [] f = tt
-  told_all (c ∷ cs) f = go (not (is_over k params c)) refl
+  told_all (c ∷ cs) f = go (told_all cs f.1) (not (is_over k params c)) refl
     where
-      others : AllByRecursion (IsFair left_over) (map (told k body params) (filter (λ d. not (is_over k params d)) cs))
-      others = told_all cs f.1
-
-      go : (b : Bool) → not (is_over k params c) ≡ b → AllByRecursion (IsFair left_over) (map (told k body params) (cond b (c ∷ filter (λ d. not (is_over k params d)) cs) (filter (λ d. not (is_over k params d)) cs)))
-      go true stays = (told_fair c stays f.0, others)
-      go false over = others
+      go : AllByRecursion (IsFair left_over) (map (told k body params) (filter (λ d. not (is_over k params d)) cs)) → (b : Bool) → not (is_over k params c) ≡ b → AllByRecursion (IsFair left_over) (map (told k body params) (cond b (c ∷ filter (λ d. not (is_over k params d)) cs) (filter (λ d. not (is_over k params d)) cs)))
+      go others true stays = (told_fair c stays f.0, others)
+      go others false over = others
 
   some_fair : Fair (progressed body params (Some t) x)
   some_fair = record {

@@ -41,3 +41,4 @@ pub mod TakingTies
 pub mod Unreserved
 pub mod TellingPlaces
 pub mod Taken
+pub mod Heard

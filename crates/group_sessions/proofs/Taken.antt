@@ -264,13 +264,13 @@ module _ (settings : Settings) (range : InRange settings) (before : List Event) 
         fair = created_fair settings s events ((i.here).base).meant
 
         one : (c : Taking) → IsFair (created_of settings s events).tokens c → c.token < 2 ^ 64 → Spares Stands settings events n body (notification method params) s c
-        one c f small stands on own open = go (bytes_eq method (codes "$/progress") && is_end params) refl
+        one c f small stands on own kept = go (bytes_eq method (codes "$/progress") && is_end params) refl
           where
             go : (b : Bool) → (bytes_eq method (codes "$/progress") && is_end params) ≡ b
                 → is_open (mark_of s c) (if b then record { asked = (accepted c.editor events).asked; created = without (token_at (codes "token") params) (accepted c.editor events).created } else accepted c.editor events).created ≡ true
             go true both = subst (λ o. is_open (mark_of s c) (without o (accepted c.editor events).created) ≡ true) (sym names)
-                (still_open token (mark_of s c) (accepted c.editor events).created open (apart (and_parts (bytes_eq method (codes "$/progress")) (is_end params) both).1 s c stands on own f small))
-            go false both = open
+                (still_open token (mark_of s c) (accepted c.editor events).created kept (apart (and_parts (bytes_eq method (codes "$/progress")) (is_end params) both).1 s c stands on own f small))
+            go false both = kept
 
         all : (cs : List Taking) → AllByRecursion (IsFair (created_of settings s events).tokens) cs → AllByRecursion (λ (c : Taking). c.token < (created_of settings s events).next) cs → AllByRecursion (Spares Stands settings events n body (notification method params) s) cs
         all [] f l = tt
@@ -348,7 +348,7 @@ module _ (settings : Settings) (range : InRange settings) (before : List Event) 
 
     untold : (method : List ℕ) (params : Option Json) → bytes_eq method (codes "$/progress") ≡ false → (s : ℕ) (cs : List Taking) → AllByRecursion (Spares Stands settings events n body (notification method params) s) cs
     untold method params other s [] = tt
-    untold method params other s (c ∷ cs) = (λ stands on own open. ap (λ b. is_open (mark_of s c) (if b && is_end params then record { asked = (accepted c.editor events).asked; created = without (token_at (codes "token") params) (accepted c.editor events).created } else accepted c.editor events).created) other ∙ open,
+    untold method params other s (c ∷ cs) = (λ stands on own kept. ap (λ b. is_open (mark_of s c) (if b && is_end params then record { asked = (accepted c.editor events).asked; created = without (token_at (codes "token") params) (accepted c.editor events).created } else accepted c.editor events).created) other ∙ kept,
         untold method params other s cs)
 
     tied_now : WhyToEditor settings before cause events n body → KnownOut settings before cause events (ToEditor n body) → Tied Stands settings sent

@@ -42,7 +42,7 @@ abbrev pub Accepts : ℕ → List Event → Taking → Type 0
 Accepts s events c = is_open (mark_of s c) (accepted c.editor events).created ≡ true
 
 pub record IsTied (s : ℕ) (events : List Event) (c : Taking) : Type 0 where
-  pub open : c.accepted ≡ false → Awaits s events c
+  pub waits : c.accepted ≡ false → Awaits s events c
   pub taken : c.accepted ≡ true → Accepts s events c
 
 -- where this holds of the start and the editor
@@ -109,7 +109,7 @@ module _ (P : Taking → Type 0) (change : (c : Taking) (held : List (List ℕ))
   aside_all settings s before x other off h = h
 
 changed : (At : ℕ → ℕ → Type 0) (s : ℕ) (events : List Event) (c : Taking) (held : List (List ℕ)) (begun : Bool) → TiedIf At s events c → TiedIf At s events (record c { held = held; begun = begun })
-changed At s events c held begun h at = let k : IsTied s events c = h at in record { open = k.open; taken = k.taken }
+changed At s events c held begun h at = let k : IsTied s events c = h at in record { waits = k.waits; taken = k.taken }
 
 aside_part : (x : Creates) (event : Event) → is_aside event ≡ true → accepted_behind x event ≡ x
 aside_part x (took (FromEditor e body) m) off = never (sym off)
@@ -129,7 +129,7 @@ tied_aside At settings events event off h = tied_by At settings events event (λ
   where
     still : (s : ℕ) (c : Taking) → IsTied s events c → IsTied s (events ++ event ∷ []) c
     still s c k = record {
-      open = λ o. ap (λ (x : Creates). holds (integer (decimal c.number)) (mark_of s c) x.asked) (accepted_aside c.editor events event off) ∙ k.open o;
+      waits = λ o. ap (λ (x : Creates). holds (integer (decimal c.number)) (mark_of s c) x.asked) (accepted_aside c.editor events event off) ∙ k.waits o;
       taken = λ o. ap (λ (x : Creates). is_open (mark_of s c) x.created) (accepted_aside c.editor events event off) ∙ k.taken o;
     }
 
@@ -139,7 +139,7 @@ tied_aside At settings events event off h = tied_by At settings events event (λ
 answered_open : (id : Option Id) (n : ℕ) (token : Id) (rs : List Tokened) → names id n ≡ true → holds (integer (decimal n)) token rs ≡ true → is_open token (tokens_in (filter (is_answered_by id) rs)) ≡ true
 answered_open None n token rs named h = never (sym named)
 answered_open (Some i) n token [] named h = never (sym h)
-answered_open (Some i) n token (r ∷ rs) named h = go (same_id (integer (decimal n)) r.id) refl (is_open token r.tokens) refl h
+answered_open (Some i) n token (r ∷ rs) named h = go (λ e. answered_open (Some i) n token rs named e) (same_id (integer (decimal n)) r.id) refl (is_open token r.tokens) refl h
   where
     rest : List Tokened
     rest = filter (is_answered_by (Some i)) rs
@@ -151,10 +151,10 @@ answered_open (Some i) n token (r ∷ rs) named h = go (same_id (integer (decima
     answers : same_id (integer (decimal n)) r.id ≡ true → is_answered_by (Some i) r ≡ true
     answers same = ap (λ z. same_id i z) (sym (id_same (integer (decimal n)) r.id same)) ∙ (names_same i n ∙ named)
 
-    go : (a : Bool) → same_id (integer (decimal n)) r.id ≡ a → (b : Bool) → is_open token r.tokens ≡ b → ((a && b) || holds (integer (decimal n)) token rs) ≡ true → is_open token (tokens_in (cond (is_answered_by (Some i) r) (r ∷ rest) rest)) ≡ true
-    go true same true open k = ap (λ b. is_open token (tokens_in (cond b (r ∷ rest) rest))) (answers same) ∙ open_more token r.tokens (tokens_in rest) open
-    go true same false shut k = others (is_answered_by (Some i) r) (answered_open (Some i) n token rs named k)
-    go false other b open k = others (is_answered_by (Some i) r) (answered_open (Some i) n token rs named k)
+    go : (holds (integer (decimal n)) token rs ≡ true → is_open token (tokens_in rest) ≡ true) → (a : Bool) → same_id (integer (decimal n)) r.id ≡ a → (b : Bool) → is_open token r.tokens ≡ b → ((a && b) || holds (integer (decimal n)) token rs) ≡ true → is_open token (tokens_in (cond (is_answered_by (Some i) r) (r ∷ rest) rest)) ≡ true
+    go f true same true there k = ap (λ b. is_open token (tokens_in (cond b (r ∷ rest) rest))) (answers same) ∙ open_more token r.tokens (tokens_in rest) there
+    go f true same false shut k = others (is_answered_by (Some i) r) (f k)
+    go f false other b there k = others (is_answered_by (Some i) r) (f k)
 
 pub opens_now : (m : Message) (n : ℕ) (token : Id) (x : Creates) → accepts m ≡ true → names (answered_id m) n ≡ true → holds (integer (decimal n)) token x.asked ≡ true → is_open token (creates_heard x m).created ≡ true
 opens_now (result id r) n token x ok named h = open_behind token x.created (tokens_in (filter (is_answered_by id) x.asked)) (answered_open id n token x.asked named h)
@@ -197,12 +197,12 @@ request_heard name not_message x h = never (sym h)
 
 -- that it answers this
 pub record Answers (e : ℕ) (id : Option Id) (c : Taking) : Type 0 where
-  pub open : c.accepted ≡ false
+  pub unaccepted : c.accepted ≡ false
   pub editor : nat_eq c.editor e ≡ true
   pub number : names id c.number ≡ true
 
 pub answers_it : (e : ℕ) (id : Option Id) (c : Taking) → is_answered e id c ≡ true → Answers e id c
-answers_it e id c h = let p = and_parts (not c.accepted) (nat_eq c.editor e && names id c.number) h in let q = and_parts (nat_eq c.editor e) (names id c.number) p.1 in record { open = unless c.accepted p.0; editor = q.0; number = q.1 }
+answers_it e id c h = let p = and_parts (not c.accepted) (nat_eq c.editor e && names id c.number) h in let q = and_parts (nat_eq c.editor e) (names id c.number) p.1 in record { unaccepted = unless c.accepted p.0; editor = q.0; number = q.1 }
   where
     unless : (b : Bool) → not b ≡ true → b ≡ false
     unless true e = never (sym e)
@@ -238,17 +238,17 @@ module _ (At : ℕ → ℕ → Type 0) (settings : Settings) (before : List Even
         go false other = ap (λ (x : Creates). is_open (mark_of s c) x.created) (heard_there c.editor other) ∙ h.taken on
 
     unanswered_yet : IsTied s before c → is_answered e (answered_id m) c ≡ false → c.accepted ≡ false → Awaits s later c
-    unanswered_yet h no off = go (nat_eq e c.editor) refl (names (answered_id m) c.number) refl
+    unanswered_yet h unasked off = go (nat_eq e c.editor) refl (names (answered_id m) c.number) refl
       where
         go : (b : Bool) → nat_eq e c.editor ≡ b → (d : Bool) → names (answered_id m) c.number ≡ d → Awaits s later c
-        go true same false other = ap (λ (x : Creates). holds (integer (decimal c.number)) (mark_of s c) x.asked) (heard_here c.editor same) ∙ asked_heard m c.number (mark_of s c) (accepted c.editor before) other (h.open off)
-        go true same true named = never (sym (ap₂ (λ a d. not a && d) off (ap₂ (λ a d. a && d) (ap (λ z. nat_eq z e) (sym (number_same e c.editor same)) ∙ same_number e) named)) ∙ no)
-        go false other d named = ap (λ (x : Creates). holds (integer (decimal c.number)) (mark_of s c) x.asked) (heard_there c.editor other) ∙ h.open off
+        go true same false other = ap (λ (x : Creates). holds (integer (decimal c.number)) (mark_of s c) x.asked) (heard_here c.editor same) ∙ asked_heard m c.number (mark_of s c) (accepted c.editor before) other (h.waits off)
+        go true same true named = never (sym (ap₂ (λ a d. not a && d) off (ap₂ (λ a d. a && d) (ap (λ z. nat_eq z e) (sym (number_same e c.editor same)) ∙ same_number e) named)) ∙ unasked)
+        go false other d named = ap (λ (x : Creates). holds (integer (decimal c.number)) (mark_of s c) x.asked) (heard_there c.editor other) ∙ h.waits off
 
     -- an editor that has left, by `shutdown`, answers nothing
     shut : requests (codes "shutdown") m ≡ true → IsTied s before c → IsTied s later c
     shut off h = record {
-      open = λ o. ap (λ (x : Creates). holds (integer (decimal c.number)) (mark_of s c) x.asked) same ∙ h.open o;
+      waits = λ o. ap (λ (x : Creates). holds (integer (decimal c.number)) (mark_of s c) x.asked) same ∙ h.waits o;
       taken = λ o. ap (λ (x : Creates). is_open (mark_of s c) x.created) same ∙ h.taken o;
     }
       where
@@ -262,16 +262,16 @@ module _ (At : ℕ → ℕ → Type 0) (settings : Settings) (before : List Even
     -- it accepts
     pub accepts_now : IsTied s before c → is_answered e (answered_id m) c ≡ true → accepts m ≡ true → Accepts s later c
     accepts_now h is ok = let a : Answers e (answered_id m) c = answers_it e (answered_id m) c is in
-        ap (λ (x : Creates). is_open (mark_of s c) x.created) (heard_here c.editor (turned c.editor a.editor)) ∙ opens_now m c.number (mark_of s c) (accepted c.editor before) ok a.number (h.open a.open)
+        ap (λ (x : Creates). is_open (mark_of s c) x.created) (heard_here c.editor (turned c.editor a.editor)) ∙ opens_now m c.number (mark_of s c) (accepted c.editor before) ok a.number (h.waits a.unaccepted)
 
     one_heard : TiedIf At s before c → AllByRecursion (TiedIf At s later) (if is_answered e (answered_id m) c then settled m (created_of settings s before) c else c ∷ [])
     one_heard h = go (is_answered e (answered_id m) c) refl (accepts m && lives c.token (created_of settings s before)) refl
       where
         go : (a : Bool) → is_answered e (answered_id m) c ≡ a → (b : Bool) → (accepts m && lives c.token (created_of settings s before)) ≡ b
             → AllByRecursion (TiedIf At s later) (if a then (if b then record c { accepted = true; held = [] } ∷ [] else []) else c ∷ [])
-        go true is true both = (λ at. record { open = λ off. never off; taken = λ on. accepts_now (h at) is (and_parts (accepts m) (lives c.token (created_of settings s before)) both).0 }, tt)
+        go true is true both = (λ at. record { waits = λ off. never off; taken = λ on. accepts_now (h at) is (and_parts (accepts m) (lives c.token (created_of settings s before)) both).0 }, tt)
         go true is false both = tt
-        go false no b both = (λ at. record { open = λ off. unanswered_yet (h at) no off; taken = λ on. stays (h at) on }, tt)
+        go false unasked b both = (λ at. record { waits = λ off. unanswered_yet (h at) unasked off; taken = λ on. stays (h at) on }, tt)
 
   pub tied_heard : Tied At settings before → Tied At settings later
   tied_heard h = tied_by At settings before (heard (FromEditor e body)) (λ s. go s (requests (codes "shutdown") m) refl)
@@ -309,11 +309,11 @@ marked_named s None t h = never (sym h)
 
 pub find_true : {A : Type 0} (test : A → Bool) (xs : List A) (x : A) → find test xs ≡ Some x → test x ≡ true
 find_true test [] x h = absurd (cc)
-find_true test (y ∷ xs) x h = go (test y) refl h
+find_true test (y ∷ xs) x h = go (λ e. find_true test xs x e) (test y) refl h
   where
-    go : (b : Bool) → test y ≡ b → cond b (Some y) (find test xs) ≡ Some x → test x ≡ true
-    go true e k = subst (λ z. test z ≡ true) (let same : y ≡ x = cc in same) e
-    go false e k = find_true test xs x k
+    go : (find test xs ≡ Some x → test x ≡ true) → (b : Bool) → test y ≡ b → cond b (Some y) (find test xs) ≡ Some x → test x ≡ true
+    go f true e k = subst (λ z. test z ≡ true) (let same : y ≡ x = cc in same) e
+    go f false e k = f k
 
 module _ (At : ℕ → ℕ → Type 0) (settings : Settings) (events : List Event) (n : ℕ) (body : List ℕ) where
   abbrev sent : List Event
@@ -337,11 +337,11 @@ module _ (At : ℕ → ℕ → Type 0) (settings : Settings) (events : List Even
 
       go : (b : Bool) → nat_eq n c.editor ≡ b → IsTied s sent c
       go true same = record {
-        open = λ o. ap (λ (x : Creates). holds (integer (decimal c.number)) (mark_of s c) x.asked) (told_here c.editor m says same) ∙ asked_told m (integer (decimal c.number)) (mark_of s c) (accepted c.editor events) (h.open o);
+        waits = λ o. ap (λ (x : Creates). holds (integer (decimal c.number)) (mark_of s c) x.asked) (told_here c.editor m says same) ∙ asked_told m (integer (decimal c.number)) (mark_of s c) (accepted c.editor events) (h.waits o);
         taken = λ o. ap (λ (x : Creates). is_open (mark_of s c) x.created) (told_here c.editor m says same) ∙ spares at o same (h.taken o);
       }
       go false other = record {
-        open = λ o. ap (λ (x : Creates). holds (integer (decimal c.number)) (mark_of s c) x.asked) (told_there c.editor other) ∙ h.open o;
+        waits = λ o. ap (λ (x : Creates). holds (integer (decimal c.number)) (mark_of s c) x.asked) (told_there c.editor other) ∙ h.waits o;
         taken = λ o. ap (λ (x : Creates). is_open (mark_of s c) x.created) (told_there c.editor other) ∙ h.taken o;
       }
 
@@ -393,7 +393,7 @@ module _ (At : ℕ → ℕ → Type 0) (settings : Settings) (events : List Even
       old s = old_told asks says s (h s) (any_spared asks (λ x. told_request x id method params) s (created_of settings s events).takings)
 
       new : (s : ℕ) (t : Token) → is_creating method ≡ true → token_marked s params (created_of settings s events) ≡ Some t → IsTied s sent (asked n (next_ask n events) t)
-      new s t creating at = record { taken = λ on. never (sym on); open = λ off. ap (λ (x : Creates). holds id token x.asked) part ∙ holds_last id token (accepted n events).asked (record { id = id; tokens = tokens_at (codes "token") params }) brought }
+      new s t creating at = record { taken = λ on. never (sym on); waits = λ off. ap (λ (x : Creates). holds id token x.asked) part ∙ holds_last id token (accepted n events).asked (record { id = id; tokens = tokens_at (codes "token") params }) brought }
         where
           token : Id
           token = text (created_mark s t.number)

@@ -77,12 +77,12 @@ module _ (settings : Settings) (before : List Event) (cause : Cause) where
 
   -- where nothing is told
   none_told : ((s : ℕ) (asked : List ℕ) (given : Option Json) → IsNotified before cause s asked given → ⊥) → ((e s : ℕ) (taking : Taking) → IsTaken settings before cause e s taking → ⊥) → (events : List Event) (xs : List Out) → Reasons KnownOut events xs
-  none_told no nor events [] = tt
-  none_told no nor events (x ∷ xs) = (out x, none_told no nor (events ++ said x ∷ []) xs)
+  none_told neither nor events [] = tt
+  none_told neither nor events (x ∷ xs) = (out x, none_told neither nor (events ++ said x ∷ []) xs)
     where
       never_told : (e : ℕ) (body : List ℕ) → Telling settings before cause events e body → Known events e body
-      never_told e body (of_request s asked given request token notified found own editor bytes) = absurd (no s asked given notified)
-      never_told e body (of_token s asked given token notified called takes bytes) = absurd (no s asked given notified)
+      never_told e body (of_request s asked given request token notified found own editor bytes) = absurd (neither s asked given notified)
+      never_told e body (of_token s asked given token notified called takes bytes) = absurd (neither s asked given notified)
       never_told e body (of_held s taking earlier held later taken order place bytes) = absurd (nor e s taking taken)
 
       out : (o : Out) → KnownOut events o
@@ -209,11 +209,11 @@ module _ (settings : Settings) (before : List Event) (one : OneStart before) (s 
   Any = Reasons Out_known heard_now (outs_of settings before (FromServer s body))
 
   vacuous : ((given : Option Json) → IsNotified before (FromServer s body) s body given → ⊥) → Any
-  vacuous no = none_told settings before (FromServer s body) here (λ e n taking k. never (sym (ap is_of_desk k.from))) heard_now (outs_of settings before (FromServer s body))
+  vacuous none = none_told settings before (FromServer s body) here (λ e n taking k. never (sym (ap is_of_desk k.from))) heard_now (outs_of settings before (FromServer s body))
     where
       here : (n : ℕ) (asked : List ℕ) (given : Option Json) → IsNotified before (FromServer s body) n asked given → ⊥
       here n asked given k = let same : s ≡ n = cc_start k.from in let text : body ≡ asked = cc_text k.from in
-          no given (subst (λ b. IsNotified before (FromServer s body) s b given) (sym text) (subst (λ z. IsNotified before (FromServer s body) z asked given) (sym same) k))
+          none given (subst (λ b. IsNotified before (FromServer s body) s b given) (sym text) (subst (λ z. IsNotified before (FromServer s body) z asked given) (sym same) k))
         where
           cc_start : FromServer s body ≡ FromServer n asked → s ≡ n
           cc_start e = cc
@@ -276,13 +276,13 @@ module _ (settings : Settings) (before : List Event) (e : ℕ) (body : List ℕ)
   Each = Reasons Said_known asked_now (outs_of settings before (FromEditor e body))
 
   nothing_told : ((s : ℕ) (taking : Taking) → IsTaken settings before (FromEditor e body) e s taking → ⊥) → Each
-  nothing_told no = none_told settings before (FromEditor e body) (λ s asked given k. never (sym (ap is_of_start k.from))) here asked_now (outs_of settings before (FromEditor e body))
+  nothing_told none = none_told settings before (FromEditor e body) (λ s asked given k. never (sym (ap is_of_start k.from))) here asked_now (outs_of settings before (FromEditor e body))
     where
       same : (n : ℕ) (answer : List ℕ) → FromEditor e body ≡ FromEditor n answer → e ≡ n
       same n answer is = cc
 
       here : (n s : ℕ) (taking : Taking) → IsTaken settings before (FromEditor e body) n s taking → ⊥
-      here n s taking k = no s taking (subst (λ z. IsTaken settings before (FromEditor e body) z s taking) (sym (same n k.answer k.from)) k)
+      here n s taking k = none s taking (subst (λ z. IsTaken settings before (FromEditor e body) z s taking) (sym (same n k.answer k.from)) k)
 
   by_phase : (m : Message) → message_of body ≡ m → (id : Option Id) (r : Json) → m ≡ result id r → (phase : Phase) → (desk_of e before).phase ≡ phase → Each
   by_phase m says id r is Running at = subst (λ p. Reasons Said_known asked_now (outs (from_editor settings before e body (message_of body) p) asked_now)) (sym at)
