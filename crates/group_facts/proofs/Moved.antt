@@ -108,6 +108,7 @@ module _ (settings : Settings) (before : List Event) (e : ℕ) (body : List ℕ)
       sender = k.sender;
       asked = k.asked;
       from = k.from;
+      free = k.free;
       synced = sync_moved s (k.sender).editor k.asked k.from k.synced;
       bytes = k.bytes ∙ ap (λ (f : Forwarding). forwarded_text f.next k.asked) (sym (S.forwarding s));
       id = k.id;

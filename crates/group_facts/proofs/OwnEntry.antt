@@ -199,7 +199,7 @@ module _ (settings : Settings) (before : List Event) (n : ℕ) (body : List ℕ)
         no_first : (desk_of n before).phase ≡ New → requests (codes "initialize") (message_of body) ≡ false
         no_first new = never (sym (ap is_early new) ∙ late)
 
-        module _ (g s : ℕ) (home : home_of settings n before ≡ Some g) (start : start_of g before ≡ Some s) (can : can_ask settings s before ≡ true) where
+        module _ (g s : ℕ) (home : home_of settings n before ≡ Some g) (start : start_of g before ≡ Some s) (can : can_ask settings s before ≡ true) (free : reserves (params_of body) ≡ false) where
           abbrev sync : List Out
           sync = outs (sync_row settings before g s n) now
 
@@ -225,12 +225,12 @@ module _ (settings : Settings) (before : List Event) (n : ℕ) (body : List ℕ)
           quiet_sync = all_outs NoSpawn now sync (quiet_bodies s _ now).why
 
           forward_is : IsForward settings before (FromEditor n body) synced s text
-          forward_is = is_forward settings before n body id method params says there (alone_by before (facts.steady).asked n id fresh) range (facts.base).opened late other g s start can
+          forward_is = is_forward settings before n body id method params says there (alone_by before (facts.steady).asked n id fresh) range (facts.base).opened late other g s start can free
 
           list_now : (forwarding_of s gone).open_requests ≡ (forwarding_of s synced).open_requests ++ numbered (Some (record { editor = n; id = id_bytes body; work = token_in (codes "workDoneToken") body; partial = token_in (codes "partialResultToken") body })) (forwarding_of s synced).next
           list_now = ap (λ (x : Forwarding). x.open_requests) (forwarding_sent synced s text (request (integer (decimal (forwarding_of s synced).next)) forward_is.method forward_is.params) forward_is.says
               ∙ ap (λ c. if c then forwarding_of s synced else more_requests (forwarding_of s synced)) forward_is.other)
-              ∙ ap (λ o. (forwarding_of s synced).open_requests ++ numbered o (forwarding_of s synced).next) (synced_sender settings before n body id method params says there (alone_by before (facts.steady).asked n id fresh) range (facts.base).opened late other g s start can)
+              ∙ ap (λ o. (forwarding_of s synced).open_requests ++ numbered o (forwarding_of s synced).next) (synced_sender settings before n body id method params says there (alone_by before (facts.steady).asked n id fresh) range (facts.base).opened late other g s start can free)
 
           sent_now : SentAt settings gone n id
           sent_now = record {
@@ -267,24 +267,24 @@ module _ (settings : Settings) (before : List Event) (n : ℕ) (body : List ℕ)
               go i (inr same) = inl (subst (SentAt settings gone n) (sym same) sent_now)
 
         -- E10
-        by_can : (g s : ℕ) → home_of settings n before ≡ Some g → start_of g before ≡ Some s → (b : Bool) → can_ask settings s before ≡ b → Rests (outs (choose b (sync_row settings before g s n ⨾ forward s body) (answer_error n body request_failed)) now)
-        by_can g s home start true can = forwarded_rests g s home start can
-        by_can g s home start false can = refused no_first request_failed
+        by_can : (g s : ℕ) → reserves (params_of body) ≡ false → home_of settings n before ≡ Some g → start_of g before ≡ Some s → (b : Bool) → can_ask settings s before ≡ b → Rests (outs (choose b (sync_row settings before g s n ⨾ forward s body) (answer_error n body request_failed)) now)
+        by_can g s free home start true can = forwarded_rests g s home start can free
+        by_can g s free home start false can = refused no_first request_failed
 
-        by_start : (g : ℕ) → home_of settings n before ≡ Some g → (o : Option ℕ) → start_of g before ≡ o → Rests (outs (on o (answer_error n body request_failed) (request_at settings before n body g)) now)
-        by_start g home None start = refused no_first request_failed
-        by_start g home (Some s) start = by_can g s home start (can_ask settings s before) refl
+        by_start : (g : ℕ) → reserves (params_of body) ≡ false → home_of settings n before ≡ Some g → (o : Option ℕ) → start_of g before ≡ o → Rests (outs (on o (answer_error n body request_failed) (request_at settings before n body g)) now)
+        by_start g free home None start = refused no_first request_failed
+        by_start g free home (Some s) start = by_can g s free home start (can_ask settings s before) refl
 
-        by_home : (o : Option ℕ) → home_of settings n before ≡ o → Rests (outs (on o (answer_error n body request_failed) (λ g. on (start_of g before) (answer_error n body request_failed) (request_at settings before n body g))) now)
-        by_home None home = refused no_first request_failed
-        by_home (Some g) home = by_start g home (start_of g before) refl
+        by_home : reserves (params_of body) ≡ false → (o : Option ℕ) → home_of settings n before ≡ o → Rests (outs (on o (answer_error n body request_failed) (λ g. on (start_of g before) (answer_error n body request_failed) (request_at settings before n body g))) now)
+        by_home free None home = refused no_first request_failed
+        by_home free (Some g) home = by_start g free home (start_of g before) refl
 
-        by_token : (b : Bool) → Rests (outs (choose b (answer_error n body invalid_params) (on (home_of settings n before) (answer_error n body request_failed) (λ g. on (start_of g before) (answer_error n body request_failed) (request_at settings before n body g)))) now)
-        by_token true = refused no_first invalid_params
-        by_token false = by_home (home_of settings n before) refl
+        by_token : (b : Bool) → reserves (params_of body) ≡ b → Rests (outs (choose b (answer_error n body invalid_params) (on (home_of settings n before) (answer_error n body request_failed) (λ g. on (start_of g before) (answer_error n body request_failed) (request_at settings before n body g)))) now)
+        by_token true reserved = refused no_first invalid_params
+        by_token false free = by_home free (home_of settings n before) refl
 
         request_rests : Rests (outs (request_row settings before n body) now)
-        request_rests = by_token (reserves (params_of body))
+        request_rests = by_token (reserves (params_of body)) refl
 
       -- E9: `shutdown` is answered, and the editor leaves
       abbrev done : List ℕ

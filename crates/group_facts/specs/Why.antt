@@ -21,7 +21,7 @@ use Rattle.event_model.specs.declared.phase.Phase.TheVariants.{Answered, Running
 use Rattle.event_model.specs.declared.stage.Stage.{Stage}
 use Rattle.event_model.specs.declared.stage.Stage.TheVariants.{Spawning, Initializing, Ready, Stopping}
 use Rattle.event_model.specs.Event.{Event, behind, events_of, heard, requests, said, with_cause, same_id}
-use Rattle.event_model.specs.Members.{named_of}
+use Rattle.event_model.specs.Members.{named_of, params_of}
 use Rattle.event_model.specs.Parts.{server_part}
 use Rattle.event_model.specs.Phases.{desk_of, has_id, is_there, is_malformed, is_served}
 use Rattle.event_model.specs.Requests.{next_number, answered_id, open_of, is_open, is_own}
@@ -51,7 +51,7 @@ use Rattle.group_rows.specs.Leaves.{cancel_text}
 use Rattle.group_rows.specs.Live.{is_registering, live_of, register_text, taken_back, unregister_text}
 use Rattle.group_rows.specs.Rows.{sync_bodies}
 use Rattle.group_rows.specs.Texts.{texts_of}
-use Rattle.group_rows.specs.Tokens.{forwarded_text, is_told, is_worked, listens, mark_text, marked_text, own_token, work_mark}
+use Rattle.group_rows.specs.Tokens.{forwarded_text, is_told, is_worked, listens, mark_text, marked_text, own_token, reserves, work_mark}
 use Rattle.group_facts.specs.Built.{is_left}
 use Rattle.group_facts.specs.Facts.{IsAlone, IsWaiting, asked_by, asked_of, ends_link, is_early, leaves, turned_away}
 use Rattle.group_facts.specs.Lively.{IsDying}
@@ -114,11 +114,12 @@ pub record IsBehindSync (settings : Settings) (before : List Event) (events : Li
   pub asks : AllByRecursion (IsQuestion e) questions
   pub place : events ≡ behind (with_cause before (FromEditor e asked)) (questions ++ map (λ text. ToServer s text) (sync_bodies settings.limits.versions (λ u. held_at s u before) e (texts_of settings group before).opens))
 
--- the request of an editor, which is at work, goes under the next number to s, which is ready
+-- the request of an editor, which is at work, goes under the next number to s, which is ready; none of its tokens begins as the daemon's do (E10)
 pub record IsForward (settings : Settings) (before : List Event) (cause : Cause) (events : List Event) (s : ℕ) (body : List ℕ) : Type 0 where
   pub sender : Sender
   pub asked : List ℕ
   pub from : cause ≡ FromEditor sender.editor asked
+  pub free : reserves (params_of asked) ≡ false
   pub synced : IsBehindSync settings before events s sender.editor asked
   pub bytes : body ≡ forwarded_text (forwarding_of s events).next asked
   pub id : Id

@@ -40,12 +40,17 @@ Hears settings before cause events e body (of_request s asked given request toke
 Hears settings before cause events e body (of_token s asked given token notified called takes bytes) = IsAccepted s token.number e events
 Hears settings before cause events e body (of_held s taking earlier held later taken order place bytes) = NamesToken held × IsAccepted s taking.token e events
 
--- whatever progress a body is, at its place
+-- what an editor is told, at its place
+pub record IsHeard (settings : Settings) (before : List Event) (cause : Cause) (events : List Event) (e : ℕ) (body : List ℕ) : Type 0 where
+  pub told : Telling settings before cause events e body
+  pub hears : Hears settings before cause events e body told
+
+-- where a body is progress
 abbrev pub Heard : Settings → List Event → Cause → List Event → Out → Type 0
-Heard settings before cause events (ToEditor e body) = (told : Telling settings before cause events e body) → Hears settings before cause events e body told
+Heard settings before cause events (ToEditor e body) = Telling settings before cause events e body → IsHeard settings before cause events e body
 Heard settings before cause events other = Unit {0}
 
--- Not proved yet: each out of every entry is so. It is the part of rule 6 that is about created tokens.
+-- Each out of every entry is so: the part of rule 6 that is about created tokens.
 abbrev pub AllHeard : Settings → Type 0
 AllHeard settings = (before : List Entry) → Legal settings before → (cause : Cause) → fits_behind (events_of before) cause ≡ true → built_behind settings (events_of before) cause ≡ true
     → Reasons (Heard settings (events_of before) cause) (with_cause (events_of before) cause) (outs_of settings (events_of before) cause)

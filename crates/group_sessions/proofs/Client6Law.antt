@@ -1,4 +1,4 @@
--- Progress that an editor is told has the token of an open request of it, or one that it accepted; of the latter it isn't proved yet, and is a premise here.
+-- Progress that an editor is told has the token of an open request of it, or one that it accepted; what is told of the latter is a premise here.
 use Rattle.std.proofs.Common.{◌≡◌, ℕ, Bool, true, false, not, ◌||◌, List, [], ◌∷◌, ◌++◌, bytes_eq, codes, filter, if◌then◌else◌, Option, Some, None, ◌⊎◌, inl, inr, is_some, IsTrue, refl, sym, ◌∙◌, ap, ap₂, subst}
 use Rattle.std.specs.Option.{option_and_then}
 use Rattle.std.proofs.lemmas.Slice.Eq.{bytes_eq-Decides}
@@ -44,7 +44,7 @@ use Rattle.group_facts.proofs.Facts.{Facts}
 use Rattle.group_facts.proofs.Forwards.{forwarding_more}
 use Rattle.group_facts.proofs.Known.{Here, facts_hold, here_did, here_took}
 use Rattle.group_facts.proofs.Table.{reasons}
-use Rattle.group_sessions.proofs.Accepted.{AllHeard, Heard, Hears, accepted}
+use Rattle.group_sessions.proofs.Accepted.{AllHeard, Heard, Hears, IsHeard, accepted}
 use Rattle.group_sessions.proofs.Marked.{Marked, id_bare, marked}
 use Rattle.group_sessions.proofs.Telling.{AllTold, HasToken, IsTold, Ties, outs_back, ties_free, ties_told, ties_took, unfiltered}
 use Rattle.group_sessions.proofs.TellingSent.{ties_sent}
@@ -53,7 +53,7 @@ use Rattle.group_sessions.proofs.Walk.{walk}
 -- What is told
 
 -- of all editors alike
-not_progress : (method : List ℕ) → class_of method Server true ≡ Broadcast → bytes_eq method (codes "$/progress") ≡ false
+pub not_progress : (method : List ℕ) → class_of method Server true ≡ Broadcast → bytes_eq method (codes "$/progress") ≡ false
 unfolding server_notification
 not_progress method class = go (bytes_eq method (codes "$/progress")) refl
   where
@@ -62,7 +62,7 @@ not_progress method class = go (bytes_eq method (codes "$/progress")) refl
     go false other = refl
 
 -- an editor's own token is the one for its work, or for its partial results
-own_is : (j : Option Json) (f : Forwarded) (bytes : List ℕ) → own_token j f ≡ Some bytes → (is_some j ≡ true) × ((f.work ≡ Some bytes) ⊎ (f.partial ≡ Some bytes))
+pub own_is : (j : Option Json) (f : Forwarded) (bytes : List ℕ) → own_token j f ≡ Some bytes → (is_some j ≡ true) × ((f.work ≡ Some bytes) ⊎ (f.partial ≡ Some bytes))
 own_is j f bytes h = go (is_mark j (work_mark f.number)) refl (is_mark j (partial_mark f.number)) refl h
   where
     there : (o : Option Json) (k : ℕ) → is_mark o k ≡ true → is_some o ≡ true
@@ -77,7 +77,7 @@ own_is j f bytes h = go (is_mark j (work_mark f.number)) refl (is_mark j (partia
 pub created_id : (s k : ℕ) → IsIdText (text (created_mark s k)) (created_text s k)
 created_id s k = let w : IsValueText (string nowhere (created_mark s k)) (created_text s k) = created_is s k in record { tree = w.tree; stands = w.stands; is = sym (id_bare w.tree) ∙ ap id_of w.same }
 
-called_some : (o : Option Json) (x : Created) (token : Token) → token_called (option_and_then id_of o) x ≡ Some token → is_some o ≡ true
+pub called_some : (o : Option Json) (x : Created) (token : Token) → token_called (option_and_then id_of o) x ≡ Some token → is_some o ≡ true
 called_some None x token h = absurd (cc)
 called_some (Some j) x token h = refl
 
@@ -149,7 +149,7 @@ module _ (settings : Settings) (range : InRange settings) (before : List Event) 
     may_go (calls k) h = subst May (sym k.says) refl
     may_go (spreads k) h = subst May (sym k.says) (ap (λ b. not b || is_one (token_at (codes "token") k.params) tokens) (not_progress k.method k.class))
     may_go (recalls k) h = subst May (sym k.says) refl
-    may_go (progresses k) h = telling k.told (h k.told)
+    may_go (progresses k) h = let heard : IsHeard settings before cause events n body = h k.told in telling heard.told heard.hears
 
   abbrev Both : List Event → Out → Type 0
   Both events out = Why settings before cause events out × Heard settings before cause events out

@@ -67,11 +67,12 @@ pub record IsNew (body : List ℕ) (x : Created) (t : Token) : Type 0 where
   pub number : t.number ≡ x.next
   pub text : IsIdText t.id t.text
   pub free : is_free t.id ≡ true
+  pub begin : t.begin ≡ None
   pub fresh : is_some (token_called (Some t.id) x) ≡ false
   pub small : x.next < 2 ^ 64
   pub names : named_token (params_of body) ≡ Some t.id
 
-free_of : (j : Option Json) (id : Id) → option_and_then id_of j ≡ Some id → not (is_reserved j) ≡ true → is_free id ≡ true
+pub free_of : (j : Option Json) (id : Id) → option_and_then id_of j ≡ Some id → not (is_reserved j) ≡ true → is_free id ≡ true
 free_of (Some (string s cs)) id e h = subst (λ i. is_free i ≡ true) (some_same (of_string cs) id e) h
 free_of (Some (number s ds)) id e h = go (is_integer ds) e
   where
@@ -95,6 +96,7 @@ new_is body x t h = go (may_create body x) refl (named_token (params_of body)) r
           number = refl;
           text = subst (λ i. IsIdText i bytes) (some_same b.id id (sym b.names ∙ named)) b.text;
           free = free_of (named_of (codes "token") (params_of body)) id named parts.1;
+          begin = refl;
           fresh = fresh;
           small = ltb-true x.next (2 ^ 64) parts.0;
           names = named;
@@ -246,10 +248,10 @@ if_orderly : (b : Bool) (x y : Created) → Orderly x → Orderly y → Orderly 
 if_orderly true x y h k = h
 if_orderly false x y h k = k
 
-none_orderly : Orderly no_created
+pub none_orderly : Orderly no_created
 none_orderly = record { live = tt; apart = tt; takings = tt }
 
-step_orderly : (settings : Settings) (s : ℕ) (before : List Event) (x : Created) (event : Event) → Orderly x → Orderly (created_next settings s before x event)
+pub step_orderly : (settings : Settings) (s : ℕ) (before : List Event) (x : Created) (event : Event) → Orderly x → Orderly (created_next settings s before x event)
 step_orderly settings s before x (took (FromServer n body) (request id method params)) h = if_orderly (nat_eq n s && (is_creating method && is_heard settings s before id)) (with_token (created_token body x) x) x (token_orderly body x h (created_token body x) refl) h
 step_orderly settings s before x (took (FromServer n body) (notification method params)) h =
     if_orderly (nat_eq n s && (is_progress method && is_ready (life_of s before).stage)) (progressed body params (token_called (named_token params) x) x) x (progressed_orderly body params (token_called (named_token params) x) x h) h

@@ -61,7 +61,7 @@ pub record Tie (settings : Settings) (events : List Event) : Type 0 where
 
 -- Methods by their classes
 
-create_is : (method : List ℕ) → is_creating method ≡ true → bytes_eq method (codes "window/workDoneProgress/create") ≡ true
+pub create_is : (method : List ℕ) → is_creating method ≡ true → bytes_eq method (codes "window/workDoneProgress/create") ≡ true
 unfolding server_request
 create_is method h = go (bytes_eq method (codes "client/registerCapability")) (bytes_eq method (codes "client/unregisterCapability")) (bytes_eq method (codes "window/workDoneProgress/create")) (bytes_eq method (codes "workspace/workspaceFolders")) (is_refresh method) (is_focused method) h
   where
@@ -80,7 +80,7 @@ progress_is method h = subst (λ m. is_progress m ≡ true) (sym ((bytes_eq-Deci
 
 -- The tokens that live, behind one event
 
-created_more : (settings : Settings) (s : ℕ) (events : List Event) (event : Event) → created_of settings s (events ++ event ∷ []) ≡ created_next settings s events (created_of settings s events) event
+pub created_more : (settings : Settings) (s : ℕ) (events : List Event) (event : Event) → created_of settings s (events ++ event ∷ []) ≡ created_next settings s events (created_of settings s events) event
 created_more settings s events event = past_more (created_next settings s) [] no_created events event
 
 -- outs create none, and end none
@@ -108,12 +108,12 @@ module _ (settings : Settings) (s : ℕ) where
       by_out (CloseEditor e) = refl
       by_out (EndServer n) = refl
 
-  outs_tokens : (events : List Event) (xs : List Out) → (created_of settings s (behind events xs)).tokens ≡ (created_of settings s events).tokens
+  pub outs_tokens : (events : List Event) (xs : List Out) → (created_of settings s (behind events xs)).tokens ≡ (created_of settings s events).tokens
   outs_tokens events [] = ap (λ z. (created_of settings s z).tokens) (append-nil events)
   outs_tokens events (x ∷ xs) = ap (λ z. (created_of settings s z).tokens) (sym (append_assoc events (said x ∷ []) (map said xs))) ∙ outs_tokens (events ++ said x ∷ []) xs ∙ out_tokens events x
 
   -- an editor's message leaves them
-  spoken_tokens : (events : List Event) (x : Created) (e : ℕ) (body : List ℕ) (m : Message) → (created_next settings s events x (took (FromEditor e body) m)).tokens ≡ x.tokens
+  pub spoken_tokens : (events : List Event) (x : Created) (e : ℕ) (body : List ℕ) (m : Message) → (created_next settings s events x (took (FromEditor e body) m)).tokens ≡ x.tokens
   spoken_tokens events x e body m = go (requests (codes "shutdown") m)
     where
       go : (b : Bool) → (if b then left e x else answered e m x).tokens ≡ x.tokens
@@ -157,7 +157,7 @@ unready_off Ready h = never (sym h)
 unready_off _ h = refl
 
 -- what is created, behind a request of the start, and its answer
-told_request : (x : Creates) (id : Id) (method : List ℕ) (params : Option Json) → (creates_told x (request id method params)).created ≡ x.created
+pub told_request : (x : Creates) (id : Id) (method : List ℕ) (params : Option Json) → (creates_told x (request id method params)).created ≡ x.created
 told_request x id method params = go (bytes_eq method (codes "window/workDoneProgress/create"))
   where
     go : (b : Bool) → (if b then record { asked = x.asked ++ record { id = id; tokens = tokens_at (codes "token") params } ∷ []; created = x.created } else x).created ≡ x.created

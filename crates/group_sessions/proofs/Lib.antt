@@ -36,3 +36,9 @@ pub mod Creating
 pub mod Working
 pub mod Server7Law
 pub mod CreatedFold
+pub mod HeldFold
+pub mod TakingTies
+pub mod Unreserved
+pub mod TellingPlaces
+pub mod Taken
+pub mod Heard

@@ -1,7 +1,8 @@
--- What a notification with another token in it names: that token.
-use Rattle.std.proofs.Common.{◌≡◌, ℕ, ◌≤◌, Bool, true, false, List, [], bytes_eq, codes, if◌then◌else◌, Option, Some, None, is_some, refl, sym, ◌∙◌, ap, arith}
-use Rattle.std.specs.Option.{option_and_then}
+-- What a notification with another token in it names: that token; and it ends what it tells of as it did.
+use Rattle.std.proofs.Common.{◌≡◌, ℕ, ◌≤◌, Bool, true, false, List, [], bytes_eq, codes, if◌then◌else◌, Option, Some, None, is_some, refl, sym, ◌∙◌, ap, ap₂, arith}
+use Rattle.std.specs.Option.{option_and_then, option_map_or}
 use Rattle.std.specs.Prelude.{MatchOption}
+use Rattle.std.proofs.lemmas.Slice.Eq.{bytes_eq-Decides}
 use Rattle.json_text.specs.declared.kind.Word.TheVariants.{Null, False, True}
 use Rattle.json_text.specs.declared.span.Span.{Span}
 use Rattle.json_text.specs.Bare.{bare, bare_members, nowhere}
@@ -14,14 +15,22 @@ use Rattle.json_text.proofs.Laws.{tree_sound}
 use Rattle.json_text.proofs.Put.{members_depth_bare}
 use Rattle.group_rows.specs.response_route.specs.json_nodes.specs.Puts.{member_edits, new_or, put_members}
 use Rattle.group_rows.specs.response_route.specs.json_nodes.proofs.PutBare.{flat_members}
-use Rattle.rpc_message.specs.Message.{Id, given, id_of, message_of, notification}
+use Rattle.rpc_message.specs.Message.{Id, Message, given, id_of, message_of, notification}
 use Rattle.rpc_message.specs.ValueTexts.{IsIdText, IsOptionText, IsValueText}
 use Rattle.rpc_message.proofs.Ids.{id_flat}
 use Rattle.rpc_message.proofs.PutLaws.{notification_puts}
 use Rattle.document_model.proofs.Bares.{Notice, notice}
-use Rattle.event_model.specs.Members.{named_of}
+use Rattle.event_model.specs.Members.{named_of, string_of}
 use Rattle.group_rows.specs.Tokens.{mark_edits, marked_text, new_mark}
-use Rattle.session_laws.specs.Progress.{token_at}
+use Rattle.session_laws.specs.Progress.{is_end, token_at}
+
+-- a body ends what it tells of
+abbrev pub is_ending : Message → Bool
+is_ending (notification method params) = is_end params
+is_ending other = false
+
+abbrev pub ends : List ℕ → Bool
+ends body = is_ending (message_of body)
 
 pub id_bare : (j : Json) → id_of (bare j) ≡ id_of j
 id_bare (word s w) = refl
@@ -70,11 +79,22 @@ module _ (new : Json) where
   token_put no_members x e = absurd (cc)
   token_put (member s cs j ms) x e = token_case j x (named (codes "token") ms) (named (codes "token") (put_members new_token ms)) (bytes_eq (codes "token") cs) (λ k h. token_put ms k h) (λ h. no_token ms h) e
 
+  value_case : (cs : List ℕ) (j : Json) (o r : Option Json) → r ≡ o → (b : Bool) → bytes_eq (codes "value") cs ≡ b → or_else r (if_named b (new_or (new_token cs) j)) ≡ or_else o (if_named b j)
+  value_case cs j o r same true named = ap₂ (λ p q. or_else p (if_named true (new_or (new_token q) j))) same (sym ((bytes_eq-Decides (codes "value") cs).0 named))
+  value_case cs j o r same false other = ap (λ p. or_else p None) same
+
+  -- and the same value
+  value_put : (ms : Members) → named (codes "value") (put_members new_token ms) ≡ named (codes "value") ms
+  unfolding named
+  value_put no_members = refl
+  value_put (member s cs j ms) = value_case cs j (named (codes "value") ms) (named (codes "value") (put_members new_token ms)) (value_put ms) (bytes_eq (codes "value") cs) refl
+
 -- a notification of the same method, whose token this is
 pub record Marked (id : Id) (text body method : List ℕ) : Type 0 where
   pub params : Option Json
   pub says : message_of (marked_text text body) ≡ notification method params
   pub names : token_at (codes "token") params ≡ Some id
+  pub ending : is_end params ≡ ends body
 
 module _ (id : Id) (text body method : List ℕ) (params : Option Json) (written : IsIdText id text) (says : message_of body ≡ notification method params) where
   abbrev tree : Json
@@ -96,6 +116,7 @@ module _ (id : Id) (text body method : List ℕ) (params : Option Json) (written
     says = ap message_of bytes
         ∙ notification_puts body [] (object nowhere (bare_members js)) (object said.span said.members) [] r js (new_mark text) (new_token tree) said.tree (texts tree text value_text) shallow method
         (says ∙ ap (λ z. notification method z) is) (ap (λ o. option_and_then (λ k. value_at [] k) o) at);
+    ending = ap (λ o. option_map_or (bytes_eq (codes "end")) (string_of (named_of (codes "kind") o)) false) (value_put tree (bare_members js)) ∙ sym (ap is_ending (says ∙ ap (λ z. notification method z) is));
     names = ap (λ o. option_and_then id_of o) (token_put tree (bare_members js) x has) ∙ is_id;
   }
     where

@@ -10,7 +10,9 @@ use Rattle.group_sessions.proofs.Client2Law.{client_2_law}
 use Rattle.group_sessions.proofs.Client3Law.{client_3_law}
 use Rattle.group_sessions.proofs.Client4Law.{client_4_law}
 use Rattle.group_sessions.proofs.Client5Law.{client_5_law}
+use Rattle.group_sessions.proofs.Client6Law.{client_6_law}
 use Rattle.group_sessions.proofs.Client7Law.{client_7_law}
+use Rattle.group_sessions.proofs.Heard.{all_heard}
 use Rattle.group_sessions.proofs.Server1Law.{server_1_law}
 use Rattle.group_sessions.proofs.Server2Law.{server_2_law}
 use Rattle.group_sessions.proofs.Server3Law.{server_3_law}
@@ -28,6 +30,7 @@ sessions_kept settings range history legal = record {
   client_3 = client_3_law settings range history legal;
   client_4 = client_4_law settings range history legal;
   client_5 = client_5_law settings range history legal;
+  client_6 = client_6_law settings range (all_heard settings range) history legal;
   client_7 = client_7_law settings range history legal;
   server_1 = server_1_law settings range history legal;
   server_2 = server_2_law settings range history legal;

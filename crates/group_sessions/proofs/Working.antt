@@ -78,7 +78,7 @@ ties_free events event off same h = ties_by events (events ++ event ∷ []) even
 
 -- A message of a start
 
-names_same : (i : Id) (n : ℕ) → same_id i (integer (decimal n)) ≡ names (Some i) n
+pub names_same : (i : Id) (n : ℕ) → same_id i (integer (decimal n)) ≡ names (Some i) n
 names_same (integer digits) n = refl
 names_same (text characters) n = refl
 

@@ -7,7 +7,7 @@ ghost use Rattle.event_model.specs.Settings.{Settings};
 ghost use Rattle.event_model.specs.Spawns.{starts_of};
 ghost use Rattle.mux_facts.specs.Ranges.{InRange};
 ghost use Rattle.group_facts.specs.Legal.{Legal};
-ghost use Rattle.session_laws.specs.ClientRules.{KeepsClient1, KeepsClient2, KeepsClient3, KeepsClient4, KeepsClient5, KeepsClient7};
+ghost use Rattle.session_laws.specs.ClientRules.{KeepsClient1, KeepsClient2, KeepsClient3, KeepsClient4, KeepsClient5, KeepsClient6, KeepsClient7};
 ghost use Rattle.session_laws.specs.ServerRules.{KeepsServer1, KeepsServer2, KeepsServer3, KeepsServer4, KeepsServer5, KeepsServer6, KeepsServer7, KeepsServer8};
 
 /// A law: nothing goes to an editor whose link ended, or was to be ended (LSP 3.17, Base Protocol).
@@ -35,6 +35,12 @@ pub fn client_4()
 /// A law: a cancel to an editor names a request that was sent to it and that it hasn't answered (LSP 3.17, Cancellation Support).
 pub fn client_5()
     ensures { (settings : Settings) → InRange settings → (history : List Entry) → Legal settings history → KeepsClient5 history }
+{}
+
+/// A law: progress that an editor is told has the token of an open request of it, or one that it was asked to create and answered
+/// with a result, and of which no end was told since (LSP 3.17, Progress Support and Work Done Progress).
+pub fn client_6()
+    ensures { (settings : Settings) → InRange settings → (history : List Entry) → Legal settings history → KeepsClient6 history }
 {}
 
 /// A law: an editor is told to register what isn't registered there, and to take back what is, by the ids of the items (LSP 3.17,
