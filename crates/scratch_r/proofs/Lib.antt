@@ -1,0 +1,4 @@
+pub mod Numbers
+pub mod CreatedMarks
+pub mod KindTexts
+pub mod CreatedWork
