@@ -15,7 +15,7 @@ use Rattle.event_model.proofs.Frames.{never}
 use Rattle.group_rows.specs.Asks.{asking_of, goes_to_one, is_single, is_taken}
 use Rattle.group_rows.specs.Created.{created_next, created_of, is_creating, is_progress, names_create}
 use Rattle.mux_tables.specs.mux_tokens.specs.Stands.{CreatedStay}
-use Rattle.mux_tables.proofs.mux_tokens.proofs.Stays.{other_notification, other_request, unheard_request, unready_notification}
+use Rattle.mux_tables.specs.mux_tokens.proofs.Stays.{other_notification, other_request, unheard_request, unready_notification}
 
 -- what one editor answers creates no token
 single_class : (k : Class) → goes_to_one k ≡ true → names_create k ≡ false

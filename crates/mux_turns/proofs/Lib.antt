@@ -14,6 +14,8 @@ pub mod Keeping
 pub mod Lspmux
 pub mod Matched
 pub mod Numbers
+pub mod Offering
+pub mod Offers
 pub mod Ready
 pub mod Rows
 pub mod Welcoming

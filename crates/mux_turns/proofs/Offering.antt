@@ -22,12 +22,9 @@ use Rattle.group_facts.specs.group_rows.specs.CreatedRows.{create_text}
 use Rattle.group_facts.specs.group_rows.proofs.CreatedKept.{IsWritten, found_one, tokens_written}
 use Rattle.group_facts.specs.group_rows.proofs.CreatedTexts.{create_says, create_tree}
 use Rattle.mux_tables.specs.mux_tokens.specs.Stands.{AreFresh, IsOffer}
+use Rattle.mux_turns.specs.Creates.{AreSmall}
 use Rattle.mux_tables.specs.mux_tokens.proofs.Finding.{find_none, find_passes}
 use Rattle.mux_tables.specs.mux_tokens.proofs.Fresh.{tokens_behind}
-
--- starts with live tokens have numbers that numerals tell apart
-abbrev pub AreSmall : Settings → List Event → Type 0
-AreSmall settings events = (n : ℕ) → 2 ^ 64 ≤ n → (created_of settings n events).tokens ≡ []
 
 pub small_heard : (settings : Settings) (before : List Event) → NoStarts before → Settled settings before → starts_of before ≤ 2 ^ 64 → (cause : Cause) → AreSmall settings (with_cause before cause)
 small_heard settings before starts settled few cause n le = ap (λ (x : Created). x.tokens) (uncreated_heard settings before starts cause settled.uncreated n (omega (arith, few, le)))
