@@ -47,7 +47,7 @@ unanswered_all e id m x (c ∷ cs) h =
     ∙ ap (λ b. (if b then settled m x c else c ∷ []) ++ flat_map (λ d. if is_answered e id d then settled m x d else d ∷ []) cs) (and_none (not c.accepted))
     ∙ ap (λ ds. c ∷ ds) (unanswered_all e id m x cs h.1)
 
-away_spoken : (e : ℕ) (m : Message) (x : Created) → AreAway e x.takings → spoken e m x ≡ x
+pub away_spoken : (e : ℕ) (m : Message) (x : Created) → AreAway e x.takings → spoken e m x ≡ x
 away_spoken e m x h = go (requests (codes "shutdown") m)
   where
     go : (b : Bool) → (if b then left e x else answered e m x) ≡ x

@@ -16,6 +16,7 @@ ghost use Rattle.mux_history.specs.declared.cause.Cause.TheVariants.{FromEditor}
 ghost use Rattle.mux_tables.specs.declared.tables.Start.{Start};
 ghost use Rattle.mux_tables.specs.Documents.{AllStand, DocumentsStand, Owed, changes_documents, nothing_owed};
 ghost use Rattle.mux_tables.specs.Resumes.{unasked};
+ghost use Rattle.mux_turns.specs.Creates.{AreSmall};
 ghost use Rattle.mux_tables.specs.Stands.{AnswersNone, Stands};
 ghost use Rattle.rpc_message.specs.Message.{message_of};
 ghost use Rattle.mux_turns.specs.group_facts.specs.Settled.{Settled};
@@ -87,7 +88,7 @@ fn offer_each(
     ensures does { (settings : Settings) (owed : Owed) (base : List Event) (x : Start) → slice_get tables.old.lasts.items g ≡ Some x
         → is_running (desk_of e (behind base outs.old)).phase ≡ true → ((s : ℕ) → (asking_of settings s (behind base outs.old)).asker ≡ None)
         → live.now ≡ map (λ (u : Token). (u.number, is_some u.begin)) (created_of settings x.life.start (behind base outs.old)).tokens
-        → AreUnasked e (created_of settings x.life.start (behind base outs.old)).takings
+        → AreUnasked e (created_of settings x.life.start (behind base outs.old)).takings → AreSmall settings (behind base outs.old)
         → OnOk result (Does (λ k events. AllStand settings k events)
         (each (offer x.life.start e) (created_of settings x.life.start (behind base outs.old)).tokens) base (tables.old, owed) outs.old (tables.new, owed) outs.new) }
 {
@@ -114,7 +115,7 @@ fn offer_live(
     ensures count { OnOk result (length tables.new.editors ≡ length tables.old.editors) }
     ensures does { (settings : Settings) (owed : Owed) (base : List Event) (x : Start) → slice_get tables.old.lasts.items g ≡ Some x
         → is_running (desk_of e (behind base outs.old)).phase ≡ true → ((s : ℕ) → (asking_of settings s (behind base outs.old)).asker ≡ None)
-        → AreUnasked e (created_of settings x.life.start (behind base outs.old)).takings
+        → AreUnasked e (created_of settings x.life.start (behind base outs.old)).takings → AreSmall settings (behind base outs.old)
         → OnOk result (Does (λ k events. AllStand settings k events)
         (each (offer x.life.start e) (created_of settings x.life.start (behind base outs.old)).tokens) base (tables.old, owed) outs.old (tables.new, owed) outs.new) }
 {

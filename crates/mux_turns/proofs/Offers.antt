@@ -21,7 +21,7 @@ use Rattle.mux_tables.specs.mux_tokens.proofs.Standing.{created_more}
 use Rattle.mux_tables.specs.mux_tokens.proofs.Stays.{called_stays}
 use Rattle.mux_turns.specs.Calls.{IsCall}
 use Rattle.mux_turns.specs.Creates.{AreSmall, CanOffer, Unasked}
-use Rattle.mux_turns.proofs.Called.{Quiet, quiet_none, quiet_told}
+use Rattle.mux_turns.proofs.Called.{Quiet, after_quiet, quiet_none, quiet_told}
 use Rattle.mux_turns.proofs.Offering.{offer_is, small_behind}
 
 module _ (settings : Settings) (s : ℕ) (t : Token) where
@@ -52,6 +52,11 @@ module _ (settings : Settings) (s : ℕ) (t : Token) where
   pub offer_small : (e : ℕ) (events : List Event) → AreSmall settings events → AreSmall settings (behind events (outs (offer s e t) events))
   offer_small e events h = small_behind settings events (outs (offer s e t) events) h
 
+-- offers of several
+pub offers_quiet : (settings : Settings) (s e : ℕ) (us : List Token) (events : List Event) → Quiet settings events (behind events (outs (each (offer s e) us) events))
+offers_quiet settings s e [] events = quiet_none settings events
+offers_quiet settings s e (u ∷ us) events = after_quiet settings (offer s e u) (each (offer s e) us) events (offer_quiet settings s u e events) (λ now. offers_quiet settings s e us now)
+
 -- a request that offers no token leaves tokens as they are
 pub call_created : (settings : Settings) (s : ℕ) (text : ℕ → List ℕ) → IsCall text → (e : ℕ) (events : List Event) → created_of settings s (behind events (outs (call text e) events)) ≡ created_of settings s events
 call_created settings s text k e events = go (has_number e events) refl
@@ -61,3 +66,7 @@ call_created settings s text k e events = go (has_number e events) refl
         let q = k.says (next_ask e events) (ltb-true (next_ask e events) (2 ^ 64) h) in
         created_more settings s events (said (ToEditor e (text (next_ask e events)))) ∙ called_stays settings s e events (created_of settings s events) (text (next_ask e events)) k.method (message_of (text (next_ask e events))) (integer (decimal (next_ask e events))) q.0 q.1 k.uncreating
     go false h = ap (created_of settings s) (append-nil events)
+
+pub any_created : (settings : Settings) (s : ℕ) (text : ℕ → List ℕ) → IsCall text → (b : Bool) (e : ℕ) (events : List Event) → created_of settings s (behind events (outs (choose b (call text e) nothing) events)) ≡ created_of settings s events
+any_created settings s text k true e events = call_created settings s text k e events
+any_created settings s text k false e events = ap (created_of settings s) (append-nil events)
