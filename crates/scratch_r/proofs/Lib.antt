@@ -1,4 +1,0 @@
-pub mod Numbers
-pub mod CreatedMarks
-pub mod KindTexts
-pub mod CreatedWork
