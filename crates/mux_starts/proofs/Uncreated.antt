@@ -8,13 +8,17 @@ use Rattle.lsp_method.specs.declared.variants.Class.TheVariants.{Focused, Lowest
 use Rattle.lsp_method.specs.declared.variants.Origin.TheVariants.{Server}
 use Rattle.mux_history.specs.declared.cause.Cause.TheVariants.{FromServer}
 use Rattle.rpc_message.specs.Message.{Id, Message, message_of, notification, request}
+use Rattle.rpc_message.specs.declared.sort.Sort.TheVariants as sort
+use Rattle.rpc_message.specs.Sorts.{sort_of}
 use Rattle.event_model.specs.Event.{Event, heard, took}
+use Rattle.event_model.specs.Phases.{is_malformed}
 use Rattle.event_model.specs.Settings.{Settings}
 use Rattle.event_model.specs.Stages.{is_ready, life_of}
 use Rattle.event_model.proofs.Frames.{never}
 use Rattle.group_rows.specs.Asks.{asking_of, goes_to_one, is_single, is_taken}
 use Rattle.group_rows.specs.Created.{created_next, created_of, is_creating, is_progress, names_create}
 use Rattle.mux_tables.specs.mux_tokens.specs.Stands.{CreatedStay}
+use Rattle.mux_tables.specs.Stands.{is_request}
 use Rattle.mux_tables.specs.mux_tokens.proofs.Stays.{other_notification, other_request, unheard_request, unready_notification}
 
 -- what one editor answers creates no token
@@ -52,3 +56,20 @@ module _ (settings : Settings) (before : List Event) (s : ℕ) (body : List ℕ)
       go (request id method params) says = by (request id method params) says (unheard_request settings s s before (created_of settings s before) body id method params (ap (λ b. b && not (is_taken (Some id) (asking_of settings s before))) off))
       go (notification method params) says = by (notification method params) says (unready_notification settings s s before (created_of settings s before) body method params off)
       go other says = by other says refl
+
+  -- an answer, and a body that is no message
+  pub answers_create : is_request (message_of body) ≡ false → (sort_of (message_of body) ≡ Some sort.Notification → ⊥) → CreatedStay settings s before (heard (FromServer s body))
+  answers_create unasked unnoted = go (message_of body) refl unasked unnoted
+    where
+      go : (m : Message) → message_of body ≡ m → is_request m ≡ false → (sort_of m ≡ Some sort.Notification → ⊥) → CreatedStay settings s before (heard (FromServer s body))
+      go (request id method params) says h k = never (sym h)
+      go (notification method params) says h k = absurd (k refl)
+      go other says h k = by other says refl
+
+  pub malformed_creates : is_malformed (message_of body) ≡ true → CreatedStay settings s before (heard (FromServer s body))
+  malformed_creates bad = go (message_of body) refl bad
+    where
+      go : (m : Message) → message_of body ≡ m → is_malformed m ≡ true → CreatedStay settings s before (heard (FromServer s body))
+      go (request id method params) says h = never (sym h)
+      go (notification method params) says h = never (sym h)
+      go other says h = by other says refl
