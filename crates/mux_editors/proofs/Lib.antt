@@ -13,6 +13,7 @@ pub mod Passing
 pub mod Runs
 pub mod Serving
 pub mod Synced
+pub mod Taking
 pub mod Takings
 mod Telling
 pub mod Turns
