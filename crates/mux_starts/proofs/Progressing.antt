@@ -81,9 +81,9 @@ module _ (settings : Settings) (before : List Event) (g s : ℕ) (params : Optio
       let t = called_so (token_called (Some i) x) d.token some in
       record {
         token = t.0;
-        called = ap (λ o. token_called o x) named ∙ t.1.0;
-        number = t.1.1;
-        editors = is ∙ (ap (λ n. filter (λ e. has_accepted e n x) numbers) t.1.1 ∙ ap (filter (λ e. has_accepted e t.0.number x)) those);
+        called = ap (λ o. token_called o x) named ∙ t.1;
+        number = t.2;
+        editors = is ∙ (ap (λ n. filter (λ e. has_accepted e n x) numbers) t.2 ∙ ap (filter (λ e. has_accepted e t.0.number x)) those);
       }
 
   -- whether there is one
@@ -96,7 +96,7 @@ module _ (settings : Settings) (before : List Event) (g s : ℕ) (params : Optio
     where
       go : (o : Option Token) → is_some o ≡ false → o ≡ None
       go None h = refl
-      go (Some t) h = never (sym h)
+      go (Some t) h = never h
 
   pub unnamed_due : named_token params ≡ None → is_some (token_called (named_token params) x) ≡ true → ⊥
   unnamed_due none lives = clash (sym (ap (λ o. is_some (token_called o x)) none) ∙ lives)
