@@ -58,35 +58,35 @@ module _ (settings : Settings) (before : List Event) (facts : Facts settings bef
 
   -- what was held of a token, without its end
   module _ (e s k : ℕ) where
-    abbrev token : Id
-    token = text (created_mark s k)
+    abbrev mark : Id
+    mark = text (created_mark s k)
 
     abbrev handed : List ℕ → Out
     handed held = ToEditor e (marked_text (created_text s k) held)
 
-    one_handed : (held : List ℕ) → NamesToken held → ends held ≡ false → (events : List Event) → is_open token (accepted e events).created ≡ true → is_open token (accepted e (events ++ said (handed held) ∷ [])).created ≡ true
-    one_handed held names goes events h = ap (λ (x : Creates). is_open token x.created) (told_here (RunsAt settings before) settings events e (marked_text (created_text s k) held) e (notification names.method m.params) m.says (same_number e))
+    one_handed : (held : List ℕ) → NamesToken held → ends held ≡ false → (events : List Event) → is_open mark (accepted e events).created ≡ true → is_open mark (accepted e (events ++ said (handed held) ∷ [])).created ≡ true
+    one_handed held names goes events h = ap (λ (x : Creates). is_open mark x.created) (told_here (RunsAt settings before) settings events e (marked_text (created_text s k) held) e (notification names.method m.params) m.says (same_number e))
         ∙ go (bytes_eq names.method (codes "$/progress")) (is_end m.params) (m.ending ∙ goes)
       where
-        m : Marked token (created_text s k) held names.method
-        m = marked token (created_text s k) held names.method names.params (created_id s k) names.says names.names
+        m : Marked mark (created_text s k) held names.method
+        m = marked mark (created_text s k) held names.method names.params (created_id s k) names.says names.names
 
-        go : (a b : Bool) → b ≡ false → is_open token (if a && b then record { asked = (accepted e events).asked; created = without (token_at (codes "token") m.params) (accepted e events).created } else accepted e events).created ≡ true
+        go : (a b : Bool) → b ≡ false → is_open mark (if a && b then record { asked = (accepted e events).asked; created = without (token_at (codes "token") m.params) (accepted e events).created } else accepted e events).created ≡ true
         go true true off = never off
         go true false off = h
         go false b off = h
 
-    all_handed : (bodies : List (List ℕ)) → NameTokens bodies → NoneEnds bodies → (events : List Event) → is_open token (accepted e events).created ≡ true → is_open token (accepted e (behind events (map handed bodies))).created ≡ true
-    all_handed [] names goes events h = subst (λ z. is_open token (accepted e z).created ≡ true) (sym (behind_nothing events)) h
-    all_handed (held ∷ bodies) names goes events h = subst (λ z. is_open token (accepted e z).created ≡ true) (append_assoc events (said (handed held) ∷ []) (map said (map handed bodies)))
+    all_handed : (bodies : List (List ℕ)) → NameTokens bodies → NoneEnds bodies → (events : List Event) → is_open mark (accepted e events).created ≡ true → is_open mark (accepted e (behind events (map handed bodies))).created ≡ true
+    all_handed [] names goes events h = subst (λ z. is_open mark (accepted e z).created ≡ true) (sym (behind_nothing events)) h
+    all_handed (held ∷ bodies) names goes events h = subst (λ z. is_open mark (accepted e z).created ≡ true) (append_assoc events (said (handed held) ∷ []) (map said (map handed bodies)))
         (all_handed bodies names.1 goes.1 (events ++ said (handed held) ∷ []) (one_handed held names.0 goes.0 events h))
 
   module _ (events : List Event) (e : ℕ) (body : List ℕ) where
     hears : (told : Telling settings before cause events e body) → Knows settings before cause events e body told → Hears settings before cause events e body told
-    hears (of_request s asked given request token notified found own editor bytes) known = tt
-    hears (of_token s asked given token k called takes bytes) known =
-        ap (λ (x : Creates). is_open (text (created_mark s token.number)) x.created) (known.1 ∙ ap (λ c. accepted e (with_cause before c)) k.from ∙ accepted_aside e before (heard (FromServer s asked)) refl)
-        ∙ accepted_there s e token.number known.0 (created_of settings s before).takings (rests.tied s) takes
+    hears (of_request s asked given f bytes_of notified found own editor bytes) known = tt
+    hears (of_token s asked given t k called takes bytes) known =
+        ap (λ (x : Creates). is_open (text (created_mark s t.number)) x.created) (known.1 ∙ ap (λ c. accepted e (with_cause before c)) k.from ∙ accepted_aside e before (heard (FromServer s asked)) refl)
+        ∙ accepted_there s e t.number known.0 (created_of settings s before).takings (rests.tied s) takes
     hears (of_held s c earlier held later taken order place bytes) known = (names.1, subst (λ z. is_open (mark_of s c) (accepted e z).created ≡ true) (sym place)
         (all_handed e s c.token earlier names.0 (none_before earlier held later (subst LastEnds order fair.last)) now open_now))
       where

@@ -140,7 +140,7 @@ free_apart id free s k = go (same_id id (text (created_mark s k))) refl
     go true e = never (sym (sym (ap is_free (id_same id (text (created_mark s k)) e)) ∙ free))
     go false e = refl
 
-all_at : {A : Type 0} (P : A → Type 0) (xs : List A) (y : A) (ys : List A) → AllByRecursion P (xs ++ y ∷ ys) → AllByRecursion P xs × P y
+pub all_at : {A : Type 0} (P : A → Type 0) (xs : List A) (y : A) (ys : List A) → AllByRecursion P (xs ++ y ∷ ys) → AllByRecursion P xs × P y
 all_at P [] y ys h = (tt, h.0)
 all_at P (x ∷ xs) y ys h = let k = all_at P xs y ys h.1 in ((h.0, k.0), k.1)
 
@@ -194,6 +194,9 @@ took_tied At settings before (Tick t) h = tied_aside At settings before (heard (
 pub record Rests (settings : Settings) (events : List Event) : Type 0 where
   pub tied : Tied (RunsAt settings events) settings events
   pub ran : AllRan settings events
+
+abbrev desk : Phase → List ℕ → Desk
+desk p i = record { phase = p; initialize = i }
 
 -- One entry
 
@@ -298,14 +301,14 @@ module _ (settings : Settings) (range : InRange settings) (before : List Event) 
     fair_before s = created_fair settings s before (facts.base).meant
 
     told_tied : (told : Telling settings before cause events n body) → Knows settings before cause events n body told → Tied Stands settings sent
-    told_tied (of_request s asked given request token k found own editor bytes) known =
-        let own_one : (is_some (named_of (codes "token") given) ≡ true) × ((request.work ≡ Some token) ⊎ (request.partial ≡ Some token)) = own_is (named_of (codes "token") given) request token own in
+    told_tied (of_request s asked given f token k found own editor bytes) known =
+        let own_one : (is_some (named_of (codes "token") given) ≡ true) × ((f.work ≡ Some token) ⊎ (f.partial ≡ Some token)) = own_is (named_of (codes "token") given) f token own in
         let t : IsFreeText token = chosen own_one.1 in
         notified_tied t.id token asked k.method (marked t.id token asked k.method given t.text k.asks own_one.0) bytes (λ end s c stands on own fair small. free_apart t.id t.free s c.token)
       where
-        chosen : (request.work ≡ Some token) ⊎ (request.partial ≡ Some token) → IsFreeText token
-        chosen (inl h) = (found_is IsUnreserved (is_told before (named_of (codes "token") given)) request (forwarding_of s before).open_requests (free s) found).work token h
-        chosen (inr h) = (found_is IsUnreserved (is_told before (named_of (codes "token") given)) request (forwarding_of s before).open_requests (free s) found).partial token h
+        chosen : (f.work ≡ Some token) ⊎ (f.partial ≡ Some token) → IsFreeText token
+        chosen (inl h) = (found_is IsUnreserved (is_told before (named_of (codes "token") given)) f (forwarding_of s before).open_requests (free s) found).work token h
+        chosen (inr h) = (found_is IsUnreserved (is_told before (named_of (codes "token") given)) f (forwarding_of s before).open_requests (free s) found).partial token h
     told_tied (of_token s asked given token k called takes bytes) known = notified_tied (text (created_mark s token.number)) (created_text s token.number) asked k.method m bytes
         (λ end t c stands on own fair low. ended_apart events n s token.number (record { at = known.0; small = small; gone = gone end }) t c stands on own fair low)
       where
@@ -440,10 +443,10 @@ module _ (settings : Settings) (range : InRange settings) (before : List Event) 
     where
       by_cause : (c : Cause) → cause ≡ c → shuts c e ≡ false
       by_cause (FromEditor n body) is = go (nat_eq n e) (requests (codes "shutdown") (message_of body)) (makes_running (message_of body))
-          (sym (ap (λ p. is_running (if nat_eq n e then desk_hears p (desk_of e before).initialize body (message_of body) else record { phase = p; initialize = (desk_of e before).initialize }).phase) was)
+          (sym (ap (λ p. is_running (if nat_eq n e then desk_hears p (desk_of e before).initialize body (message_of body) else desk p (desk_of e before).initialize).phase) was)
           ∙ ap (λ (d : Desk). is_running d.phase) (sym (desk_more e before (heard (FromEditor n body)))) ∙ ap (λ k. is_running (desk_of e (with_cause before k)).phase) (sym is) ∙ h)
         where
-          go : (b c d : Bool) → is_running (if b then record { phase = if c then Down else if d then Running else Answered; initialize = (desk_of e before).initialize } else record { phase = Answered; initialize = (desk_of e before).initialize }).phase ≡ true → (b && c) ≡ false
+          go : (b c d : Bool) → is_running (if b then desk (if c then Down else if d then Running else Answered) (desk_of e before).initialize else desk Answered (desk_of e before).initialize).phase ≡ true → (b && c) ≡ false
           go true true d k = never (sym k)
           go true false d k = refl
           go false c d k = refl

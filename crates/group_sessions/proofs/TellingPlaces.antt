@@ -12,7 +12,7 @@ use Rattle.lsp_method.specs.Class.{class_of}
 use Rattle.lsp_method.specs.declared.variants.Class.{Class}
 use Rattle.lsp_method.specs.declared.variants.Class.TheVariants.{Progress}
 use Rattle.lsp_method.specs.declared.variants.Origin.TheVariants.{Server}
-use Rattle.rpc_message.specs.Message.{Message, request, notification, result, error, not_json, not_message, Id, message_of}
+use Rattle.rpc_message.specs.Message.{Message, notification, result, Id, message_of}
 use Rattle.event_model.specs.declared.phase.Phase.{Phase}
 use Rattle.event_model.specs.declared.phase.Phase.TheVariants.{Running}
 use Rattle.event_model.specs.declared.stage.Stage.{Stage}
@@ -202,8 +202,11 @@ module _ (settings : Settings) (before : List Event) (one : OneStart before) (s 
     token_known = by_on (λ none. by_nothing) (λ t called. by_on (λ none. by_nothing)
         (λ g kept. takers_known t called (takers settings before g s t) heard_now (all_take t called g kept) (takers_differ t called g) (all_same (Untold t called heard_now) (λ e. refl) (takers settings before g s t))))
 
+    request_known : (f : Forwarded) → find (is_told before (named_of (codes "token") params)) (forwarding_of s before).open_requests ≡ Some f → (token : List ℕ) → own_token (named_of (codes "token") params) f ≡ Some token → Out_known heard_now (ToEditor f.editor (marked_text token body))
+    request_known f found token own told = record { told = of_request s body params f token notified found own refl refl; knows = tt }
+
     progress_known : Because Out_known heard_now (progress_row settings s before body params)
-    progress_known = by_on (λ none. token_known) (λ f found. by_on (λ none. by_nothing) (λ token own. by_send (λ told. record { told = of_request s body params f token notified found own refl refl; knows = tt })))
+    progress_known = by_on (λ none. token_known) (λ f found. by_on (λ none. by_nothing) (λ token own. by_send (request_known f found token own)))
 
   abbrev Any : Type 0
   Any = Reasons Out_known heard_now (outs_of settings before (FromServer s body))
