@@ -29,7 +29,6 @@ use Rattle.group_facts.specs.Built.{built_behind}
 use Rattle.group_facts.specs.Legal.{Legal}
 use Rattle.group_facts.specs.Why.{IsForward, Why, WhyToServer, begins, cancels, cancels_work, exits, forwarded, greets, notes, resolves, responds, shuts, tells}
 use Rattle.group_facts.proofs.Apart.{grow, new}
-use Rattle.group_facts.proofs.Facts.{Facts}
 use Rattle.group_facts.proofs.Forwards.{forwarding_more}
 use Rattle.group_facts.proofs.Known.{facts_hold}
 use Rattle.group_facts.proofs.Table.{reasons}
