@@ -44,7 +44,7 @@ module _ (settings : Settings) (s e k : ℕ) (events : List Event) (t : Token) (
   abbrev marked : ℕ → Token → Bool
   marked n = is_marked n (named_of (codes "token") (Some (create_tree s k)))
 
-  number : t.number ≡ k
+  pub number : t.number ≡ k
   number = let same : nat_eq t.number k ≡ true = find_passes (is_numbered k) (live s) t found in grind (arith, nat_tests)
 
   low : k < 2 ^ 64
