@@ -46,7 +46,7 @@ module _ (settings : Settings) (s e k : ℕ) (events : List Event) where
   pub untaken_offered : (i j : ℕ) (text : List ℕ) → IsOffer settings s i j events text → (nat_eq i e && nat_eq j k) ≡ false → AreUntaken e k (created_of settings s events).takings → AreUntaken e k (created_of settings s (events ++ said (ToEditor i text) ∷ [])).takings
   untaken_offered i j text offer other h = subst (λ (x : Created). AreUntaken e k x.takings) (sym is) (all_last (IsUntaken e k) now.takings (asked i (next_ask i events) offer.token) h (ap (λ n. nat_eq i e && nat_eq n k) offer.number ∙ other))
     where
-      abbrev now : Created
+      now : Created
       now = created_of settings s events
 
       is : created_of settings s (events ++ said (ToEditor i text) ∷ []) ≡ with_asked i (next_ask i events) (Some offer.token) now
