@@ -1,5 +1,5 @@
 // Editors are asked what a start asks (S9, S11, S12), and what is looked up of it (S14).
-ghost use Rattle.std.specs.Prelude.{◌≡◌, ◌<◌, ◌||◌, ℕ, List, map, Option, Some, None, true, if◌then◌else◌, decimal, find, length, option_map, IfOk, IfSome, OnOk, slice_get};
+ghost use Rattle.std.specs.Prelude.{◌≡◌, ◌<◌, ◌||◌, ℕ, List, map, Option, Some, None, false, true, if◌then◌else◌, decimal, find, length, option_map, IfOk, IfSome, OnOk, slice_get};
 ghost use Rattle.std.specs.List.{Contains, list_any};
 ghost use Rattle.event_model.specs.declared.stage.Stage.TheVariants.{Ready};
 ghost use Rattle.event_model.specs.Does.{Does};
