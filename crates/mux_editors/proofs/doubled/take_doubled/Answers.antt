@@ -13,7 +13,8 @@ use Rattle.mux_editors.proofs.Asides.{unserved_keeps}
 use Rattle.mux_editors.proofs.Classes.{shutdown_named}
 use Rattle.mux_editors.proofs.Doubling.{doubled_placed, doubled_stays, doubled_stops, doubled_unopened, serves_standard}
 use Rattle.mux_editors.proofs.Serving.{request_keeps, request_runs, stands_so, request_makes}
-use Rattle.mux_editors.proofs.Takings.{few_starts, takes_unserved}
+use Rattle.mux_turns.proofs.Offering.{few_starts}
+use Rattle.mux_editors.proofs.Takings.{takes_unserved}
 use Rattle.mux_tables.specs.mux_tokens.proofs.Stays.{takes_none}
 use Rattle.mux_editors.proofs.Runs.{no_shutdown}
 use Rattle.mux_editors.proofs.doubled.take_doubled.Goals as goal

@@ -14,7 +14,8 @@ use Rattle.mux_tables.specs.Stands.{is_answer}
 use Rattle.mux_tables.proofs.Asking.{answers_none}
 use Rattle.mux_editors.proofs.Asides.{desk_now, old_unopened, unserved_keeps}
 use Rattle.mux_turns.proofs.Matched.{whole_entry}
-use Rattle.mux_editors.proofs.Takings.{few_starts, takes_unserved}
+use Rattle.mux_turns.proofs.Offering.{few_starts}
+use Rattle.mux_editors.proofs.Takings.{takes_unserved}
 use Rattle.mux_editors.proofs.parting.take_down.Goals as goal
 
 pub returns-clause-does : goal.returns-clause-does

@@ -9,7 +9,8 @@ use Rattle.rpc_message.specs.Message.{message_of}
 use Rattle.mux_tables.specs.Documents.{AllStand, nothing_owed}
 use Rattle.mux_editors.proofs.Asides.{closed_keeps, closed_placed, closed_stays, closed_stops, old_unopened}
 use Rattle.mux_turns.proofs.Matched.{whole_entry}
-use Rattle.mux_editors.proofs.Takings.{few_starts, takes_unserved}
+use Rattle.mux_turns.proofs.Offering.{few_starts}
+use Rattle.mux_editors.proofs.Takings.{takes_unserved}
 use Rattle.mux_editors.proofs.quiet.take_closed.Goals as goal
 
 pub returns-clause-does : goal.returns-clause-does

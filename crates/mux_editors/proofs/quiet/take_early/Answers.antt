@@ -12,7 +12,8 @@ use Rattle.mux_tables.proofs.Asking.{answers_none}
 use Rattle.mux_editors.proofs.Asides.{desk_now, early_keeps, early_stays, unnamed_unopened}
 use Rattle.mux_editors.proofs.Lspmux.{unasked_open}
 use Rattle.mux_turns.proofs.Matched.{whole_entry}
-use Rattle.mux_editors.proofs.Takings.{few_starts, takes_unserved}
+use Rattle.mux_turns.proofs.Offering.{few_starts}
+use Rattle.mux_editors.proofs.Takings.{takes_unserved}
 use Rattle.mux_editors.proofs.quiet.take_early.Goals as goal
 
 pub returns-clause-does : goal.returns-clause-does

@@ -5,7 +5,8 @@ use Rattle.rpc_message.specs.Message.{message_of}
 use Rattle.mux_starts.specs.mux_tables.specs.Documents.{AllStand}
 use Rattle.mux_entries.proofs.EditorBuilt.{unserved_keeps}
 use Rattle.mux_entries.proofs.EditorRows.{done_alike, done_quietly, exit_named, exit_silent}
-use Rattle.mux_editors.proofs.Takings.{few_starts, takes_unserved}
+use Rattle.mux_starts.specs.mux_turns.proofs.Offering.{few_starts}
+use Rattle.mux_editors.proofs.Takings.{takes_unserved}
 use Rattle.mux_entries.proofs.editors.from_aside.Goals as goal
 
 pub returns-in_ok-take_exit-clause-does : goal.returns-in_ok-take_exit-clause-does
