@@ -59,7 +59,10 @@ away_fresh e n k (c ∷ cs) h = ((ap (λ b. b && nat_eq c.number n) h.0, ap (λ 
 
 -- By what is settled
 
-module _ (settings : Settings) (before : List Event) (settled : Settled settings before) (few : starts_of before ≤ 2 ^ 64) where
+module _ (settings : Settings) (before : List Event) (settled : Settled settings before) (t : Tables) (st : Stands settings t before) where
+  few : starts_of before ≤ 2 ^ 64
+  few = few_starts settings t before st
+
   away_where : (e s : ℕ) → ((c : Taking) → HasTaken settings before s c → c.editor ≡ e → ⊥) → AreAway e (created_of settings s before).takings
   away_where e s other = go (created_of settings s before).takings (settled.takings few s)
     where
@@ -144,6 +147,6 @@ unrun other h = never (sym h)
 -- what an editor may be asked where it begins to run
 pub can_begin : (settings : Settings) (before : List Event) → Settled settings before → (t : Tables) (e : ℕ) (body : List ℕ) → Stands settings t before → CanBegin settings before e body
 can_begin settings before settled t e body st = record {
-  unasked = λ begins s. unrun_away settings before settled (few_starts settings t before st) e (unrun (desk_of e before).phase begins) s;
+  unasked = λ begins s. unrun_away settings before settled t st e (unrun (desk_of e before).phase begins) s;
   small = small_heard settings before (no_starts settings t before st) settled (few_starts settings t before st) (FromEditor e body);
 }
