@@ -1,6 +1,5 @@
 -- Progress that an editor is told has the token of an open request of it, or one that it accepted; what is told of the latter is a premise here.
 use Rattle.std.proofs.Common.{◌≡◌, ℕ, Bool, true, false, not, ◌||◌, List, [], ◌∷◌, ◌++◌, bytes_eq, codes, filter, if◌then◌else◌, Option, Some, None, ◌⊎◌, inl, inr, is_some, IsTrue, refl, sym, ◌∙◌, ap, ap₂, subst}
-use Rattle.std.specs.Option.{option_and_then}
 use Rattle.std.proofs.lemmas.Slice.Eq.{bytes_eq-Decides}
 use Rattle.json_text.specs.Bare.{nowhere}
 use Rattle.json_text.specs.Json.{Json, string}
@@ -32,7 +31,7 @@ use Rattle.session_laws.specs.Progress.{is_one, names_one, token_at, tokens_in}
 use Rattle.session_laws.proofs.Client4Law.{is_told as is_body}
 use Rattle.session_laws.proofs.Client6Law.{free_6, tokened}
 use Rattle.session_laws.proofs.Tokens.{holds_open, names_freely, open_behind, or_second}
-use Rattle.group_rows.specs.Created.{Created, Token, created_mark, created_of, created_text, token_called}
+use Rattle.group_rows.specs.Created.{created_mark, created_of, created_text}
 use Rattle.group_rows.specs.Forwarded.{Forwarded, Forwarding, answered_by, forwarding_of}
 use Rattle.group_rows.specs.Rows.{outs_of}
 use Rattle.group_rows.specs.Tokens.{is_mark, is_told, marked_text, own_token, partial_mark, work_mark}
@@ -45,6 +44,7 @@ use Rattle.group_facts.proofs.Forwards.{forwarding_more}
 use Rattle.group_facts.proofs.Known.{Here, facts_hold, here_did, here_took}
 use Rattle.group_facts.proofs.Table.{reasons}
 use Rattle.group_sessions.proofs.Accepted.{AllHeard, Heard, Hears, IsHeard, accepted}
+use Rattle.group_sessions.proofs.HeldFold.{called_some}
 use Rattle.group_sessions.proofs.Marked.{Marked, id_bare, marked}
 use Rattle.group_sessions.proofs.Telling.{AllTold, HasToken, IsTold, Ties, outs_back, ties_free, ties_told, ties_took, unfiltered}
 use Rattle.group_sessions.proofs.TellingSent.{ties_sent}
@@ -76,10 +76,6 @@ own_is j f bytes h = go (is_mark j (work_mark f.number)) refl (is_mark j (partia
 
 pub created_id : (s k : ℕ) → IsIdText (text (created_mark s k)) (created_text s k)
 created_id s k = let w : IsValueText (string nowhere (created_mark s k)) (created_text s k) = created_is s k in record { tree = w.tree; stands = w.stands; is = sym (id_bare w.tree) ∙ ap id_of w.same }
-
-pub called_some : (o : Option Json) (x : Created) (token : Token) → token_called (option_and_then id_of o) x ≡ Some token → is_some o ≡ true
-called_some None x token h = absurd (cc)
-called_some (Some j) x token h = refl
 
 module _ (settings : Settings) (range : InRange settings) (before : List Event) (facts : Facts settings before) (cause : Cause) (built : built_behind settings before cause ≡ true) where
   -- at a place inside of the entry

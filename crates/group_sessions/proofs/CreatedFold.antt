@@ -33,9 +33,9 @@ all_changed : {A : Type 0} (P Q : A → Type 0) (f : A → A) → ((x : A) → P
 all_changed P Q f k [] h = tt
 all_changed P Q f k (x ∷ xs) h = (k x h.0, all_changed P Q f k xs h.1)
 
-all_flat : {A : Type 0} (P : A → Type 0) (f : A → List A) → ((x : A) → P x → AllByRecursion P (f x)) → (xs : List A) → AllByRecursion P xs → AllByRecursion P (flat_map f xs)
-all_flat P f k [] h = tt
-all_flat P f k (x ∷ xs) h = all_join P (f x) (flat_map f xs) (k x h.0) (all_flat P f k xs h.1)
+pub all_flat : {A : Type 0} (P Q : A → Type 0) (f : A → List A) → ((x : A) → P x → AllByRecursion Q (f x)) → (xs : List A) → AllByRecursion P xs → AllByRecursion Q (flat_map f xs)
+all_flat P Q f k [] h = tt
+all_flat P Q f k (x ∷ xs) h = all_join Q (f x) (flat_map f xs) (k x h.0) (all_flat P Q f k xs h.1)
 
 -- What holds of a token
 
@@ -214,7 +214,7 @@ answered_orderly : (e : ℕ) (m : Message) (x : Created) → Orderly x → Order
 answered_orderly e m x h = record {
   live = h.live;
   apart = h.apart;
-  takings = all_flat (λ (c : Taking). c.token < x.next) (λ c. if is_answered e (answered_id m) c then settled m x c else c ∷ []) one x.takings h.takings;
+  takings = all_flat (λ (c : Taking). c.token < x.next) (λ (c : Taking). c.token < x.next) (λ c. if is_answered e (answered_id m) c then settled m x c else c ∷ []) one x.takings h.takings;
 }
   where
     one : (c : Taking) → c.token < x.next → AllByRecursion (λ (d : Taking). d.token < x.next) (if is_answered e (answered_id m) c then settled m x c else c ∷ [])

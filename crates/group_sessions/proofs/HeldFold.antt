@@ -1,5 +1,5 @@
 -- What holds of what editors were asked to take, whatever the events are: the token of one that was accepted lives; what is held names a token, and what ends it stands last there, and not while the token lives.
-use Rattle.std.proofs.Common.{◌≡◌, ℕ, ◌+◌, ◌^◌, ◌≤◌, ◌<◌, Bool, true, false, not, ◌&&◌, ◌||◌, cond, List, [], ◌∷◌, ◌++◌, bytes_eq, codes, filter, find, flat_map, map, nat_eq, nat_lt, if◌then◌else◌, Option, Some, None, is_some, refl, sym, ◌∙◌, ap, subst, arith}
+use Rattle.std.proofs.Common.{◌≡◌, ℕ, ◌^◌, ◌≤◌, ◌<◌, Bool, true, false, not, ◌&&◌, ◌||◌, cond, List, [], ◌∷◌, ◌++◌, bytes_eq, codes, filter, find, map, nat_eq, if◌then◌else◌, Option, Some, None, is_some, refl, sym, ◌∙◌, ap, subst, arith}
 use Rattle.std.specs.List.{AllByRecursion, list_any}
 use Rattle.std.specs.Option.{option_and_then, option_map_or}
 use Rattle.std.proofs.lemmas.Bool.{and_parts}
@@ -14,15 +14,15 @@ use Rattle.event_model.specs.Requests.{answered_id}
 use Rattle.event_model.specs.Settings.{Settings}
 use Rattle.event_model.specs.Stages.{life_of, is_ready}
 use Rattle.event_model.proofs.Frames.{never}
-use Rattle.mux_facts.proofs.Lists.{all_filtered, all_join, all_of, found_is}
+use Rattle.mux_facts.proofs.Lists.{all_filtered, all_join, found_is}
 use Rattle.mux_facts.proofs.Words.{number_same, same_number}
 use Rattle.group_words.specs.Past.{past}
 use Rattle.group_rows.specs.Asks.{next_ask}
-use Rattle.group_rows.specs.Created.{Created, Taking, Token, accepts, answered, asked, begun_by, created_next, created_of, created_token, first_begin, held_first, held_more, is_answered, is_at, is_begin, is_called, is_creating, is_end, is_ended_by, is_numbered, is_over, is_progress, left, lives, may_hold, named_token, no_created, progressed, settled, told, told_more, token_called, token_marked, is_marked, with_asked, with_token}
+use Rattle.group_rows.specs.Created.{Created, Taking, Token, accepts, answered, asked, begun_by, created_next, created_of, created_token, first_begin, held_first, is_answered, is_at, is_begin, is_called, is_creating, is_end, is_ended_by, is_numbered, is_over, is_progress, left, lives, may_hold, named_token, no_created, progressed, settled, told, token_called, token_marked, is_marked, with_asked, with_token}
 use Rattle.group_rows.specs.Live.{is_heard}
 use Rattle.group_rows.proofs.Versions.{AllMeant, IsMeant}
 use Rattle.group_sessions.proofs.Accepted.{NamesToken}
-use Rattle.group_sessions.proofs.CreatedFold.{IsNew, Orderly, new_is, none_orderly, step_orderly}
+use Rattle.group_sessions.proofs.CreatedFold.{IsNew, Orderly, all_flat, new_is, none_orderly, step_orderly}
 use Rattle.group_sessions.proofs.Marked.{ends, is_ending}
 
 -- Bodies that are held
@@ -189,12 +189,15 @@ new_fair body x orderly h (Some t) is = record {
 
     both : (cs : List Taking) → AllByRecursion (IsFair x.tokens) cs → AllByRecursion (λ (c : Taking). c.token < x.next) cs → AllByRecursion (IsFair (x.tokens ++ t ∷ [])) cs
     both [] f l = tt
-    both (c ∷ cs) f l = (record {
-      alive = λ on. alive_more c.token x.tokens (t ∷ []) (f.0.alive on);
-      held = f.0.held;
-      last = f.0.last;
-      going = λ a. f.0.going (alive_less c.token x.tokens t (other c l.0) a);
-    }, both cs f.1 l.1)
+    both (c ∷ cs) f l = (
+      record {
+        alive = λ on. alive_more c.token x.tokens (t ∷ []) (f.0.alive on);
+        held = f.0.held;
+        last = f.0.last;
+        going = λ a. f.0.going (alive_less c.token x.tokens t (other c l.0) a);
+      },
+      both cs f.1 l.1,
+    )
 
 -- what begins a token doesn't end it
 begin_goes : (params : Option Json) → is_begin params ≡ true → is_end params ≡ false
@@ -204,9 +207,9 @@ begin_goes params h = go (string_of (named_of (codes "kind") (named_of (codes "v
     go (Some cs) e = ap (bytes_eq (codes "end")) (sym ((bytes_eq-Decides (codes "begin") cs).0 e))
     go None e = never (sym e)
 
-named_some : (o : Option Json) (x : Created) (token : Token) → token_called (option_and_then id_of o) x ≡ Some token → is_some o ≡ true
-named_some None x token h = absurd (cc)
-named_some (Some j) x token h = refl
+pub called_some : (o : Option Json) (x : Created) (token : Token) → token_called (option_and_then id_of o) x ≡ Some token → is_some o ≡ true
+called_some None x token h = absurd (cc)
+called_some (Some j) x token h = refl
 
 called_alive : (o : Option Id) (x : Created) (t : Token) → token_called o x ≡ Some t → IsAlive x.tokens t.number
 called_alive (Some id) x t h = found_alive (is_called id) t x.tokens h
@@ -220,7 +223,7 @@ module _ (body : List ℕ) (method : List ℕ) (params : Option Json) (says : me
   ends_so = ap is_ending says
 
   names : NamesToken body
-  names = record { method = method; params = params; says = says; names = named_some (named_of (codes "token") params) x t called }
+  names = record { method = method; params = params; says = says; names = called_some (named_of (codes "token") params) x t called }
 
   first_begun : (o : Option (List ℕ)) → NameTokens (held_first o) → NoneEnds (held_first o) → NameTokens (held_first (first_begin body params o)) × NoneEnds (held_first (first_begin body params o))
   first_begun (Some first) held going = (held, going)
@@ -311,12 +314,8 @@ progressed_fair : (body method : List ℕ) (params : Option Json) → message_of
 progressed_fair body method params says x h None called = h
 progressed_fair body method params says x h (Some t) called = some_fair body method params says x h t called
 
-all_flat : {A : Type 0} (P : A → Type 0) (f : A → List A) → ((x : A) → P x → AllByRecursion P (f x)) → (xs : List A) → AllByRecursion P xs → AllByRecursion P (flat_map f xs)
-all_flat P f k [] h = tt
-all_flat P f k (x ∷ xs) h = all_join P (f x) (flat_map f xs) (k x h.0) (all_flat P f k xs h.1)
-
 answered_fair : (e : ℕ) (m : Message) (x : Created) → Fair x → Fair (answered e m x)
-answered_fair e m x h = record { tokens = h.tokens; takings = all_flat (IsFair x.tokens) (λ c. if is_answered e (answered_id m) c then settled m x c else c ∷ []) one x.takings h.takings; small = h.small }
+answered_fair e m x h = record { tokens = h.tokens; takings = all_flat (IsFair x.tokens) (IsFair x.tokens) (λ c. if is_answered e (answered_id m) c then settled m x c else c ∷ []) one x.takings h.takings; small = h.small }
   where
     one : (c : Taking) → IsFair x.tokens c → AllByRecursion (IsFair x.tokens) (if is_answered e (answered_id m) c then settled m x c else c ∷ [])
     one c f = go (is_answered e (answered_id m) c) (accepts m && lives c.token x) refl

@@ -1,5 +1,5 @@
 -- What editors were asked to take, by their own parts, in every legal history, as far as they run, at home in the group of the start; and so what they are told of it.
-use Rattle.std.proofs.Common.{◌≡◌, ℕ, ◌+◌, ◌^◌, ◌<◌, ◌≤◌, Bool, true, false, not, ◌&&◌, ◌||◌, cond, List, [], ◌∷◌, ◌++◌, append-nil, append_assoc, bytes_eq, codes, decimal, find, flat_map, is_some, map, nat_eq, if◌then◌else◌, Option, Some, None, ◌⊎◌, inl, inr, refl, sym, ◌∙◌, ap, ap₂, subst, arith}
+use Rattle.std.proofs.Common.{◌≡◌, ℕ, ◌^◌, ◌<◌, ◌≤◌, Bool, true, false, not, ◌&&◌, List, [], ◌∷◌, ◌++◌, bytes_eq, codes, decimal, flat_map, is_some, nat_eq, if◌then◌else◌, Option, Some, None, ◌⊎◌, inl, inr, refl, sym, ◌∙◌, ap, ap₂, subst, arith}
 use Rattle.std.specs.List.{AllByRecursion, list_any}
 use Rattle.std.proofs.lemmas.Bool.{and_parts}
 use Rattle.std.proofs.lemmas.Fmt.{decimal_injective}
@@ -9,9 +9,7 @@ use Rattle.mux_history.specs.declared.cause.Cause.TheVariants.{Joined, FromEdito
 use Rattle.mux_history.specs.declared.entry.Entry.{Entry}
 use Rattle.mux_history.specs.declared.out.Out.{Out}
 use Rattle.mux_history.specs.declared.out.Out.TheVariants.{ToEditor, ToServer, Spawn, CloseEditor, EndServer}
-use Rattle.lsp_method.specs.Class.{class_of}
-use Rattle.lsp_method.specs.declared.variants.Origin.TheVariants.{Server}
-use Rattle.rpc_message.specs.Message.{Id, Message, request, notification, result, error, not_json, not_message, integer, message_of, text}
+use Rattle.rpc_message.specs.Message.{Id, Message, request, notification, result, error, not_json, not_message, message_of, text}
 use Rattle.event_model.specs.declared.phase.Phase.{Phase}
 use Rattle.event_model.specs.declared.phase.Phase.TheVariants.{Answered, Running, Down, Gone}
 use Rattle.event_model.specs.Event.{Event, behind, did, events_of, heard, requests, said, same_id, took, with_cause}
@@ -27,13 +25,13 @@ use Rattle.mux_facts.specs.Allowed.{is_response}
 use Rattle.mux_facts.specs.Ranges.{InRange}
 use Rattle.mux_facts.proofs.Folds.{desk_more}
 use Rattle.mux_facts.proofs.Keeps.{behind_both, behind_nothing}
-use Rattle.mux_facts.proofs.Lists.{all_filtered, all_join, all_of, found_is}
+use Rattle.mux_facts.proofs.Lists.{all_join, all_of, found_is}
 use Rattle.mux_facts.proofs.Reasons.{Reasons, reasons_keep}
 use Rattle.mux_facts.proofs.Words.{id_same, number_same, same_number, still_open}
-use Rattle.session_laws.specs.Progress.{Creates, creates_told, is_end, token_at}
+use Rattle.session_laws.specs.Progress.{is_end, token_at}
 use Rattle.group_words.specs.Houses.{home_of}
 use Rattle.group_rows.specs.Asks.{next_ask}
-use Rattle.group_rows.specs.Created.{Created, Taking, Token, accepts, answered, asked, created_mark, created_next, created_of, created_text, has_accepted, is_answered, is_at, is_called, is_creating, is_numbered, is_progress, left, lives, named_token, names_progress, progressed, settled, token_called, token_marked, with_asked}
+use Rattle.group_rows.specs.Created.{Created, Taking, Token, accepts, answered, asked, created_mark, created_next, created_of, created_text, is_answered, is_called, is_creating, is_numbered, left, lives, named_token, names_progress, progressed, settled, token_called, token_marked, with_asked}
 use Rattle.group_rows.specs.Forwarded.{forwarding_of}
 use Rattle.group_rows.specs.Rows.{outs_of}
 use Rattle.group_rows.specs.Tokens.{is_told, marked_text}
@@ -47,15 +45,15 @@ use Rattle.group_facts.proofs.Known.{Here, facts_hold, here_did, here_took}
 use Rattle.group_facts.proofs.OneStart.{OneStart}
 use Rattle.group_facts.proofs.Settling.{settled_holds}
 use Rattle.group_facts.proofs.Table.{reasons}
-use Rattle.group_sessions.proofs.Accepted.{AllHeard, Heard, Hears, IsAccepted, IsHeard, NamesToken, accepted}
-use Rattle.group_sessions.proofs.Client6Law.{called_some, created_id, not_progress, own_is}
-use Rattle.group_sessions.proofs.CreatedFold.{IsLive, Orderly, created_orderly, is_free}
+use Rattle.group_sessions.proofs.Accepted.{NamesToken, accepted}
+use Rattle.group_sessions.proofs.Client6Law.{created_id, not_progress, own_is}
+use Rattle.group_sessions.proofs.CreatedFold.{IsLive, created_orderly, is_free}
 use Rattle.group_sessions.proofs.CreatedTies.{created_more, outs_tokens, spoken_tokens}
-use Rattle.group_sessions.proofs.HeldFold.{Fair, IsFair, IsAlive, LastEnds, NameTokens, NoneEnds, created_fair, gone_behind, none_before, rest}
+use Rattle.group_sessions.proofs.HeldFold.{Fair, IsAlive, IsFair, NameTokens, NoneEnds, called_some, created_fair, gone_behind, rest}
 use Rattle.group_sessions.proofs.Marked.{Marked, ends, is_ending, marked}
 use Rattle.group_sessions.proofs.Registered.{begins, is_answered as is_answered_desk}
-use Rattle.group_sessions.proofs.TakingTies.{Accepts, Answers, IsTied, Spares, Tied, TiedIf, accepted_aside, accepted_more, accepts_now, answers_it, aside_all, find_true, heard_here, is_aside, left_all, mark_of, tied_aside, tied_heard, tied_notified, tied_request, tied_response}
-use Rattle.group_sessions.proofs.TellingPlaces.{Known, KnownOut, Knows, RunsAt, all_known, one_start}
+use Rattle.group_sessions.proofs.TakingTies.{IsTied, Spares, Tied, TiedIf, aside_all, is_aside, left_all, mark_of, tied_aside, tied_heard, tied_notified, tied_request, tied_response}
+use Rattle.group_sessions.proofs.TellingPlaces.{Known, KnownOut, Knows, RunsIn, all_known, one_start}
 use Rattle.group_sessions.proofs.Tied.{Place, all_back, has_run, not_run, place, ran, runs_on, stays, unrun}
 use Rattle.group_sessions.proofs.Unreserved.{IsFreeText, IsUnreserved, Unreserved, all_unreserved}
 use Rattle.group_sessions.proofs.Walk.{walk}
@@ -140,7 +138,7 @@ free_apart id free s k = go (same_id id (text (created_mark s k))) refl
     go true e = never (sym (sym (ap is_free (id_same id (text (created_mark s k)) e)) ∙ free))
     go false e = refl
 
-all_at : {A : Type 0} (P : A → Type 0) (xs : List A) (y : A) (ys : List A) → AllByRecursion P (xs ++ y ∷ ys) → AllByRecursion P xs × P y
+pub all_at : {A : Type 0} (P : A → Type 0) (xs : List A) (y : A) (ys : List A) → AllByRecursion P (xs ++ y ∷ ys) → AllByRecursion P xs × P y
 all_at P [] y ys h = (tt, h.0)
 all_at P (x ∷ xs) y ys h = let k = all_at P xs y ys h.1 in ((h.0, k.0), k.1)
 
@@ -192,8 +190,11 @@ took_tied At settings before (Tick t) h = tied_aside At settings before (heard (
 
 -- between entries
 pub record Rests (settings : Settings) (events : List Event) : Type 0 where
-  pub tied : Tied (RunsAt settings events) settings events
+  pub tied : Tied (RunsIn settings events) settings events
   pub ran : AllRan settings events
+
+abbrev desk : Phase → List ℕ → Desk
+desk p i = record { phase = p; initialize = i }
 
 -- One entry
 
@@ -218,7 +219,7 @@ module _ (settings : Settings) (range : InRange settings) (before : List Event) 
     tied : Tied Stands settings events
     ran : AllRan settings events
 
-  one_home : (s t n : ℕ) → Stands s n → RunsAt settings before t n → s ≡ t
+  one_home : (s t n : ℕ) → Stands s n → RunsIn settings before t n → s ≡ t
   one_home s t n a b =
       let both : Some a.group ≡ Some b.group = sym a.home ∙ b.home in
       let group : a.group ≡ b.group = cc in
@@ -231,7 +232,7 @@ module _ (settings : Settings) (range : InRange settings) (before : List Event) 
 
   -- an editor hears the end of token k of start t
   record Ended (events : List Event) (n t k : ℕ) : Type 0 where
-    at : RunsAt settings before t n
+    at : RunsIn settings before t n
     small : k < 2 ^ 64
     gone : list_any (is_numbered k) (created_of settings t events).tokens ≡ false
 
@@ -298,14 +299,14 @@ module _ (settings : Settings) (range : InRange settings) (before : List Event) 
     fair_before s = created_fair settings s before (facts.base).meant
 
     told_tied : (told : Telling settings before cause events n body) → Knows settings before cause events n body told → Tied Stands settings sent
-    told_tied (of_request s asked given request token k found own editor bytes) known =
-        let own_one : (is_some (named_of (codes "token") given) ≡ true) × ((request.work ≡ Some token) ⊎ (request.partial ≡ Some token)) = own_is (named_of (codes "token") given) request token own in
+    told_tied (of_request s asked given f token k found own editor bytes) known =
+        let own_one : (is_some (named_of (codes "token") given) ≡ true) × ((f.work ≡ Some token) ⊎ (f.partial ≡ Some token)) = own_is (named_of (codes "token") given) f token own in
         let t : IsFreeText token = chosen own_one.1 in
         notified_tied t.id token asked k.method (marked t.id token asked k.method given t.text k.asks own_one.0) bytes (λ end s c stands on own fair small. free_apart t.id t.free s c.token)
       where
-        chosen : (request.work ≡ Some token) ⊎ (request.partial ≡ Some token) → IsFreeText token
-        chosen (inl h) = (found_is IsUnreserved (is_told before (named_of (codes "token") given)) request (forwarding_of s before).open_requests (free s) found).work token h
-        chosen (inr h) = (found_is IsUnreserved (is_told before (named_of (codes "token") given)) request (forwarding_of s before).open_requests (free s) found).partial token h
+        chosen : (f.work ≡ Some token) ⊎ (f.partial ≡ Some token) → IsFreeText token
+        chosen (inl h) = (found_is IsUnreserved (is_told before (named_of (codes "token") given)) f (forwarding_of s before).open_requests (free s) found).work token h
+        chosen (inr h) = (found_is IsUnreserved (is_told before (named_of (codes "token") given)) f (forwarding_of s before).open_requests (free s) found).partial token h
     told_tied (of_token s asked given token k called takes bytes) known = notified_tied (text (created_mark s token.number)) (created_text s token.number) asked k.method m bytes
         (λ end t c stands on own fair low. ended_apart events n s token.number (record { at = known.0; small = small; gone = gone end }) t c stands on own fair low)
       where
@@ -348,8 +349,10 @@ module _ (settings : Settings) (range : InRange settings) (before : List Event) 
 
     untold : (method : List ℕ) (params : Option Json) → bytes_eq method (codes "$/progress") ≡ false → (s : ℕ) (cs : List Taking) → AllByRecursion (Spares Stands settings events n body (notification method params) s) cs
     untold method params other s [] = tt
-    untold method params other s (c ∷ cs) = (λ stands on own kept. ap (λ b. is_open (mark_of s c) (if b && is_end params then record { asked = (accepted c.editor events).asked; created = without (token_at (codes "token") params) (accepted c.editor events).created } else accepted c.editor events).created) other ∙ kept,
-        untold method params other s cs)
+    untold method params other s (c ∷ cs) = (
+      λ stands on own kept. ap (λ b. is_open (mark_of s c) (if b && is_end params then record { asked = (accepted c.editor events).asked; created = without (token_at (codes "token") params) (accepted c.editor events).created } else accepted c.editor events).created) other ∙ kept,
+      untold method params other s cs,
+    )
 
     tied_now : WhyToEditor settings before cause events n body → KnownOut settings before cause events (ToEditor n body) → Tied Stands settings sent
     tied_now (rejects k) known = tied_response Stands settings events n body (ap is_response k.says) i.tied
@@ -410,14 +413,14 @@ module _ (settings : Settings) (range : InRange settings) (before : List Event) 
   stands_tied : Rests settings before → Tied Stands settings before
   stands_tied h s = all (created_of settings s before).takings (h.tied s) (h.ran s)
     where
-      one : (c : Taking) → TiedIf (RunsAt settings before) s before c → HasRun before c.editor → TiedIf Stands s before c
+      one : (c : Taking) → TiedIf (RunsIn settings before) s before c → HasRun before c.editor → TiedIf Stands s before c
       one c tied run stands = go stands.was
         where
           go : ((desk_of c.editor before).phase ≡ Running) ⊎ (begins before cause c.editor ≡ true) → IsTied s before c
           go (inl running) = tied (record { running = running; group = stands.group; home = stands.home; last = stands.last })
           go (inr begun) = absurd (not_both (desk_of c.editor before).phase (and_parts (is_answered_desk (desk_of c.editor before).phase) (is_running (desk_of c.editor now).phase) begun).0 run)
 
-      all : (cs : List Taking) → AllByRecursion (TiedIf (RunsAt settings before) s before) cs → AllByRecursion (λ (c : Taking). HasRun before c.editor) cs → AllByRecursion (TiedIf Stands s before) cs
+      all : (cs : List Taking) → AllByRecursion (TiedIf (RunsIn settings before) s before) cs → AllByRecursion (λ (c : Taking). HasRun before c.editor) cs → AllByRecursion (TiedIf Stands s before) cs
       all [] t r = tt
       all (c ∷ cs) t r = (one c t.0 r.0, all cs t.1 r.1)
 
@@ -440,10 +443,10 @@ module _ (settings : Settings) (range : InRange settings) (before : List Event) 
     where
       by_cause : (c : Cause) → cause ≡ c → shuts c e ≡ false
       by_cause (FromEditor n body) is = go (nat_eq n e) (requests (codes "shutdown") (message_of body)) (makes_running (message_of body))
-          (sym (ap (λ p. is_running (if nat_eq n e then desk_hears p (desk_of e before).initialize body (message_of body) else record { phase = p; initialize = (desk_of e before).initialize }).phase) was)
+          (sym (ap (λ p. is_running (if nat_eq n e then desk_hears p (desk_of e before).initialize body (message_of body) else desk p (desk_of e before).initialize).phase) was)
           ∙ ap (λ (d : Desk). is_running d.phase) (sym (desk_more e before (heard (FromEditor n body)))) ∙ ap (λ k. is_running (desk_of e (with_cause before k)).phase) (sym is) ∙ h)
         where
-          go : (b c d : Bool) → is_running (if b then record { phase = if c then Down else if d then Running else Answered; initialize = (desk_of e before).initialize } else record { phase = Answered; initialize = (desk_of e before).initialize }).phase ≡ true → (b && c) ≡ false
+          go : (b c d : Bool) → is_running (if b then desk (if c then Down else if d then Running else Answered) (desk_of e before).initialize else desk Answered (desk_of e before).initialize).phase ≡ true → (b && c) ≡ false
           go true true d k = never (sym k)
           go true false d k = refl
           go false c d k = refl
@@ -460,7 +463,7 @@ module _ (settings : Settings) (range : InRange settings) (before : List Event) 
       by_cause (Drained n k) is = refl
       by_cause (Tick t) is = refl
 
-  stood : (s e : ℕ) → RunsAt settings later s e → Stands s e
+  stood : (s e : ℕ) → RunsIn settings later s e → Stands s e
   stood s e h = go (ran settings range before facts settled cause fits built e here)
     where
       here : is_running (desk_of e now).phase ≡ true
@@ -475,7 +478,7 @@ module _ (settings : Settings) (range : InRange settings) (before : List Event) 
           at (ap needs_server was) (ap is_new was) (unshut e was here) (inr begun)
 
   entry_rests : OneStart before → Rests settings before → Rests settings later
-  entry_rests one h = record { tied = λ s. all_of (TiedIf Stands s later) (TiedIf (RunsAt settings later) s later) (λ c tied at. tied (stood s c.editor at)) (created_of settings s later).takings (last.tied s); ran = last.ran }
+  entry_rests one h = record { tied = λ s. all_of (TiedIf Stands s later) (TiedIf (RunsIn settings later) s later) (λ c tied at. tied (stood s c.editor at)) (created_of settings s later).takings (last.tied s); ran = last.ran }
     where
       last : At later
       last = reasons_keep Both At step now (outs_of settings before cause) (both now (outs_of settings before cause) (reasons settings range before facts cause built).why (all_known settings before one cause)) (first h)

@@ -1,7 +1,7 @@
 -- What editors were asked to take, by their own parts: what one hasn't answered is an open request of its part with the daemon's token, and what it accepted is a token that it created there and that hasn't ended.
-use Rattle.std.proofs.Common.{◌≡◌, ℕ, ◌+◌, Bool, true, false, not, ◌&&◌, ◌||◌, cond, List, [], ◌∷◌, ◌++◌, bytes_eq, codes, decimal, filter, find, flat_map, map, nat_eq, if◌then◌else◌, Option, Some, None, refl, sym, ◌∙◌, ap, ap₂, subst}
-use Rattle.std.specs.List.{AllByRecursion, list_any}
-use Rattle.std.specs.Option.{option_and_then, option_map_or}
+use Rattle.std.proofs.Common.{◌≡◌, ℕ, Bool, true, false, not, ◌&&◌, ◌||◌, cond, List, [], ◌∷◌, ◌++◌, bytes_eq, codes, decimal, filter, find, map, nat_eq, if◌then◌else◌, Option, Some, None, refl, sym, ◌∙◌, ap, ap₂, subst}
+use Rattle.std.specs.List.{AllByRecursion}
+use Rattle.std.specs.Option.{option_and_then}
 use Rattle.std.proofs.lemmas.Bool.{and_parts}
 use Rattle.std.proofs.lemmas.Slice.Eq.{bytes_eq-Decides}
 use Rattle.json_text.specs.Json.{Json, word, number, string, array, object}
@@ -9,7 +9,7 @@ use Rattle.mux_history.specs.declared.cause.Cause.TheVariants.{FromEditor, Edito
 use Rattle.mux_history.specs.declared.out.Out.TheVariants.{CloseEditor, ToEditor}
 use Rattle.rpc_message.specs.Message.{Id, Message, request, notification, result, error, not_json, not_message, id_of, integer, message_of, text}
 use Rattle.event_model.specs.Event.{Event, did, heard, requests, said, same_id, took, with_cause}
-use Rattle.event_model.specs.Members.{named_of, string_of}
+use Rattle.event_model.specs.Members.{named_of}
 use Rattle.event_model.specs.Parts.{is_of_editor}
 use Rattle.event_model.specs.Requests.{answered_id, is_open, without}
 use Rattle.event_model.specs.Settings.{Settings}
@@ -20,13 +20,14 @@ use Rattle.mux_facts.proofs.Lists.{all_filtered, all_join, all_of}
 use Rattle.mux_facts.proofs.Rules.{word_more}
 use Rattle.mux_facts.proofs.Words.{id_same, number_same, open_more, same_id_itself, same_number}
 use Rattle.session_laws.specs.ClientRules.{accepted_behind}
-use Rattle.session_laws.specs.Progress.{Creates, Tokened, creates_heard, creates_told, is_answered as is_answered_by, is_end, no_creates, token_at, tokens_at, tokens_in, unanswered}
-use Rattle.session_laws.proofs.Tokens.{brings, holds, holds_last, holds_left, holds_more, open_behind, or_first}
+use Rattle.session_laws.specs.Progress.{Creates, Tokened, creates_heard, creates_told, is_answered as is_answered_by, is_end, no_creates, token_at, tokens_at, tokens_in}
+use Rattle.session_laws.proofs.Tokens.{brings, holds, holds_last, holds_left, holds_more, open_behind}
 use Rattle.group_rows.specs.Asks.{next_ask}
 use Rattle.group_rows.specs.Created.{Created, Taking, Token, accepts, answered, asked, created_mark, created_next, created_of, created_token, is_answered, is_at, is_creating, is_marked, is_over, is_progress, left, lives, may_hold, named_token, no_created, progressed, settled, told, token_called, token_marked, is_begin, with_asked, with_token}
 use Rattle.group_rows.specs.Forwarded.{names}
 use Rattle.group_rows.specs.Live.{is_heard}
 use Rattle.group_sessions.proofs.Accepted.{accepted}
+use Rattle.group_sessions.proofs.CreatedFold.{all_flat}
 use Rattle.group_sessions.proofs.CreatedTies.{create_is, created_more, told_request}
 use Rattle.group_sessions.proofs.TellingSent.{one_token}
 use Rattle.group_sessions.proofs.Working.{names_same}
@@ -207,10 +208,6 @@ answers_it e id c h = let p = and_parts (not c.accepted) (nat_eq c.editor e && n
     unless : (b : Bool) → not b ≡ true → b ≡ false
     unless true e = never (sym e)
     unless false e = refl
-
-all_flat : {A : Type 0} (P Q : A → Type 0) (f : A → List A) → ((x : A) → P x → AllByRecursion Q (f x)) → (xs : List A) → AllByRecursion P xs → AllByRecursion Q (flat_map f xs)
-all_flat P Q f k [] h = tt
-all_flat P Q f k (x ∷ xs) h = all_join Q (f x) (flat_map f xs) (k x h.0) (all_flat P Q f k xs h.1)
 
 module _ (At : ℕ → ℕ → Type 0) (settings : Settings) (before : List Event) (e : ℕ) (body : List ℕ) where
   abbrev m : Message

@@ -12,7 +12,7 @@ use Rattle.lsp_method.specs.Class.{class_of}
 use Rattle.lsp_method.specs.declared.variants.Class.{Class}
 use Rattle.lsp_method.specs.declared.variants.Class.TheVariants.{Progress}
 use Rattle.lsp_method.specs.declared.variants.Origin.TheVariants.{Server}
-use Rattle.rpc_message.specs.Message.{Message, request, notification, result, error, not_json, not_message, Id, message_of}
+use Rattle.rpc_message.specs.Message.{Message, notification, result, Id, message_of}
 use Rattle.event_model.specs.declared.phase.Phase.{Phase}
 use Rattle.event_model.specs.declared.phase.Phase.TheVariants.{Running}
 use Rattle.event_model.specs.declared.stage.Stage.{Stage}
@@ -21,12 +21,11 @@ use Rattle.event_model.specs.Event.{Event, behind, events_of, said, with_cause}
 use Rattle.event_model.specs.Members.{named_of}
 use Rattle.event_model.specs.Phases.{desk_of, editors_of, is_running}
 use Rattle.event_model.specs.Requests.{answered_id}
-use Rattle.event_model.specs.Row.{Row, each, outs}
+use Rattle.event_model.specs.Row.{each, outs}
 use Rattle.event_model.specs.Settings.{Settings}
 use Rattle.event_model.specs.Spawns.{group_of, start_of}
 use Rattle.event_model.specs.Stages.{life_of, is_ready}
 use Rattle.event_model.proofs.Frames.{never}
-use Rattle.mux_model.specs.Fits.{fits_behind}
 use Rattle.mux_facts.specs.Ranges.{InRange}
 use Rattle.mux_facts.proofs.DocumentRow.{ready_is}
 use Rattle.mux_facts.proofs.Keeps.{behind_both}
@@ -40,11 +39,9 @@ use Rattle.group_rows.specs.Asks.{running_in}
 use Rattle.group_rows.specs.Created.{Taking, Token, accepts, created_of, created_text, has_accepted, is_answered, named_token, names_progress, token_called}
 use Rattle.group_rows.specs.CreatedRows.{created_row, progress_row, takers, taking_row, tell}
 use Rattle.group_rows.specs.Forwarded.{Forwarded, forwarding_of}
-use Rattle.group_rows.specs.Rows.{from_editor, from_server, outs_of, ready_row}
+use Rattle.group_rows.specs.Rows.{from_editor, from_server, outs_of}
 use Rattle.group_rows.specs.Tokens.{is_told, marked_text, own_token}
-use Rattle.group_facts.specs.Built.{built_behind}
 use Rattle.group_facts.specs.Legal.{Legal}
-use Rattle.group_facts.specs.Settled.{Settled}
 use Rattle.group_facts.specs.Why.{IsNotified, IsTaken, Telling, of_held, of_request, of_token}
 use Rattle.group_facts.proofs.AskingRows.{running_is}
 use Rattle.group_facts.proofs.OneStart.{OneStart, one_none, one_rests}
@@ -54,7 +51,7 @@ use Rattle.group_sessions.proofs.TakingTies.{accepted_more}
 use Rattle.group_sessions.proofs.Walk.{walk}
 
 -- An editor that runs, at home in the group whose last start is s
-pub record RunsAt (settings : Settings) (events : List Event) (s e : ℕ) : Type 0 where
+pub record RunsIn (settings : Settings) (events : List Event) (s e : ℕ) : Type 0 where
   pub running : (desk_of e events).phase ≡ Running
   pub group : ℕ
   pub home : home_of settings e events ≡ Some group
@@ -64,8 +61,8 @@ module _ (settings : Settings) (before : List Event) (cause : Cause) where
   -- what is known of an editor that is told of a token that a start created
   abbrev pub Knows : (events : List Event) (e : ℕ) (body : List ℕ) → Telling settings before cause events e body → Type 0
   Knows events e body (of_request s asked given request token notified found own editor bytes) = Unit {0}
-  Knows events e body (of_token s asked given token notified called takes bytes) = RunsAt settings before s e × (accepted e events ≡ accepted e (with_cause before cause))
-  Knows events e body (of_held s taking earlier held later taken order place bytes) = RunsAt settings before s e
+  Knows events e body (of_token s asked given token notified called takes bytes) = RunsIn settings before s e × (accepted e events ≡ accepted e (with_cause before cause))
+  Knows events e body (of_held s taking earlier held later taken order place bytes) = RunsIn settings before s e
 
   pub record Known (events : List Event) (e : ℕ) (body : List ℕ) : Type 0 where
     pub told : Telling settings before cause events e body
@@ -156,10 +153,10 @@ module _ (settings : Settings) (before : List Event) (one : OneStart before) (s 
   abbrev Out_known : List Event → Out → Type 0
   Out_known = KnownOut settings before (FromServer s body)
 
-  running_at : (g : ℕ) → group_of s before ≡ Some g → AllByRecursion (RunsAt settings before s) (running_in settings g before)
-  running_at g kept = all_filtered (λ e. Unit {0}) (RunsAt settings before s) (λ e. is_running (desk_of e before).phase && is_home g (home_of settings e before)) at (range_with_len 0 (editors_of before)) (units (range_with_len 0 (editors_of before)))
+  running_at : (g : ℕ) → group_of s before ≡ Some g → AllByRecursion (RunsIn settings before s) (running_in settings g before)
+  running_at g kept = all_filtered (λ e. Unit {0}) (RunsIn settings before s) (λ e. is_running (desk_of e before).phase && is_home g (home_of settings e before)) at (range_with_len 0 (editors_of before)) (units (range_with_len 0 (editors_of before)))
     where
-      at : (e : ℕ) → (is_running (desk_of e before).phase && is_home g (home_of settings e before)) ≡ true → Unit {0} → RunsAt settings before s e
+      at : (e : ℕ) → (is_running (desk_of e before).phase && is_home g (home_of settings e before)) ≡ true → Unit {0} → RunsIn settings before s e
       at e on u = let both = and_parts (is_running (desk_of e before).phase) (is_home g (home_of settings e before)) on in
           record { running = running_is settings before (desk_of e before).phase both.0; group = g; home = in_group g (home_of settings e before) both.1; last = one s g kept }
 
@@ -169,7 +166,7 @@ module _ (settings : Settings) (before : List Event) (one : OneStart before) (s 
 
     module _ (t : Token) (called : token_called (named_token params) (created_of settings s before) ≡ Some t) where
       abbrev Takes : ℕ → Type 0
-      Takes e = (has_accepted e t.number (created_of settings s before) ≡ true) × RunsAt settings before s e
+      Takes e = (has_accepted e t.number (created_of settings s before) ≡ true) × RunsIn settings before s e
 
       abbrev text : List ℕ
       text = marked_text (created_text s t.number) body
@@ -192,7 +189,7 @@ module _ (settings : Settings) (before : List Event) (one : OneStart before) (s 
           (takers_known es (events ++ said (ToEditor e text) ∷ []) takes.1 differ.1 (later e events es differ.0 untold.1))
 
       all_take : (g : ℕ) → group_of s before ≡ Some g → AllByRecursion Takes (takers settings before g s t)
-      all_take g kept = all_filtered (RunsAt settings before s) Takes (λ e. has_accepted e t.number (created_of settings s before)) (λ e on at. (on, at)) (running_in settings g before) (running_at g kept)
+      all_take g kept = all_filtered (RunsIn settings before s) Takes (λ e. has_accepted e t.number (created_of settings s before)) (λ e on at. (on, at)) (running_in settings g before) (running_at g kept)
 
       takers_differ : (g : ℕ) → Differ (takers settings before g s t)
       takers_differ g = some_differ (λ e. has_accepted e t.number (created_of settings s before)) (running_in settings g before)
@@ -202,8 +199,11 @@ module _ (settings : Settings) (before : List Event) (one : OneStart before) (s 
     token_known = by_on (λ none. by_nothing) (λ t called. by_on (λ none. by_nothing)
         (λ g kept. takers_known t called (takers settings before g s t) heard_now (all_take t called g kept) (takers_differ t called g) (all_same (Untold t called heard_now) (λ e. refl) (takers settings before g s t))))
 
+    request_known : (f : Forwarded) → find (is_told before (named_of (codes "token") params)) (forwarding_of s before).open_requests ≡ Some f → (token : List ℕ) → own_token (named_of (codes "token") params) f ≡ Some token → Out_known heard_now (ToEditor f.editor (marked_text token body))
+    request_known f found token own told = record { told = of_request s body params f token notified found own refl refl; knows = tt }
+
     progress_known : Because Out_known heard_now (progress_row settings s before body params)
-    progress_known = by_on (λ none. token_known) (λ f found. by_on (λ none. by_nothing) (λ token own. by_send (λ told. record { told = of_request s body params f token notified found own refl refl; knows = tt })))
+    progress_known = by_on (λ none. token_known) (λ f found. by_on (λ none. by_nothing) (λ token own. by_send (request_known f found token own)))
 
   abbrev Any : Type 0
   Any = Reasons Out_known heard_now (outs_of settings before (FromServer s body))

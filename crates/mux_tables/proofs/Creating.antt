@@ -1,5 +1,5 @@
 -- A start creates a token (S8) or tells of one (S13), and an editor is asked to take one, as the code has it.
-use Rattle.std.proofs.Common.{◌≡◌, ℕ, ◌<◌, Bool, true, false, not, ◌&&◌, List, [], ◌∷◌, ◌++◌, decimal, find, map, length, get_or, refl, ap, sym, subst, ◌∙◌}
+use Rattle.std.proofs.Common.{◌≡◌, ℕ, ◌<◌, Bool, true, false, not, ◌&&◌, List, [], ◌∷◌, ◌++◌, find, map, length, get_or, refl, ap, sym, subst, ◌∙◌}
 use Rattle.std.specs.Prelude.{Option, Some, None, MatchOption, codes, is_some, option_map, slice_get, slice_set, if◌then◌else◌}
 use Rattle.json_text.specs.Json.{Json}
 use Rattle.lsp_method.specs.Class.{class_of}
@@ -150,16 +150,16 @@ some_number (Some t) = refl
 pub reply_moves : (settings : Settings) (t u : Tables) (events : List Event) (s m e : ℕ) (n : Option ℕ) (takes : Bool) (body : List ℕ) → m ≡ s → u.origins.groups ≡ t.origins.groups → u.origins.stopping ≡ t.origins.stopping
     → MatchOption n (u.origins.created ≡ t.origins.created) (λ k. u.origins.created ≡ edited m (table.answered e k takes) t.origins.created) → NamesAsk (answered_id (message_of body)) n → takes ≡ fold.accepts (message_of body) → requests (codes "shutdown") (message_of body) ≡ false
     → TakesOne settings s e (message_of body) events → OriginsMove settings t.origins u.origins events (heard (FromEditor e body))
-reply_moves settings t u events s m e None takes body own og sk cr named accepted runs others = record {
+reply_moves settings t u events s m e None takes body same og sk cr named accepted runs others = record {
   groups = og;
   stopping = sk;
   created = λ h. subst (λ (rows : Rows). CreatedStand settings rows (events ++ heard (FromEditor e body) ∷ [])) (sym cr)
       (stay_stands settings t.origins.created events (heard (FromEditor e body)) (λ j. ap (λ b. if b then fold.left e (created_of settings j events) else fold.answered e (message_of body) (created_of settings j events)) runs ∙ unnamed_answers settings t.origins.created events j e (message_of body) named h) h);
 }
-reply_moves settings t u events s m e (Some k) takes body own og sk cr named accepted runs others = record {
+reply_moves settings t u events s m e (Some k) takes body same og sk cr named accepted runs others = record {
   groups = og;
   stopping = sk;
-  created = λ h. subst (λ (rows : Rows). CreatedStand settings rows (events ++ heard (FromEditor e body) ∷ [])) (sym (cr ∙ ap (λ j. edited j (table.answered e k takes) t.origins.created) own))
+  created = λ h. subst (λ (rows : Rows). CreatedStand settings rows (events ++ heard (FromEditor e body) ∷ [])) (sym (cr ∙ ap (λ j. edited j (table.answered e k takes) t.origins.created) same))
       (reply_tokens settings t.origins.created events s e k body (message_of body) takes runs named accepted others h);
 }
 
@@ -172,7 +172,7 @@ taken_pair takes c = (c.token, if takes then c.held else [])
 
 pub handed_seen : (settings : Settings) (t : Tables) (events : List Event) (s m e : ℕ) (n : Option ℕ) (takes : Bool) (body : List ℕ) (o : Option Handed) → m ≡ s → MatchOption n (o ≡ None) (λ k. option_map handed_pair o ≡ table.given e k takes (table_of m t.origins.created)) → NamesAsk (answered_id (message_of body)) n → Stands settings t events
     → option_map handed_pair o ≡ option_map (taken_pair takes) (find (is_answered e (answered_id (message_of body))) (created_of settings s events).takings)
-handed_seen settings t events s m e None takes body o own is named st =
+handed_seen settings t events s m e None takes body o same is named st =
     ap (option_map handed_pair) is ∙ sym (ap (option_map (taken_pair takes)) (none_named e (message_of body) named (created_of settings s events).takings (st.created.each s).small))
-handed_seen settings t events s m e (Some k) takes body o own is named st =
-    is ∙ (ap (λ j. table.given e k takes (table_of j t.origins.created)) own ∙ given_seen settings t.origins.created events st.created s e k (message_of body) takes named)
+handed_seen settings t events s m e (Some k) takes body o same is named st =
+    is ∙ (ap (λ j. table.given e k takes (table_of j t.origins.created)) same ∙ given_seen settings t.origins.created events st.created s e k (message_of body) takes named)

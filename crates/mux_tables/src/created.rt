@@ -63,9 +63,7 @@ impl Tables {
         ensures { (settings : Settings) (events : List Event) (x : Start) → slice_get self.now.lasts.items g ≡ Some x → Stands settings self.now events
             → option_copied result ≡ option_map (λ (t : Token). t.text) (find (is_numbered k) (created_of settings x.life.start events).tokens) }
     {
-        self.origins
-            .created
-            .text_of(self.lasts[g].life.start(), k)
+        self.origins.created.text_of(self.lasts[g].life.start(), k)
     }
 
     /// S13 and E11: whether an editor accepted a live token of the group's last start.

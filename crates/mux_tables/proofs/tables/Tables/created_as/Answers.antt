@@ -1,7 +1,5 @@
 -- The number of a live token.
 use Rattle.std.proofs.Common.{◌∙◌, ap}
-use Rattle.std.specs.Prelude.{option_map}
-use Rattle.group_laws.specs.group_rows.specs.Created.{Token, created_of, token_called}
 use Rattle.mux_tokens.specs.progress_route.specs.Tables.{number_in}
 use Rattle.mux_tokens.specs.Rows.{table_of}
 use Rattle.mux_tokens.proofs.Seen.{number_seen}

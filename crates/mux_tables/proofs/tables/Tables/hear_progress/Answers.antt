@@ -1,5 +1,5 @@
 -- A start tells of a token.
-use Rattle.std.proofs.Common.{◌&&◌, refl, ap, sym, ◌∙◌}
+use Rattle.std.proofs.Common.{◌&&◌, refl, ap, sym}
 use Rattle.std.specs.Prelude.{None}
 use Rattle.rpc_message.specs.Message.{message_of}
 use Rattle.event_model.specs.Stages.{is_first_result, is_initializing}

@@ -1,7 +1,5 @@
 -- An editor answers.
-use Rattle.std.proofs.Common.{[], ap, length, refl, sym, ◌∙◌, if◌then◌else◌}
-use Rattle.std.proofs.lemmas.List.{length-set}
-use Rattle.std.specs.Prelude.{option_map}
+use Rattle.std.proofs.Common.{refl}
 use Rattle.event_model.specs.Requests.{answered_id}
 use Rattle.rpc_message.specs.Message.{message_of}
 use Rattle.mux_tables.proofs.Creating.{handed_seen, number_is, reply_moves}

@@ -1,5 +1,5 @@
 -- An editor is asked to take a token.
-use Rattle.std.proofs.Common.{ap, length, refl, sym, ◌∙◌}
+use Rattle.std.proofs.Common.{ap, length, refl, ◌∙◌}
 use Rattle.std.proofs.lemmas.List.{length-set}
 use Rattle.event_model.specs.Event.{behind}
 use Rattle.mux_tokens.specs.progress_route.specs.Tables.{put_to}
