@@ -1,9 +1,11 @@
 -- S8: a new token is offered to each editor that runs.
-use Rattle.std.proofs.Common.{◌≡◌, ℕ, zero, suc, ◌+◌, ◌<◌, ◌≤◌, ◌^◌, Bool, true, false, not, ◌&&◌, cond, List, [], ◌∷◌, ◌++◌, append-nil, append_assoc, find, get_or, length, nat_eq, take, if◌then◌else◌, refl, ap, sym, subst, ◌∙◌, arith}
+use Rattle.std.proofs.Common.{◌≡◌, ℕ, zero, suc, ◌+◌, ◌<◌, ◌≤◌, ◌^◌, Bool, true, false, not, ◌&&◌, cond, List, [], ◌∷◌, ◌++◌, append-nil, filter, find, get_or, length, nat_eq, take, if◌then◌else◌, refl, ap, sym, subst, ◌∙◌, arith}
 use Rattle.std.specs.Prelude.{Option, None, Some}
 use Rattle.std.specs.List.{AllByRecursion}
 use Rattle.std.specs.Option.{option_map}
 use Rattle.std.proofs.lemmas.Bool.Decides.{nat_tests}
+use Rattle.std.proofs.lemmas.List.{take_all}
+use Rattle.std.proofs.lemmas.List.Elements.{filter_more}
 use Rattle.json_text.specs.Json.{Json}
 use Rattle.mux_history.specs.declared.cause.Cause.TheVariants.{FromServer}
 use Rattle.mux_history.specs.declared.out.Out.{Out}
@@ -99,6 +101,18 @@ module _ (settings : Settings) (s : ℕ) (t : Token) where
       let now = behind base xs in
       subst (λ zs. CanOffer settings s (get_or es i 0) k t zs) (sym (ap (behind base) is ∙ behind_more base xs (outs (each row (take i es)) now)))
       (subst (λ n. CanAsk settings s n t es now → CanOffer settings s (get_or es i 0) n t (behind now (outs (each row (take i es)) now))) (number settings s 0 k now t can.small can.live) (can_own es i now less apart) can)
+
+-- Those of a list that pass, one further, and in the end
+
+module _ (keep : ℕ → Bool) (es : List ℕ) (i : ℕ) where
+  pub one_kept : (b : Bool) (old new : List ℕ) → i < length es → old ≡ filter keep (take i es) → b ≡ keep (get_or es i 0) → b ≡ true → new ≡ old ++ get_or es i 0 ∷ [] → new ≡ filter keep (take (i + 1) es)
+  one_kept b old new less so is on more = more ∙ (ap (λ xs. xs ++ get_or es i 0 ∷ []) so ∙ (ap (λ c. filter keep (take i es) ++ cond c (get_or es i 0 ∷ []) []) (sym on ∙ is) ∙ sym (filter_more keep es i 0 less)))
+
+  pub one_left : (b : Bool) (old new : List ℕ) → i < length es → old ≡ filter keep (take i es) → b ≡ keep (get_or es i 0) → b ≡ false → new ≡ old → new ≡ filter keep (take (i + 1) es)
+  one_left b old new less so is off same = same ∙ (so ∙ (sym (append-nil (filter keep (take i es))) ∙ (ap (λ c. filter keep (take i es) ++ cond c (get_or es i 0 ∷ []) []) (sym off ∙ is) ∙ sym (filter_more keep es i 0 less))))
+
+  pub all_kept : (all : List ℕ) → length es ≤ i → all ≡ filter keep (take i es) → all ≡ filter keep es
+  all_kept all over so = so ∙ ap (filter keep) (take_all i es over)
 
 -- The row, by what is created
 
