@@ -68,7 +68,7 @@ module _ (settings : Settings) (before : List Event) (s : ℕ) (body : List ℕ)
   answers_create unasked unnoted = go (message_of body) refl unasked unnoted
     where
       go : (m : Message) → message_of body ≡ m → is_request m ≡ false → (sort_of m ≡ Some sort.Notification → ⊥) → CreatedStay settings s before (heard (FromServer s body))
-      go (request id method params) says h k = never (sym h)
+      go (request id method params) says h k = never h
       go (notification method params) says h k = absurd (k refl)
       go other says h k = by other says refl
 

@@ -1,5 +1,5 @@
 -- The live token that a notification tells of, and who is to hear of it.
-use Rattle.std.proofs.Common.{ap, codes, sym, ◌∙◌}
+use Rattle.std.proofs.Common.{Some, ap, codes, ◌∙◌}
 use Rattle.std.specs.Option.{option_and_then}
 use Rattle.event_model.specs.Members.{named_of}
 use Rattle.group_rows.specs.Asks.{running_in}

@@ -1,5 +1,5 @@
 -- Those of a list are asked.
-use Rattle.std.proofs.Common.{ap, get_or, take, ◌∙◌}
+use Rattle.std.proofs.Common.{ℕ, ap, get_or, take, ◌∙◌}
 use Rattle.std.specs.Prelude.{slice_get}
 use Rattle.event_model.specs.Event.{behind}
 use Rattle.event_model.specs.Row.{each}
@@ -21,7 +21,7 @@ loop-e-preserved c = record {
   does = λ settings base x token here apart run none live unasked small.
       let s = x.life.start in
       let numbers = c.args.numbers.now in
-      let row = λ e. offer s e token in
+      let row = λ (e : ℕ). offer s e token in
       let i = c.loop-e.e-index in
       let e = get_or numbers i 0 in
       let xs = c.args.outs.now in

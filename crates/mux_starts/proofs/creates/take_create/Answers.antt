@@ -30,8 +30,8 @@ use Rattle.mux_starts.proofs.Singles.{fresh_here}
 use Rattle.mux_starts.proofs.Uncreated.{refused_creates}
 use Rattle.mux_starts.proofs.creates.take_create.Goals as goal
 
-pub offer_each-requires-editors : goal.offer_each-requires-editors
-offer_each-requires-editors c = subst (λ ns. All (λ e. e < length c.create.new.self.editors) ns) (sym c.deref-in-Some.ensures.value) (subst (λ n. All (λ e. e < n) c.in_ok-numbers.numbers.items) (sym (ap length c.create.ensures.editors)) c.in_ok-numbers.ensures.inside)
+pub offer_each-requires-clause-editors : goal.offer_each-requires-clause-editors
+offer_each-requires-clause-editors c = subst (λ ns. All (λ e. e < length c.create.new.self.editors) ns) (sym c.deref.ensures.value) (subst (λ n. All (λ e. e < n) c.in_ok-numbers.numbers.items) (sym (ap length c.create.ensures.editors)) c.in_ok-numbers.ensures.inside)
 
 pub returns-in-None-clause-does : goal.returns-in-None-clause-does
 returns-in-None-clause-does c = λ settings before body method id params s x read says class fresh first here ready at settled st ds.
@@ -61,7 +61,7 @@ returns-clause-does c = λ settings before body method id params s x read says c
     let ys = c.accept.new.outs in
     let zs = c.offer_each.new.outs in
     let k = c.in_ok-k-in-Some.k in
-    let numbers = c.deref-in-Some.result.now in
+    let numbers = c.deref.result.now in
     let own = start_at_place t.lasts.items g s x here at in
     let next = c.in_ok-k-in-Some.ensures.number settings before x here st in
     let fits = c.ranges.k.fits in
@@ -74,7 +74,7 @@ returns-clause-does c = λ settings before body method id params s x read says c
     let stay = hasty settings before s body id method params says (ap may_wait class) in
     let moved = c.in_ok-k-in-Some.ensures.stands settings before body method id params s x token here ready at says creates fresh makes made.2 st in
     let docs = c.in_ok-k-in-Some.ensures.documents settings nothing_owed before body method id params s x here ready at says st ds in
-    let those = c.deref-in-Some.ensures.value ∙ (c.in_ok-numbers.ensures.those settings before st ∙ ap (λ h. running_in settings h before) (c.group_number-group.ensures x here)) in
+    let those = c.deref.ensures.value ∙ (c.in_ok-numbers.ensures.those settings before st ∙ ap (λ h. running_in settings h before) (c.group_number-group.ensures x here)) in
     let lasts = c.create.ensures.lasts in
     let granted = c.in_ok-accept-in-Some.ensures.does settings base body method id params s read says (ap (λ ls. slice_get (map number_in ls.items) g) lasts ∙ at) (fresh_here settings before s body xs first id stay fresh) in
     let stage = ap (λ n. (life_of n before).stage) (sym own) ∙ (ap (λ (l : Life). l.stage) ((st.lasts.each g x here).parts of_life) ∙ ready) in

@@ -26,8 +26,8 @@ returns-in_ok-tell-in-Some-clause-does c = λ settings before body method params
     whole_entry (λ k events. AllStand settings k events) (progress_row settings s before body params) base (u, nothing_owed) (u, nothing_owed) xs c.tell.new.outs first stands
     (does_alike (λ _. passes.1) (c.in_ok-tell-in-Some.ensures.does settings base method passes.0.0 passes.0.1))
 
-pub returns-in_ok-tell_due-in-Some-2-clause-does : goal.returns-in_ok-tell_due-in-Some-2-clause-does
-returns-in_ok-tell_due-in-Some-2-clause-does c = λ settings before body method params s x read says tells first here ready at st ds.
+pub returns-in_ok-tell_due-in-Some-due-clause-does : goal.returns-in_ok-tell_due-in-Some-due-clause-does
+returns-in_ok-tell_due-in-Some-due-clause-does c = λ settings before body method params s x read says tells first here ready at st ds.
     let base = with_cause before (FromServer s body) in
     let t = c.args.tables.now in
     let u = c.hear.new.tables in
@@ -36,13 +36,13 @@ returns-in_ok-tell_due-in-Some-2-clause-does c = λ settings before body method 
     let other = subst (Passes settings s before body method params) c.in-None.is (c.in_ok-told.ensures settings before body method params s read says at st) in
     let due = c.in_ok-due.ensures settings before body method params x read says here st in
     let stands = c.in_ok-hear.ensures.stands settings before body method params s x read says tells (c.is_some.ensures ∙ due_seen settings before x.life.group x.life.start params c.in_ok-due.due due) here ready at st ds in
-    let some = subst (λ n. Dues settings before x.life.group n params (Some c.in-Some-2.due)) own (subst (Dues settings before x.life.group x.life.start params) c.in-Some-2.is due) in
+    let some = subst (λ n. Dues settings before x.life.group n params (Some c.in-Some-due.due)) own (subst (Dues settings before x.life.group x.life.start params) c.in-Some-due.is due) in
     whole_entry (λ k events. AllStand settings k events) (progress_row settings s before body params) base (u, nothing_owed) (u, nothing_owed) xs c.tell_due.new.outs first stands
-    (does_alike (λ _. alike_then other (tells_those settings before x.life.group s params body c.in-Some-2.due (group_seen settings t before c.args.g s x st here at).0 some))
-    (c.in_ok-tell_due-in-Some-2.ensures.does settings base body method params s read says (ap (λ ns. slice_get ns c.args.g) c.hear.ensures.starts ∙ at)))
+    (does_alike (λ _. alike_then other (tells_those settings before x.life.group s params body c.in-Some-due.due (group_seen settings t before c.args.g s x st here at).0 some))
+    (c.in_ok-tell_due-in-Some-due.ensures.does settings base body method params s read says (ap (λ ns. slice_get ns c.args.g) c.hear.ensures.starts ∙ at)))
 
-pub returns-in-None-2-clause-does : goal.returns-in-None-2-clause-does
-returns-in-None-2-clause-does c = λ settings before body method params s x read says tells first here ready at st ds.
+pub returns-in-None-due-clause-does : goal.returns-in-None-due-clause-does
+returns-in-None-due-clause-does c = λ settings before body method params s x read says tells first here ready at st ds.
     let base = with_cause before (FromServer s body) in
     let t = c.args.tables.now in
     let u = c.hear.new.tables in
@@ -51,6 +51,6 @@ returns-in-None-2-clause-does c = λ settings before body method params s x read
     let other = subst (Passes settings s before body method params) c.in-None.is (c.in_ok-told.ensures settings before body method params s read says at st) in
     let due = c.in_ok-due.ensures settings before body method params x read says here st in
     let stands = c.in_ok-hear.ensures.stands settings before body method params s x read says tells (c.is_some.ensures ∙ due_seen settings before x.life.group x.life.start params c.in_ok-due.due due) here ready at st ds in
-    let none = subst (λ n. Dues settings before x.life.group n params None) own (subst (Dues settings before x.life.group x.life.start params) c.in-None-2.is due) in
+    let none = subst (λ n. Dues settings before x.life.group n params None) own (subst (Dues settings before x.life.group x.life.start params) c.in-None-due.is due) in
     whole_entry (λ k events. AllStand settings k events) (progress_row settings s before body params) base (u, nothing_owed) (u, nothing_owed) xs xs first stands
     (does_alike (λ _. alike_then other (tells_nothing settings before x.life.group s params body none)) does_nothing)
