@@ -19,7 +19,7 @@ use Rattle.mux_tables.specs.Documents.{AllStand, nothing_owed}
 use Rattle.mux_tables.specs.Stands.{number_in, of_life}
 use Rattle.mux_tables.proofs.Starts.{start_at_place}
 use Rattle.mux_turns.proofs.Matched.{not_early, not_first, not_spawning, whole_entry}
-use Rattle.mux_turns.proofs.Offering.{small_heard}
+use Rattle.mux_turns.proofs.Offering.{few_starts, no_starts, small_heard}
 use Rattle.mux_starts.specs.Creates.{AreApart, Creates}
 use Rattle.mux_starts.proofs.Creating.{running_apart}
 use Rattle.mux_starts.proofs.Early.{asked_named}
@@ -64,8 +64,7 @@ returns-clause-does c = λ settings before body method id params s x read says c
     let numbers = c.deref.result.now in
     let own = start_at_place t.lasts.items g s x here at in
     let next = c.in_ok-k-in-Some.ensures.number settings before x here st in
-    let fits = c.ranges.k.fits in
-    let low = subst (λ n. n < 2 ^ 64) next fits in
+    let low = subst (λ n. n < 2 ^ 64) next c.offer_each.ensures.low in
     let found = subst (Creates body (created_of settings x.life.start before)) c.in-Some.is (c.in_ok-found.ensures settings before body method id params x read says here st) low in
     let made = made_of (created_token body (created_of settings x.life.start before)) c.in-Some.token found in
     let token = made.0 in
@@ -78,7 +77,7 @@ returns-clause-does c = λ settings before body method id params s x read says c
     let lasts = c.create.ensures.lasts in
     let granted = c.in_ok-accept-in-Some.ensures.does settings base body method id params s read says (ap (λ ls. slice_get (map number_in ls.items) g) lasts ∙ at) (fresh_here settings before s body xs first id stay fresh) in
     let stage = ap (λ n. (life_of n before).stage) (sym own) ∙ (ap (λ (l : Life). l.stage) ((st.lasts.each g x here).parts of_life) ∙ ready) in
-    let small = small_heard settings before (λ n past. st.lasts.fresh n past of_life) settled st.origins.few (FromServer s body) in
+    let small = small_heard settings before (no_starts settings t before st) settled (few_starts settings t before st) (FromServer s body) in
     let apart = subst AreApart (sym those) (running_apart settings x.life.group before) in
     whole_entry (λ k events. AllStand settings k events) (create_row settings before x.life.group s body) base (u, nothing_owed) (v, nothing_owed) xs zs first (moved, docs)
     (does_alike (λ _. granted_row settings before x.life.group s body token makes)

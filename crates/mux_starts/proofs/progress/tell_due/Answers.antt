@@ -22,5 +22,6 @@ returns c = record {
       let is = c.bytes.ensures ∙ (c.in_ok-text.ensures body method params read says ∙ ap (λ n. marked_text (created_text n c.args.due.now.token) body) (same_place (sym c.start_number.ensures ∙ at))) in
       let new = marked_says (created_text s c.args.due.now.token) body method params (created_token_text s c.args.due.now.token) says in
       subst (λ w. Does (λ k events. AllStand settings k events) (each (broadcast w) c.args.due.now.editors.items) base (t, nothing_owed) xs (t, nothing_owed) ys) is
-      (all_does settings t t nothing_owed nothing_owed base xs ys (c.in_ok-spread.ensures.does settings base method new.0 (ap message_of is ∙ new.1)) (λ _ d. c.in_ok-spread.ensures.documents settings nothing_owed base d));
+      (subst (λ ns. Does (λ k events. AllStand settings k events) (each (broadcast c.bytes.result.now) ns) base (t, nothing_owed) xs (t, nothing_owed) ys) c.deref.ensures.value
+      (all_does settings t t nothing_owed nothing_owed base xs ys (c.in_ok-spread.ensures.does settings base method new.0 (ap message_of is ∙ new.1)) (λ _ d. c.in_ok-spread.ensures.documents settings nothing_owed base d)));
 }
