@@ -247,7 +247,8 @@ patient_plain method h = go (is_creating method) refl
     go true is = never (sym h ∙ call_hurried method (or_last (is_registering method) (is_creating method) is))
     go false is = refl
 
-create_made : is_creating (codes "window/workDoneProgress/create") ≡ true
+-- the methods of the daemon's own requests
+pub create_made : is_creating (codes "window/workDoneProgress/create") ≡ true
 unfolding server_request
 create_made = refl
 

@@ -17,3 +17,4 @@ pub mod Rows
 pub mod Welcoming
 pub mod Named
 pub mod Turning
+pub mod Offering

@@ -4,7 +4,7 @@ use Rattle.std.specs.Prelude.{Option, None, Some}
 use Rattle.std.specs.List.{AllByRecursion}
 use Rattle.std.proofs.lemmas.Bool.Decides.{nat_tests}
 use Rattle.std.proofs.lemmas.Slice.Eq.{bytes_eq-Decides}
-use Rattle.lsp_method.specs.Class.{server_request}
+use Rattle.json_text.specs.Named.{named}
 use Rattle.mux_history.specs.declared.cause.Cause.{Cause}
 use Rattle.mux_history.specs.declared.out.Out.{Out}
 use Rattle.event_model.specs.Event.{Event, behind, with_cause}
@@ -15,7 +15,7 @@ use Rattle.event_model.proofs.Frames.{never}
 use Rattle.group_facts.specs.Facts.{NoStarts}
 use Rattle.group_facts.specs.Settled.{Settled}
 use Rattle.group_facts.proofs.Marks.{mark_number, mark_start, marked_same}
-use Rattle.group_facts.proofs.Takings.{uncreated_heard}
+use Rattle.group_facts.proofs.Takings.{create_made, uncreated_heard}
 use Rattle.group_facts.specs.group_rows.specs.Asks.{has_number, next_ask}
 use Rattle.group_facts.specs.group_rows.specs.Created.{Created, Token, created_mark, created_of, is_creating, is_marked, is_numbered, token_marked}
 use Rattle.group_facts.specs.group_rows.specs.CreatedRows.{create_text}
@@ -35,9 +35,10 @@ small_heard settings before starts settled few cause n le = ap (λ (x : Created)
 pub small_behind : (settings : Settings) (events : List Event) (outs : List Out) → AreSmall settings events → AreSmall settings (behind events outs)
 small_behind settings events outs h n le = tokens_behind settings n events outs ∙ h n le
 
-creates_so : is_creating (codes "window/workDoneProgress/create") ≡ true
-unfolding server_request
-creates_so = refl
+-- it names the daemon's own token
+marked_is : (s k : ℕ) (u : Token) → is_marked s (named_of (codes "token") (Some (create_tree s k))) u ≡ bytes_eq (created_mark s u.number) (created_mark s k)
+unfolding named
+marked_is s k u = refl
 
 module _ (settings : Settings) (s e k : ℕ) (events : List Event) (t : Token) (small : AreSmall settings events) (found : find (is_numbered k) (created_of settings s events).tokens ≡ Some t) where
   abbrev live : ℕ → List Token
@@ -64,7 +65,7 @@ module _ (settings : Settings) (s e k : ℕ) (events : List Event) (t : Token) (
 
   -- at its start the token of the number
   numbered : (u : Token) → u.number < 2 ^ 64 → marked s u ≡ is_numbered k u
-  numbered u less = go (nat_eq u.number k) refl (bytes_eq (created_mark s u.number) (created_mark s k)) refl
+  numbered u less = marked_is s k u ∙ go (nat_eq u.number k) refl (bytes_eq (created_mark s u.number) (created_mark s k)) refl
     where
       go : (b : Bool) → nat_eq u.number k ≡ b → (c : Bool) → bytes_eq (created_mark s u.number) (created_mark s k) ≡ c → c ≡ b
       go true same true is = refl
@@ -103,7 +104,7 @@ module _ (settings : Settings) (s e k : ℕ) (events : List Event) (t : Token) (
     params = Some (create_tree s k);
     token = t;
     says = create_says s k (next_ask e events) (omega (arith, less));
-    creates = creates_so;
+    creates = create_made;
     number = number;
     marked = same_found (live s) (tokens_written settings s events) ∙ found;
     live = found;
