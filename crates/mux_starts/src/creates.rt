@@ -157,7 +157,12 @@ fn takers(
 
 /// S13: the live token of the group's last start that a notification tells of, and the editors of the group that run and accepted it,
 /// rising.
-pub fn due_of(tables: &Tables, alloc: Global, g: usize, message: &Message) -> Result<Option<Due>, Memory>
+pub fn due_of(
+    tables: &Tables,
+    alloc: Global,
+    g: usize,
+    message: &Message,
+) -> Result<Option<Due>, Memory>
     requires { g < length tables.now.lasts.items }
     ensures { (settings : Settings) (before : List Event) (body method : List ℕ) (params : Option Json) (x : Start)
         → IsRead message.now body → message_of body ≡ notification method params → slice_get tables.now.lasts.items g ≡ Some x
