@@ -1,5 +1,5 @@
 -- S8: a new token is offered to each editor that runs.
-use Rattle.std.proofs.Common.{◌≡◌, ℕ, zero, suc, ◌+◌, ◌<◌, ◌≤◌, ◌^◌, Bool, true, false, not, ◌&&◌, cond, List, [], ◌∷◌, ◌++◌, append-nil, filter, find, get_or, length, nat_eq, take, if◌then◌else◌, refl, ap, sym, subst, ◌∙◌, arith}
+use Rattle.std.proofs.Common.{◌≡◌, ℕ, zero, suc, ◌+◌, ◌<◌, ◌≤◌, ◌^◌, Bool, true, false, not, ◌&&◌, cond, List, [], ◌∷◌, ◌++◌, append-nil, codes, filter, find, get_or, length, nat_eq, take, if◌then◌else◌, refl, ap, sym, subst, ◌∙◌, arith}
 use Rattle.std.specs.Prelude.{Option, None, Some}
 use Rattle.std.specs.List.{AllByRecursion}
 use Rattle.std.specs.Option.{option_map}
@@ -10,19 +10,23 @@ use Rattle.json_text.specs.Json.{Json}
 use Rattle.mux_history.specs.declared.cause.Cause.TheVariants.{FromServer}
 use Rattle.mux_history.specs.declared.out.Out.{Out}
 use Rattle.mux_history.specs.declared.out.Out.TheVariants.{ToServer}
-use Rattle.rpc_message.specs.Message.{Id, Message, message_of, request}
+use Rattle.rpc_message.specs.Message.{Id, id_bytes, message_of, request}
+use Rattle.rpc_message.specs.Texts.{ok_text}
 use Rattle.event_model.specs.declared.stage.Stage.TheVariants.{Ready}
-use Rattle.event_model.specs.Does.{Alike}
+use Rattle.event_model.specs.Does.{Alike, Does}
 use Rattle.event_model.specs.Event.{Event, behind, heard, said, took, with_cause}
+use Rattle.event_model.specs.Phases.{desk_of, is_running}
 use Rattle.event_model.specs.Row.{Row, each, on, outs, ◌⨾◌}
 use Rattle.event_model.specs.Settings.{Settings}
 use Rattle.event_model.specs.Stages.{is_ready, life_of}
-use Rattle.event_model.proofs.Turns.{alike, behind_more}
-use Rattle.group_rows.specs.Asks.{asking_of, is_taken, running_in}
+use Rattle.event_model.proofs.Turns.{alike, behind_more, does_alike, does_knowing}
+use Rattle.group_rows.specs.Asks.{asking_of, is_single, is_taken, running_in}
 use Rattle.group_rows.specs.Created.{Created, Token, created_next, created_of, created_token, is_creating, is_numbered, with_token}
 use Rattle.group_rows.specs.CreatedRows.{create_row, offer}
 use Rattle.group_rows.specs.Live.{is_heard}
 use Rattle.group_rows.specs.LiveRows.{accept, decline}
+use Rattle.mux_tables.specs.declared.tables.Tables.{Tables}
+use Rattle.mux_tables.specs.Documents.{AllStand, nothing_owed}
 use Rattle.mux_tables.specs.mux_tokens.proofs.Below.{tokens_below}
 use Rattle.mux_tables.specs.mux_tokens.proofs.Fresh.{tokens_behind, untaken_created, untaken_stay}
 use Rattle.mux_tables.specs.mux_tokens.proofs.Rows.{num_itself}
@@ -31,7 +35,8 @@ use Rattle.mux_turns.specs.Creates.{AreSmall, CanOffer, Unasked}
 use Rattle.mux_turns.proofs.Offering.{number, small_behind}
 use Rattle.mux_turns.proofs.Offers.{offer_lives, offer_small, offer_spares}
 use Rattle.mux_starts.specs.Creates.{AreApart}
-use Rattle.mux_starts.proofs.Creating.{others_before}
+use Rattle.mux_starts.proofs.Creating.{others_before, running_apart}
+use Rattle.mux_starts.proofs.Registering.{told_all}
 
 -- Those before one of a list, and that one
 
@@ -124,9 +129,9 @@ module _ (settings : Settings) (before : List Event) (g s : ℕ) (body : List �
   granted_row t some = alike (ap (λ o. on o (decline s body) (λ t. accept s body ⨾ each (λ e. offer s e t) (running_in settings g before))) some)
 
 -- what is created, by its text
-pub made_of : (o : Option Token) (w : List ℕ) → option_map (λ (t : Token). t.text) o ≡ Some w → (t : Token) × (o ≡ Some t) × (w ≡ t.text)
-made_of None w h = absurd (cc)
-made_of (Some t) w h = (t, refl, (let same : t.text ≡ w = cc in sym same))
+pub made_by : (P : Type 0) (o : Option Token) (w : List ℕ) → option_map (λ (t : Token). t.text) o ≡ Some w → ((t : Token) → o ≡ Some t → w ≡ t.text → P) → P
+made_by P None w h go = absurd (cc)
+made_by P (Some t) w h go = go t refl (let same : t.text ≡ w = cc in sym same)
 
 -- The new token behind the answer
 
@@ -173,9 +178,20 @@ module _ (settings : Settings) (before : List Event) (s : ℕ) (body method : Li
   all_unasked [] xs ys w first is = tt
   all_unasked (e ∷ es) xs ys w first is = (unasked_behind e xs ys w first is, all_unasked es xs ys w first is)
 
-  pub can_ask : (n k : ℕ) (es : List ℕ) (xs ys : List Out) (w : List ℕ) → xs ≡ [] → ys ≡ xs ++ ToServer s w ∷ [] → AreSmall settings base → n ≡ s → k ≡ x.next → CanAsk settings n k t es (behind base ys)
+  can_ask : (n k : ℕ) (es : List ℕ) (xs ys : List Out) (w : List ℕ) → xs ≡ [] → ys ≡ xs ++ ToServer s w ∷ [] → AreSmall settings base → n ≡ s → k ≡ x.next → CanAsk settings n k t es (behind base ys)
   can_ask n k es xs ys w first is small own next = subst (λ m. CanAsk settings m k t es (behind base ys)) (sym own) (subst (λ j. CanAsk settings s j t es (behind base ys)) (numbered ∙ sym next) (record {
     live = ap (find (is_numbered t.number)) (tokens_behind settings s base ys) ∙ live;
     unasked = all_unasked es xs ys w first is;
     small = small_behind settings base ys small;
   }))
+
+  -- the whole row: the start is answered, and each editor that runs is asked
+  module _ (g : ℕ) (xs : List Out) (first : xs ≡ []) (many : is_single method ≡ false) (u v : Tables) (ys zs : List Out) (numbers : List ℕ) (those : numbers ≡ running_in settings g before) where
+    pub asks_all : (n k : ℕ) → n ≡ s → k ≡ x.next → AreSmall settings base → Does (λ k events. AllStand settings k events) (accept s body) base (u, nothing_owed) xs (u, nothing_owed) ys
+        → (AreApart numbers → AllByRecursion (λ e. is_running (desk_of e (behind base ys)).phase ≡ true) numbers → ((j : ℕ) → (asking_of settings j (behind base ys)).asker ≡ None) → CanAsk settings n k t numbers (behind base ys)
+        → Does (λ k events. AllStand settings k events) (each (λ e. offer n e t) numbers) base (u, nothing_owed) ys (v, nothing_owed) zs)
+        → Does (λ k events. AllStand settings k events) (create_row settings before g s body) base (u, nothing_owed) xs (v, nothing_owed) zs
+    asks_all n k own next small granted go = does_alike (λ _. granted_row settings before g s body t makes) (does_knowing (λ known.
+        let can : CanAsk settings n k t numbers (behind base ys) = can_ask n k numbers xs ys (ok_text (id_bytes body) (codes "null")) first (granted.done known).outs small own next in
+        told_all settings before s g body method id params xs first says many u v ys zs numbers those (λ e. offer s e t) granted
+        (λ runs idle. subst (λ m. Does (λ k events. AllStand settings k events) (each (λ e. offer m e t) numbers) base (u, nothing_owed) ys (v, nothing_owed) zs) own (go (subst AreApart (sym those) (running_apart settings g before)) runs idle can))))

@@ -1,31 +1,27 @@
 -- S8: a whole request that creates a token.
-use Rattle.std.proofs.Common.{◌≡◌, ◌<◌, ◌^◌, codes, length, map, Some, ap, subst, sym, ◌∙◌}
+use Rattle.std.proofs.Common.{◌≡◌, ◌<◌, ◌^◌, [], length, map, Some, ap, subst, sym, ◌∙◌}
 use Rattle.std.specs.Prelude.{None, slice_get}
 use Rattle.std.specs.List.{All}
 use Rattle.mux_history.specs.declared.cause.Cause.TheVariants.{FromServer}
-use Rattle.event_model.specs.Does.{Does}
+use Rattle.event_model.specs.Does.{Done}
 use Rattle.event_model.specs.Event.{with_cause}
-use Rattle.event_model.specs.Row.{each}
 use Rattle.event_model.specs.Stages.{Life, is_first_result, life_of}
-use Rattle.event_model.proofs.Turns.{does_alike, does_knowing}
+use Rattle.event_model.proofs.Turns.{does_alike}
 use Rattle.group_rows.specs.Asks.{goes_to_one, may_wait, running_in}
 use Rattle.group_rows.specs.Created.{created_of, created_token, names_create}
-use Rattle.group_rows.specs.CreatedRows.{create_row, offer}
+use Rattle.group_rows.specs.CreatedRows.{create_row}
 use Rattle.group_rows.specs.Live.{changes_live}
 use Rattle.group_words.specs.Houses.{is_first_error}
-use Rattle.rpc_message.specs.Message.{id_bytes, message_of}
-use Rattle.rpc_message.specs.Texts.{ok_text}
+use Rattle.rpc_message.specs.Message.{message_of}
 use Rattle.mux_tables.specs.Documents.{AllStand, nothing_owed}
 use Rattle.mux_tables.specs.Stands.{number_in, of_life}
 use Rattle.mux_tables.proofs.Starts.{start_at_place}
 use Rattle.mux_turns.proofs.Matched.{not_early, not_first, not_spawning, whole_entry}
 use Rattle.mux_turns.proofs.Offering.{few_starts, no_starts, small_heard}
-use Rattle.mux_starts.specs.Creates.{AreApart, Creates}
-use Rattle.mux_starts.proofs.Creating.{running_apart}
+use Rattle.mux_starts.specs.Creates.{Creates}
 use Rattle.mux_starts.proofs.Early.{asked_named}
-use Rattle.mux_starts.proofs.Offered.{can_ask, granted_row, made_of, refused_row}
+use Rattle.mux_starts.proofs.Offered.{asks_all, made_by, refused_row}
 use Rattle.mux_starts.proofs.Parking.{hasty, other_keeps}
-use Rattle.mux_starts.proofs.Registering.{told_all}
 use Rattle.mux_starts.proofs.Singles.{fresh_here}
 use Rattle.mux_starts.proofs.Uncreated.{refused_creates}
 use Rattle.mux_starts.proofs.creates.take_create.Goals as goal
@@ -60,29 +56,20 @@ returns-clause-does c = λ settings before body method id params s x read says c
     let xs = c.args.outs.now in
     let ys = c.accept.new.outs in
     let zs = c.offer_each.new.outs in
-    let k = c.in_ok-k-in-Some.k in
-    let numbers = c.deref.result.now in
     let own = start_at_place t.lasts.items g s x here at in
-    let next = c.in_ok-k-in-Some.ensures.number settings before x here st in
+    let next = c.in_ok-k-in-Some.ensures.number settings before x here st ∙ ap (λ n. (created_of settings n before).next) own in
     let low = subst (λ n. n < 2 ^ 64) next c.offer_each.ensures.low in
-    let found = subst (Creates body (created_of settings x.life.start before)) c.in-Some.is (c.in_ok-found.ensures settings before body method id params x read says here st) low in
-    let made = made_of (created_token body (created_of settings x.life.start before)) c.in-Some.token found in
-    let token = made.0 in
-    let makes = ap (λ n. created_token body (created_of settings n before)) (sym own) ∙ made.1 in
+    let found = subst (Creates body (created_of settings s before)) c.in-Some.is (subst (λ n. Creates body (created_of settings n before) c.in_ok-found.found) own (c.in_ok-found.ensures settings before body method id params x read says here st)) low in
     let creates = ap names_create class in
     let stay = hasty settings before s body id method params says (ap may_wait class) in
-    let moved = c.in_ok-k-in-Some.ensures.stands settings before body method id params s x token here ready at says creates fresh makes made.2 st in
     let docs = c.in_ok-k-in-Some.ensures.documents settings nothing_owed before body method id params s x here ready at says st ds in
     let those = c.deref.ensures.value ∙ (c.in_ok-numbers.ensures.those settings before st ∙ ap (λ h. running_in settings h before) (c.group_number-group.ensures x here)) in
     let lasts = c.create.ensures.lasts in
     let granted = c.in_ok-accept-in-Some.ensures.does settings base body method id params s read says (ap (λ ls. slice_get (map number_in ls.items) g) lasts ∙ at) (fresh_here settings before s body xs first id stay fresh) in
     let stage = ap (λ n. (life_of n before).stage) (sym own) ∙ (ap (λ (l : Life). l.stage) ((st.lasts.each g x here).parts of_life) ∙ ready) in
     let small = small_heard settings before (no_starts settings t before st) settled (few_starts settings t before st) (FromServer s body) in
-    let apart = subst AreApart (sym those) (running_apart settings x.life.group before) in
+    made_by (Done (λ k events. AllStand settings k events) (create_row settings before x.life.group s body) base [] (v, nothing_owed) zs) (created_token body (created_of settings s before)) c.in-Some.token found (λ token makes text.
+    let moved = c.in_ok-k-in-Some.ensures.stands settings before body method id params s x token here ready at says creates fresh makes text st in
     whole_entry (λ k events. AllStand settings k events) (create_row settings before x.life.group s body) base (u, nothing_owed) (v, nothing_owed) xs zs first (moved, docs)
-    (does_alike (λ _. granted_row settings before x.life.group s body token makes)
-    (does_knowing (λ known.
-    let can = can_ask settings before s body method id params says creates stage fresh token makes x.life.start k numbers xs ys (ok_text (id_bytes body) (codes "null")) first (granted.done known).outs small own (next ∙ ap (λ n. (created_of settings n before).next) own) in
-    told_all settings before s x.life.group body method id params xs first says (ap goes_to_one class) u v ys zs numbers those (λ e. offer s e token) granted
-    (λ runs idle. subst (λ n. Does (λ k events. AllStand settings k events) (each (λ e. offer n e token) numbers) base (u, nothing_owed) ys (v, nothing_owed) zs) own
-    (c.in_ok-offer_each-in-Some.ensures.does settings base x token (ap (λ ls. slice_get ls.items g) lasts ∙ here) apart runs idle can.live can.unasked can.small)))))
+    (asks_all settings before s body method id params says creates stage fresh token makes x.life.group xs first (ap goes_to_one class) u v ys zs c.deref.result.now those x.life.start c.in_ok-k-in-Some.k own next small granted
+    (λ apart runs idle can. c.in_ok-offer_each-in-Some.ensures.does settings base x token (ap (λ ls. slice_get ls.items g) lasts ∙ here) apart runs idle can.live can.unasked can.small)))
