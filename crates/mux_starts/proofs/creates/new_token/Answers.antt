@@ -1,6 +1,5 @@
 -- What a request creates.
 use Rattle.std.proofs.Common.{Some, codes, refl, subst, sym, ◌∙◌}
-use Rattle.event_model.specs.Members.{named_of, params_of}
 use Rattle.group_rows.specs.Created.{created_of}
 use Rattle.mux_tables.specs.mux_tokens.proofs.TokenIds.{token_id_text}
 use Rattle.mux_starts.specs.Creates.{Creates}

@@ -1,5 +1,5 @@
 -- S8: a whole request that creates a token.
-use Rattle.std.proofs.Common.{◌≡◌, ◌<◌, ◌^◌, [], length, map, Some, ap, subst, sym, ◌∙◌}
+use Rattle.std.proofs.Common.{◌≡◌, ◌<◌, ◌^◌, [], length, map, ap, subst, sym, ◌∙◌}
 use Rattle.std.specs.Prelude.{None, slice_get}
 use Rattle.std.specs.List.{All}
 use Rattle.mux_history.specs.declared.cause.Cause.TheVariants.{FromServer}

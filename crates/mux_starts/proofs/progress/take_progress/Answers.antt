@@ -1,10 +1,9 @@
 -- What a start tells of an open request goes to its editor, and what it tells of a token that it created to those that took it.
-use Rattle.std.proofs.Common.{◌≡◌, ap, subst, sym, ◌∙◌}
+use Rattle.std.proofs.Common.{ap, subst, ◌∙◌}
 use Rattle.std.specs.Prelude.{None, Some, slice_get}
-use Rattle.event_model.specs.Does.{Alike}
 use Rattle.event_model.specs.Event.{with_cause}
 use Rattle.event_model.proofs.Turns.{alike_then, does_alike, does_nothing}
-use Rattle.group_rows.specs.CreatedRows.{created_row, progress_row}
+use Rattle.group_rows.specs.CreatedRows.{progress_row}
 use Rattle.mux_history.specs.declared.cause.Cause.TheVariants.{FromServer}
 use Rattle.mux_starts.specs.Creates.{Dues}
 use Rattle.mux_starts.specs.Progress.{Passes}
