@@ -92,8 +92,8 @@ fn offer_each(
         → OnOk result (Does (λ k events. AllStand settings k events)
         (each (offer x.life.start e) (created_of settings x.life.start (behind base outs.old)).tokens) base (tables.old, owed) outs.old (tables.new, owed) outs.new) }
 {
-    for (k, _) in live {
-        offer(tables, alloc, outs, g, e, *k)?;
+    for token in live {
+        offer(tables, alloc, outs, g, e, token.0)?;
     }
     Ok(())
 }
