@@ -15,15 +15,14 @@ use Rattle.event_model.specs.Settings.{Settings}
 use Rattle.event_model.specs.Spawns.{start_of, starts_of}
 use Rattle.event_model.specs.Stages.{is_ready, life_of}
 use Rattle.event_model.proofs.Frames.{never}
-use Rattle.mux_turns.specs.group_facts.specs.Facts.{NoStarts}
 use Rattle.mux_turns.specs.group_facts.specs.Settled.{HasTaken, Settled}
 use Rattle.group_rows.specs.Created.{Created, Taking, answered, created_of, is_answered, is_at, left, settled, spoken}
 use Rattle.group_rows.specs.Forwarded.{names}
 use Rattle.group_words.specs.Houses.{home_of}
 use Rattle.mux_tables.specs.mux_tokens.specs.Stands.{AreFresh, TakesNone, TakesOne}
 use Rattle.mux_tables.specs.declared.tables.Tables.{Tables}
-use Rattle.mux_tables.specs.Stands.{Stands, of_life}
-use Rattle.mux_turns.proofs.Offering.{small_heard}
+use Rattle.mux_tables.specs.Stands.{Stands}
+use Rattle.mux_turns.proofs.Offering.{few_starts, no_starts, small_heard}
 use Rattle.mux_editors.specs.Running.{CanBegin, may_begin}
 use Rattle.mux_tables.proofs.Lasts.{same_place}
 
@@ -58,13 +57,12 @@ away_fresh : (e n k : ℕ) (cs : List Taking) → AreAway e cs → AreFresh e n 
 away_fresh e n k [] h = tt
 away_fresh e n k (c ∷ cs) h = ((ap (λ b. b && nat_eq c.number n) h.0, ap (λ b. b && nat_eq c.token k) h.0), away_fresh e n k cs h.1)
 
--- As many starts were spawned as numerals of 64 bits tell apart
-pub few_starts : (settings : Settings) (t : Tables) (events : List Event) → Stands settings t events → starts_of events ≤ 2 ^ 64
-few_starts settings t events st = st.origins.few
-
 -- By what is settled
 
-module _ (settings : Settings) (before : List Event) (settled : Settled settings before) (few : starts_of before ≤ 2 ^ 64) where
+module _ (settings : Settings) (before : List Event) (settled : Settled settings before) (t : Tables) (st : Stands settings t before) where
+  few : starts_of before ≤ 2 ^ 64
+  few = few_starts settings t before st
+
   away_where : (e s : ℕ) → ((c : Taking) → HasTaken settings before s c → c.editor ≡ e → ⊥) → AreAway e (created_of settings s before).takings
   away_where e s other = go (created_of settings s before).takings (settled.takings few s)
     where
@@ -142,10 +140,6 @@ module _ (settings : Settings) (before : List Event) (settled : Settled settings
   pub ended_untaken : (s : ℕ) → (life_of s before).stage ≡ Ended → (created_of settings s before).takings ≡ []
   ended_untaken s over = unready_untaken s (ap is_ready over)
 
--- a start that wasn't spawned yet is as one that never was
-pub no_starts : (settings : Settings) (t : Tables) (events : List Event) → Stands settings t events → NoStarts events
-no_starts settings t events st s past = st.lasts.fresh s past of_life
-
 unrun : (p : Phase) → may_begin p ≡ true → is_running p ≡ false
 unrun Answered h = refl
 unrun other h = never (sym h)
@@ -153,6 +147,6 @@ unrun other h = never (sym h)
 -- what an editor may be asked where it begins to run
 pub can_begin : (settings : Settings) (before : List Event) → Settled settings before → (t : Tables) (e : ℕ) (body : List ℕ) → Stands settings t before → CanBegin settings before e body
 can_begin settings before settled t e body st = record {
-  unasked = λ begins s. unrun_away settings before settled (few_starts settings t before st) e (unrun (desk_of e before).phase begins) s;
+  unasked = λ begins s. unrun_away settings before settled t st e (unrun (desk_of e before).phase begins) s;
   small = small_heard settings before (no_starts settings t before st) settled (few_starts settings t before st) (FromEditor e body);
 }

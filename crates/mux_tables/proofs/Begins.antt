@@ -38,7 +38,7 @@ begins settings t groups idle h below es gs now ls os sk cr limit wait last = re
     groups = rw gs (no_groups settings groups idle limit wait);
     now = rw now refl;
   };
-  origins = rw os (record { count = refl; group = λ s. refl; few = omega arith });
+  origins = rw os (record { count = refl; group = λ s. refl });
   stopping = sym sk;
   created = rw cr (created_begins settings);
   lasts = rw ls (no_lasts settings t.requests h);

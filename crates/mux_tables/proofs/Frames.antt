@@ -1,5 +1,5 @@
 -- An event leaves alone what it doesn't name: one lemma for each word, by cases of the event, and one for each table.
-use Rattle.std.proofs.Common.{◌≡◌, ℕ, ◌+◌, ◌^◌, ◌≤◌, Bool, true, false, not, ◌&&◌, List, [], ◌∷◌, ◌++◌, refl, ap, sym, subst, append-nil, ◌∙◌, nat_eq, arith}
+use Rattle.std.proofs.Common.{◌≡◌, ℕ, ◌+◌, Bool, true, false, not, ◌&&◌, List, [], ◌∷◌, ◌++◌, refl, ap, sym, subst, append-nil, ◌∙◌, nat_eq, arith}
 use Rattle.std.specs.Prelude.{Option, Some, None, codes, slice_get, if◌then◌else◌}
 use Rattle.std.proofs.lemmas.Bool.Decides.{nat_tests}
 use Rattle.mux_history.specs.declared.cause.Cause.TheVariants.{Joined, FromEditor, EditorGone, Started, StartFailed, FromServer, ServerGone, Tick}
@@ -174,7 +174,6 @@ pub origins_stand : (t : List ℕ) (events : List Event) (ev : Event) → spawns
 origins_stand t events ev h s = record {
   count = one_more starts_behind _ _ events ev s.count ∙ starts_alone _ ev h;
   group = λ n. one_more (group_behind n) _ _ events ev (s.group n) ∙ group_alone n _ ev h;
-  few = subst (λ n. n ≤ 2 ^ 64) (sym (one_more starts_behind _ _ events ev refl ∙ starts_alone _ ev h)) s.few;
 }
 
 -- the tables of a start: the events that each speaks of

@@ -83,7 +83,6 @@ pub record GroupsStand (settings : Settings) (table : group_tables.Table) (event
 pub record OriginsStand (origins : List ℕ) (events : List Event) : Type 0 where
   pub count : starts_of events ≡ length origins
   pub group : (s : ℕ) → group_of s events ≡ slice_get origins s
-  pub few : starts_of events ≤ 2 ^ 64
 
 -- the open requests at a start
 abbrev pub forwarded_of : Numbered → Forwarded

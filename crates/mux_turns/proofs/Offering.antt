@@ -21,10 +21,22 @@ use Rattle.group_facts.specs.group_rows.specs.Created.{Created, Token, created_m
 use Rattle.group_facts.specs.group_rows.specs.CreatedRows.{create_text}
 use Rattle.group_facts.specs.group_rows.proofs.CreatedKept.{IsWritten, found_one, tokens_written}
 use Rattle.group_facts.specs.group_rows.proofs.CreatedTexts.{create_says, create_tree}
+use Rattle.mux_tables.specs.declared.tables.Tables.{Tables}
+use Rattle.mux_tables.specs.Stands.{Stands, of_life}
 use Rattle.mux_tables.specs.mux_tokens.specs.Stands.{AreFresh, IsOffer}
 use Rattle.mux_turns.specs.Creates.{AreSmall}
 use Rattle.mux_tables.specs.mux_tokens.proofs.Finding.{find_none, find_passes}
 use Rattle.mux_tables.specs.mux_tokens.proofs.Fresh.{tokens_behind}
+
+-- as many starts were spawned as numerals tell apart, and one that wasn't spawned yet is as one that never was
+pub few_starts : (settings : Settings) (t : Tables) (events : List Event) → Stands settings t events → starts_of events ≤ 2 ^ 64
+few_starts settings t events st = few t.origins.groups.ok.0 t.origins.groups.ok.1 t.origins.groups.small st.origins.count
+  where
+    few : {n l len cap : ℕ} → len ≡ l → len ≤ cap → cap < 2 ^ 63 → n ≡ l → n ≤ 2 ^ 64
+    few is most small count = omega (arith, is, most, small, count)
+
+pub no_starts : (settings : Settings) (t : Tables) (events : List Event) → Stands settings t events → NoStarts events
+no_starts settings t events st s past = st.lasts.fresh s past of_life
 
 pub small_heard : (settings : Settings) (before : List Event) → NoStarts before → Settled settings before → starts_of before ≤ 2 ^ 64 → (cause : Cause) → AreSmall settings (with_cause before cause)
 small_heard settings before starts settled few cause n le = ap (λ (x : Created). x.tokens) (uncreated_heard settings before starts cause settled.uncreated n (omega (arith, few, le)))

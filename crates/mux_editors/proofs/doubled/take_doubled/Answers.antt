@@ -13,7 +13,7 @@ use Rattle.mux_editors.proofs.Asides.{unserved_keeps}
 use Rattle.mux_editors.proofs.Classes.{shutdown_named}
 use Rattle.mux_editors.proofs.Doubling.{doubled_placed, doubled_stays, doubled_stops, doubled_unopened, serves_standard}
 use Rattle.mux_editors.proofs.Serving.{request_keeps, request_runs, stands_so, request_makes}
-use Rattle.mux_editors.proofs.Takings.{few_starts, takes_unserved}
+use Rattle.mux_editors.proofs.Takings.{takes_unserved}
 use Rattle.mux_tables.specs.mux_tokens.proofs.Stays.{takes_none}
 use Rattle.mux_editors.proofs.Runs.{no_shutdown}
 use Rattle.mux_editors.proofs.doubled.take_doubled.Goals as goal
@@ -24,7 +24,7 @@ returns-then-not-is_served-clause-does c = λ settings before body method id par
     let m = message_of body in
     let at = c.phase_of-phase.ensures.stands settings before st in
     let unserved = ap is_served (sym at) ∙ (sym c.is_served.ensures ∙ c.if-not-is_served.true) in
-    c.in_ok-end_link.ensures.does settings before body (answers_none settings e m before (ap is_answer says)) (takes_unserved settings before settled (few_starts settings c.args.tables.now before st) e m unserved) (doubled_placed before e id method params m says doubled) (doubled_stops before e id method params m says doubled)
+    c.in_ok-end_link.ensures.does settings before body (answers_none settings e m before (ap is_answer says)) (takes_unserved settings before settled c.args.tables.now st e m unserved) (doubled_placed before e id method params m says doubled) (doubled_stops before e id method params m says doubled)
     (doubled_unopened before e id method params m says doubled settings.servers) (unserved_keeps before e m unserved) (doubled_stays before e id method params m says doubled body refl unserved ∙ sym at) first st ds
 
 pub returns-in_ok-end_served-in-Shutdown-clause-does : goal.returns-in_ok-end_served-in-Shutdown-clause-does
