@@ -105,11 +105,14 @@ module _ (settings : Settings) (s e : ℕ) where
       (can_own ts i now less apart (can_all now ts (all_found ts apart) away small))
 
 -- what is listed of one
-pub listed_at : (ts : List Token) (i : ℕ) (d : ℕ × Bool) → i < length ts → (get_or (map {V = ℕ × Bool} (λ (t : Token). (t.number, is_some t.begin)) ts) i d).0 ≡ (get_or ts i no_token).number
+abbrev pub listed : Token → ℕ × Bool
+listed t = (t.number, is_some t.begin)
+
+pub listed_at : (ts : List Token) (i : ℕ) (d : ℕ × Bool) → i < length ts → (get_or (map listed ts) i d).0 ≡ (get_or ts i no_token).number
 listed_at [] i d less = absurd (omega (arith, less))
 listed_at (t ∷ ts) zero d less = refl
 listed_at (t ∷ ts) (suc i) d less = listed_at ts i d (omega (arith, less))
 
-pub listed_length : (ts : List Token) → length (map {V = ℕ × Bool} (λ (t : Token). (t.number, is_some t.begin)) ts) ≡ length ts
+pub listed_length : (ts : List Token) → length (map listed ts) ≡ length ts
 listed_length [] = refl
 listed_length (t ∷ ts) = ap suc (listed_length ts)

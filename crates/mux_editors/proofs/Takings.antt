@@ -1,5 +1,5 @@
 -- What starts asked an editor to take, by what holds of every legal history.
-use Rattle.std.proofs.Common.{◌≡◌, ℕ, ◌^◌, ◌≤◌, Bool, true, false, not, ◌&&◌, List, [], ◌∷◌, ◌++◌, cond, codes, filter, flat_map, nat_eq, if◌then◌else◌, refl, ap, sym, ◌∙◌, arith}
+use Rattle.std.proofs.Common.{◌≡◌, ℕ, ◌^◌, ◌≤◌, Bool, true, false, not, ◌&&◌, List, [], ◌∷◌, ◌++◌, cond, codes, filter, flat_map, nat_eq, if◌then◌else◌, refl, ap, sym, subst, ◌∙◌, arith}
 use Rattle.std.specs.Prelude.{Option, None, Some}
 use Rattle.std.specs.List.{AllByRecursion}
 use Rattle.std.proofs.lemmas.Bool.Decides.{nat_tests}
@@ -139,6 +139,14 @@ module _ (settings : Settings) (before : List Event) (settled : Settled settings
 
   pub ended_untaken : (s : ℕ) → (life_of s before).stage ≡ Ended → (created_of settings s before).takings ≡ []
   ended_untaken s over = unready_untaken s (ap is_ready over)
+
+  -- so where that start ended nothing is taken
+  pub takes_ended : (e g s : ℕ) (m : Message) → home_of settings e before ≡ Some g → start_of g before ≡ Some s → (life_of s before).stage ≡ Ended → TakesNone settings e m before
+  takes_ended e g s m home last over n = go (nat_eq n s) refl
+    where
+      go : (b : Bool) → nat_eq n s ≡ b → spoken e m (created_of settings n before) ≡ created_of settings n before
+      go true is = let same : n ≡ s = grind (arith, nat_tests) in away_spoken e m (created_of settings n before) (subst (AreAway e) (sym (ended_untaken n (ap (λ k. (life_of k before).stage) same ∙ over))) tt)
+      go false away = takes_by_one e g s m home last n away
 
 unrun : (p : Phase) → may_begin p ≡ true → is_running p ≡ false
 unrun Answered h = refl

@@ -120,7 +120,8 @@ fn offer_live(
         (each (offer x.life.start e) (created_of settings x.life.start (behind base outs.old)).tokens) base (tables.old, owed) outs.old (tables.new, owed) outs.new) }
 {
     let live = tables.created(g)?;
-    offer_each(tables, alloc, outs, g, e, &live)
+    offer_each(tables, alloc, outs, g, e, &live)?;
+    Ok(())
 }
 
 /// L2: a message by which an editor runs was heard. Where the editor `begins` to run by it, and the last start of its group is ready, it

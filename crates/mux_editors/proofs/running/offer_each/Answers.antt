@@ -1,5 +1,5 @@
 -- Each is offered, under the next number of the editor.
-use Rattle.std.proofs.Common.{◌<◌, ◌≤◌, Bool, get_or, length, take, false, ap, subst, sym, ◌∙◌}
+use Rattle.std.proofs.Common.{◌<◌, ◌≤◌, get_or, length, take, false, ap, subst, sym, ◌∙◌}
 use Rattle.std.specs.Prelude.{slice_get}
 use Rattle.event_model.specs.Event.{behind}
 use Rattle.event_model.specs.Row.{each}
@@ -18,7 +18,7 @@ loop-token-preserved c = record {
   lasts = c.offer.ensures.lasts ∙ c.loop-token.invariant.lasts;
   requests = c.offer.ensures.requests ∙ c.loop-token.invariant.requests;
   versions = c.offer.ensures.versions ∙ c.loop-token.invariant.versions;
-  does = λ settings owed base x here run none listed unasked small.
+  does = λ settings owed base x here run none shown unasked small.
       let s = x.life.start in
       let e = c.args.e in
       let xs = c.args.outs.now in
@@ -28,9 +28,9 @@ loop-token-preserved c = record {
       let ts = (created_of settings s now).tokens in
       let i = c.loop-token.token-index in
       let t = get_or ts i no_token in
-      let less = subst (λ n. i < n) (ap length listed ∙ listed_length ts) c.loop-token-test.true in
-      let k = ap (λ ps. (get_or ps i (0, false)).0) listed ∙ listed_at ts i (0, false) less in
-      let before = c.loop-token.invariant.does settings owed base x here run none listed unasked small in
+      let less = subst (λ n. i < n) (ap length shown ∙ listed_length ts) c.loop-token-test.true in
+      let k = ap (λ ps. (get_or ps i (0, false)).0) shown ∙ listed_at ts i (0, false) less in
+      let before = c.loop-token.invariant.does settings owed base x here run none shown unasked small in
       does_knowing (λ known.
       let sent = (before.done known).outs in
       let apart = live_apart settings c.args.tables.now now s known.0 in
@@ -42,7 +42,7 @@ loop-token-preserved c = record {
 }
 
 pub returns-clause-does : goal.returns-clause-does
-returns-clause-does c = λ settings owed base x here run none listed unasked small.
+returns-clause-does c = λ settings owed base x here run none shown unasked small.
     let ts = (created_of settings x.life.start (behind base c.args.outs.now)).tokens in
-    does_whole (offer x.life.start c.args.e) ts c.loop-token.token-index (subst (λ n. n ≤ c.loop-token.token-index) (ap length listed ∙ listed_length ts) c.loop-token-test.false)
-    (c.loop-token.invariant.does settings owed base x here run none listed unasked small)
+    does_whole (offer x.life.start c.args.e) ts c.loop-token.token-index (subst (λ n. n ≤ c.loop-token.token-index) (ap length shown ∙ listed_length ts) c.loop-token-test.false)
+    (c.loop-token.invariant.does settings owed base x here run none shown unasked small)
