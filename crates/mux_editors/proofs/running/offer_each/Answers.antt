@@ -1,5 +1,5 @@
 -- Each is offered, under the next number of the editor.
-use Rattle.std.proofs.Common.{◌<◌, ◌≤◌, get_or, length, take, false, ap, subst, sym, ◌∙◌}
+use Rattle.std.proofs.Common.{ℕ, Bool, List, ◌<◌, ◌≤◌, get_or, length, take, false, ap, subst, sym, ◌∙◌}
 use Rattle.std.specs.Prelude.{slice_get}
 use Rattle.event_model.specs.Event.{behind}
 use Rattle.event_model.specs.Row.{each}
@@ -29,7 +29,7 @@ loop-token-preserved c = record {
       let i = c.loop-token.token-index in
       let t = get_or ts i no_token in
       let less = subst (λ n. i < n) (ap length shown ∙ listed_length ts) c.loop-token-test.true in
-      let k = ap (λ ps. (get_or ps i (0, false)).0) shown ∙ listed_at ts i (0, false) less in
+      let k = ap (λ (ps : List (ℕ × Bool)). (get_or ps i (0, false)).0) shown ∙ listed_at ts i (0, false) less in
       let before = c.loop-token.invariant.does settings owed base x here run none shown unasked small in
       does_knowing (λ known.
       let sent = (before.done known).outs in
