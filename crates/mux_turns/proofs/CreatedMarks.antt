@@ -1,16 +1,17 @@
 -- The daemon's own tokens for those that starts create, as they are read and written.
-use Rattle.std.proofs.Common.{◌≡◌, ℕ, ◌<◌, ◌^◌, Bool, true, false, List, [], ◌++◌, refl, ap, sym, ◌∙◌, arith, bytes_eq, codes, decimal, nat_eq}
+use Rattle.std.proofs.Common.{◌≡◌, ℕ, ◌<◌, ◌^◌, Bool, true, false, List, [], ◌∷◌, ◌++◌, drop, length, take, take-append-drop, refl, ap, sym, ◌∙◌, arith, bytes_eq, codes, decimal, nat_eq}
 use Rattle.std.specs.Prelude.{Option, Some, None, encode_utf8_all}
 use Rattle.std.specs.Option.{option_map_or}
 use Rattle.std.specs.Str.{IsAscii}
 use Rattle.std.proofs.lemmas.Bool.Decides.{nat_tests}
 use Rattle.std.proofs.lemmas.Fmt.{IsAscii-decimal}
-use Rattle.std.proofs.lemmas.List.{append_cancel_left}
+use Rattle.std.proofs.lemmas.List.{append_cancel_left, append_cancel_right}
 use Rattle.std.proofs.lemmas.Slice.Eq.{bytes_eq-Decides}
 use Rattle.std.proofs.lemmas.Str.{IsAscii-append, encodes-IsAscii, encodes_same}
 use Rattle.std.proofs.lemmas.Str.Ascii.{IsAscii-from_all}
 use Rattle.json_text.specs.Json.{Json, word, number, string, array, object}
 use Rattle.event_model.specs.Members.{string_of}
+use Rattle.event_model.proofs.Frames.{never}
 use Rattle.group_facts.specs.group_rows.specs.Created.{created_mark}
 use Rattle.group_facts.specs.mux_members.specs.Tokens.{text_of}
 use Rattle.mux_turns.specs.Creates.{CreatedAt, WritesCreated, created_front, is_created_mark}
@@ -19,7 +20,7 @@ use Rattle.mux_turns.proofs.Numbers.{decimals, tested, unread, unwritten}
 mark_is : (s k : ℕ) → created_mark s k ≡ created_front s ++ decimal k
 mark_is s k = refl
 
-swapped : (xs ys : List ℕ) → bytes_eq xs ys ≡ bytes_eq ys xs
+pub swapped : (xs ys : List ℕ) → bytes_eq xs ys ≡ bytes_eq ys xs
 swapped xs ys = tested ys xs (bytes_eq xs ys) (λ e. sym ((bytes_eq-Decides xs ys).0 e), λ q. (bytes_eq-Decides xs ys).1 (sym q))
 
 -- characters that don't begin as those of start s
@@ -29,6 +30,17 @@ no_created_front s cs other k h = go (bytes_eq (created_mark s k) cs) refl
     go : (b : Bool) → bytes_eq (created_mark s k) cs ≡ b → b ≡ false
     go false e = refl
     go true e = absurd (other (decimal k) (sym ((bytes_eq-Decides (created_mark s k) cs).0 e) ∙ mark_is s k))
+
+-- what begins with a list was seen to
+take_own : (xs ys : List ℕ) → take (length xs) (xs ++ ys) ≡ xs
+take_own xs ys = append_cancel_right (take (length xs) (xs ++ ys)) xs ys (ap (λ z. take (length xs) (xs ++ ys) ++ z) (sym (drop_own xs ys)) ∙ take-append-drop (length xs) (xs ++ ys))
+  where
+    drop_own : (xs ys : List ℕ) → drop (length xs) (xs ++ ys) ≡ ys
+    drop_own [] ys = refl
+    drop_own (x ∷ xs) ys = drop_own xs ys
+
+pub front_there : (front cs rest : List ℕ) → cs ≡ front ++ rest → bytes_eq (take (length front) cs) front ≡ false → ⊥
+front_there front cs rest is off = never (sym ((bytes_eq-Decides (take (length front) cs) front).1 (ap (take (length front)) is ∙ take_own front rest)) ∙ off)
 
 module _ (s : ℕ) (cs digits : List ℕ) (is : cs ≡ created_front s ++ digits) where
   at : (k : ℕ) → bytes_eq (created_mark s k) cs ≡ bytes_eq digits (decimal k)

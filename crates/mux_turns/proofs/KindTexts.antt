@@ -3,15 +3,16 @@ use Rattle.std.proofs.Common.{◌≡◌, ℕ, ◌<◌, Bool, true, false, List, 
 use Rattle.std.specs.Prelude.{Option, Some, None, encode_utf8_all, option_map}
 use Rattle.std.specs.Option.{option_map_or}
 use Rattle.std.specs.Str.{IsAscii}
+use Rattle.std.proofs.lemmas.Slice.Eq.{bytes_eq-Decides}
 use Rattle.std.proofs.lemmas.Str.Ascii.{IsAscii-from_all}
-use Rattle.document_model.specs.Sayings.{string_at}
+use Rattle.group_facts.specs.mux_members.specs.Members.{string_at}
 use Rattle.json_text.specs.Bare.{bare}
 use Rattle.json_text.specs.Json.{Json, word, number, string, array, object}
 use Rattle.event_model.specs.Members.{named_of, string_of}
 use Rattle.group_facts.specs.group_rows.specs.Created.{is_kind}
 use Rattle.group_facts.specs.mux_members.specs.Tokens.{text_of}
 use Rattle.group_facts.specs.mux_members.proofs.Bared.{of_bare}
-use Rattle.mux_turns.proofs.CreatedMarks.{same_encoded}
+use Rattle.mux_turns.proofs.CreatedMarks.{same_encoded, swapped}
 
 text_bare : (o : Option Json) → text_of (option_map bare o) ≡ text_of o
 text_bare None = refl
@@ -71,3 +72,13 @@ module _ (params : Option Json) where
 
   pub end_unsaid : None ≡ text_of (kind_at params) → false ≡ is_kind (codes "end") params
   end_unsaid is = kind_unsaid (codes "end") end_ascii (kind_at params) is
+
+-- which kind a name is
+pub begin_kind : (cs : List ℕ) → bytes_eq cs (codes "begin") ≡ true → (true ≡ bytes_eq (codes "begin") cs) × (false ≡ bytes_eq (codes "end") cs)
+begin_kind cs is = let same : cs ≡ codes "begin" = (bytes_eq-Decides cs (codes "begin")).0 is in (sym (ap (bytes_eq (codes "begin")) same), sym (ap (bytes_eq (codes "end")) same))
+
+pub end_kind : (cs : List ℕ) → bytes_eq cs (codes "end") ≡ true → (false ≡ bytes_eq (codes "begin") cs) × (true ≡ bytes_eq (codes "end") cs)
+end_kind cs is = let same : cs ≡ codes "end" = (bytes_eq-Decides cs (codes "end")).0 is in (sym (ap (bytes_eq (codes "begin")) same), sym (ap (bytes_eq (codes "end")) same))
+
+pub other_kind : (cs : List ℕ) → bytes_eq cs (codes "begin") ≡ false → bytes_eq cs (codes "end") ≡ false → (false ≡ bytes_eq (codes "begin") cs) × (false ≡ bytes_eq (codes "end") cs)
+other_kind cs a b = (sym (swapped (codes "begin") cs ∙ a), sym (swapped (codes "end") cs ∙ b))

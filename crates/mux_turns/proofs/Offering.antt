@@ -4,6 +4,7 @@ use Rattle.std.specs.Prelude.{Option, None, Some}
 use Rattle.std.specs.List.{AllByRecursion}
 use Rattle.std.proofs.lemmas.Bool.Decides.{nat_tests}
 use Rattle.std.proofs.lemmas.Slice.Eq.{bytes_eq-Decides}
+use Rattle.json_text.specs.Named.{named}
 use Rattle.lsp_method.specs.Class.{server_request}
 use Rattle.mux_history.specs.declared.cause.Cause.{Cause}
 use Rattle.mux_history.specs.declared.out.Out.{Out}
@@ -48,6 +49,11 @@ creates_so : is_creating (codes "window/workDoneProgress/create") ≡ true
 unfolding server_request
 creates_so = refl
 
+-- it names the daemon's own token
+marked_is : (s k : ℕ) (u : Token) → is_marked s (named_of (codes "token") (Some (create_tree s k))) u ≡ bytes_eq (created_mark s u.number) (created_mark s k)
+unfolding named
+marked_is s k u = refl
+
 module _ (settings : Settings) (s e k : ℕ) (events : List Event) (t : Token) (small : AreSmall settings events) (found : find (is_numbered k) (created_of settings s events).tokens ≡ Some t) where
   abbrev live : ℕ → List Token
   live n = (created_of settings n events).tokens
@@ -73,7 +79,7 @@ module _ (settings : Settings) (s e k : ℕ) (events : List Event) (t : Token) (
 
   -- at its start the token of the number
   numbered : (u : Token) → u.number < 2 ^ 64 → marked s u ≡ is_numbered k u
-  numbered u less = go (nat_eq u.number k) refl (bytes_eq (created_mark s u.number) (created_mark s k)) refl
+  numbered u less = marked_is s k u ∙ go (nat_eq u.number k) refl (bytes_eq (created_mark s u.number) (created_mark s k)) refl
     where
       go : (b : Bool) → nat_eq u.number k ≡ b → (c : Bool) → bytes_eq (created_mark s u.number) (created_mark s k) ≡ c → c ≡ b
       go true same true is = refl

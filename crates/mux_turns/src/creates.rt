@@ -1,6 +1,6 @@
 //! S8, S13, E11, E19 and L2: tokens that starts create, and the daemon's own in their place (LSP 3.17, Work Done Progress, Server
 //! Initiated Progress).
-ghost use Rattle.std.specs.Prelude.{◌≡◌, ◌<◌, ℕ, List, None, Option, Some, length, true, codes, IfOk, OnOk, slice_get};
+ghost use Rattle.std.specs.Prelude.{◌≡◌, ◌<◌, ℕ, List, None, Option, Some, length, true, bytes_eq, codes, IfOk, OnOk, slice_get};
 ghost use Rattle.event_model.specs.Does.{Does};
 ghost use Rattle.event_model.specs.Event.{Event, behind};
 ghost use Rattle.event_model.specs.Members.{named_of};
@@ -8,7 +8,7 @@ ghost use Rattle.event_model.specs.Phases.{desk_of, is_running};
 ghost use Rattle.event_model.specs.Settings.{Settings};
 ghost use Rattle.group_facts.specs.group_rows.specs.Asks.{asking_of};
 ghost use Rattle.group_facts.specs.group_rows.specs.Created.{Token, created_text, is_begin, is_end};
-ghost use Rattle.group_facts.specs.group_rows.specs.CreatedRows.{create_text, offer};
+ghost use Rattle.group_facts.specs.group_rows.specs.CreatedRows.{create_params, create_text, offer};
 ghost use Rattle.group_facts.specs.group_rows.specs.Tokens.{marked_text};
 ghost use Rattle.json_text.specs.Json.{Json};
 ghost use Rattle.mux_tables.specs.declared.tables.Start.{Start};
@@ -48,13 +48,7 @@ fn created_front(alloc: Global, s: u64) -> Result<Vec<u8>, Memory>
 fn created_in(front: &[u8], cs: &[u8]) -> Option<u64>
     ensures { (s : ℕ) → front.now ≡ created_front s → WritesCreated s cs.now result }
 {
-    if cs.len() < front.len() {
-        return None;
-    }
-    let (begin, digits) = cs.split_at(front.len());
-    if begin != front {
-        return None;
-    }
+    let digits = cs.strip_prefix(front)?;
     let k = read(digits)?;
     if writes(digits, k) { Some(k) } else { None }
 }
@@ -89,15 +83,23 @@ pub fn created_text(alloc: Global, s: u64, k: u64) -> Result<Vec<u8>, Memory>
     Ok(text)
 }
 
-// The request of number n by which an editor is asked to take the token of number k of a start.
-fn create_text(alloc: Global, s: u64, k: u64, n: u64) -> Result<Body, Memory>
-    ensures { IfOk result (λ body. body ≡ create_text s k n) }
+// The params that name the daemon's token of a start and a number.
+fn create_params(alloc: Global, s: u64, k: u64) -> Result<Vec<u8>, Memory>
+    ensures { IfOk result (λ params. params.items ≡ create_params s k) }
 {
     let token = created_text(alloc, s, k)?;
     let mut params = Vec::new(alloc);
     params.extend_from_slice("{\"token\":".as_bytes())?;
     params.extend_from_slice(&token)?;
     params.extend_from_slice("}".as_bytes())?;
+    Ok(params)
+}
+
+// The request of number n by which an editor is asked to take the token of number k of a start.
+fn create_text(alloc: Global, s: u64, k: u64, n: u64) -> Result<Body, Memory>
+    ensures { IfOk result (λ body. body ≡ create_text s k n) }
+{
+    let params = create_params(alloc, s, k)?;
     request(
         alloc,
         n as u128,
@@ -136,6 +138,20 @@ pub fn offer(
     Ok(())
 }
 
+// What a kind says.
+fn kind_named(cs: &[u8]) -> Kind
+    ensures begin { table.is_begin result ≡ bytes_eq (codes "begin") cs.now }
+    ensures end { table.is_end result ≡ bytes_eq (codes "end") cs.now }
+{
+    if cs == "begin".as_bytes() {
+        Kind::Begin
+    } else if cs == "end".as_bytes() {
+        Kind::End
+    } else {
+        Kind::Other
+    }
+}
+
 /// S13: what a notification says of the progress of its token, by the `kind` of its `value`.
 pub fn kind_of(alloc: Global, message: &Message) -> Result<Kind, Memory>
     ensures { (body method : List ℕ) (params : Option Json) → IsRead message.now body → message_of body ≡ notification method params
@@ -146,15 +162,7 @@ pub fn kind_of(alloc: Global, message: &Message) -> Result<Kind, Memory>
     let kind = string(alloc, tape, value, "kind")?;
     match kind {
         None => Ok(Kind::Other),
-        Some(cs) => {
-            if cs.bytes() == "begin".as_bytes() {
-                Ok(Kind::Begin)
-            } else if cs.bytes() == "end".as_bytes() {
-                Ok(Kind::End)
-            } else {
-                Ok(Kind::Other)
-            }
-        }
+        Some(cs) => Ok(kind_named(cs.bytes())),
     }
 }
 
