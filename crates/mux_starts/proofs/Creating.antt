@@ -1,5 +1,5 @@
 -- S8: what a request creates, and who is asked to take it.
-use Rattle.std.proofs.Common.{◌≡◌, ℕ, zero, suc, ◌+◌, ◌<◌, ◌^◌, Bool, true, false, not, ◌&&◌, ◌||◌, cond, List, [], ◌∷◌, ◌++◌, codes, filter, find, get_or, length, nat_eq, nat_lt, take, if◌then◌else◌, refl, ap, sym, subst, ◌∙◌, arith, ltb-true}
+use Rattle.std.proofs.Common.{◌≡◌, ℕ, zero, suc, ◌+◌, ◌<◌, ◌^◌, Bool, true, false, not, ◌&&◌, ◌||◌, cond, List, [], ◌∷◌, codes, filter, get_or, length, nat_eq, nat_lt, take, if◌then◌else◌, refl, ap, sym, ◌∙◌, arith}
 use Rattle.std.specs.Prelude.{Option, None, Some, is_some}
 use Rattle.std.specs.List.{AllByRecursion, range_with_len}
 use Rattle.std.specs.Option.{option_and_then, option_map}
@@ -12,7 +12,7 @@ use Rattle.event_model.specs.Phases.{desk_of, editors_of, is_running}
 use Rattle.event_model.specs.Settings.{Settings}
 use Rattle.event_model.proofs.Frames.{never}
 use Rattle.group_rows.specs.Asks.{running_in}
-use Rattle.group_rows.specs.Created.{Created, Token, created_token, if_new, is_numbered, may_create, named_token, token_called, token_of}
+use Rattle.group_rows.specs.Created.{Created, Token, created_token, if_new, may_create, named_token, token_called, token_of}
 use Rattle.group_rows.specs.Forwarded.{token_in}
 use Rattle.group_rows.specs.Tokens.{is_reserved}
 use Rattle.group_words.specs.Houses.{home_of, is_home}

@@ -10,6 +10,7 @@ pub mod Parking
 pub mod Progressing
 pub mod Singles
 pub mod Creating
+pub mod Offered
 pub mod Uncreated
 pub mod Refreshing
 pub mod Recalls

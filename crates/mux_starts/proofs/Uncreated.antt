@@ -1,6 +1,6 @@
 -- S8 and S13: by which messages of a start nothing changes of the tokens that it created.
 use Rattle.std.proofs.Common.{◌≡◌, ℕ, Bool, true, false, not, ◌&&◌, List, refl, ap, sym, ◌∙◌}
-use Rattle.std.specs.Prelude.{Option, Some}
+use Rattle.std.specs.Prelude.{Option, None, Some}
 use Rattle.json_text.specs.Json.{Json}
 use Rattle.lsp_method.specs.Class.{class_of}
 use Rattle.lsp_method.specs.declared.variants.Class.{Class}
@@ -16,10 +16,10 @@ use Rattle.event_model.specs.Settings.{Settings}
 use Rattle.event_model.specs.Stages.{is_ready, life_of}
 use Rattle.event_model.proofs.Frames.{never}
 use Rattle.group_rows.specs.Asks.{asking_of, goes_to_one, is_single, is_taken}
-use Rattle.group_rows.specs.Created.{created_next, created_of, is_creating, is_progress, names_create}
+use Rattle.group_rows.specs.Created.{created_next, created_of, created_token, is_creating, is_progress, named_token, names_create, token_called}
 use Rattle.mux_tables.specs.mux_tokens.specs.Stands.{CreatedStay}
 use Rattle.mux_tables.specs.Stands.{is_request}
-use Rattle.mux_tables.specs.mux_tokens.proofs.Stays.{other_notification, other_request, unheard_request, unready_notification}
+use Rattle.mux_tables.specs.mux_tokens.proofs.Stays.{other_notification, other_request, refused_request, unheard_request, unready_notification, untold_notification}
 
 -- what one editor answers creates no token
 single_class : (k : Class) → goes_to_one k ≡ true → names_create k ≡ false
@@ -38,6 +38,9 @@ module _ (settings : Settings) (before : List Event) (s : ℕ) (body : List ℕ)
     pub other_creates : is_creating method ≡ false → CreatedStay settings s before (heard (FromServer s body))
     other_creates off = by (request id method params) says (other_request settings s s before (created_of settings s before) body id method params off)
 
+    pub refused_creates : created_token body (created_of settings s before) ≡ None → CreatedStay settings s before (heard (FromServer s body))
+    refused_creates none = by (request id method params) says (refused_request settings s s before (created_of settings s before) body id method params none)
+
     pub repeated_creates : is_taken (Some id) (asking_of settings s before) ≡ true → CreatedStay settings s before (heard (FromServer s body))
     repeated_creates taken = by (request id method params) says (unheard_request settings s s before (created_of settings s before) body id method params (ap (λ b. is_ready (life_of s before).stage && not b) taken ∙ off (is_ready (life_of s before).stage)))
       where
@@ -47,6 +50,9 @@ module _ (settings : Settings) (before : List Event) (s : ℕ) (body : List ℕ)
 
   pub other_tells : (method : List ℕ) (params : Option Json) → message_of body ≡ notification method params → is_progress method ≡ false → CreatedStay settings s before (heard (FromServer s body))
   other_tells method params says off = by (notification method params) says (other_notification settings s s before (created_of settings s before) body method params off)
+
+  pub untold_creates : (method : List ℕ) (params : Option Json) → message_of body ≡ notification method params → token_called (named_token params) (created_of settings s before) ≡ None → CreatedStay settings s before (heard (FromServer s body))
+  untold_creates method params says none = by (notification method params) says (untold_notification settings s s before (created_of settings s before) body method params none)
 
   -- a start that isn't ready
   pub unready_creates : is_ready (life_of s before).stage ≡ false → CreatedStay settings s before (heard (FromServer s body))
@@ -62,7 +68,7 @@ module _ (settings : Settings) (before : List Event) (s : ℕ) (body : List ℕ)
   answers_create unasked unnoted = go (message_of body) refl unasked unnoted
     where
       go : (m : Message) → message_of body ≡ m → is_request m ≡ false → (sort_of m ≡ Some sort.Notification → ⊥) → CreatedStay settings s before (heard (FromServer s body))
-      go (request id method params) says h k = never (sym h)
+      go (request id method params) says h k = never h
       go (notification method params) says h k = absurd (k refl)
       go other says h k = by other says refl
 

@@ -1,5 +1,5 @@
 //! S8: a start creates a token for progress (LSP 3.17, Work Done Progress, Server Initiated Progress); and which editors S13 tells of one.
-ghost use Rattle.std.specs.Prelude.{◌≡◌, ◌<◌, ℕ, List, [], None, Option, Some, IfOk, OnOk, false, filter, find, length, map, true, slice_get};
+ghost use Rattle.std.specs.Prelude.{◌≡◌, ◌<◌, ◌^◌, ℕ, List, [], None, Option, Some, IfOk, OnOk, false, filter, find, length, map, true, slice_get};
 ghost use Rattle.std.specs.List.{All, AllByRecursion};
 ghost use Rattle.event_model.specs.declared.stage.Stage.TheVariants.{Ready};
 ghost use Rattle.event_model.specs.Does.{Does, Done};
@@ -78,6 +78,7 @@ fn offer_each(
     requires editors { All (λ e. e < length tables.old.editors) numbers.now }
     ensures requests { tables.new.requests ≡ tables.old.requests }
     ensures versions { tables.new.versions ≡ tables.old.versions }
+    ensures low { k < 2 ^ 64 }
     ensures does { (settings : Settings) (base : List Event) (x : Start) (token : Token) → slice_get tables.old.lasts.items g ≡ Some x
         → AreApart numbers.now → AllByRecursion (λ e. is_running (desk_of e (behind base outs.old)).phase ≡ true) numbers.now
         → ((s : ℕ) → (asking_of settings s (behind base outs.old)).asker ≡ None)
@@ -156,7 +157,12 @@ fn takers(
 
 /// S13: the live token of the group's last start that a notification tells of, and the editors of the group that run and accepted it,
 /// rising.
-pub fn due_of(tables: &Tables, alloc: Global, g: usize, message: &Message) -> Result<Option<Due>, Memory>
+pub fn due_of(
+    tables: &Tables,
+    alloc: Global,
+    g: usize,
+    message: &Message,
+) -> Result<Option<Due>, Memory>
     requires { g < length tables.now.lasts.items }
     ensures { (settings : Settings) (before : List Event) (body method : List ℕ) (params : Option Json) (x : Start)
         → IsRead message.now body → message_of body ≡ notification method params → slice_get tables.now.lasts.items g ≡ Some x

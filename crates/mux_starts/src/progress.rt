@@ -90,7 +90,8 @@ fn hear_due(tables: &mut Tables, alloc: Global, g: usize, message: &Message) -> 
     };
     let kind = kind_of(alloc, message)?;
     let body = Body::new(Vec::from_slice(alloc, message.bytes())?);
-    tables.hear_progress(g, token, &body, kind)
+    tables.hear_progress(g, token, &body, kind)?;
+    Ok(())
 }
 
 // A notification of the group's last start is heard. `due` says whether it tells of a live token that the start created.
@@ -138,7 +139,8 @@ fn tell_due(
         (tables.now, nothing_owed) outs.old (tables.now, nothing_owed) outs.new) }
 {
     let text = told_text(alloc, message, tables.start_number(g), due.token)?;
-    spread(tables, alloc, outs, &due.editors, text.bytes())
+    spread(tables, alloc, outs, &due.editors, text.bytes())?;
+    Ok(())
 }
 
 /// S13: a `$/progress` comes from the group's last start, which is ready. Where its token is the daemon's of an open request, and the
@@ -166,9 +168,15 @@ pub fn take_progress(
     let due = due_of(tables, alloc, g, message)?;
     hear(tables, alloc, g, message, due.is_some())?;
     match told {
-        Some(told) => tell(tables, outs, told),
+        Some(told) => {
+            tell(tables, outs, told)?;
+            Ok(())
+        }
         None => match due {
-            Some(due) => tell_due(tables, alloc, outs, g, message, &due),
+            Some(due) => {
+                tell_due(tables, alloc, outs, g, message, &due)?;
+                Ok(())
+            }
             None => Ok(()),
         },
     }
