@@ -13,6 +13,6 @@ use Rattle.mux_editors.proofs.handed.hand_out.Given as goal
 abbrev pub invariant-loop-body : goal.invariant-loop-body
 invariant-loop-body l = record {
   does : (settings : Settings) (base : List Event) → AreHeld l.body-items
-      → Does (λ t events. Stands settings t events) (each (tell l.s l.handed.token l.e) (take l.body-index l.body-items)) base l.tables l.initial.outs l.tables l.outs;
+      → Does (λ t events. Stands settings t events) (each (tell l.s l.fn.handed.token l.e) (take l.body-index l.body-items)) base l.tables l.initial.outs l.tables l.outs;
   documents : (settings : Settings) (owed : Owed) (base : List Event) → DocumentsStand settings owed l.tables (behind base l.initial.outs) → DocumentsStand settings owed l.tables (behind base l.outs);
 }

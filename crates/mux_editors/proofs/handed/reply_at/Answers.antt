@@ -1,13 +1,13 @@
 -- A response of an editor of the group in a place.
-use Rattle.std.proofs.Common.{◌≡◌, ◌×◌, ℕ, List, ◌<◌, [], find, if◌then◌else◌, ap, subst, sym, ◌∙◌}
-use Rattle.std.specs.Prelude.{Option, option_map, slice_get}
+use Rattle.std.proofs.Common.{◌<◌, find, ap, subst, sym, ◌∙◌}
+use Rattle.std.specs.Prelude.{slice_get}
 use Rattle.event_model.specs.Event.{with_cause}
 use Rattle.event_model.specs.Phases.{desk_of}
 use Rattle.event_model.specs.Requests.{answered_id}
 use Rattle.event_model.specs.Stages.{is_ready}
 use Rattle.event_model.proofs.Turns.{does_alike, does_nothing}
 use Rattle.group_rows.specs.Asks.{asks_of, is_seated}
-use Rattle.group_rows.specs.Created.{Taking, created_of, is_answered}
+use Rattle.group_rows.specs.Created.{created_of, is_answered}
 use Rattle.mux_history.specs.declared.cause.Cause.TheVariants.{FromEditor}
 use Rattle.rpc_message.specs.Message.{message_of}
 use Rattle.mux_tables.specs.Documents.{nothing_owed}
@@ -20,7 +20,7 @@ use Rattle.mux_editors.proofs.Beginning.{numbers_kept, same_length}
 use Rattle.mux_editors.proofs.Handing.{fits_behind, ready_reply, reply_keeps, reply_makes, reply_stops, reply_unshut, unready_reply}
 use Rattle.mux_editors.proofs.Runs.{runs_now, then_rest, works_now}
 use Rattle.mux_editors.proofs.Serving.{not_new, unplaced}
-use Rattle.mux_editors.proofs.Taking.{given_as, pair_of, takings_held}
+use Rattle.mux_editors.proofs.Taking.{given_as, takings_held}
 use Rattle.mux_editors.proofs.Takings.{can_begin, takes_by_one}
 use Rattle.mux_turns.proofs.Ready.{is_that_ready}
 use Rattle.mux_turns.proofs.Stays.{kept_stage}
