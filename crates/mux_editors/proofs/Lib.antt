@@ -7,6 +7,7 @@ pub mod Classes
 pub mod CreatedWork
 pub mod Doubling
 pub mod Initializing
+pub mod LiveOffers
 pub mod Lspmux
 pub mod Noticing
 pub mod Passing

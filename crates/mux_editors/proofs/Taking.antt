@@ -1,13 +1,15 @@
 -- E19: what an editor's response answers, by its row: what a start asked, or whether the editor takes a token.
-use Rattle.std.proofs.Common.{◌≡◌, ℕ, Bool, true, false, cond, List, [], ◌∷◌, find, if◌then◌else◌, refl, ap, sym, subst, ◌∙◌}
+use Rattle.std.proofs.Common.{◌≡◌, ℕ, zero, suc, ◌<◌, Bool, true, false, cond, List, [], ◌∷◌, find, get_or, length, if◌then◌else◌, refl, ap, sym, subst, ◌∙◌, arith}
 use Rattle.std.specs.Prelude.{Option, Some, None, IfSome, option_map}
 use Rattle.std.specs.List.{AllByRecursion}
+use Rattle.mux_history.specs.declared.cause.Cause.TheVariants.{FromEditor, FromServer}
 use Rattle.mux_history.specs.declared.out.Out.{Out}
+use Rattle.mux_history.specs.declared.out.Out.TheVariants.{ToServer}
 use Rattle.rpc_message.specs.Message.{Message}
 use Rattle.event_model.specs.declared.phase.Phase.{Phase}
 use Rattle.event_model.specs.declared.phase.Phase.TheVariants.{Absent, New, Waiting, Answered, Running, Down, Closed, Gone}
 use Rattle.event_model.specs.Does.{Alike, Does}
-use Rattle.event_model.specs.Event.{Event}
+use Rattle.event_model.specs.Event.{Event, did, took}
 use Rattle.event_model.specs.Phases.{desk_of, is_running, is_served}
 use Rattle.event_model.specs.Requests.{answered_id}
 use Rattle.event_model.specs.Row.{Row, choose, each, nothing, on}
@@ -17,9 +19,12 @@ use Rattle.group_rows.specs.AskRows.{hand_back}
 use Rattle.group_rows.specs.Asks.{Ask}
 use Rattle.group_rows.specs.Created.{Taking, accepts, created_of, is_answered}
 use Rattle.group_rows.specs.CreatedRows.{hand_out, taking_row, tell}
-use Rattle.group_rows.proofs.CreatedKept.{AreTellings, IsTelling, found_one}
+use Rattle.group_rows.proofs.CreatedKept.{AreTellings, IsTelling, found_one, held_told}
+use Rattle.group_rows.proofs.Versions as versions
+use Rattle.group_rows.proofs.Versions.{AllMeant}
+use Rattle.mux_turns.specs.group_facts.specs.Facts.{IsMeant, Meant}
 use Rattle.mux_tables.specs.mux_tokens.specs.progress_route.specs.declared.tokens.Handed.{Handed}
-use Rattle.mux_editors.specs.Handing.{AllHeld, AreHeld}
+use Rattle.mux_editors.specs.Handing.{AllHeld, AreHeld, IsNotice}
 use Rattle.mux_editors.specs.Running.{may_begin}
 
 -- an editor that is served, and doesn't begin to run, runs
@@ -52,6 +57,12 @@ pub all_held : (cs : List Taking) → AllByRecursion (λ (c : Taking). AreTellin
 all_held [] h = tt
 all_held (c ∷ cs) h = (held_tellings c.held h.0, all_held cs h.1)
 
+-- one of them
+pub held_at : (bodies : List (List ℕ)) (i : ℕ) → AreHeld bodies → i < length bodies → IsNotice (get_or bodies i [])
+held_at [] i h less = absurd (omega (arith, less))
+held_at (body ∷ bodies) zero h less = h.0
+held_at (body ∷ bodies) (suc i) h less = held_at bodies i h.1 (omega (arith, less))
+
 -- what is handed out
 abbrev pub given_of : Message → Taking → ℕ × List (List ℕ)
 given_of m c = (c.token, if accepts m then c.held else [])
@@ -61,6 +72,24 @@ pair_of h = (h.token, h.bodies.items)
 
 same_pair : (x y : ℕ × List (List ℕ)) → ◌≡◌ {A = Option (ℕ × List (List ℕ))} (Some x) (Some y) → x ≡ y
 same_pair x y e = cc
+
+-- by what is known of the response
+pub given_as : (o : Option Taking) (handed : Option Handed) (m : Message) (b : Bool) → b ≡ accepts m → option_map pair_of handed ≡ option_map {U = ℕ × List (List ℕ)} (λ (c : Taking). (c.token, if b then c.held else [])) o → option_map pair_of handed ≡ option_map (given_of m) o
+given_as o handed m b is h = h ∙ ap (λ a. option_map {U = ℕ × List (List ℕ)} (λ (c : Taking). (c.token, if a then c.held else [])) o) is
+
+-- in a history of causes and outs notifications are held
+meant_same : (events : List Event) → Meant events → AllMeant events
+meant_same [] h = tt
+meant_same (event ∷ events) h = (one event h.0, meant_same events h.1)
+  where
+    one : (event : Event) → IsMeant event → versions.IsMeant event
+    one (took (FromEditor e body) m) k = k
+    one (took (FromServer s body) m) k = k
+    one (did (ToServer s body) m) k = k
+    one other k = tt
+
+pub takings_held : (settings : Settings) (s : ℕ) (before : List Event) → Meant before → AllHeld (created_of settings s before).takings
+takings_held settings s before meant = all_held (created_of settings s before).takings (held_told settings s before (meant_same before meant))
 
 module _ (settings : Settings) (before : List Event) (e s : ℕ) (body : List ℕ) (m : Message) where
   abbrev found : Option Taking

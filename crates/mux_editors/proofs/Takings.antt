@@ -1,12 +1,10 @@
 -- What starts asked an editor to take, by what holds of every legal history.
-use Rattle.std.proofs.Common.{◌≡◌, ℕ, ◌^◌, ◌≤◌, Bool, true, false, not, ◌&&◌, List, [], ◌∷◌, ◌++◌, cond, codes, filter, flat_map, nat_eq, if◌then◌else◌, refl, ap, sym, ◌∙◌, arith}
+use Rattle.std.proofs.Common.{◌≡◌, ℕ, ◌^◌, ◌≤◌, Bool, true, false, not, ◌&&◌, List, [], ◌∷◌, ◌++◌, cond, codes, filter, flat_map, nat_eq, if◌then◌else◌, refl, ap, sym, subst, ◌∙◌, arith}
 use Rattle.std.specs.Prelude.{Option, None, Some}
 use Rattle.std.specs.List.{AllByRecursion}
 use Rattle.std.proofs.lemmas.Bool.Decides.{nat_tests}
 use Rattle.rpc_message.specs.Message.{Id, Message}
 use Rattle.mux_history.specs.declared.cause.Cause.TheVariants.{FromEditor}
-use Rattle.event_model.specs.declared.phase.Phase.{Phase}
-use Rattle.event_model.specs.declared.phase.Phase.TheVariants.{Answered}
 use Rattle.event_model.specs.declared.stage.Stage.TheVariants.{Ended, Ready}
 use Rattle.event_model.specs.Event.{Event, requests}
 use Rattle.event_model.specs.Phases.{desk_of, is_running, is_served}
@@ -23,15 +21,13 @@ use Rattle.mux_tables.specs.mux_tokens.specs.Stands.{AreFresh, TakesNone, TakesO
 use Rattle.mux_tables.specs.declared.tables.Tables.{Tables}
 use Rattle.mux_tables.specs.Stands.{Stands}
 use Rattle.mux_turns.proofs.Offering.{few_starts, no_starts, small_heard}
-use Rattle.mux_editors.specs.Running.{CanBegin, may_begin}
+use Rattle.mux_editors.specs.Running.{AreUnasked, CanBegin}
+use Rattle.mux_editors.proofs.Taking.{begins_unrun}
 use Rattle.mux_tables.proofs.Lasts.{same_place}
 
 -- An editor that wasn't asked to take anything
 
-abbrev AreAway : ℕ → List Taking → Type 0
-AreAway e cs = AllByRecursion (λ (c : Taking). is_at e c ≡ false) cs
-
-kept_all : (e : ℕ) (cs : List Taking) → AreAway e cs → filter (λ c. not (is_at e c)) cs ≡ cs
+kept_all : (e : ℕ) (cs : List Taking) → AreUnasked e cs → filter (λ c. not (is_at e c)) cs ≡ cs
 kept_all e [] h = refl
 kept_all e (c ∷ cs) h = ap (λ b. cond (not b) (c ∷ filter (λ d. not (is_at e d)) cs) (filter (λ d. not (is_at e d)) cs)) h.0 ∙ ap (λ ds. c ∷ ds) (kept_all e cs h.1)
 
@@ -39,21 +35,21 @@ and_none : (b : Bool) → (b && false) ≡ false
 and_none true = refl
 and_none false = refl
 
-unanswered_all : (e : ℕ) (id : Option Id) (m : Message) (x : Created) (cs : List Taking) → AreAway e cs → flat_map (λ c. if is_answered e id c then settled m x c else c ∷ []) cs ≡ cs
+unanswered_all : (e : ℕ) (id : Option Id) (m : Message) (x : Created) (cs : List Taking) → AreUnasked e cs → flat_map (λ c. if is_answered e id c then settled m x c else c ∷ []) cs ≡ cs
 unanswered_all e id m x [] h = refl
 unanswered_all e id m x (c ∷ cs) h =
     ap (λ b. (if not c.accepted && (b && names id c.number) then settled m x c else c ∷ []) ++ flat_map (λ d. if is_answered e id d then settled m x d else d ∷ []) cs) h.0
     ∙ ap (λ b. (if b then settled m x c else c ∷ []) ++ flat_map (λ d. if is_answered e id d then settled m x d else d ∷ []) cs) (and_none (not c.accepted))
     ∙ ap (λ ds. c ∷ ds) (unanswered_all e id m x cs h.1)
 
-pub away_spoken : (e : ℕ) (m : Message) (x : Created) → AreAway e x.takings → spoken e m x ≡ x
+pub away_spoken : (e : ℕ) (m : Message) (x : Created) → AreUnasked e x.takings → spoken e m x ≡ x
 away_spoken e m x h = go (requests (codes "shutdown") m)
   where
     go : (b : Bool) → (if b then left e x else answered e m x) ≡ x
     go true = ap (λ cs. record { next = x.next; tokens = x.tokens; takings = cs }) (kept_all e x.takings h)
     go false = ap (λ cs. record { next = x.next; tokens = x.tokens; takings = cs }) (unanswered_all e (answered_id m) m x x.takings h)
 
-away_fresh : (e n k : ℕ) (cs : List Taking) → AreAway e cs → AreFresh e n k cs
+away_fresh : (e n k : ℕ) (cs : List Taking) → AreUnasked e cs → AreFresh e n k cs
 away_fresh e n k [] h = tt
 away_fresh e n k (c ∷ cs) h = ((ap (λ b. b && nat_eq c.number n) h.0, ap (λ b. b && nat_eq c.token k) h.0), away_fresh e n k cs h.1)
 
@@ -63,21 +59,21 @@ module _ (settings : Settings) (before : List Event) (settled : Settled settings
   few : starts_of before ≤ 2 ^ 64
   few = few_starts settings t before st
 
-  away_where : (e s : ℕ) → ((c : Taking) → HasTaken settings before s c → c.editor ≡ e → ⊥) → AreAway e (created_of settings s before).takings
+  away_where : (e s : ℕ) → ((c : Taking) → HasTaken settings before s c → c.editor ≡ e → ⊥) → AreUnasked e (created_of settings s before).takings
   away_where e s other = go (created_of settings s before).takings (settled.takings few s)
     where
       one : (c : Taking) → HasTaken settings before s c → (b : Bool) → nat_eq c.editor e ≡ b → b ≡ false
       one c h true is = absurd (other c h (let same : c.editor ≡ e = grind (arith, nat_tests) in same))
       one c h false is = refl
 
-      go : (cs : List Taking) → AllByRecursion (HasTaken settings before s) cs → AreAway e cs
+      go : (cs : List Taking) → AllByRecursion (HasTaken settings before s) cs → AreUnasked e cs
       go [] h = tt
       go (c ∷ cs) h = (one c h.0 (nat_eq c.editor e) refl, go cs h.1)
 
-  unrun_away : (e : ℕ) → is_running (desk_of e before).phase ≡ false → (s : ℕ) → AreAway e (created_of settings s before).takings
+  unrun_away : (e : ℕ) → is_running (desk_of e before).phase ≡ false → (s : ℕ) → AreUnasked e (created_of settings s before).takings
   unrun_away e unrun s = away_where e s (λ c h is. never (sym (ap is_running h.running) ∙ (ap (λ n. is_running (desk_of n before).phase) is ∙ unrun)))
 
-  unserved_away : (e : ℕ) → is_served (desk_of e before).phase ≡ false → (s : ℕ) → AreAway e (created_of settings s before).takings
+  unserved_away : (e : ℕ) → is_served (desk_of e before).phase ≡ false → (s : ℕ) → AreUnasked e (created_of settings s before).takings
   unserved_away e unserved s = away_where e s (λ c h is. never (sym (ap is_served h.running) ∙ (ap (λ n. is_served (desk_of n before).phase) is ∙ unserved)))
 
   -- an editor that isn't served takes nothing
@@ -140,13 +136,17 @@ module _ (settings : Settings) (before : List Event) (settled : Settled settings
   pub ended_untaken : (s : ℕ) → (life_of s before).stage ≡ Ended → (created_of settings s before).takings ≡ []
   ended_untaken s over = unready_untaken s (ap is_ready over)
 
-unrun : (p : Phase) → may_begin p ≡ true → is_running p ≡ false
-unrun Answered h = refl
-unrun other h = never (sym h)
+  -- so where that start ended nothing is taken
+  pub takes_ended : (e g s : ℕ) (m : Message) → home_of settings e before ≡ Some g → start_of g before ≡ Some s → (life_of s before).stage ≡ Ended → TakesNone settings e m before
+  takes_ended e g s m home last over n = go (nat_eq n s) refl
+    where
+      go : (b : Bool) → nat_eq n s ≡ b → spoken e m (created_of settings n before) ≡ created_of settings n before
+      go true is = let same : n ≡ s = grind (arith, nat_tests) in away_spoken e m (created_of settings n before) (subst (AreUnasked e) (sym (ended_untaken n (ap (λ k. (life_of k before).stage) same ∙ over))) tt)
+      go false away = takes_by_one e g s m home last n away
 
 -- what an editor may be asked where it begins to run
 pub can_begin : (settings : Settings) (before : List Event) → Settled settings before → (t : Tables) (e : ℕ) (body : List ℕ) → Stands settings t before → CanBegin settings before e body
 can_begin settings before settled t e body st = record {
-  unasked = λ begins s. unrun_away settings before settled t st e (unrun (desk_of e before).phase begins) s;
+  unasked = λ begins s. unrun_away settings before settled t st e (begins_unrun (desk_of e before).phase begins) s;
   small = small_heard settings before (no_starts settings t before st) settled (few_starts settings t before st) (FromEditor e body);
 }

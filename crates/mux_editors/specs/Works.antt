@@ -29,8 +29,10 @@ Works settings before e body params starts None = Alike (work_row settings befor
 Works settings before e body params starts (Some x) = (s : ℕ) → slice_get starts x.group ≡ Some s
     → Alike (work_row settings before e body params) (send (ToServer s (marked_text (mark_text (work_mark x.number)) body)))
 
+abbrev pub IsCancel : List ℕ → Type 0
+IsCancel text = (params : Option Json) × (message_of text ≡ notification (codes "window/workDoneProgress/cancel") params)
+
 -- the row sends this start this text, which is such a notification, or nothing
 abbrev pub Goes : Settings → List Event → ℕ → List ℕ → Option Json → List ℕ → Option Work → Type 0
 Goes settings before e body params starts None = Alike (work_row settings before e body params) nothing
-Goes settings before e body params starts (Some x) = ((new : Option Json) × (message_of x.text ≡ notification (codes "window/workDoneProgress/cancel") new))
-    × ((s : ℕ) → slice_get starts x.group ≡ Some s → Alike (work_row settings before e body params) (send (ToServer s x.text)))
+Goes settings before e body params starts (Some x) = IsCancel x.text × ((s : ℕ) → slice_get starts x.group ≡ Some s → Alike (work_row settings before e body params) (send (ToServer s x.text)))

@@ -106,7 +106,10 @@ fn hand_out_any(
 {
     match handed {
         None => Ok(()),
-        Some(handed) => hand_out(tables, alloc, outs, g, e, handed),
+        Some(handed) => {
+            hand_out(tables, alloc, outs, g, e, handed)?;
+            Ok(())
+        }
     }
 }
 
@@ -141,9 +144,15 @@ fn reply(
 {
     let Reply { ask, handed } = reply;
     match ask {
-        Some(id) => hand_back(tables, alloc, outs, g, Some(id), message),
+        Some(id) => {
+            hand_back(tables, alloc, outs, g, Some(id), message)?;
+            Ok(())
+        }
         None if begins => Ok(()),
-        None => hand_out_any(tables, alloc, outs, g, e, handed),
+        None => {
+            hand_out_any(tables, alloc, outs, g, e, handed)?;
+            Ok(())
+        }
     }
 }
 

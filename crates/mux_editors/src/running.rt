@@ -70,7 +70,7 @@ fn restore(
     Ok(())
 }
 
-// The same of each of these tokens that live there, in this order.
+// The same for each of the tokens that live there, which are listed in the order of creation.
 fn offer_each(
     tables: &mut Tables,
     alloc: Global,
@@ -92,8 +92,8 @@ fn offer_each(
         → OnOk result (Does (λ k events. AllStand settings k events)
         (each (offer x.life.start e) (created_of settings x.life.start (behind base outs.old)).tokens) base (tables.old, owed) outs.old (tables.new, owed) outs.new) }
 {
-    for (k, _) in live {
-        offer(tables, alloc, outs, g, e, *k)?;
+    for token in live {
+        offer(tables, alloc, outs, g, e, token.0)?;
     }
     Ok(())
 }
@@ -120,12 +120,13 @@ fn offer_live(
         (each (offer x.life.start e) (created_of settings x.life.start (behind base outs.old)).tokens) base (tables.old, owed) outs.old (tables.new, owed) outs.new) }
 {
     let live = tables.created(g)?;
-    offer_each(tables, alloc, outs, g, e, &live)
+    offer_each(tables, alloc, outs, g, e, &live)?;
+    Ok(())
 }
 
 /// L2: a message by which an editor runs was heard. Where the editor `begins` to run by it, and the last start of its group is ready, it
-/// is told of all that is registered there, asked to take each token that lives there, and then asked what waits there. The time is linear in the bytes that are sent. Where the
-/// answer is an error the tables stand for nothing any more.
+/// is told of all that is registered there, asked to take each token that lives there, and then asked what waits there. The time is
+/// linear in the bytes that are sent. Where the answer is an error the tables stand for nothing any more.
 pub fn begin(
     tables: &mut Tables,
     alloc: Global,

@@ -1,7 +1,7 @@
 //! E11: an editor cancels the work of a request of its own, or of a token that it accepted (LSP 3.17, Work Done Progress, Cancelling).
 ghost use Rattle.std.specs.Prelude.{◌≡◌, ◌<◌, ℕ, List, [], Option, Some, true, codes, length, map, IfOk, IfSome, OnOk, slice_get};
 ghost use Rattle.mux_editors.specs.Running.{running_row};
-ghost use Rattle.mux_editors.specs.Works.{Goes, Works};
+ghost use Rattle.mux_editors.specs.Works.{Goes, IsCancel, Works};
 ghost use Rattle.event_model.specs.Does.{Does, Done};
 ghost use Rattle.event_model.specs.Event.{Event, with_cause};
 ghost use Rattle.event_model.specs.Phases.{desk_of, is_served};
@@ -61,6 +61,8 @@ fn request_work(alloc: Global, message: &Message, request: Target) -> Result<Wor
     ensures text { (body : List ℕ) (params : Option Json) → IsRead message.now body
         → message_of body ≡ notification (codes "window/workDoneProgress/cancel") params
         → IfOk result (λ w. w.text ≡ marked_text (mark_text (work_mark request.number)) body) }
+    ensures cancels { (body : List ℕ) (params : Option Json) → IsRead message.now body
+        → message_of body ≡ notification (codes "window/workDoneProgress/cancel") params → IfOk result (λ w. IsCancel w.text) }
 {
     let token = mark_text(alloc, 2 * u64::from(request.number))?;
     let text = marked_text(alloc, message, &token)?;
