@@ -1,0 +1,15 @@
+pub use Rattle.group_sessions
+pub use Rattle.group_facts
+pub use Rattle.group_rows
+pub use Rattle.session_laws
+pub mod WorkedDue
+pub mod DueWords
+pub mod DueFold
+pub mod DueStates
+pub mod DueEvents
+pub mod DueSent
+pub mod DueExact
+pub mod DueLaw
+pub mod DueClear
+pub mod DueOnce
+pub mod DueDone
