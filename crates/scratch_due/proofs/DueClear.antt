@@ -134,7 +134,7 @@ module _ (settings : Settings) (s : ℕ) where
       → AllByRecursion (IsSet s (before ++ did (ToEditor n body) (request id method params) ∷ [])) (if is_creating method then with_asked n (next_ask n before) (token_marked s params x) x else x).takings
   set_asked before x n body id method params h = go (is_creating method) refl (token_marked s params x) refl
     where
-      abbrev event : Event
+      event : Event
       event = did (ToEditor n body) (request id method params)
 
       go : (b : Bool) → is_creating method ≡ b → (o : Option Token) → token_marked s params x ≡ o → AllByRecursion (IsSet s (before ++ event ∷ [])) (if b then with_asked n (next_ask n before) o x else x).takings
@@ -147,7 +147,7 @@ module _ (settings : Settings) (s : ℕ) where
   set_spoken : (before : List Event) (x : Created) (n : ℕ) (body : List ℕ) (m : Message) → AllByRecursion (IsSet s before) x.takings → AllByRecursion (IsSet s (before ++ took (FromEditor n body) m ∷ [])) (if requests (codes "shutdown") m then left n x else answered n m x).takings
   set_spoken before x n body m h = go (requests (codes "shutdown") m)
     where
-      abbrev event : Event
+      event : Event
       event = took (FromEditor n body) m
 
       one : (c : Taking) → IsSet s (before ++ event ∷ []) c → AllByRecursion (IsSet s (before ++ event ∷ [])) (if is_answered n (answered_id m) c then settled m x c else c ∷ [])
@@ -344,7 +344,7 @@ none_passes : {A : Type 0} (test P : A → Bool) (xs : List A) (c : A) (cs : Lis
 none_passes test P [] c cs h k = absurd (cc)
 none_passes test P (x ∷ xs) c cs h k = go (test x) refl (P x) (λ f g. none_passes test P xs c cs f g) h k
   where
-    go : (a : Bool) → test x ≡ a → (b : Bool) → (find test xs ≡ None → filter P xs ≡ c ∷ cs → test c ≡ false) → (if a then Some x else find test xs) ≡ None → (if b then x ∷ filter P xs else filter P xs) ≡ c ∷ cs → test c ≡ false
+    go : (a : Bool) → test x ≡ a → (b : Bool) → (find test xs ≡ None → filter P xs ≡ c ∷ cs → test c ≡ false) → cond a (Some x) (find test xs) ≡ None → cond b (x ∷ filter P xs) (filter P xs) ≡ c ∷ cs → test c ≡ false
     go true at b f h k = absurd (cc)
     go false at true f h k = ap test (let same : x ≡ c = cc in sym same) ∙ at
     go false at false f h k = f h k
@@ -366,7 +366,7 @@ clear_of settings events facts o = record { one = one; apart = apart }
     one : (s k e : ℕ) (id : Option Id) (c : Taking) → own e k (created_of settings s events) ≡ c ∷ [] → is_answered e id c ≡ true → find (is_answered e id) (created_of settings s events).takings ≡ Some c
     one s k e id c only at = go (find (is_answered e id) takings) refl
       where
-        abbrev takings : List Taking
+        takings : List Taking
         takings = (created_of settings s events).takings
 
         go : (w : Option Taking) → find (is_answered e id) takings ≡ w → w ≡ Some c

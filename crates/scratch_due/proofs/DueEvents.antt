@@ -118,7 +118,7 @@ module _ (settings : Settings) (s k e : ℕ) where
   abbrev said_of : List Event → List Word
   said_of events = words settings s k e events
 
-  words_more : (events : List Event) (event : Event) → said_of (events ++ event ∷ []) ≡ said_of events ++ word settings s k e events event ∷ []
+  pub words_more : (events : List Event) (event : Event) → said_of (events ++ event ∷ []) ≡ said_of events ++ word settings s k e events event ∷ []
   words_more events event = past_more (λ before ws ev. ws ++ word settings s k e before ev ∷ []) [] [] events event
 
   abbrev stage_of : List Event → Stage
@@ -150,9 +150,6 @@ module _ (settings : Settings) (s k e : ℕ) where
     ws = said_of events
 
     -- the new state, by the fold's step and the event's word
-    abbrev Step : Stage → Created → Word → List (List ℕ) → Type 0
-    Step later y w g = Steps e k x ws w g
-
     record Stepped (later : Stage) (y : Created) (w : Word) (g : List (List ℕ)) : Type 0 where
       steps : Steps e k y ws w g
       rest : Rest k y (ws ++ w ∷ []) later
@@ -261,7 +258,7 @@ module _ (settings : Settings) (s k e : ℕ) where
               where
                 go : (b : Bool) → is_numbered t.number u ≡ b → Begun k (bodies ws) (if b then record u { begin = first_begin body params u.begin } else u)
                 go true mine it = never (sym (sym (ap (λ n. nat_eq n k) (number_same u.number t.number mine)) ∙ it) ∙ apart)
-                go false other = h
+                go false other it = h it
 
             all : (ts : List Token) → AllByRecursion (Begun k (bodies ws)) ts → AllByRecursion (Begun k (bodies ws)) (map (begun_by t.number body params) ts)
             all [] h = tt
@@ -400,7 +397,7 @@ module _ (settings : Settings) (s k e : ℕ) where
             unmarked : x ≡ no_created → ⊥
             unmarked is = let clash : ◌≡◌ {A = Option Token} None (Some t) = sym (ap (token_marked s params) is) ∙ marked in cc
 
-            abbrev y : Created
+            y : Created
             y = with_asked n (next_ask n events) (Some t) x
 
             own_then : (b : Bool) → is_numbered k t ≡ b → own e k y ≡ own e k x ++ cond b (asked n (next_ask n events) t ∷ []) []

@@ -146,7 +146,7 @@ own_answered e k n m x = flat_within (is_own e k) (settling n m x) one x.takings
     alike true d = refl
     alike false d = refl
 
-    none : (b : Bool) → [] ≡ (if b then [] else [])
+    none : (b : Bool) → ◌≡◌ {A = List Taking} [] (if b then [] else [])
     none true = refl
     none false = refl
 

@@ -1,5 +1,5 @@
 -- In every legal history each editor was sent of each token what it is due, where nobody is asked twice and numbers tell answers apart.
-use Rattle.std.proofs.Common.{◌≡◌, ℕ, ◌^◌, ◌<◌, ◌≤◌, Bool, true, false, not, ◌&&◌, List, [], ◌∷◌, ◌++◌, append-nil, append_assoc, codes, filter, find, flat_map, map, nat_eq, if◌then◌else◌, Option, Some, None, ◌⊎◌, inl, inr, refl, sym, ◌∙◌, ap, ap₂, subst, arith}
+use Rattle.std.proofs.Common.{◌≡◌, ℕ, ◌^◌, ◌<◌, ◌≤◌, Bool, true, false, not, ◌&&◌, cond, List, [], ◌∷◌, ◌++◌, append-nil, append_assoc, codes, filter, find, flat_map, map, nat_eq, if◌then◌else◌, Option, Some, None, ◌⊎◌, inl, inr, refl, sym, ◌∙◌, ap, ap₂, subst, arith}
 use Rattle.std.specs.List.{AllByRecursion, list_any}
 use Rattle.std.proofs.lemmas.Bool.{and_parts}
 use Rattle.std.proofs.lemmas.List.{map-append}
@@ -80,7 +80,7 @@ pub found_kept : {A : Type 0} (Q : A → Type 0) (test P : A → Bool) (xs : Lis
 found_kept Q test P [] c h at all = absurd (cc)
 found_kept Q test P (x ∷ xs) c h at all = go (test x) (P x) refl (λ k g. found_kept Q test P xs c k at g) h all
   where
-    go : (a b : Bool) → P x ≡ b → (find test xs ≡ Some c → AllByRecursion Q (filter P xs) → Q c) → (if a then Some x else find test xs) ≡ Some c → AllByRecursion Q (if b then x ∷ filter P xs else filter P xs) → Q c
+    go : (a b : Bool) → P x ≡ b → (find test xs ≡ Some c → AllByRecursion Q (filter P xs) → Q c) → cond a (Some x) (find test xs) ≡ Some c → AllByRecursion Q (cond b (x ∷ filter P xs) (filter P xs)) → Q c
     go true true p f k all = subst Q (let same : x ≡ c = cc in same) all.0
     go true false p f k all = never (sym at ∙ (ap P (let same : x ≡ c = cc in sym same) ∙ p))
     go false true p f k all = f k all.1
@@ -151,7 +151,7 @@ module _ (settings : Settings) (range : InRange settings) (before : List Event) 
       ∙ (ap (λ b. if accepts m then (if b then c.held else []) ++ [] else []) answered
       ∙ (ap (λ b. if b then c.held ++ [] else []) taken.accepted ∙ append-nil c.held)))))
     where
-      abbrev m : Message
+      m : Message
       m = message_of taken.answer
 
       answered : is_answered e (answered_id m) c ≡ true
@@ -208,7 +208,7 @@ module _ (settings : Settings) (range : InRange settings) (before : List Event) 
   spoken_gain : (n : ℕ) (body : List ℕ) → FromEditor n body ≡ cause → (gain settings s k e before (heard (FromEditor n body)) ≡ []) ⊎ From
   spoken_gain n body is = go (nat_eq n e) refl (requests (codes "shutdown") m) (accepts m) refl (own_few tie.state)
     where
-      abbrev m : Message
+      m : Message
       m = message_of body
 
       taken : (c : Taking) → own e k x ≡ c ∷ [] → n ≡ e → accepts m ≡ true → is_answered e (answered_id m) c ≡ true → From

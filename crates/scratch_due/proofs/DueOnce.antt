@@ -1,5 +1,5 @@
 -- No editor is asked twice to take a token: as a start creates it each that runs is asked (S8), and one that begins to run is asked of each that lives (L2).
-use Rattle.std.proofs.Common.{◌≡◌, ℕ, zero, suc, ◌+◌, ◌^◌, ◌<◌, ◌≤◌, Bool, true, false, not, ◌&&◌, ◌||◌, cond, List, [], ◌∷◌, ◌++◌, append-nil, append_assoc, codes, decimal, filter, find, map, nat_eq, if◌then◌else◌, Option, Some, None, ◌⊎◌, inl, inr, ltb-true, refl, sym, ◌∙◌, ap, ap₂, subst, arith}
+use Rattle.std.proofs.Common.{◌≡◌, ℕ, zero, suc, ◌+◌, ◌^◌, ◌<◌, ◌≤◌, Bool, true, false, not, ◌&&◌, ◌||◌, cond, List, [], ◌∷◌, ◌++◌, append-nil, append_assoc, bytes_eq, codes, decimal, filter, find, map, nat_eq, if◌then◌else◌, Option, Some, None, ◌⊎◌, inl, inr, ltb-true, refl, sym, ◌∙◌, ap, ap₂, subst, arith}
 use Rattle.std.specs.List.{AllByRecursion, list_any, range_with_len}
 use Rattle.std.proofs.lemmas.Bool.{and_parts}
 use Rattle.json_text.specs.Json.{Json}
@@ -20,7 +20,7 @@ use Rattle.event_model.specs.declared.phase.Phase.TheVariants.{Answered, Down, R
 use Rattle.event_model.specs.declared.stage.Stage.TheVariants.{Ended, Ready, Unspawned}
 use Rattle.event_model.specs.Event.{Event, behind, did, events_of, heard, requests, said, took, with_cause}
 use Rattle.event_model.specs.Members.{named_of}
-use Rattle.event_model.specs.Phases.{Desk, desk_hears, desk_of, editors_of, is_running, makes_running}
+use Rattle.event_model.specs.Phases.{Desk, desk_hears, desk_of, editors_of, is_malformed, is_running, makes_running}
 use Rattle.event_model.specs.Requests.{answered_id}
 use Rattle.event_model.specs.Row.{Row, choose, each, nothing, on, outs, send, ◌⨾◌}
 use Rattle.event_model.specs.Settings.{Settings}
@@ -46,7 +46,7 @@ use Rattle.group_rows.specs.CreatedRows.{create_text, offer, offer_all}
 use Rattle.group_rows.specs.Leaves.{leave_row}
 use Rattle.group_rows.specs.Live.{is_registering, live_of, register_text}
 use Rattle.group_rows.specs.LiveRows.{accept, call, decline, has_some, restore}
-use Rattle.group_rows.specs.Rows.{closing_row, from_editor, from_server, lspmux_row, message_row, outs_of, served_row, taken_row, told_row}
+use Rattle.group_rows.specs.Rows.{asks_lspmux, closing_row, from_editor, from_server, lspmux_row, message_row, outs_of, served_row, taken_row, told_row}
 use Rattle.group_rows.proofs.CreatedTexts.{create_says, create_tree}
 use Rattle.group_rows.proofs.LiveTexts.{again_written, live_written, register_says, registered_written, unregister_says}
 use Rattle.group_facts.specs.Built.{built_behind}
@@ -62,7 +62,6 @@ use Rattle.group_facts.proofs.Marks.{mark_number, mark_start, marked_same}
 use Rattle.group_facts.proofs.Settling.{settled_holds}
 use Rattle.group_facts.proofs.Still.{Goes, still_served, unshut}
 use Rattle.group_facts.proofs.Table.{reasons}
-use Rattle.group_sessions.proofs.Begins.{well_formed}
 use Rattle.group_sessions.proofs.CreatedFold.{AllApart, IsApart, IsLive, IsNew, created_orderly, new_is}
 use Rattle.group_sessions.proofs.HeldFold.{Fair, created_fair}
 use Rattle.group_sessions.proofs.TakingTies.{find_true}
@@ -108,6 +107,25 @@ asks_none (result id r) h = refl
 asks_none (error id r) h = refl
 asks_none not_json h = refl
 asks_none not_message h = refl
+
+well_formed : (m : Message) → makes_running m ≡ true → (is_malformed m ≡ false) × (asks_lspmux m ≡ false)
+well_formed (request id method ps) h = (refl, own (asks_lspmux (request id method ps)) refl)
+  where
+    own : (b : Bool) → asks_lspmux (request id method ps) ≡ b → b ≡ false
+    own false k = refl
+    own true k = never (sym (named (bytes_eq (codes "lspmux/open") method) (bytes_eq (codes "lspmux/status") method) (bytes_eq (codes "lspmux/stop") method) (bytes_eq (codes "shutdown") method) h k))
+      where
+        named : (a b c d : Bool) → not (false || (false || (d || (a || (b || c))))) ≡ true → (a || b) ≡ true → false ≡ true
+        named true b c true h k = h
+        named true b c false h k = h
+        named false true c true h k = h
+        named false true c false h k = h
+        named false false c d h k = k
+well_formed (notification method ps) h = (refl, refl)
+well_formed (result id r) h = (refl, refl)
+well_formed (error id r) h = (refl, refl)
+well_formed not_json h = never (sym h)
+well_formed not_message h = never (sym h)
 
 num_off : (a b : ℕ) → (a ≡ b → ⊥) → nat_eq a b ≡ false
 num_off a b f = go (nat_eq a b) refl
@@ -287,6 +305,13 @@ module _ (settings : Settings) (range : InRange settings) (before : List Event) 
   asked_runs events n body (recalls w) a = never (sym (asking_makes events n body a) ∙ ap makes w.says)
   asked_runs events n body (progresses w) a = never (sym (asking_makes events n body a) ∙ ap makes w.says)
 
+  closed_off : (events : List Event) (n : ℕ) → is_asks (word settings s k e events (said (CloseEditor n))) ≡ false
+  closed_off events n = go (nat_eq n e)
+    where
+      go : (b : Bool) → is_asks (if b then due_parts else rests) ≡ false
+      go true = refl
+      go false = refl
+
   none_or : (events : List Event) (xs : List Out) → Reasons (Why settings before cause) events xs → (Reasons Once events xs) ⊎ Origin
   none_or events [] r = inl tt
   none_or events (out ∷ xs) r = go out r.0 (none_or (events ++ said out ∷ []) xs r.1)
@@ -303,7 +328,7 @@ module _ (settings : Settings) (range : InRange settings) (before : List Event) 
           by false off = silent (ToEditor n body) (λ h. never (sym h ∙ off)) rest
       go (ToServer n body) why rest = silent (ToServer n body) (λ h. never (sym h)) rest
       go (Spawn n g) why rest = silent (Spawn n g) (λ h. never (sym h)) rest
-      go (CloseEditor n) why rest = silent (CloseEditor n) (λ h. never (sym h)) rest
+      go (CloseEditor n) why rest = silent (CloseEditor n) (λ h. never (sym h ∙ closed_off events n)) rest
       go (EndServer n) why rest = silent (EndServer n) (λ h. never (sym h)) rest
 
   -- The cause asks nothing
@@ -364,7 +389,7 @@ module _ (settings : Settings) (range : InRange settings) (before : List Event) 
 
   -- S8
 
-  module _ (t : Token) (small_t : t.number < 2 ^ 64) (low_s : s < 2 ^ 64) where
+  module _ (t : Token) where
     abbrev Apart : List ℕ → Type 0
     Apart ns = AllByRecursion (λ m. nat_eq m e ≡ false) ns
 
@@ -400,10 +425,9 @@ module _ (settings : Settings) (range : InRange settings) (before : List Event) 
     offers_once (n ∷ ns) events differ u = by_then (offer_once events n (first_of events n ns u)) (offers_once ns (behind events (outs (offer s n t) events)) differ.1 (offer_next events n ns differ.0 u))
 
   made_once : (asked : List ℕ) (t : Token) → cause ≡ FromServer s asked → IsChange settings before cause e s asked Create → created_token asked x ≡ Some t → t.number ≡ k → (life_of s before).stage ≡ Ready → Reasons Once (with_cause before (FromServer s asked)) (outs_of settings before (FromServer s asked))
-  made_once asked t from c found number ready = subst (Reasons Once there) (sym row_is)
-      (by_then {p = accept s asked} (by_send (λ h. never (sym h))) (offers_once t (let is = new.number in let top = new.small in omega (arith, is, top)) low (running_in settings c.group before) (behind there (outs (accept s asked) there)) differ (inl unasked_there))).why
+  made_once asked t from c found number ready = subst (Reasons Once there) (sym row_is) whole.why
     where
-      abbrev there : List Event
+      there : List Event
       there = with_cause before (FromServer s asked)
 
       new : IsNew asked x t
@@ -421,6 +445,9 @@ module _ (settings : Settings) (range : InRange settings) (before : List Event) 
 
       differ : Differ (running_in settings c.group before)
       differ = some_differ (λ n. is_running (desk_of n before).phase && is_home c.group (home_of settings n before)) (range_with_len 0 (editors_of before)) (range_differs 0 (editors_of before))
+
+      whole : Because Once there (accept s asked ⨾ each (λ n. offer s n t) (running_in settings c.group before))
+      whole = by_then (by_send (λ h. never (sym h))) (offers_once t (running_in settings c.group before) (behind there (outs (accept s asked) there)) differ (inl unasked_there))
 
       row_is : outs_of settings before (FromServer s asked) ≡ outs (accept s asked ⨾ each (λ n. offer s n t) (running_in settings c.group before)) there
       row_is = ap (λ z. outs (from_server settings s before asked (message_of asked) z) there) ready
@@ -499,7 +526,7 @@ module _ (settings : Settings) (range : InRange settings) (before : List Event) 
   restored_rests : (t : ℕ) (events : List Event) → Unasked events → Unasked (behind events (outs (restore settings before e t) events))
   restored_rests t events un = some (has_some (live_of settings t before))
     where
-      abbrev text : List ℕ
+      text : List ℕ
       text = register_text (live_of settings t before) (next_ask e events)
 
       told : (b : Bool) → has_number e events ≡ b → Unasked (behind events (outs (choose b (send (ToEditor e text)) nothing) events))
@@ -522,10 +549,10 @@ module _ (settings : Settings) (range : InRange settings) (before : List Event) 
       (lives_once t (spawned t (ready_is (life_of t before).stage ready)) tokens mid (created_orderly settings t before).apart (lows tokens (created_orderly settings t before).live) (inl (restored_rests t events un)))
       (parked_once t (parked_of settings t before) (behind mid (outs (offer_all settings before e t) mid)) ((facts.steady).asks t).parked))) (λ off. by_nothing)
     where
-      abbrev tokens : List Token
+      tokens : List Token
       tokens = (created_of settings t before).tokens
 
-      abbrev mid : List Event
+      mid : List Event
       mid = behind events (outs (restore settings before e t) events)
 
       lows : (us : List Token) → AllByRecursion (IsLive (created_of settings t before).next) us → AllByRecursion (λ (u : Token). u.number < 2 ^ 64) us
@@ -544,7 +571,7 @@ module _ (settings : Settings) (range : InRange settings) (before : List Event) 
 
     doubled : is_doubled before e (message_of body) ≡ true → Reasons Once there (outs_of settings before (FromEditor e body))
     doubled twice = subst (Reasons Once there) (sym (first_row ∙ ap (λ b. outs (choose b (closing_row settings before e) (told_row settings before e body (message_of body) Answered)) there) twice))
-        ((λ h. never (sym h)), to_start_once parted (behind there (CloseEditor e ∷ [])) (all_outs ToStart (behind there (CloseEditor e ∷ [])) parted (leave_by (λ places out. ToStart out) (λ places n b. tt) settings before e (behind there (CloseEditor e ∷ []))).why))
+        ((λ h. never (sym h ∙ closed_off there e)), to_start_once parted (behind there (CloseEditor e ∷ [])) (all_outs ToStart (behind there (CloseEditor e ∷ [])) parted (leave_by (λ places out. ToStart out) (λ places n b. tt) settings before e (behind there (CloseEditor e ∷ []))).why))
       where
         parted : List Out
         parted = outs (leave_row settings before e) (behind there (CloseEditor e ∷ []))
@@ -624,7 +651,7 @@ module _ (settings : Settings) (range : InRange settings) (before : List Event) 
       (λ asked. let a : IsAsking events n body = asking_is events n body asked in runs_later events (ToEditor n body) (subst (HasRun events) a.editor (ap has_run (asked_runs events n body why a)))) h
   ran_did events (ToServer n body) why h = ran_more events (said (ToServer n body)) (runs_later events (ToServer n body)) (λ asked. never (sym asked)) h
   ran_did events (Spawn n g) why h = ran_more events (said (Spawn n g)) (runs_later events (Spawn n g)) (λ asked. never (sym asked)) h
-  ran_did events (CloseEditor n) why h = ran_more events (said (CloseEditor n)) (runs_later events (CloseEditor n)) (λ asked. never (sym asked)) h
+  ran_did events (CloseEditor n) why h = ran_more events (said (CloseEditor n)) (runs_later events (CloseEditor n)) (λ asked. never (sym asked ∙ closed_off events n)) h
   ran_did events (EndServer n) why h = ran_more events (said (EndServer n)) (runs_later events (EndServer n)) (λ asked. never (sym asked)) h
 
   pub ran_entry : Ran (behind now (outs_of settings before cause))

@@ -152,11 +152,11 @@ module _ {B : Type 0} (h : ℕ → List B) (e : ℕ) (others : (n : ℕ) → nat
 
   pub only_one : (from len : ℕ) → from ≤ e → e < from + len → flat_map h (range_with_len from len) ≡ h e
   only_one from zero low high = absurd (omega (arith, low, high))
-  only_one from (suc len) low high = go (nat_eq from e) refl
+  only_one from (suc len) low high = go (nat_eq from e) refl (λ le. only_one (from + 1) len le (omega (arith, high)))
     where
-      go : (b : Bool) → nat_eq from e ≡ b → h from ++ flat_map h (range_with_len (from + 1) len) ≡ h e
-      go true at = let same : from ≡ e = number_same from e at in ap₂ (λ u v. u ++ v) (ap h same) (none_above (from + 1) len (omega (arith, same))) ∙ append-nil (h e)
-      go false off = ap₂ (λ u v. u ++ v) (others from off) (only_one (from + 1) len (higher (λ same. never (sym (same_number e) ∙ (ap (λ z. nat_eq z e) (sym same) ∙ off)))) (omega (arith, high)))
+      go : (b : Bool) → nat_eq from e ≡ b → (from + 1 ≤ e → flat_map h (range_with_len (from + 1) len) ≡ h e) → h from ++ flat_map h (range_with_len (from + 1) len) ≡ h e
+      go true at more = let same : from ≡ e = number_same from e at in ap₂ (λ u v. u ++ v) (ap h same) (none_above (from + 1) len (omega (arith, same))) ∙ append-nil (h e)
+      go false off more = ap₂ (λ u v. u ++ v) (others from off) (more (higher (λ same. never (sym (same_number e) ∙ (ap (λ z. nat_eq z e) (sym same) ∙ off)))))
         where
           higher : (from ≡ e → ⊥) → from + 1 ≤ e
           higher apart = omega (arith, low, apart)

@@ -191,9 +191,9 @@ module _ (e k : ℕ) where
     module _ (c : Taking) (only : own e k x ≡ c ∷ []) where
       -- it isn't the answer to this
       unanswered : is_answered e (answered_id m) c ≡ false → ((d : Taking) → own e k x ≡ d ∷ [] → d.accepted ≡ false → settles d.number word ≡ false) → State e k x ws → Replied
-      unanswered no apart s = aside
-          (same ∙ (ap (flat_map (settling m x)) only ∙ (ap (λ b. (if b then settled m x c else c ∷ []) ++ []) no ∙ sym only)))
-          (ap (handed m) only ∙ (ap (λ b. if accepts m then (if b then c.held else []) ++ [] else []) no ∙ go (accepts m)))
+      unanswered against apart s = aside
+          (same ∙ (ap (flat_map (settling m x)) only ∙ (ap (λ b. (if b then settled m x c else c ∷ []) ++ []) against ∙ sym only)))
+          (ap (handed m) only ∙ (ap (λ b. if accepts m then (if b then c.held else []) ++ [] else []) against ∙ go (accepts m)))
           apart s
         where
           go : (b : Bool) → ◌≡◌ {A = List (List ℕ)} (if b then [] else []) []
@@ -206,7 +206,7 @@ module _ (e k : ℕ) where
     replied_waits : IsWaiting e k x ws → Replied
     replied_waits i = go (names (answered_id m) i.number) refl
       where
-        abbrev c : Taking
+        c : Taking
         c = i.taking
 
         test : (is_at e c ≡ true) × (nat_eq c.token k ≡ true)
@@ -216,34 +216,34 @@ module _ (e k : ℕ) where
         answered_is = ap (λ b. not b && (nat_eq c.editor e && names (answered_id m) c.number)) i.unaccepted ∙ (ap (λ b. b && names (answered_id m) c.number) test.0 ∙ ap (names (answered_id m)) i.under)
 
         apart : names (answered_id m) i.number ≡ false → (d : Taking) → own e k x ≡ d ∷ [] → d.accepted ≡ false → settles d.number word ≡ false
-        apart no d is off = let eq : c ≡ d = one_only c i.only d is in ap (names (answered_id m)) (ap (λ (z : Taking). z.number) (sym eq) ∙ i.under) ∙ no
+        apart against d is off = let eq : c ≡ d = one_only c i.only d is in ap (names (answered_id m)) (ap (λ (z : Taking). z.number) (sym eq) ∙ i.under) ∙ against
 
         own_then : names (answered_id m) i.number ≡ true → (l : Bool) → (accepts m && lives c.token x) ≡ l → own e k y ≡ (if l then record c { accepted = true; held = [] } ∷ [] else [])
-        own_then yes l lasts = same ∙ (ap (flat_map (settling m x)) i.only ∙ (ap (λ b. (if b then settled m x c else c ∷ []) ++ []) (answered_is ∙ yes) ∙ (append-nil (settled m x c) ∙ ap (λ b. if b then record c { accepted = true; held = [] } ∷ [] else []) lasts)))
+        own_then hit l lasts = same ∙ (ap (flat_map (settling m x)) i.only ∙ (ap (λ b. (if b then settled m x c else c ∷ []) ++ []) (answered_is ∙ hit) ∙ (append-nil (settled m x c) ∙ ap (λ b. if b then record c { accepted = true; held = [] } ∷ [] else []) lasts)))
 
         handed_is : names (answered_id m) i.number ≡ true → accepts m ≡ true → handed m (own e k x) ≡ c.held
-        handed_is yes ok = ap (handed m) i.only ∙ (ap (λ b. if accepts m then (if b then c.held else []) ++ [] else []) (answered_is ∙ yes) ∙ (ap (λ b. if b then c.held ++ [] else []) ok ∙ append-nil c.held))
+        handed_is hit ok = ap (handed m) i.only ∙ (ap (λ b. if accepts m then (if b then c.held else []) ++ [] else []) (answered_is ∙ hit) ∙ (ap (λ b. if b then c.held ++ [] else []) ok ∙ append-nil c.held))
 
         agreed : names (answered_id m) i.number ≡ true → accepts m ≡ true → Seat e k y → Replied
-        agreed yes ok seat = record {
-          state = goes (record { us = i.us; number = i.number; vs = i.vs; id = answered_id m; zs = []; is = is; first = i.first; unsettled = i.unsettled; named = yes; stays = refl; seat = seat; created = let low : k < x.next = i.created in omega (arith, low, next) });
-          grows = ap due is ∙ (due_goes i.us i.number i.vs i.first i.unsettled (answered_id m) [] yes refl ∙ (append-nil (held_of held_most (opening (bodies i.us) ++ bodies i.vs)) ∙ (sym i.held ∙ sym (ap₂ (λ u v. u ++ v) (waits_due x ws i) (handed_is yes ok)))));
+        agreed hit ok seat = record {
+          state = goes (record { us = i.us; number = i.number; vs = i.vs; id = answered_id m; zs = []; is = is; first = i.first; unsettled = i.unsettled; named = hit; stays = refl; seat = seat; created = let low : k < x.next = i.created in omega (arith, low, next) });
+          grows = ap due is ∙ (due_goes i.us i.number i.vs i.first i.unsettled (answered_id m) [] hit refl ∙ (append-nil (held_of held_most (opening (bodies i.us) ++ bodies i.vs)) ∙ (sym i.held ∙ sym (ap₂ (λ u v. u ++ v) (waits_due x ws i) (handed_is hit ok)))));
         }
           where
             is : ws ++ word ∷ [] ≡ i.us ++ asks i.number ∷ (i.vs ++ replies (answered_id m) true ∷ [])
             is = ap (λ z. z ++ word ∷ []) i.is ∙ (last_wait i.us i.number i.vs word ∙ ap (λ b. i.us ++ asks i.number ∷ (i.vs ++ replies (answered_id m) b ∷ [])) ok)
 
         by_answer : names (answered_id m) i.number ≡ true → (a : Bool) → accepts m ≡ a → (l : Bool) → lives c.token x ≡ l → Replied
-        by_answer yes true ok true living = agreed yes ok (sits (record c { accepted = true; held = [] }) (own_then yes true (ap₂ (λ a b. a && b) ok living)) refl)
-        by_answer yes true ok false ended = agreed yes ok (rose (own_then yes false (ap₂ (λ a b. a && b) ok ended)) (lives_on ∙ (ap (λ j. lives j x) (sym (number_same c.token k test.1)) ∙ ended)))
-        by_answer yes false no l living = let r = refused i.us i.number i.vs i.first i.unsettled word yes no in record {
-          state = over (subst (λ z. Over (z ++ word ∷ [])) (sym i.is) r.0) (own_then yes false (ap (λ b. b && lives c.token x) no));
-          grows = still_none ws (ws ++ word ∷ []) (waits_due x ws i) (ap (λ z. due (z ++ word ∷ [])) i.is ∙ r.1) ∙ ap (λ z. due ws ++ z) (sym (ap (λ b. if b then flat_map (λ (d : Taking). if is_answered e (answered_id m) d then d.held else []) (own e k x) else []) no));
+        by_answer hit true ok true living = agreed hit ok (sits (record c { accepted = true; held = [] }) (own_then hit true (ap₂ (λ a b. a && b) ok living)) refl)
+        by_answer hit true ok false ended = agreed hit ok (rose (own_then hit false (ap₂ (λ a b. a && b) ok ended)) (lives_on ∙ (ap (λ j. lives j x) (sym (number_same c.token k test.1)) ∙ ended)))
+        by_answer hit false against l living = let r = refused i.us i.number i.vs i.first i.unsettled word hit against in record {
+          state = over (subst (λ z. Over (z ++ word ∷ [])) (sym i.is) r.0) (own_then hit false (ap (λ b. b && lives c.token x) against));
+          grows = still_none ws (ws ++ word ∷ []) (waits_due x ws i) (ap (λ z. due (z ++ word ∷ [])) i.is ∙ r.1) ∙ ap (λ z. due ws ++ z) (sym (ap (λ b. if b then flat_map (λ (d : Taking). if is_answered e (answered_id m) d then d.held else []) (own e k x) else []) against));
         }
 
         go : (b : Bool) → names (answered_id m) i.number ≡ b → Replied
-        go true yes = by_answer yes (accepts m) refl (lives c.token x) refl
-        go false no = unanswered c i.only (answered_is ∙ no) (apart no) (waits i)
+        go true hit = by_answer hit (accepts m) refl (lives c.token x) refl
+        go false against = unanswered c i.only (answered_is ∙ against) (apart against) (waits i)
 
     replied_goes : (i : IsGoing e k x ws) → Seat e k x → Replied
     replied_goes i (sits c only on) = unanswered c only (ap (λ b. not b && (nat_eq c.editor e && names (answered_id m) c.number)) on) (λ d is off. never (sym on ∙ (ap (λ (z : Taking). z.accepted) (one_only c only d is) ∙ off))) (goes i)
@@ -286,10 +286,10 @@ module _ (e k : ℕ) where
           ∙ ap (λ z. due ws ++ z) (sym (ap (gained body) i.only ∙ ap (λ b. if b || false then body ∷ [] else []) i.unaccepted));
     }
       where
-        abbrev c : Taking
+        c : Taking
         c = i.taking
 
-        abbrev first : List (List ℕ)
+        first : List (List ℕ)
         first = opening (bodies i.us)
 
         test : (is_at e c ≡ true) × (nat_eq c.token k ≡ true)
@@ -329,7 +329,7 @@ module _ (e k : ℕ) where
           ∙ (sym (append_assoc handed_first (bodies i.zs) (body ∷ [])) ∙ ap₂ (λ u v. u ++ v) (sym (goes_due x ws i)) (sym (ap (gained body) only ∙ ap (λ b. if b || false then body ∷ [] else []) on)))));
     }
       where
-        abbrev handed_first : List (List ℕ)
+        handed_first : List (List ℕ)
         handed_first = held_of held_most (opening (bodies i.us) ++ bodies i.vs)
 
         test : (is_at e c ≡ true) × (nat_eq c.token k ≡ true)

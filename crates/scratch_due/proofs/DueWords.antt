@@ -192,13 +192,13 @@ module _ (us : List Word) (n : ℕ) (vs : List Word) (fresh : list_any is_asks u
 
   -- it refuses, or leaves before it answers
   pub refused : (w : Word) → settles n w ≡ true → agrees w ≡ false → (Over ((us ++ asks n ∷ vs) ++ w ∷ [])) × (due ((us ++ asks n ∷ vs) ++ w ∷ []) ≡ [])
-  refused w at no = (record { asked = any_join is_asks (us ++ asks n ∷ vs) (w ∷ []) ∙ ap (λ b. b || list_any is_asks (w ∷ [])) (asked_there vs); same = λ more. nothing more ∙ sym once }, once)
+  refused w at against = (record { asked = any_join is_asks (us ++ asks n ∷ vs) (w ∷ []) ∙ ap (λ b. b || list_any is_asks (w ∷ [])) (asked_there vs); same = λ more. nothing more ∙ sym once }, once)
     where
       nothing : (more : List Word) → due (((us ++ asks n ∷ vs) ++ w ∷ []) ++ more) ≡ []
-      nothing more = ap due (along w more) ∙ (due_settles us n vs fresh unsettled w more at ∙ none_due (waited us n vs fresh) w more no)
+      nothing more = ap due (along w more) ∙ (due_settles us n vs fresh unsettled w more at ∙ none_due (waited us n vs fresh) w more against)
 
       once : due ((us ++ asks n ∷ vs) ++ w ∷ []) ≡ []
-      once = ap due (append_assoc us (asks n ∷ vs) (w ∷ [])) ∙ (due_settles us n vs fresh unsettled w [] at ∙ none_due (waited us n vs fresh) w [] no)
+      once = ap due (append_assoc us (asks n ∷ vs) (w ∷ [])) ∙ (due_settles us n vs fresh unsettled w [] at ∙ none_due (waited us n vs fresh) w [] against)
 
   -- it leaves, and accepted before
   module _ (id : Option Id) (zs : List Word) (named : names id n ≡ true) (stays : list_any is_parts zs ≡ false) where
