@@ -582,15 +582,15 @@ module _ (settings : Settings) (range : InRange settings) (before : List Event) 
     abbrev mid : List Event
     mid = behind there (outs (run_row settings before e) there)
 
+    begun_part : Because Once there (run_row settings before e)
+    begun_part = by_on {o = home_of settings e before} {p = nothing} {row = λ g. on (start_of g before) nothing (run_at settings before e)} (λ none. by_nothing)
+        (λ g home. by_on {o = start_of g before} {p = nothing} {row = run_at settings before e} (λ none. by_nothing) (λ t start. run_once t there unasked_there))
+
     single : is_doubled before e (message_of body) ≡ false → Reasons Once there (outs_of settings before (FromEditor e body))
     single once = subst (Reasons Once there) (sym (first_row ∙ (ap (λ b. outs (choose b (closing_row settings before e) (told_row settings before e body (message_of body) Answered)) there) once
         ∙ (ap (λ b. outs (choose b (lspmux_row settings before e body (message_of body)) (taken_row settings before e body (message_of body) Answered)) there) (well_formed (message_of body) runs).1
         ∙ ap (λ b. outs (choose b (run_row settings before e) nothing ⨾ served) there) runs))))
         (reasons_both Once there (outs (run_row settings before e) there) (outs served mid) begun_part.why (going_once (outs served mid) mid ((still_served settings before e body (ap is_running was) (message_of body) refl runs).goes mid)))
-      where
-        begun_part : Because Once there (run_row settings before e)
-        begun_part = by_on (λ none. by_nothing) (λ g home. by_on (λ none. by_nothing) (λ t start. run_once t there unasked_there))
-
     begun_once : Reasons Once there (outs_of settings before (FromEditor e body))
     begun_once = go (is_doubled before e (message_of body)) refl
       where
