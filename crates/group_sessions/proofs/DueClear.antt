@@ -1,5 +1,5 @@
 -- What a response answers: under one number an editor was asked one thing, to take one token of a start, or something else.
-use Rattle.std.proofs.Common.{◌≡◌, ℕ, ◌+◌, ◌^◌, ◌<◌, ◌≤◌, Bool, true, false, not, ◌&&◌, ◌||◌, cond, List, [], ◌∷◌, ◌++◌, append-nil, append_assoc, bytes_eq, codes, decimal, filter, find, flat_map, nat_eq, nat_lt, if◌then◌else◌, Option, Some, None, ltb-true, refl, sym, ◌∙◌, ap, ap₂, subst, arith}
+use Rattle.std.proofs.Common.{◌≡◌, ℕ, ◌+◌, ◌^◌, ◌<◌, ◌≤◌, Bool, true, false, not, ◌&&◌, ◌||◌, cond, List, [], ◌∷◌, ◌++◌, bytes_eq, codes, decimal, filter, find, nat_eq, if◌then◌else◌, Option, Some, None, ltb-true, refl, sym, ◌∙◌, ap, ap₂, subst, arith}
 use Rattle.std.specs.List.{AllByRecursion}
 use Rattle.std.specs.Option.{option_map_or}
 use Rattle.std.proofs.lemmas.Bool.{and_parts}
@@ -26,14 +26,14 @@ use Rattle.mux_facts.proofs.Reasons.{reasons_keep}
 use Rattle.mux_facts.proofs.Words.{number_same, same_number}
 use Rattle.group_words.specs.Past.{past}
 use Rattle.group_words.proofs.Frames.{past_more}
-use Rattle.group_rows.specs.Asks.{Ask, Asker, Asking, asked_behind, asker_of, asking_of, asks_of, has_number, is_patient, is_seated, next_ask, put}
-use Rattle.group_rows.specs.Created.{Created, Taking, Token, accepts, answered, asked, created_mark, created_next, created_of, is_answered, is_creating, is_marked, left, lives, settled, token_marked, with_asked, no_created}
+use Rattle.group_rows.specs.Asks.{Ask, Asker, Asking, asked_behind, asker_of, asks_of, has_number, is_patient, is_seated, next_ask, put}
+use Rattle.group_rows.specs.Created.{Created, Taking, Token, accepts, answered, asked, created_mark, created_next, created_of, is_answered, is_creating, is_marked, left, lives, settled, token_marked, with_asked}
 use Rattle.group_rows.specs.Forwarded.{names}
 use Rattle.group_rows.specs.Live.{is_registering}
 use Rattle.group_rows.specs.Rows.{outs_of}
 use Rattle.group_facts.specs.Built.{built_behind}
 use Rattle.group_facts.specs.Legal.{Legal}
-use Rattle.group_facts.specs.Why.{IsAsk, IsResumed, Why, WhyToEditor, answers, asks, asks_something, calls, passes, progresses, recalls, refuses, rejects, resumes, spreads, turns_away, welcomes}
+use Rattle.group_facts.specs.Why.{Why, WhyToEditor, answers, asks, asks_something, calls, passes, progresses, recalls, refuses, rejects, resumes, spreads, turns_away, welcomes}
 use Rattle.group_facts.proofs.AskSeats.{asks_more, did_all, took_all}
 use Rattle.group_facts.proofs.Asks.{call_hurried, is_question, listed, registering_made, response_asks_none, resumed_here, resumed_off, taken}
 use Rattle.group_facts.proofs.Known.{facts_hold}
@@ -42,11 +42,11 @@ use Rattle.group_facts.proofs.Marks.{mark_number}
 use Rattle.group_facts.proofs.Table.{reasons}
 use Rattle.group_sessions.proofs.CreatedFold.{all_flat, created_orderly}
 use Rattle.group_sessions.proofs.CreatedTies.{created_more}
-use Rattle.group_sessions.proofs.HeldFold.{Fair, created_fair}
+use Rattle.group_sessions.proofs.HeldFold.{created_fair}
 use Rattle.group_sessions.proofs.TakingTies.{aside_all, find_true, is_aside, left_all}
 use Rattle.group_sessions.proofs.Walk.{walk}
-use Rattle.scratch_due.proofs.DueFold.{head_passes, is_own, own}
-use Rattle.scratch_due.proofs.DueLaw.{AllClear, IsClear, found_kept}
+use Rattle.group_sessions.proofs.DueFold.{head_passes, is_own, own}
+use Rattle.group_sessions.proofs.DueLaw.{AllClear, IsClear, found_kept}
 
 -- The token that the n-th request to an editor asks it to take
 

@@ -1,28 +1,26 @@
 -- What the rows of S13 and E19 send an editor of a token, exactly.
-use Rattle.std.proofs.Common.{◌≡◌, ℕ, zero, suc, ◌+◌, ◌^◌, ◌<◌, ◌≤◌, Bool, true, false, not, ◌&&◌, ◌||◌, cond, List, [], ◌∷◌, ◌++◌, append-nil, bytes_eq, codes, filter, find, flat_map, map, nat_eq, nat_le, if◌then◌else◌, Option, Some, None, is_some, ◌⊎◌, inl, inr, refl, sym, ◌∙◌, ap, ap₂, subst, arith}
-use Rattle.std.specs.List.{AllByRecursion, list_any, range_with_len}
+use Rattle.std.proofs.Common.{◌≡◌, ℕ, ◌+◌, ◌^◌, ◌<◌, ◌≤◌, Bool, true, false, not, ◌&&◌, List, [], ◌∷◌, ◌++◌, bytes_eq, codes, find, map, nat_eq, nat_le, if◌then◌else◌, Option, Some, None, is_some, refl, sym, ◌∙◌, ap, ap₂, subst, arith}
+use Rattle.std.specs.List.{range_with_len}
 use Rattle.std.specs.Option.{option_and_then}
 use Rattle.std.proofs.lemmas.Bool.{and_parts, leb-false, leb-true}
 use Rattle.std.proofs.lemmas.Slice.Eq.{bytes_eq-Decides}
 use Rattle.json_text.specs.Json.{Json, word as json_word, number as json_number, string, array, object}
-use Rattle.mux_history.specs.declared.cause.Cause.{Cause}
 use Rattle.mux_history.specs.declared.cause.Cause.TheVariants.{FromEditor, FromServer}
 use Rattle.mux_history.specs.declared.out.Out.{Out}
 use Rattle.mux_history.specs.declared.out.Out.TheVariants.{ToEditor}
 use Rattle.lsp_method.specs.Class.{class_of}
-use Rattle.lsp_method.specs.declared.variants.Class.TheVariants.{Progress}
 use Rattle.lsp_method.specs.declared.variants.Origin.TheVariants.{Server}
 use Rattle.rpc_message.specs.Message.{Id, Message, request, notification, result, error, not_json, not_message, id_of, message_of, text}
 use Rattle.event_model.specs.declared.phase.Phase.TheVariants.{Running}
 use Rattle.event_model.specs.declared.stage.Stage.TheVariants.{Ready}
-use Rattle.event_model.specs.Event.{Event, behind, heard, same_id, said, with_cause}
+use Rattle.event_model.specs.Event.{Event, behind, said, with_cause}
 use Rattle.event_model.specs.Members.{named_of}
 use Rattle.event_model.specs.Phases.{desk_of, editors_of, is_running}
 use Rattle.event_model.specs.Requests.{answered_id}
-use Rattle.event_model.specs.Row.{Row, choose, each, nothing, on, outs, send}
+use Rattle.event_model.specs.Row.{choose, each, nothing, on, outs, send}
 use Rattle.event_model.specs.Settings.{Settings}
-use Rattle.event_model.specs.Spawns.{group_of, start_of, starts_of}
-use Rattle.event_model.specs.Stages.{is_ready, life_of}
+use Rattle.event_model.specs.Spawns.{start_of, starts_of}
+use Rattle.event_model.specs.Stages.{is_ready}
 use Rattle.event_model.proofs.Frames.{never}
 use Rattle.mux_facts.specs.Allowed.{is_response}
 use Rattle.mux_facts.proofs.Lists.{found_is}
@@ -32,12 +30,12 @@ use Rattle.group_words.specs.Houses.{home_of, is_home}
 use Rattle.group_rows.specs.AskRows.{hand_back, notified_row, response_at, response_row}
 use Rattle.group_rows.specs.Asks.{asks_of, is_seated, running_in}
 use Rattle.group_rows.specs.Created.{Created, Taking, Token, accepts, created_mark, created_of, created_text, has_accepted, is_answered, is_at, is_called, is_progress, named_token, names_progress, token_called}
-use Rattle.group_rows.specs.CreatedRows.{created_row, hand_out, progress_row, takers, taking_row, tell, tell_takers}
+use Rattle.group_rows.specs.CreatedRows.{created_row, hand_out, takers, taking_row, tell, tell_takers}
 use Rattle.group_rows.specs.Forwarded.{Forwarded, forwarding_of, names as names_number}
 use Rattle.group_rows.specs.Rows.{from_editor, from_server, outs_of}
 use Rattle.group_rows.specs.Tokens.{is_mark, is_told, listens, mark, marked_text, own_token, partial_mark, tell_progress, work_mark}
 use Rattle.group_facts.specs.Settled.{HasTaken, RunsAt, Settled}
-use Rattle.group_facts.specs.Why.{IsNotified, IsProgress, IsTaken, Why, WhyToEditor, answers, asks, calls, passes, progresses, recalls, refuses, rejects, resumes, spreads, turns_away, welcomes}
+use Rattle.group_facts.specs.Why.{IsNotified, IsTaken, Why, WhyToEditor, answers, asks, calls, passes, progresses, recalls, refuses, rejects, resumes, spreads, turns_away, welcomes}
 use Rattle.group_facts.proofs.Facts.{Facts}
 use Rattle.group_sessions.proofs.Accepted.{NamesToken}
 use Rattle.group_sessions.proofs.Client6Law.{created_id}
@@ -45,8 +43,8 @@ use Rattle.group_sessions.proofs.CreatedFold.{IsLive, created_orderly, is_free}
 use Rattle.group_sessions.proofs.HeldFold.{IsFair, NameTokens, called_some, created_fair}
 use Rattle.group_sessions.proofs.Marked.{Marked, marked}
 use Rattle.group_sessions.proofs.TakingTies.{find_true}
-use Rattle.scratch_due.specs.Due.{names_mark, sent_by}
-use Rattle.scratch_due.proofs.DueSent.{flat_kept, flat_map_map, none_found, one_of, only_one, progress_named, sent_outs, tells_as}
+use Rattle.group_sessions.specs.Due.{names_mark, sent_by}
+use Rattle.group_sessions.proofs.DueSent.{flat_kept, flat_map_map, none_found, one_of, only_one, progress_named, sent_outs, tells_as}
 
 -- a body for each
 outs_each : {A : Type 0} (f : A → Out) (xs : List A) (events : List Event) → outs (each (λ a. send (f a)) xs) events ≡ map f xs

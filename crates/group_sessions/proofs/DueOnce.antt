@@ -1,11 +1,10 @@
 -- No editor is asked twice to take a token: as a start creates it each that runs is asked (S8), and one that begins to run is asked of each that lives (L2).
-use Rattle.std.proofs.Common.{◌≡◌, ℕ, zero, suc, ◌+◌, ◌^◌, ◌<◌, ◌≤◌, Bool, true, false, not, ◌&&◌, ◌||◌, cond, List, [], ◌∷◌, ◌++◌, append-nil, append_assoc, bytes_eq, codes, decimal, filter, find, map, nat_eq, if◌then◌else◌, Option, Some, None, ◌⊎◌, inl, inr, ltb-true, refl, sym, ◌∙◌, ap, ap₂, subst, arith}
+use Rattle.std.proofs.Common.{◌≡◌, ℕ, zero, suc, ◌+◌, ◌^◌, ◌<◌, ◌≤◌, Bool, true, false, not, ◌&&◌, ◌||◌, cond, List, [], ◌∷◌, ◌++◌, append-nil, bytes_eq, codes, decimal, filter, nat_eq, if◌then◌else◌, Option, Some, None, ◌⊎◌, inl, inr, ltb-true, refl, sym, ◌∙◌, ap, subst, arith}
 use Rattle.std.specs.List.{AllByRecursion, list_any, range_with_len}
 use Rattle.std.proofs.lemmas.Bool.{and_parts}
 use Rattle.json_text.specs.Json.{Json}
 use Rattle.mux_history.specs.declared.cause.Cause.{Cause}
 use Rattle.mux_history.specs.declared.cause.Cause.TheVariants.{Joined, FromEditor, EditorGone, Started, StartFailed, FromServer, ServerGone, Drained, Tick}
-use Rattle.mux_history.specs.declared.entry.Entry.{Entry}
 use Rattle.mux_history.specs.declared.out.Out.{Out}
 use Rattle.mux_history.specs.declared.out.Out.TheVariants.{ToEditor, ToServer, Spawn, CloseEditor, EndServer}
 use Rattle.lsp_method.specs.Class.{class_of, server_request}
@@ -15,10 +14,9 @@ use Rattle.rpc_message.specs.Message.{Id, Message, request, notification, result
 use Rattle.rpc_message.specs.Texts.{ok_text, with_id_text}
 use Rattle.rpc_message.proofs.Decimals.{decimal_law}
 use Rattle.rpc_message.proofs.Ids.{request_with_id}
-use Rattle.event_model.specs.declared.phase.Phase.{Phase}
 use Rattle.event_model.specs.declared.phase.Phase.TheVariants.{Answered, Down, Running}
 use Rattle.event_model.specs.declared.stage.Stage.TheVariants.{Ended, Ready, Unspawned}
-use Rattle.event_model.specs.Event.{Event, behind, did, events_of, heard, requests, said, took, with_cause}
+use Rattle.event_model.specs.Event.{Event, behind, did, heard, requests, said, took, with_cause}
 use Rattle.event_model.specs.Members.{named_of}
 use Rattle.event_model.specs.Phases.{Desk, desk_hears, desk_of, editors_of, is_malformed, is_running, makes_running}
 use Rattle.event_model.specs.Requests.{answered_id}
@@ -32,49 +30,41 @@ use Rattle.mux_model.specs.Rows.{malformed_row}
 use Rattle.mux_facts.specs.Ranges.{InRange}
 use Rattle.mux_facts.proofs.DocumentRow.{ready_is}
 use Rattle.mux_facts.proofs.Folds.{desk_more}
-use Rattle.mux_facts.proofs.Keeps.{behind_both}
 use Rattle.mux_facts.proofs.Lists.{all_filtered}
 use Rattle.mux_facts.proofs.Reasons.{Because, Reasons, by_choose, by_look, by_nothing, by_on, by_send, by_then, reasons_both, reasons_keep}
 use Rattle.mux_facts.proofs.Words.{number_same, other_number, same_number}
 use Rattle.group_words.specs.Houses.{home_of, is_doubled, is_home}
-use Rattle.group_rows.specs.registrations.specs.declared.registration.Registration.{Registration}
 use Rattle.group_rows.specs.registrations.specs.Items.{again}
-use Rattle.group_rows.specs.AskRows.{ask, asking_row, question_row, run_at, run_row}
-use Rattle.group_rows.specs.Asks.{Parked, asking_of, has_number, is_patient, is_taken, next_ask, parked_of, running_in}
-use Rattle.group_rows.specs.Created.{Created, Token, accepts, created_mark, created_of, created_token, is_creating, is_marked, is_numbered, is_progress, named_token, no_created, token_called, token_marked}
+use Rattle.group_rows.specs.AskRows.{ask, asking_row, run_at, run_row}
+use Rattle.group_rows.specs.Asks.{Parked, has_number, next_ask, parked_of, running_in}
+use Rattle.group_rows.specs.Created.{Created, Token, accepts, created_mark, created_of, created_token, is_creating, is_marked, is_numbered, is_progress, named_token, token_called, token_marked}
 use Rattle.group_rows.specs.CreatedRows.{create_text, offer, offer_all}
 use Rattle.group_rows.specs.Leaves.{leave_row}
-use Rattle.group_rows.specs.Live.{is_registering, live_of, register_text}
+use Rattle.group_rows.specs.Live.{live_of, register_text}
 use Rattle.group_rows.specs.LiveRows.{accept, call, decline, has_some, restore}
 use Rattle.group_rows.specs.Rows.{asks_lspmux, closing_row, from_editor, from_server, lspmux_row, message_row, outs_of, served_row, taken_row, told_row}
 use Rattle.group_rows.proofs.CreatedTexts.{create_says, create_tree}
 use Rattle.group_rows.proofs.LiveTexts.{again_written, live_written, register_says, registered_written, unregister_says}
 use Rattle.group_facts.specs.Built.{built_behind}
 use Rattle.group_facts.specs.Facts.{IsParked}
-use Rattle.group_facts.specs.Legal.{Legal}
 use Rattle.group_facts.specs.Settled.{Settled}
 use Rattle.group_facts.specs.Why.{Calling, IsCall, IsChange, IsRestoring, Why, WhyToEditor, answers, asks, asks_something, calls, creates, displaces, enrols, passes, progresses, recalls, refuses, rejects, releases, restores, resumes, revives, spreads, turns_away, welcomes}
 use Rattle.group_facts.proofs.Asks.{is_question, response_asks_none}
 use Rattle.group_facts.proofs.Begun.{all_outs, leave_by}
 use Rattle.group_facts.proofs.Facts.{Facts}
-use Rattle.group_facts.proofs.Known.{facts_hold}
 use Rattle.group_facts.proofs.Marks.{mark_number, mark_start, marked_same}
-use Rattle.group_facts.proofs.Settling.{settled_holds}
-use Rattle.group_facts.proofs.Still.{Goes, still_served, unshut}
+use Rattle.group_facts.proofs.Still.{Goes, still_served}
 use Rattle.group_facts.proofs.Table.{reasons}
 use Rattle.group_sessions.proofs.CreatedFold.{AllApart, IsApart, IsLive, IsNew, created_orderly, new_is}
-use Rattle.group_sessions.proofs.HeldFold.{Fair, created_fair}
+use Rattle.group_sessions.proofs.HeldFold.{created_fair}
+use Rattle.group_sessions.proofs.Taken.{HasRun}
 use Rattle.group_sessions.proofs.TakingTies.{find_true}
 use Rattle.group_sessions.proofs.Tied.{all_back, has_run, not_run, unrun}
-use Rattle.group_sessions.proofs.Walk.{walk}
-use Rattle.scratch_due.specs.Due.{Word, is_asks, asked_by, asks as due_asks, parts as due_parts, replies as due_replies, rests, spoken_by, tells as due_tells, told_by, word, words}
-use Rattle.scratch_due.proofs.DueClear.{off_creating}
-use Rattle.scratch_due.proofs.DueEvents.{Rest, Tie, dead, going, words_more}
-use Rattle.scratch_due.proofs.DueLaw.{AskedOnce}
-use Rattle.scratch_due.proofs.DueWords.{any_join, none_join}
-
-abbrev HasRun : List Event → ℕ → Type 0
-HasRun events e = has_run (desk_of e events).phase ≡ true
+use Rattle.group_sessions.specs.Due.{is_asks, asked_by, asks as due_asks, parts as due_parts, replies as due_replies, rests, tells as due_tells, told_by, word, words}
+use Rattle.group_sessions.proofs.DueClear.{off_creating}
+use Rattle.group_sessions.proofs.DueEvents.{Rest, Tie, dead, going, num_off, words_more}
+use Rattle.group_sessions.proofs.DueLaw.{AskedOnce}
+use Rattle.group_sessions.proofs.DueWords.{any_join, none_join}
 
 abbrev makes : Message → Bool
 makes (request id method params) = is_creating method
@@ -126,13 +116,6 @@ well_formed (result id r) h = (refl, refl)
 well_formed (error id r) h = (refl, refl)
 well_formed not_json h = never (sym h)
 well_formed not_message h = never (sym h)
-
-num_off : (a b : ℕ) → (a ≡ b → ⊥) → nat_eq a b ≡ false
-num_off a b f = go (nat_eq a b) refl
-  where
-    go : (c : Bool) → nat_eq a b ≡ c → c ≡ false
-    go true same = absurd (f (number_same a b same))
-    go false off = refl
 
 -- Lists of editors that rise
 
@@ -591,6 +574,7 @@ module _ (settings : Settings) (range : InRange settings) (before : List Event) 
         ∙ (ap (λ b. outs (choose b (lspmux_row settings before e body (message_of body)) (taken_row settings before e body (message_of body) Answered)) there) (well_formed (message_of body) runs).1
         ∙ ap (λ b. outs (choose b (run_row settings before e) nothing ⨾ served) there) runs))))
         (reasons_both Once there (outs (run_row settings before e) there) (outs served mid) begun_part.why (going_once (outs served mid) mid ((still_served settings before e body (ap is_running was) (message_of body) refl runs).goes mid)))
+
     begun_once : Reasons Once there (outs_of settings before (FromEditor e body))
     begun_once = go (is_doubled before e (message_of body)) refl
       where

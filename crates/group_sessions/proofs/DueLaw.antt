@@ -24,7 +24,6 @@ use Rattle.mux_model.specs.Fits.{fits_behind}
 use Rattle.mux_facts.specs.Ranges.{InRange}
 use Rattle.mux_facts.proofs.DocumentRow.{ready_is}
 use Rattle.mux_facts.proofs.Folds.{starts_more}
-use Rattle.mux_facts.proofs.Keeps.{behind_nothing}
 use Rattle.mux_facts.proofs.Lists.{found_is}
 use Rattle.mux_facts.proofs.Reasons.{Reasons, reasons_keep}
 use Rattle.mux_facts.proofs.Starts.{Starts}
@@ -39,18 +38,16 @@ use Rattle.group_facts.specs.Legal.{Legal}
 use Rattle.group_facts.specs.Settled.{HasTaken, RunsAt, Settled}
 use Rattle.group_facts.specs.Why.{IsNotified, IsTaken, Why}
 use Rattle.group_facts.proofs.Facts.{Facts}
-use Rattle.group_facts.proofs.Known.{Here, facts_hold, here_did, here_took}
-use Rattle.group_facts.proofs.Settling.{settled_holds}
+use Rattle.group_facts.proofs.Known.{Here, here_did, here_took}
 use Rattle.group_facts.proofs.Table.{reasons}
 use Rattle.group_sessions.proofs.TakingTies.{find_true}
-use Rattle.group_sessions.proofs.Unreserved.{Unreserved, all_unreserved}
-use Rattle.group_sessions.proofs.Walk.{walk}
-use Rattle.scratch_due.specs.Due.{KeepsDue, due, is_asks, progress_sent, word, words}
-use Rattle.scratch_due.proofs.DueEvents.{IsNewStart, Moves, Tie, gain, moved_did, moved_took, tied_first, told_gain}
-use Rattle.scratch_due.proofs.DueExact.{handed_exactly, told_exactly}
-use Rattle.scratch_due.proofs.DueFold.{head_passes, is_own, own, own_accepted}
-use Rattle.scratch_due.proofs.DueSent.{Source, hears, nothing_or, sent_behind, sent_heard, sent_outs, takes}
-use Rattle.scratch_due.proofs.DueStates.{IsGoing, IsWaiting, Seat, State, fresh, gained, goes, handed, over, rose, sits, waits}
+use Rattle.group_sessions.proofs.Unreserved.{Unreserved}
+use Rattle.group_sessions.specs.Due.{due, is_asks, progress_sent, word, words}
+use Rattle.group_sessions.proofs.DueEvents.{IsNewStart, Moves, Tie, gain, moved_did, moved_took, told_gain}
+use Rattle.group_sessions.proofs.DueExact.{handed_exactly, told_exactly}
+use Rattle.group_sessions.proofs.DueFold.{head_passes, is_own, own, own_accepted}
+use Rattle.group_sessions.proofs.DueSent.{Source, hears, nothing_or, sent_behind, sent_heard, sent_outs, takes}
+use Rattle.group_sessions.proofs.DueStates.{Seat, State, fresh, gained, goes, handed, over, rose, sits, waits}
 
 -- An editor is asked once to take a token, at each place of an entry
 abbrev pub AskedOnce : Settings → ℕ → ℕ → ℕ → List Event → Out → Type 0

@@ -6,7 +6,7 @@ use Rattle.rpc_message.specs.Message.{Id}
 use Rattle.event_model.proofs.Frames.{never}
 use Rattle.group_rows.specs.Created.{first_begin, held_first, held_most, is_begin}
 use Rattle.group_rows.specs.Forwarded.{names}
-use Rattle.scratch_due.specs.Due.{Word, asks, bodies, begins, body_in, due, due_asked, due_settled, ends, held_of, is_asks, is_parts, opening, parts, replies, rests, settles, since, tells, until}
+use Rattle.group_sessions.specs.Due.{Word, asks, bodies, begins, body_in, due, due_asked, due_settled, ends, held_of, is_asks, is_parts, opening, parts, replies, rests, settles, since, tells, until}
 
 -- Lists
 

@@ -1,16 +1,15 @@
 -- What the fold of created tokens keeps of one token and one editor, beside the words of the two: what is held is what is due once it accepts, and whoever accepted is due what comes.
-use Rattle.std.proofs.Common.{◌≡◌, ℕ, ◌+◌, ◌<◌, ◌≤◌, Bool, true, false, not, ◌&&◌, ◌||◌, cond, List, [], ◌∷◌, ◌++◌, append-nil, append_assoc, filter, flat_map, map, nat_eq, nat_lt, length, take, if◌then◌else◌, Option, Some, None, refl, sym, ◌∙◌, ap, ap₂, subst, arith}
+use Rattle.std.proofs.Common.{◌≡◌, ℕ, ◌+◌, Bool, true, false, not, ◌&&◌, ◌||◌, cond, List, [], ◌∷◌, ◌++◌, filter, flat_map, map, nat_eq, if◌then◌else◌, Option, Some, refl, sym, ◌∙◌, ap, ap₂, subst}
 use Rattle.std.specs.List.{list_any}
 use Rattle.std.proofs.lemmas.Bool.{and_parts}
 use Rattle.json_text.specs.Json.{Json}
-use Rattle.rpc_message.specs.Message.{Id, Message}
+use Rattle.rpc_message.specs.Message.{Message}
 use Rattle.event_model.specs.Requests.{answered_id}
 use Rattle.event_model.proofs.Frames.{never}
-use Rattle.mux_facts.proofs.Words.{number_same, other_number, same_number}
-use Rattle.group_rows.specs.Created.{Created, Taking, Token, accepts, answered, asked, held_first, held_most, is_answered, is_at, is_begin, is_end, is_over, left, lives, may_hold, progressed, settled, told, with_asked}
+use Rattle.mux_facts.proofs.Words.{number_same, same_number}
+use Rattle.group_rows.specs.Created.{Created, Taking, Token, accepts, answered, asked, is_answered, is_at, is_begin, is_end, is_over, left, lives, may_hold, progressed, settled, told, with_asked}
 use Rattle.group_rows.specs.Forwarded.{names}
-use Rattle.scratch_due.specs.Due.{Word, asks, begins, bodies, body_in, due, ends, held_of, is_asks, is_parts, opening, parts, replies, settles, tells}
-use Rattle.scratch_due.proofs.DueWords.{Over, agrees, any_join, asked_there, bodies_join, due_fresh, due_goes, due_waits, filter_join, held_step, none_join, over_more, parted, refused}
+use Rattle.group_sessions.proofs.DueWords.{filter_join}
 
 -- Lists
 

@@ -23,11 +23,11 @@ use Rattle.group_facts.proofs.Settling.{settled_holds}
 use Rattle.group_sessions.proofs.Tied.{has_run}
 use Rattle.group_sessions.proofs.Unreserved.{Unreserved, all_unreserved}
 use Rattle.group_sessions.proofs.Walk.{walk}
-use Rattle.scratch_due.specs.Due.{KeepsDue, due, is_asks, progress_sent, words}
-use Rattle.scratch_due.proofs.DueClear.{all_clear}
-use Rattle.scratch_due.proofs.DueEvents.{Tie, tied_first}
-use Rattle.scratch_due.proofs.DueLaw.{AskedOnce, entry_due, entry_tied, fewer}
-use Rattle.scratch_due.proofs.DueOnce.{asked_once, ran_entry}
+use Rattle.group_sessions.specs.Due.{KeepsDue, due, is_asks, progress_sent, words}
+use Rattle.group_sessions.proofs.DueClear.{all_clear}
+use Rattle.group_sessions.proofs.DueEvents.{Tie, tied_first}
+use Rattle.group_sessions.proofs.DueLaw.{AskedOnce, entry_due, entry_tied, fewer}
+use Rattle.group_sessions.proofs.DueOnce.{asked_once, ran_entry}
 
 -- of token k of start s and editor e
 record Rests (settings : Settings) (events : List Event) (s k e : ℕ) : Type 0 where

@@ -1,17 +1,17 @@
 -- How far an editor is with a token, by the words of the two and by what the fold keeps of them, and how that moves on by one word.
-use Rattle.std.proofs.Common.{◌≡◌, ℕ, ◌+◌, ◌<◌, ◌≤◌, Bool, true, false, not, ◌&&◌, ◌||◌, cond, List, [], ◌∷◌, ◌++◌, append-nil, append_assoc, filter, flat_map, map, nat_eq, nat_lt, length, take, if◌then◌else◌, Option, Some, None, refl, sym, ◌∙◌, ap, ap₂, subst, arith}
+use Rattle.std.proofs.Common.{◌≡◌, ℕ, ◌+◌, ◌<◌, ◌≤◌, Bool, true, false, not, ◌&&◌, ◌||◌, cond, List, [], ◌∷◌, ◌++◌, append-nil, append_assoc, filter, flat_map, map, nat_eq, nat_lt, length, take, if◌then◌else◌, Option, refl, sym, ◌∙◌, ap, ap₂, subst, arith}
 use Rattle.std.specs.List.{list_any}
 use Rattle.std.proofs.lemmas.Bool.{and_parts}
 use Rattle.json_text.specs.Json.{Json}
 use Rattle.rpc_message.specs.Message.{Id, Message}
 use Rattle.event_model.specs.Requests.{answered_id}
 use Rattle.event_model.proofs.Frames.{never}
-use Rattle.mux_facts.proofs.Words.{number_same, same_number}
+use Rattle.mux_facts.proofs.Words.{number_same}
 use Rattle.group_rows.specs.Created.{Created, Taking, Token, accepts, asked, held_first, held_most, is_answered, is_at, is_begin, is_end, is_over, lives, may_hold, settled, told}
 use Rattle.group_rows.specs.Forwarded.{names}
-use Rattle.scratch_due.specs.Due.{Word, asks, begins, bodies, body_in, due, ends, held_of, is_asks, is_parts, opening, parts, replies, settles, tells}
-use Rattle.scratch_due.proofs.DueFold.{head_passes, is_own, own}
-use Rattle.scratch_due.proofs.DueWords.{Over, agrees, asked_there, bodies_join, due_fresh, due_goes, due_waits, held_step, none_join, over_more, parted, refused}
+use Rattle.group_sessions.specs.Due.{Word, asks, begins, bodies, body_in, due, ends, held_of, is_asks, is_parts, opening, parts, replies, settles, tells}
+use Rattle.group_sessions.proofs.DueFold.{head_passes, is_own, own}
+use Rattle.group_sessions.proofs.DueWords.{Over, asked_there, bodies_join, due_fresh, due_goes, due_waits, held_step, none_join, over_more, parted, refused}
 
 -- it was asked and hasn't answered
 pub record IsWaiting (e k : ℕ) (x : Created) (ws : List Word) : Type 0 where

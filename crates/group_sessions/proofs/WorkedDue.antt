@@ -16,7 +16,7 @@ use Rattle.group_words.specs.Example.{with_groups}
 use Rattle.group_rows.specs.AsksExample.{two_run}
 use Rattle.group_rows.specs.CreatedExample.{asked_later, taken_by_one}
 use Rattle.group_rows.specs.Example.{events_behind}
-use Rattle.scratch_due.specs.Due.{progress_due, progress_sent}
+use Rattle.group_sessions.specs.Due.{progress_due, progress_sent}
 
 abbrev one_taken : List Event
 one_taken = events_behind (with_groups 8) two_run taken_by_one

@@ -1,44 +1,32 @@
 -- What an entry sends an editor of a token: what is due by its cause.
-use Rattle.std.proofs.Common.{◌≡◌, ℕ, zero, suc, ◌+◌, ◌^◌, ◌<◌, ◌≤◌, Bool, true, false, not, ◌&&◌, ◌||◌, cond, List, [], ◌∷◌, ◌++◌, append-nil, append_assoc, bytes_eq, codes, filter, find, flat_map, map, nat_eq, nat_le, if◌then◌else◌, Option, Some, None, is_some, ◌⊎◌, inl, inr, refl, sym, ◌∙◌, ap, ap₂, subst, arith}
+use Rattle.std.proofs.Common.{◌≡◌, ℕ, zero, suc, ◌+◌, ◌^◌, ◌<◌, ◌≤◌, Bool, true, false, ◌&&◌, ◌||◌, cond, List, [], ◌∷◌, ◌++◌, append-nil, bytes_eq, codes, filter, find, flat_map, map, nat_eq, if◌then◌else◌, Option, Some, None, is_some, ◌⊎◌, inl, inr, refl, sym, ◌∙◌, ap, ap₂, subst, arith}
 use Rattle.std.specs.List.{AllByRecursion, list_any, range_with_len}
 use Rattle.std.specs.Option.{option_and_then, option_map_or}
-use Rattle.std.proofs.lemmas.Bool.{and_parts, leb-false, leb-true}
+use Rattle.std.proofs.lemmas.Bool.{and_parts}
 use Rattle.std.proofs.lemmas.Slice.Eq.{bytes_eq-Decides}
 use Rattle.json_text.specs.Json.{Json, word as json_word, number as json_number, string, array, object}
 use Rattle.mux_history.specs.declared.cause.Cause.{Cause}
 use Rattle.mux_history.specs.declared.cause.Cause.TheVariants.{Joined, FromEditor, EditorGone, Started, StartFailed, FromServer, ServerGone, Drained, Tick}
 use Rattle.mux_history.specs.declared.out.Out.{Out}
 use Rattle.mux_history.specs.declared.out.Out.TheVariants.{ToEditor, ToServer, Spawn, CloseEditor, EndServer}
-use Rattle.lsp_method.specs.Class.{class_of, server_notification}
-use Rattle.lsp_method.specs.declared.variants.Class.{Class}
+use Rattle.lsp_method.specs.Class.{server_notification}
 use Rattle.lsp_method.specs.declared.variants.Class.TheVariants.{Broadcast, Cancel, Diagnostics, Progress}
-use Rattle.lsp_method.specs.declared.variants.Origin.TheVariants.{Server}
 use Rattle.rpc_message.specs.Message.{Id, Message, request, notification, result, error, not_json, not_message, id_of, integer, integer_if, is_integer, message_of, text}
-use Rattle.event_model.specs.declared.phase.Phase.TheVariants.{Running}
-use Rattle.event_model.specs.declared.stage.Stage.TheVariants.{Ready}
 use Rattle.event_model.specs.Event.{Event, behind, heard, same_id, said, with_cause}
 use Rattle.event_model.specs.Members.{named_of, string_of}
-use Rattle.event_model.specs.Phases.{desk_of, editors_of, is_running}
 use Rattle.event_model.specs.Requests.{answered_id}
-use Rattle.event_model.specs.Row.{each, nothing, on, outs, send}
 use Rattle.event_model.specs.Settings.{Settings}
-use Rattle.event_model.specs.Spawns.{group_of, start_of, starts_of}
-use Rattle.event_model.specs.Stages.{is_ready, life_of}
+use Rattle.event_model.specs.Spawns.{starts_of}
 use Rattle.event_model.proofs.Frames.{never}
 use Rattle.mux_facts.specs.Allowed.{is_response}
 use Rattle.mux_facts.proofs.Lists.{found_is}
 use Rattle.mux_facts.proofs.Reasons.{Reasons}
-use Rattle.mux_facts.proofs.Words.{id_same, number_same, same_id_itself, same_number}
-use Rattle.group_words.specs.Houses.{home_of, is_home}
-use Rattle.group_rows.specs.AskRows.{notified_row, response_row}
-use Rattle.group_rows.specs.Asks.{asks_of, is_seated, running_in}
-use Rattle.group_rows.specs.Created.{Created, Taking, Token, accepts, created_mark, created_of, created_text, has_accepted, is_answered, is_at, is_called, is_progress, named_token, names_progress, no_created, token_called}
-use Rattle.group_rows.specs.CreatedRows.{created_row, hand_out, progress_row, takers, taking_row, tell, tell_takers}
-use Rattle.group_rows.specs.Forwarded.{Forwarded, forwarding_of}
-use Rattle.group_rows.specs.Rows.{from_editor, from_server, outs_of}
-use Rattle.group_rows.specs.Tokens.{is_mark, is_told, listens, mark, marked_text, own_token, partial_mark, tell_progress, work_mark}
-use Rattle.group_facts.specs.Settled.{HasTaken, RunsAt, Settled}
-use Rattle.group_facts.specs.Why.{IsNotified, IsProgress, IsTaken, Telling, Why, WhyToEditor, answers, asks, calls, of_held, of_request, of_token, passes, progresses, recalls, refuses, rejects, resumes, spreads, turns_away, welcomes}
+use Rattle.mux_facts.proofs.Words.{id_same, number_same, same_number}
+use Rattle.group_rows.specs.Created.{Created, Taking, Token, accepts, created_mark, created_of, created_text, has_accepted, is_answered, is_called, is_progress, named_token, names_progress, no_created, token_called}
+use Rattle.group_rows.specs.Forwarded.{forwarding_of}
+use Rattle.group_rows.specs.Tokens.{is_told, marked_text}
+use Rattle.group_facts.specs.Settled.{Settled}
+use Rattle.group_facts.specs.Why.{IsNotified, IsTaken, Telling, Why, WhyToEditor, answers, asks, calls, of_held, of_request, of_token, passes, progresses, recalls, refuses, rejects, resumes, spreads, turns_away, welcomes}
 use Rattle.group_facts.proofs.Facts.{Facts}
 use Rattle.group_facts.proofs.Marks.{mark_number, mark_start}
 use Rattle.group_sessions.proofs.Accepted.{NamesToken}
@@ -47,10 +35,10 @@ use Rattle.group_sessions.proofs.CreatedFold.{IsLive, created_orderly, is_free}
 use Rattle.group_sessions.proofs.HeldFold.{Fair, IsFair, NameTokens, called_some, created_fair}
 use Rattle.group_sessions.proofs.Marked.{Marked, marked}
 use Rattle.group_sessions.proofs.Taken.{all_at}
-use Rattle.group_sessions.proofs.TakingTies.{find_true}
 use Rattle.group_sessions.proofs.Unreserved.{IsFreeText, IsUnreserved, Unreserved}
-use Rattle.scratch_due.specs.Due.{names_mark, progress_sent, sent_by}
-use Rattle.scratch_due.proofs.DueWords.{flat_join}
+use Rattle.group_sessions.specs.Due.{names_mark, progress_sent, sent_by}
+use Rattle.group_sessions.proofs.DueEvents.{num_off}
+use Rattle.group_sessions.proofs.DueWords.{flat_join}
 
 some_same : {A : Type 0} (a b : A) → ◌≡◌ {A = Option A} (Some a) (Some b) → a ≡ b
 some_same a b e = cc
@@ -137,13 +125,6 @@ flat_kept f test (x ∷ xs) = go (test x) (flat_kept f test xs)
     go : (b : Bool) → flat_map f (filter test xs) ≡ flat_map (λ a. if test a then f a else []) xs → flat_map f (cond b (x ∷ filter test xs) (filter test xs)) ≡ (if b then f x else []) ++ flat_map (λ a. if test a then f a else []) xs
     go true h = ap (λ z. f x ++ z) h
     go false h = h
-
-num_off : (a b : ℕ) → (a ≡ b → ⊥) → nat_eq a b ≡ false
-num_off a b f = go (nat_eq a b) refl
-  where
-    go : (c : Bool) → nat_eq a b ≡ c → c ≡ false
-    go true same = absurd (f (number_same a b same))
-    go false off = refl
 
 module _ {B : Type 0} (h : ℕ → List B) (e : ℕ) (others : (n : ℕ) → nat_eq n e ≡ false → h n ≡ []) where
   none_above : (from len : ℕ) → e < from → flat_map h (range_with_len from len) ≡ []

@@ -1,5 +1,5 @@
 -- What is due behind one event more, and what the fold of created tokens keeps beside it.
-use Rattle.std.proofs.Common.{◌≡◌, ℕ, ◌+◌, ◌<◌, ◌≤◌, Bool, true, false, not, ◌&&◌, ◌||◌, cond, List, [], ◌∷◌, ◌++◌, append-nil, append_assoc, codes, filter, find, flat_map, map, nat_eq, if◌then◌else◌, Option, Some, None, ◌⊎◌, inl, inr, refl, sym, ◌∙◌, ap, ap₂, subst, arith}
+use Rattle.std.proofs.Common.{◌≡◌, ℕ, ◌+◌, ◌<◌, ◌≤◌, Bool, true, false, not, ◌&&◌, ◌||◌, cond, List, [], ◌∷◌, ◌++◌, append-nil, codes, filter, find, flat_map, map, nat_eq, if◌then◌else◌, Option, Some, None, ◌⊎◌, inl, inr, refl, sym, ◌∙◌, ap, ap₂, subst, arith}
 use Rattle.std.specs.List.{AllByRecursion, list_any}
 use Rattle.std.proofs.lemmas.Bool.{and_parts}
 use Rattle.json_text.specs.Json.{Json}
@@ -18,30 +18,27 @@ use Rattle.event_model.specs.Spawns.{starts_of}
 use Rattle.event_model.specs.Stages.{Life, is_ready, life_behind, life_of, no_life, stage_ending, stage_hears, stage_started, stage_told}
 use Rattle.event_model.proofs.Frames.{never}
 use Rattle.mux_facts.proofs.Folds.{life_more}
-use Rattle.mux_facts.proofs.Lists.{all_filtered, all_join, all_of, found_is}
+use Rattle.mux_facts.proofs.Lists.{all_filtered, all_join, found_is}
 use Rattle.mux_facts.proofs.Starts.{Starts}
 use Rattle.mux_facts.proofs.Words.{number_same, same_number}
 use Rattle.group_words.proofs.Frames.{past_more}
 use Rattle.group_rows.specs.Asks.{asking_of, is_taken, next_ask}
-use Rattle.group_rows.specs.Created.{Created, Taking, Token, accepts, answered, asked, begun_by, created_next, created_of, created_token, first_begin, held_first, is_answered, is_begin, is_called, is_creating, is_end, is_ended_by, is_numbered, is_over, is_progress, left, lives, named_token, no_created, progressed, settled, spoken, told as told_taking, token_called, token_marked, is_marked, with_asked, with_token}
+use Rattle.group_rows.specs.Created.{Created, Token, accepts, answered, asked, begun_by, created_next, created_of, created_token, first_begin, held_first, is_answered, is_called, is_creating, is_ended_by, is_numbered, is_over, is_progress, left, lives, named_token, no_created, progressed, settled, spoken, told as told_taking, token_called, token_marked, is_marked, with_asked, with_token}
 use Rattle.group_rows.specs.Live.{is_heard}
 use Rattle.group_sessions.proofs.CreatedFold.{IsLive, IsNew, Orderly, created_orderly, new_is}
 use Rattle.group_sessions.proofs.CreatedTies.{created_more}
 use Rattle.group_sessions.proofs.HeldFold.{gone_behind}
-use Rattle.scratch_due.specs.Due.{Word, asked_by, asks, begins, bodies, body_in, due, ends, is_asks, is_beginning, is_ending, opening, parts, replies, rests, spoken_by, tells, told_by, word, words}
-use Rattle.scratch_due.proofs.DueFold.{own, own_answered, own_asked, own_left, own_other, own_stays, own_still, own_told}
-use Rattle.scratch_due.proofs.DueStates.{State, Steps, ask, fresh, gained, handed, idle, part, reply, tell}
-use Rattle.scratch_due.proofs.DueWords.{any_join, bodies_join, opening_step}
+use Rattle.group_sessions.specs.Due.{Word, asked_by, asks, bodies, body_in, due, is_asks, is_beginning, is_ending, opening, parts, replies, rests, spoken_by, tells, told_by, word, words}
+use Rattle.group_sessions.proofs.DueFold.{own, own_answered, own_asked, own_left, own_other, own_stays, own_still, own_told}
+use Rattle.group_sessions.proofs.DueStates.{State, Steps, ask, fresh, gained, handed, idle, part, reply, tell}
+use Rattle.group_sessions.proofs.DueWords.{any_join, bodies_join, opening_step}
 
-num_off : (a b : ℕ) → (a ≡ b → ⊥) → nat_eq a b ≡ false
+pub num_off : (a b : ℕ) → (a ≡ b → ⊥) → nat_eq a b ≡ false
 num_off a b f = go (nat_eq a b) refl
   where
     go : (c : Bool) → nat_eq a b ≡ c → c ≡ false
     go true same = absurd (f (number_same a b same))
     go false off = refl
-
-num_turned : (a b : ℕ) → nat_eq a b ≡ false → nat_eq b a ≡ false
-num_turned a b off = num_off b a (λ same. never (sym (same_number a) ∙ (ap (nat_eq a) (sym same) ∙ off)))
 
 -- A token that lives
 
