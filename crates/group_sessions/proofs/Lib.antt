@@ -42,3 +42,14 @@ pub mod Unreserved
 pub mod TellingPlaces
 pub mod Taken
 pub mod Heard
+pub mod DueWords
+pub mod DueFold
+pub mod DueStates
+pub mod DueEvents
+pub mod DueSent
+pub mod DueExact
+pub mod DueLaw
+pub mod DueClear
+pub mod DueOnce
+pub mod DueDone
+pub mod WorkedDue

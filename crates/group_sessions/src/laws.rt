@@ -7,6 +7,7 @@ ghost use Rattle.event_model.specs.Settings.{Settings};
 ghost use Rattle.event_model.specs.Spawns.{starts_of};
 ghost use Rattle.mux_facts.specs.Ranges.{InRange};
 ghost use Rattle.group_facts.specs.Legal.{Legal};
+ghost use Rattle.group_sessions.specs.Due.{KeepsDue};
 ghost use Rattle.session_laws.specs.ClientRules.{KeepsClient1, KeepsClient2, KeepsClient3, KeepsClient4, KeepsClient5, KeepsClient6, KeepsClient7};
 ghost use Rattle.session_laws.specs.ServerRules.{KeepsServer1, KeepsServer2, KeepsServer3, KeepsServer4, KeepsServer5, KeepsServer6, KeepsServer7, KeepsServer8};
 
@@ -94,6 +95,12 @@ pub fn server_7()
 /// `shutdown` (LSP 3.17, Shutdown Request and Exit Notification).
 pub fn server_8()
     ensures { (settings : Settings) → InRange settings → (history : List Entry) → Legal settings history → KeepsServer8 history }
+{}
+
+/// A law: of each token that a start created an editor was sent what it is due: the start's messages since it accepted the token, and before
+/// them what was held until then (LSP 3.17, Work Done Progress, Server Initiated Progress).
+pub fn progress_due()
+    ensures { (settings : Settings) → InRange settings → (history : List Entry) → Legal settings history → KeepsDue settings history }
 {}
 
 /// A law: no start is spawned twice, whatever group it is for. It is no rule of a session; that each lane of a server
