@@ -74,8 +74,8 @@ fn start_ended(start: u64, why: Why) -> Meaning
     ensures small { IsSmall result }
 {
     match why {
-        Why::WriteFault => Meaning::Stray,
-        _ => Meaning::Means(Cause::ServerGone(start)),
+        Why::End | Why::ReadFault | Why::BadFrame => Meaning::Means(Cause::ServerGone(start)),
+        _ => Meaning::Stray,
     }
 }
 

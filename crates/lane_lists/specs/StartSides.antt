@@ -7,10 +7,10 @@ use Rattle.lane_lists.specs.declared.item.Order.TheVariants as order
 use Rattle.lane_lists.specs.declared.item.Side.{Side}
 use Rattle.lane_lists.specs.declared.item.Side.TheVariants as side
 use Rattle.lane_lists.specs.declared.item.Item.TheVariants as item
-use Rattle.lane_lists.specs.Deeds.{Deed, Fair, entries, orders, sides}
+use Rattle.lane_lists.specs.Deeds.{Deed, Fair, entries, gather, orders, sides}
 use Rattle.lane_lists.specs.Origins.{AllIn}
 use Rattle.lane_lists.specs.Sides.{answers}
-use Rattle.lane_lists.specs.StartHistory.{went}
+use Rattle.lane_lists.specs.StartHistory.{tried_by, went}
 
 abbrev pub tag : Option ℕ → ℕ → List (ℕ × ℕ)
 tag None bytes = []
@@ -39,13 +39,15 @@ BeginOnce (order.Body body ∷ os) = BeginOnce os
 BeginOnce (order.Close ∷ os) = BeginOnce os
 BeginOnce (order.Done ∷ os) = BeginOnce os
 
--- by the queues of a servers' lane, in which no start begins twice, this was said of a body of so many bytes to a start
+-- by the queues of a servers' lane, in which no start begins twice and this one was tried, this was said of a body of so many bytes to it
 pub record StartAnswered (n m : ℕ) (deeds : List Deed) (start bytes : ℕ) (said : Side) : Type 0 where
   pub number : ℕ
   pub within : number < m
   pub place : ℕ
   pub at : slice_get (answers (sides n m (lane.Server number) deeds) (start_tagged None (orders n m (lane.Server number) deeds))) place ≡ Some ((start, bytes), said)
   pub once : BeginOnce (orders n m (lane.Server number) deeds)
+  pub tried : ℕ
+  pub tried_at : slice_get (gather n m (tried_by (lane.Server number)) deeds) tried ≡ Some start
 
 abbrev pub StartFailedAnswered : Type 0
 StartFailedAnswered =
