@@ -21,7 +21,6 @@ use Rattle.lane_lists.specs.StartHistory as starts
 use Rattle.lane_lists.proofs.Parts.{parts_go_on, parts_made}
 use Rattle.lane_lists.proofs.ByParts.{Free, free_append, free_map, free_more, free_none}
 use Rattle.session_io.specs.declared.part.End.{End}
-use Rattle.session_io.specs.declared.read.Stop.TheVariants as stop
 use Rattle.session_io.specs.Reads.{StoppedBy, bodies, end_items, why_of}
 use Rattle.mux_lanes.specs.Runs.{IsRun, IsWholeRun, Run, order_of}
 use Rattle.mux_lanes.specs.Lanes.{Turn, linked, ran, refused}

@@ -1,6 +1,6 @@
 -- What a lane said of the bodies to its starts was said in their own sessions.
-use Rattle.std.proofs.Common.{◌≡◌, ◌≢◌, ℕ, zero, suc, ◌==◌, ◌⊎◌, inl, inr, Bool, true, false, List, [], ◌∷◌, ◌++◌, length, map, slice_get, refl, ap, sym, ◌∙◌, subst, ⊎_elim, append_assoc}
-use Rattle.std.specs.Prelude.{All, Option, Some, None, ⊤}
+use Rattle.std.proofs.Common.{◌≡◌, ◌≢◌, ℕ, zero, suc, ◌==◌, ◌⊎◌, inl, inr, true, false, List, [], ◌∷◌, ◌++◌, length, map, slice_get, refl, ap, sym, ◌∙◌, subst, ⊎_elim, append_assoc}
+use Rattle.std.specs.Prelude.{All, Option, Some, None}
 use Rattle.std.proofs.lemmas.List.Elements.{All-head, All-tail}
 use Rattle.outside_io.specs.Faults.{Rose}
 use Rattle.lane_lists.specs.declared.item.Order.{Order}
@@ -16,12 +16,12 @@ use Rattle.lane_lists.specs.StartSides.{BeginOnce, Unbegun, start_tagged, tag}
 use Rattle.session_io.specs.declared.part.End.{End}
 use Rattle.session_io.specs.declared.part.End.TheVariants as end
 use Rattle.session_io.specs.Writes.{body_orders, end_orders}
-use Rattle.mux_lanes.specs.Lanes.{Turn, WholeLink, linked}
-use Rattle.mux_lanes.specs.Runs.{IsRun, IsWholeRun, Run, order_of}
+use Rattle.mux_lanes.specs.Lanes.{Turn, WholeLink}
+use Rattle.mux_lanes.specs.Runs.{Run, order_of}
 use Rattle.mux_lanes.specs.Starts.{Begun, WholeStart}
 use Rattle.mux_lanes.specs.Starts as begins
 use Rattle.mux_daemon.specs.Sessions.{SaidIn}
-use Rattle.mux_daemon.specs.Starts.{up_turn}
+use Rattle.mux_daemon.specs.Starts.{StartBroke, up_turn}
 use Rattle.mux_daemon.proofs.Places.{same_item}
 use Rattle.mux_daemon.proofs.Saying.{Answer, Behind, Off, SaidOf, none_said, run_said, self, tags}
 use Rattle.mux_daemon.proofs.Writing.{bodies_of}
@@ -159,9 +159,21 @@ behind_first : (n : ℕ) (v t : Turn) (turns : List Turn) (rest : List Order) �
 behind_first n v t turns rest once same is =
     let begun : BeginOnce ((order.Begin n ∷ rest) ++ orders_of turns) = subst (λ l. BeginOnce (l ++ orders_of turns)) (ap (λ (t : Turn). t.orders) same ∙ is) once in unbegun_front n rest (orders_of turns) begun.0
 
-pub same_turn : (n : ℕ) (turns : List Turn) (k p : ℕ) (t u : Turn) (a b : List Order) → BeginOnce (orders_of turns) → slice_get turns k ≡ Some t → slice_get turns p ≡ Some u → t.orders ≡ order.Begin n ∷ a → u.orders ≡ order.Begin n ∷ b → t ≡ u
+same_turn : (n : ℕ) (turns : List Turn) (k p : ℕ) (t u : Turn) (a b : List Order) → BeginOnce (orders_of turns) → slice_get turns k ≡ Some t → slice_get turns p ≡ Some u → t.orders ≡ order.Begin n ∷ a → u.orders ≡ order.Begin n ∷ b → t ≡ u
 same_turn n [] k p t u a b once at at' is is' = absurd cc
 same_turn n (v ∷ turns) zero zero t u a b once at at' is is' = sym (same_item v t at) ∙ same_item v u at'
 same_turn n (v ∷ turns) zero (suc p) t u a b once at at' is is' = absurd (begins_later n turns p u b (behind_first n v t turns a once (same_item v t at) is) at' is')
 same_turn n (v ∷ turns) (suc k) zero t u a b once at at' is is' = absurd (begins_later n turns k t a (behind_first n v u turns b once (same_item v u at') is') at is)
 same_turn n (v ∷ turns) (suc k) (suc p) t u a b once at at' is is' = same_turn n turns k p t u a b (once_front v.orders (orders_of turns) once) at at' is is'
+
+-- no other turn begins the start
+pub broke_so : (x : ℕ) (turns : List Turn) → BeginOnce (orders_of turns) → BrokeAt turns x → StartBroke turns x
+broke_so x turns once b = record {
+  place = b.place;
+  turn = b.turn;
+  at = b.at;
+  run = b.run;
+  is = b.is;
+  rose = b.rose;
+  only = λ k other rest here begins. same_turn x turns k b.place other b.turn rest b.run.orders once here b.at begins (ap (λ (t : Turn). t.orders) b.is);
+}

@@ -21,7 +21,7 @@ use Rattle.mux_daemon.specs.Served.{LaneServed, Story, history}
 use Rattle.mux_daemon.specs.Starts.{BerthStarts, StartBroke, StartFailedAs, StartRan, failed_turn, how, up_turn}
 use Rattle.mux_daemon.proofs.Reading.{zip_at}
 use Rattle.mux_daemon.proofs.ReadStarts.{Shown, all_kept, no_run, turn_at, up_run}
-use Rattle.mux_daemon.proofs.StartSaying.{all_broke, same_turn}
+use Rattle.mux_daemon.proofs.StartSaying.{all_broke, broke_so}
 use Rattle.mux_daemon.proofs.WriteStarts.{ToldAt, all_begun, begun_at, none_start, told_at, written_start}
 
 front_item : (xs ys : List ℕ) (k x : ℕ) → slice_get xs k ≡ Some x → slice_get (xs ++ ys) k ≡ Some x
@@ -59,16 +59,7 @@ broke_in limit s went i runs left misses old new f e once k a is at =
     let sides_are : said ++ (side_at (lane.Server i) s.more ++ q.unsaid) ≡ chain (map (λ (t : Turn). t.sides) turns) = sym (append_assoc said (side_at (lane.Server i) s.more) q.unsaid) ∙ sym q.sides_are ∙ f.ran.sides none in
     let orders_are : given ≡ chain (map (λ (t : Turn). t.orders) turns) = q.orders_are ∙ ap (λ l. f.ordered ++ l) (q.all e) ∙ append-nil f.ordered ∙ f.ran.adds.orders ∙ ap (λ l. chain (map (λ (t : Turn). t.orders) l)) turns_are in
     let apart : BeginOnce (chain (map (λ (t : Turn). t.orders) turns)) = subst (λ l. BeginOnce l) orders_are once in
-    let b = all_broke limit turns f.ran.each apart said (side_at (lane.Server i) s.more ++ q.unsaid) k a is sides_are (subst (λ l. slice_get (answers said (start_tagged None l)) k ≡ Some a) orders_are at) in
-    record {
-      place = b.place;
-      turn = b.turn;
-      at = b.at;
-      run = b.run;
-      is = b.is;
-      rose = b.rose;
-      only = λ k other rest here begins. same_turn a.0.0 turns k b.place other b.turn rest b.run.orders apart here b.at begins (ap (λ (t : Turn). t.orders) b.is);
-    }
+    broke_so a.0.0 turns apart (all_broke limit turns f.ran.each apart said (side_at (lane.Server i) s.more ++ q.unsaid) k a is sides_are (subst (λ l. slice_get (answers said (start_tagged None l)) k ≡ Some a) orders_are at))
 
 pub berth_starts : {B : Type 0} (limit : ℕ) (s : Story) (went : Bool) (i : ℕ) (runs left : B → Option (List Session)) (misses : B → ℕ) (old new : B) → ByStartParts s.editors s.servers i s.deeds → ByStartOrders s.editors s.servers i s.deeds → ByTried s.editors s.servers i s.deeds
     → LaneServed s went (lane.Server i) (Begun (WholeStart limit)) (CutBegun limit) runs left misses old new → BerthStarts limit s went i runs left misses old new
