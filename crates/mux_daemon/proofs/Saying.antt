@@ -21,7 +21,7 @@ use Rattle.mux_daemon.proofs.Rising.{Rise}
 use Rattle.mux_daemon.proofs.Writing.{bodies_of}
 
 -- none of these is of this editor
-abbrev Off : ℕ → List (ℕ × ℕ) → Type 0
+abbrev pub Off : ℕ → List (ℕ × ℕ) → Type 0
 Off e [] = ⊤
 Off e (o ∷ os) = (o.0 ≢ e) × Off e os
 
@@ -33,7 +33,7 @@ off_tagged e m (n ∷ ids) (order.Body body ∷ os) h r = (λ same. (let a = r.0
 off_tagged e m (n ∷ ids) (order.Close ∷ os) h r = off_tagged e (n + 1) ids os (let a = r.0 in omega (arith, a, h)) r.1
 off_tagged e m (n ∷ ids) (order.Done ∷ os) h r = off_tagged e (n + 1) ids os (let a = r.0 in omega (arith, a, h)) r.1
 
-abbrev without : ℕ → List (ℕ × ℕ) → List (ℕ × ℕ)
+abbrev pub without : ℕ → List (ℕ × ℕ) → List (ℕ × ℕ)
 without e l = filter (λ (x : ℕ × ℕ). not (x.0 == e)) l
 
 without_off : (e : ℕ) (l : List (ℕ × ℕ)) → Off e l → without e l ≡ l
@@ -42,7 +42,7 @@ without_off e (x ∷ l) f =
     ap (λ (b : Bool). cond (not b) (x ∷ without e l) (without e l)) (⊎_elim (λ t. absurd (f.0 t.1)) (λ t. t.0) (eqb_tells x.0 e)) ∙ ap (λ r. x ∷ r) (without_off e l f.1)
 
 -- bodies to one editor
-abbrev tags : ℕ → List (List ℕ) → List (ℕ × ℕ)
+abbrev pub tags : ℕ → List (List ℕ) → List (ℕ × ℕ)
 tags n [] = []
 tags n (b ∷ bs) = (n, length b) ∷ tags n bs
 
@@ -50,7 +50,7 @@ tags_append : (n : ℕ) (a b : List (List ℕ)) → tags n (a ++ b) ≡ tags n a
 tags_append n [] b = refl
 tags_append n (x ∷ a) b = ap (λ l. (n, length x) ∷ l) (tags_append n a b)
 
-self : (e : ℕ) → (e == e) ≡ true
+pub self : (e : ℕ) → (e == e) ≡ true
 self e = ⊎_elim (λ t. t.0) (λ t. absurd (t.1 refl)) (eqb_tells e e)
 
 without_tags : (n : ℕ) (bs : List (List ℕ)) (owed : List (ℕ × ℕ)) → Off n owed → without n (tags n bs ++ owed) ≡ owed
@@ -63,7 +63,7 @@ tagged_run n ids [] end.Done os = refl
 tagged_run n ids (b ∷ bs) o os = ap (λ l. (n, length b) ∷ l) (tagged_run n ids bs o os)
 
 -- the answer is to a body of these that was written, or it is one of those behind
-abbrev Answer : Type 0
+abbrev pub Answer : Type 0
 Answer = (ℕ × ℕ) × Side
 
 pub record Behind (unsaid rest : List Side) (owed : List (ℕ × ℕ)) (a : Answer) : Type 0 where
@@ -108,7 +108,7 @@ framed_at (b ∷ whole) (suc j) body part at =
     record { before = b ∷ r.before; behind = r.behind; is = append_assoc (framed b) (all_framed whole) part ∙ ap (λ l. framed b ++ l) r.is ∙ sym (append_assoc (framed b) (all_framed r.before) (framed body ++ r.behind)) }
 
 -- one run, and what is behind it
-abbrev SaidOf : ℕ → Run → Answer → Type 0
+abbrev pub SaidOf : ℕ → Run → Answer → Type 0
 SaidOf n run a = (a.0.0 ≡ n) × SaidIn run a.0.1 a.1
 
 module _ (limit n : ℕ) (run : Run) (is : IsRun limit run) (whole : IsWholeRun run) (unsaid rest : List Side) (owed : List (ℕ × ℕ)) (off : Off n owed) (a : Answer) where
@@ -128,7 +128,7 @@ module _ (limit n : ℕ) (run : Run) (is : IsRun limit run) (whole : IsWholeRun 
   behind_wrote true broke t = behind_broken is.wrote.others refl broke t
   behind_wrote false broke t = inr (record { said = t.said; place = t.place; are = t.are; at = subst (λ l. slice_get (answers t.said (tags n l ++ owed)) t.place ≡ Some a) (is.wrote.all whole.written broke).0 t.at })
 
-  run_said : (said : List Side) (p : ℕ) → said ++ unsaid ≡ run.sides ++ rest → slice_get (answers said (tags n (bodies_of is) ++ owed)) p ≡ Some a → SaidOf n run a ⊎ Behind unsaid rest owed a
+  pub run_said : (said : List Side) (p : ℕ) → said ++ unsaid ≡ run.sides ++ rest → slice_get (answers said (tags n (bodies_of is) ++ owed)) p ≡ Some a → SaidOf n run a ⊎ Behind unsaid rest owed a
   run_said said p e at =
       let wrotes = replicate (length is.wrote.whole) side.Wrote in
       let all : said ++ unsaid ≡ wrotes ++ (broken run.wrote.broke ++ rest) = e ∙ ap (λ l. l ++ rest) (is.wrote.items whole.written) ∙ append_assoc wrotes (broken run.wrote.broke) rest in
@@ -142,7 +142,7 @@ all_sides runs = chain (map (λ (r : Run). r.sides) runs)
 abbrev all_orders : List Run → List Order
 all_orders runs = chain (map (λ (r : Run). r.orders) runs)
 
-none_said : (said : List Side) (p : ℕ) (a : Answer) → slice_get (answers said []) p ≡ Some a → ⊥
+pub none_said : (said : List Side) (p : ℕ) (a : Answer) → slice_get (answers said []) p ≡ Some a → ⊥
 none_said [] p a at = absurd cc
 none_said (s ∷ said) p a at = absurd cc
 
