@@ -27,7 +27,7 @@ use Rattle.lane_lists.proofs.ByOrders.{within_now, is_now_is}
 use Rattle.lane_lists.proofs.Tally.{hit, seated, total, item_keeps, entry_total, deed_total, seated_one, seated_apart, seated_same, spawns_append, none_seated}
 use Rattle.lane_lists.proofs.StartLanes.{by_start, no_start_editor, no_start_ticker}
 use Rattle.lane_lists.proofs.StartMoves.{held, held_seat, held_at, late_at, start_at, held_now, given_kept, StartWays, by_try, start_acted, start_acted_none}
-use Rattle.lane_lists.proofs.StartAhead.{StartAhead, unwent, went_on, is_try, untried, cause_other, ahead_other, ahead_up, ahead_failed, ahead_word, ahead_over, ahead_broke, ahead_late, ahead_late_end}
+use Rattle.lane_lists.proofs.StartAhead.{StartAhead, unwent, is_try, untried, cause_other, ahead_other, ahead_up, ahead_failed, ahead_word, ahead_over, ahead_broke, ahead_late, ahead_late_end}
 
 -- the lane that has the start of a cause
 pub record StartHere (seats : Seats) (l : LaneName) (s : ℕ) : Type 0 where

@@ -16,7 +16,7 @@ use Rattle.lane_lists.specs.Seats.{is_now}
 use Rattle.lane_lists.specs.Sessions.{chain}
 use Rattle.lane_lists.specs.History.{Late, AllZip}
 use Rattle.lane_lists.specs.Starts.{start_of}
-use Rattle.lane_lists.specs.StartHistory.{cause_from, causes_from, went_in, GoneBy, StartHeard, CameUp, Failed, StartPart}
+use Rattle.lane_lists.specs.StartHistory.{cause_from, causes_from, went_in, StartHeard, CameUp, Failed, StartPart}
 use Rattle.lane_lists.specs.StartHistory as starts
 use Rattle.lane_lists.proofs.Ahead.{zip_map, no_late}
 use Rattle.lane_lists.proofs.ByOrders.{is_now_is}

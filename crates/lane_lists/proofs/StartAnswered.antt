@@ -22,16 +22,16 @@ use Rattle.lane_lists.specs.Origins.{AllIn, IsIn}
 use Rattle.lane_lists.specs.Sides.{answers}
 use Rattle.lane_lists.specs.Starts.{start_of}
 use Rattle.lane_lists.specs.StartHistory.{tried_by, tried_of, went_by, went_in, went_of}
-use Rattle.lane_lists.specs.StartSides.{BeginOnce, StartFailedAnswered, Unbegun, start_tagged}
+use Rattle.lane_lists.specs.StartSides.{BeginOnce, StartFailedAnswered, Unbegun}
 use Rattle.lane_lists.proofs.Moves.{did}
 use Rattle.lane_lists.proofs.BySession.{all_free, many_free}
-use Rattle.lane_lists.proofs.Tally.{deed_total, none_seated, seated_one, spawns_append, total, waits}
+use Rattle.lane_lists.proofs.Tally.{deed_total, none_seated, seated_one, spawns_append, total}
 use Rattle.lane_lists.proofs.StartMoves.{StartWays, by_try, held, held_at, held_seat, start_acted, start_acted_none, start_at}
 use Rattle.lane_lists.proofs.ByStart.{item_held, other_lane, server_len, start_here}
 use Rattle.lane_lists.proofs.Answered.{at_behind, at_either}
 use Rattle.lane_lists.proofs.OrderStarts.{deed_lined, first, first_len, lined, self, told, told_lined}
 use Rattle.lane_lists.proofs.StartOwing.{AllOf, OwesAll, all_owe, all_up, done_bare, once_bare, owing, unbegun_bare}
-use Rattle.lane_lists.proofs.StartAnswering.{Adds, Said, adds, went_items}
+use Rattle.lane_lists.proofs.StartAnswering.{Adds, adds, went_items}
 
 -- a start that waits in no line and is spawned no more begins no more
 module _ (i : ℕ) where

@@ -1,5 +1,5 @@
 -- What the side items of a servers' lane answer, deed by deed.
-use Rattle.std.proofs.Common.{◌≡◌, ◌≢◌, ℕ, zero, suc, ◌+◌, ◌==◌, ◌<◌, ◌≤◌, List, [], ◌∷◌, ◌++◌, Bool, true, false, if◌then◌else◌, not, cond, filter, length, slice_get, slice_set, refl, sym, ap, ◌∙◌, subst, ⊎_elim, arith, Option, append_assoc}
+use Rattle.std.proofs.Common.{◌≡◌, ◌≢◌, ℕ, zero, suc, ◌==◌, ◌<◌, List, [], ◌∷◌, ◌++◌, Bool, true, false, if◌then◌else◌, not, cond, filter, length, slice_get, slice_set, refl, sym, ap, ◌∙◌, subst, ⊎_elim, arith, Option, append_assoc}
 use Rattle.std.specs.Prelude.{⊤}
 use Rattle.std.specs.declared.option.Option.TheVariants.{Some, None}
 use Rattle.std.proofs.lemmas.Bool.Decides.{eqb_tells}
@@ -7,7 +7,6 @@ use Rattle.mux_history.specs.declared.entry.Entry.{Entry}
 use Rattle.mux_history.specs.declared.out.Out.{Out}
 use Rattle.mux_history.specs.declared.cause.Cause.{Cause}
 use Rattle.mux_history.specs.declared.cause.Cause.TheVariants as cause
-use Rattle.mux_history.specs.declared.cause.Why.TheVariants as why
 use Rattle.lane_lists.specs.declared.item.LaneName.{LaneName}
 use Rattle.lane_lists.specs.declared.item.LaneName.TheVariants as lane
 use Rattle.lane_lists.specs.declared.item.Posted.{Posted}
@@ -19,14 +18,12 @@ use Rattle.lane_lists.specs.declared.item.Order.TheVariants as order
 use Rattle.lane_lists.specs.declared.item.Item.{Item}
 use Rattle.lane_lists.specs.declared.item.Item.TheVariants as item
 use Rattle.lane_lists.specs.declared.item.Meaning.TheVariants as meant
-use Rattle.lane_lists.specs.Seats.{Given, Seat, Seats, answered, done_at, gone_if, is_now, meaning, seat_at, seat_cause, seat_item, seat_of, server_side}
+use Rattle.lane_lists.specs.Seats.{Seat, Seats, answered, done_at, gone_if, is_now, meaning, seat_at, seat_cause, seat_item, seat_of, server_side}
 use Rattle.lane_lists.specs.Deeds.{Meant, behind, given, only, same_lane, side_in, with_done}
 use Rattle.lane_lists.specs.Sides.{answers}
 use Rattle.lane_lists.specs.StartHistory.{went_in, went_of}
 use Rattle.lane_lists.specs.StartSides.{Unbegun, start_tagged, tag}
 use Rattle.lane_lists.proofs.Moves.{caused, did, means, once_either, once_here, silent, stray, twice_either, twice_here}
-use Rattle.lane_lists.proofs.ByOrders.{is_now_is}
-use Rattle.lane_lists.proofs.Tally.{item_keeps}
 use Rattle.lane_lists.proofs.StartMoves.{StartWays, by_try, start_at}
 use Rattle.lane_lists.proofs.OrderStarts.{done_none, done_seats, first, first_len, marked, self}
 use Rattle.lane_lists.proofs.StartOwing.{AllOf, Holds, OwesAll, all_owe, open_of, owing, unbegun_behind}
