@@ -47,7 +47,7 @@ fn close_if<K: Sink>(sink: &mut K, broke: bool)
 pub struct Wrote {
     /// The order that ended it.
     pub end: Option<Order>,
-    /// Did a write fail?
+    /// Was it said that a write failed?
     pub broke: bool,
     /// Did memory run out, or go the core on no more?
     pub cut: bool,
