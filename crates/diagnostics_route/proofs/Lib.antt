@@ -1,0 +1,4 @@
+mod Numbering
+mod Published
+mod Shown
+mod Worked
