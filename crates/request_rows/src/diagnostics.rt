@@ -32,9 +32,33 @@ fn a_list_is_shown_with_the_own_version(rt: HostRuntime) -> Result<(), Fail> {
     let first = read(alloc, FIRST).expect(&rt, "a message");
     let list = published(alloc, &first, 3)?.expect(&rt, "a list");
     assert!(rt; fits(&list, Agreement::NotOpen) && !fits(&list, Agreement::Differs));
-    assert!(rt; fits(&list, Agreement::Agrees { held: 1, changed: 3 }));
-    assert!(rt; !fits(&list, Agreement::Agrees { held: 1, changed: 4 }));
-    assert!(rt; !fits(&list, Agreement::Agrees { held: 2, changed: 3 }));
+    assert!(rt;
+        fits(
+            &list,
+            Agreement::Agrees {
+                held: 1,
+                changed: 3
+            }
+        )
+    );
+    assert!(rt;
+        !fits(
+            &list,
+            Agreement::Agrees {
+                held: 1,
+                changed: 4
+            }
+        )
+    );
+    assert!(rt;
+        !fits(
+            &list,
+            Agreement::Agrees {
+                held: 2,
+                changed: 3
+            }
+        )
+    );
     let own: &[u8] = b"5";
     assert!(rt; shown(alloc, &first, Some(own))?.bytes() == OWN.as_bytes());
     assert!(rt; shown(alloc, &first, None)?.bytes() == PLAIN.as_bytes());
