@@ -22,4 +22,4 @@ pub use laws::{
 };
 pub use meeting::{declared, meet};
 pub use order::below;
-pub use showing::{shown, without};
+pub use showing::shown;

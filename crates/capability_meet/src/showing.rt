@@ -1,5 +1,5 @@
 //! What editors are shown of an initialize result.
-ghost use Rattle.std.specs.Prelude.{◌≡◌, ◌≤◌, ◌<◌, ◌++◌, ℕ, List, length, false, IfOk, OnOk, MatchOption, Option, Some, None};
+ghost use Rattle.std.specs.Prelude.{◌≡◌, ◌≤◌, ◌<◌, ◌++◌, ℕ, List, length, false, IfOk, OnOk, MatchOption, Option, Some};
 ghost use Rattle.std.specs.List.{slice_get};
 ghost use Rattle.std.specs.Option.{option_map};
 ghost use Rattle.std.specs.Str.{chars};
@@ -67,17 +67,6 @@ fn change_without(
         span: values.span(node),
         text: Body::new(out),
     }))
-}
-
-/// A value without the members of this name: an object that has one is written as the bytes of its other pairs, joined with commas, in
-/// braces; all else as it came. The time is linear.
-pub fn without(alloc: Global, values: Values, node: u32, name: &str) -> Result<Body, Memory>
-    requires { node < length values.nodes.now }
-    ensures { (t : Json) → At (doc_of values.entry) node t → IfOk result (λ text. text ≡ without (doc_of values.entry).bytes (chars name.now) None t) }
-{
-    let mut out = Vec::new(alloc);
-    write_without(&mut out, values, node, name, &None)?;
-    Ok(Body::new(out))
 }
 
 // Writes a value without the members of this name.

@@ -1,6 +1,6 @@
 -- Numbers of documents: what is found by them, and what is kept of them behind a list that comes.
 use Rattle.std.proofs.Common.{◌≡◌, ℕ, suc, ◌+◌, ◌<◌, Bool, true, false, cond, List, [], ◌∷◌, ◌++◌, length, get_or, drop, slice_set, refl, sym, ◌∙◌, ap, subst, arith, append-nil, add-one, drop-cons}
-use Rattle.std.specs.Prelude.{Option, Some, None, bytes_eq, not}
+use Rattle.std.specs.Prelude.{Option, Some, None, bytes_eq}
 use Rattle.std.specs.List.{AllByRecursion}
 use Rattle.std.specs.Ordering.{nat_cmp, match_ordering}
 use Rattle.std.specs.declared.cmp.Ordering.TheVariants.{Greater}
@@ -8,7 +8,6 @@ use Rattle.std.specs.Cmp.{nat_cmp_is}
 use Rattle.std.proofs.lemmas.Slice.Eq.{bytes_eq-Decides}
 use Rattle.number_index.specs.Numbers.{numbers_under, with_number, Changes}
 use Rattle.diagnostics_route.specs.declared.last_list.LastList.{LastList}
-use Rattle.diagnostics_route.specs.Lists.{nonempty}
 use Rattle.diagnostics_route.specs.Rows.{Indexes, first_of, is_of, number_from, number_in, numbers_from, with_list}
 
 -- what an index finds

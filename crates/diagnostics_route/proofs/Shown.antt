@@ -1,21 +1,32 @@
--- How lists are shown, by the changes that are made.
-use Rattle.std.proofs.Common.{◌≡◌, ℕ, ◌≤◌, List, [], ◌∷◌, length, codes, sym, ◌∙◌, ap, ap₂, arith}
+-- How lists are shown, by what is written.
+use Rattle.std.proofs.Common.{◌≡◌, ℕ, ◌-◌, List, [], ◌++◌, length, drop, codes, refl, ◌∙◌, ap, append_assoc, length-drop, take_all, le_of_eq}
 use Rattle.std.specs.Prelude.{Option, Some, None}
 use Rattle.std.specs.Str.{chars}
 use Rattle.json_text.specs.declared.span.Span.{Span}
 use Rattle.json_text.specs.Json.{Json, span_of}
-use Rattle.json_text.specs.Replace.{Edit, Rise}
+use Rattle.json_text.specs.Replace.{replace}
+use Rattle.json_nodes.specs.At.{Found}
+use Rattle.json_nodes.specs.Doc.{Doc}
+use Rattle.json_nodes.specs.Texts.{between}
 use Rattle.capability_meet.specs.Shown.{without}
 use Rattle.focus_switch.proofs.Noticed.{version_chars}
 use Rattle.diagnostics_route.specs.Shown.{plain_edits}
 
--- one place rises
-pub one_rises : (bytes text : List ℕ) (s : Span) → s.from ≤ s.to → s.to ≤ length bytes → Rise bytes ((record { span = s; text = text }) ∷ [])
-one_rises bytes text s h k = (omega arith, h, k)
+-- all from one place on
+to_end : (bytes : List ℕ) (from : ℕ) → between from (length bytes) bytes ≡ drop from bytes
+to_end bytes from = take_all (length bytes - from) (drop from bytes) (le_of_eq (length-drop from bytes))
 
-abbrev one : Span → List ℕ → List Edit
-one s text = record { span = s; text = text } ∷ []
+-- what stands before params, these without a version, and what stands behind them
+pub cut : (bytes start one two three : List ℕ) (t : Json) (s : Span) → s ≡ span_of t → start ≡ [] → one ≡ start ++ between 0 s.from bytes → two ≡ one ++ without bytes (chars (codes "version")) None t
+    → three ≡ two ++ between s.to (length bytes) bytes → three ≡ replace bytes (plain_edits bytes (Some t))
+cut bytes start one two three t s place begun a b d =
+    d ∙ (ap (λ z. z ++ between s.to (length bytes) bytes) (b ∙ ap (λ z. z ++ without bytes (chars (codes "version")) None t) (a ∙ ap (λ z. z ++ between 0 s.from bytes) begun))
+    ∙ (append_assoc (between 0 s.from bytes) (without bytes (chars (codes "version")) None t) (between s.to (length bytes) bytes)
+    ∙ (ap (λ name. between 0 s.from bytes ++ (without bytes name None t ++ between s.to (length bytes) bytes)) version_chars
+    ∙ (ap (λ z. between 0 s.from bytes ++ (without bytes (codes "version") None t ++ z)) (to_end bytes s.to)
+    ∙ ap (λ (z : Span). between 0 z.from bytes ++ (without bytes (codes "version") None t ++ drop z.to bytes)) place))))
 
--- the change that writes params without a version
-pub plain_is : (bytes own text : List ℕ) (t : Json) (s : Span) → own ≡ bytes → s ≡ span_of t → text ≡ without own (chars (codes "version")) None t → one s text ≡ plain_edits bytes (Some t)
-plain_is bytes own text t s same place is = ap₂ one place (is ∙ (ap (λ z. without z (chars (codes "version")) None t) same ∙ ap (λ z. without bytes z None t) version_chars))
+-- where there are no params nothing is cut
+pub none_cut : (doc : Doc) (o : Option Json) → Found doc o None → o ≡ None
+none_cut doc None h = refl
+none_cut doc (Some t) h = absurd h

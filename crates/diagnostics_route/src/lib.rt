@@ -8,6 +8,7 @@ mod lists;
 mod published;
 mod rows;
 mod shown;
+mod without;
 
 pub use fits::fits;
 pub use focus_switch::Agreement;

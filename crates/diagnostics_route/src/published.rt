@@ -79,8 +79,8 @@ fn is_empty(tape: &Tape, params: Option<u32>) -> bool
     }
 }
 
-// A copy of a text.
-fn copy_of(alloc: Global, tape: &Tape) -> Result<Body, Memory>
+/// A copy of a text.
+pub fn copy_of(alloc: Global, tape: &Tape) -> Result<Body, Memory>
     ensures { IfOk result (λ body. body ≡ tape.now.bytes) }
 {
     Ok(Body::new(Vec::from_slice(alloc, tape.bytes())?))
