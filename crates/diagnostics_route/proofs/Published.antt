@@ -1,22 +1,22 @@
 -- What a list says, by its parts.
-use Rattle.std.proofs.Common.{◌≡◌, ℕ, Bool, true, false, List, [], ◌∷◌, refl, sym, ◌∙◌, ap, subst}
+use Rattle.std.proofs.Common.{◌≡◌, ℕ, Bool, true, false, List, ◌∷◌, refl, sym, ◌∙◌, ap, subst}
 use Rattle.std.specs.Prelude.{Option, Some, None, codes, if◌then◌else◌}
 use Rattle.std.specs.Option.{option_map}
 use Rattle.json_text.specs.declared.span.Span.{Span}
 use Rattle.json_text.specs.declared.kind.Kind.{Kind}
 use Rattle.json_text.specs.declared.kind.Kind.TheVariants as kind
 use Rattle.json_text.specs.declared.kind.Word.TheVariants as word_of
-use Rattle.json_text.specs.Json.{Json, word, number, string, array, object, value, span_of}
+use Rattle.json_text.specs.Json.{Json, word, number, string, array, object, value}
 use Rattle.json_nodes.specs.At.{At, Found}
 use Rattle.json_nodes.specs.Doc.{Doc}
 use Rattle.json_nodes.specs.Nodes.{kind_of}
 use Rattle.json_nodes.proofs.Sames.{number_of}
 use Rattle.mux_members.specs.Finds.{Rest, is_array_value}
-use Rattle.mux_members.specs.Members.{listed, named_of, string_at}
+use Rattle.mux_members.specs.Members.{named_of, string_at}
 use Rattle.mux_members.proofs.Walks.{rest_ends, rest_first}
 use Rattle.diagnostics_route.specs.declared.last_list.LastList.{LastList}
 use Rattle.diagnostics_route.specs.declared.last_list.Version.{Version}
-use Rattle.diagnostics_route.specs.declared.last_list.Version.TheVariants.{Absent, Null, Integer, Other}
+use Rattle.diagnostics_route.specs.declared.last_list.Version.TheVariants.{Absent, Null}
 use Rattle.diagnostics_route.specs.Published.{are_none, digits_version, list_of, published_in, version_of}
 
 -- a value that is there, and one that isn't

@@ -6,7 +6,7 @@ use Rattle.std.specs.Ordering.{nat_cmp}
 use Rattle.std.specs.BTreeMap.{insert_entry, is_at}
 use Rattle.number_index.specs.Numbers.{with_number, without_number}
 use Rattle.diagnostics_route.specs.declared.last_list.LastList.{LastList}
-use Rattle.diagnostics_route.specs.Rows.{number_for, number_in, numbers_from, with_list}
+use Rattle.diagnostics_route.specs.Rows.{numbers_from, with_list}
 
 -- the last lists, in the order of each document's first one; and by editor the numbers of the documents whose last list sent there isn't empty, rising
 pub record Table : Type 0 where

@@ -4,7 +4,7 @@ use Rattle.json_text.specs.Json.{Json}
 use Rattle.json_nodes.specs.At.{At, Found}
 use Rattle.document_model.specs.Notices.{edits_in}
 use Rattle.focus_switch.proofs.Noticed.{found_some, version_edits}
-use Rattle.diagnostics_route.proofs.shown.own_changes.Goals as goal
+use Rattle.diagnostics_route.proofs.showing.own_changes.Goals as goal
 
 pub returns-in-Some-clause-edits : goal.returns-in-Some-clause-edits
 returns-in-Some-clause-edits c = λ o f.

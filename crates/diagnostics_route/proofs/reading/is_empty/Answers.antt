@@ -1,8 +1,8 @@
-use Rattle.std.proofs.Common.{refl, subst, sym, codes}
+use Rattle.std.proofs.Common.{refl, subst, codes}
 use Rattle.mux_members.specs.Finds.{Rest}
 use Rattle.mux_members.specs.Members.{listed, named_of}
 use Rattle.diagnostics_route.proofs.Published.{no_item, some_item}
-use Rattle.diagnostics_route.proofs.published.is_empty.Goals as goal
+use Rattle.diagnostics_route.proofs.reading.is_empty.Goals as goal
 
 pub returns-in-Some : goal.returns-in-Some
 returns-in-Some c = λ o f. some_item c.args.tape.now _ (listed (named_of (codes "diagnostics") o))

@@ -10,7 +10,7 @@ ghost use Rattle.mux_members.specs.rpc_message.specs.Parsed.{IsRead};
 ghost use Rattle.diagnostics_route.specs.Shown.{edits_by, plain_edits, shown_text};
 
 use crate::last_list::Version;
-use crate::published::{copy_of, version_in};
+use crate::reading::{copy_of, version_in};
 use crate::without::{write_part, write_without};
 use json_nodes::{Put, Values};
 use json_text::{Change, splice};

@@ -6,7 +6,7 @@ use Rattle.json_nodes.specs.Doc.{Doc}
 use Rattle.focus_switch.proofs.Noticed.{found_some}
 use Rattle.diagnostics_route.specs.Shown.{plain_edits}
 use Rattle.diagnostics_route.proofs.Shown.{none_cut}
-use Rattle.diagnostics_route.proofs.shown.plain_text.Goals as goal
+use Rattle.diagnostics_route.proofs.showing.plain_text.Goals as goal
 
 pub returns-in-Some : goal.returns-in-Some
 returns-in-Some c = λ o f.

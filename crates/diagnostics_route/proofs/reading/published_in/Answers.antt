@@ -1,7 +1,7 @@
 use Rattle.std.proofs.Common.{refl, sym, ◌∙◌, ap}
 use Rattle.std.specs.Prelude.{Some}
 use Rattle.diagnostics_route.proofs.Published.{no_list, no_uri, with_uri}
-use Rattle.diagnostics_route.proofs.published.published_in.Goals as goal
+use Rattle.diagnostics_route.proofs.reading.published_in.Goals as goal
 
 pub returns-then-not-has_list : goal.returns-then-not-has_list
 returns-then-not-has_list c = λ o f. sym (no_list c.args.place c.args.tape.now.bytes o (sym (c.has_list.ensures o f) ∙ c.if-not-has_list.true))

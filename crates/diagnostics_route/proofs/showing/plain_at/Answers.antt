@@ -1,6 +1,6 @@
 use Rattle.std.proofs.Common.{◌∙◌}
 use Rattle.diagnostics_route.proofs.Shown.{cut}
-use Rattle.diagnostics_route.proofs.shown.plain_at.Goals as goal
+use Rattle.diagnostics_route.proofs.showing.plain_at.Goals as goal
 
 pub returns : goal.returns
 returns c = λ t a. c.new.ensures ∙ cut c.args.values.bytes.now c.new-out.result.items c.write_part.new.out.items c.write_without.new.out.items c.write_part-2.new.out.items t c.span-span.result

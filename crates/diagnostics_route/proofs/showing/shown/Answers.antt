@@ -1,4 +1,4 @@
-use Rattle.std.proofs.Common.{◌≡◌, ◌∙◌, ℕ, List, Option, Some, ap, codes, refl, subst, sym}
+use Rattle.std.proofs.Common.{◌∙◌, ℕ, List, Option, Some, ap, codes, refl, subst, sym}
 use Rattle.std.specs.Option.{option_map}
 use Rattle.std.proofs.lemmas.Result.{IfOk-weaker}
 use Rattle.json_text.specs.Json.{Json}
@@ -9,7 +9,7 @@ use Rattle.mux_members.specs.Members.{named_of}
 use Rattle.mux_members.proofs.Roots.{read_params}
 use Rattle.diagnostics_route.specs.Published.{version_in}
 use Rattle.diagnostics_route.specs.Shown.{edits_by, shown_edits}
-use Rattle.diagnostics_route.proofs.shown.shown.Goals as goal
+use Rattle.diagnostics_route.proofs.showing.shown.Goals as goal
 
 pub returns : goal.returns
 returns c = λ body read.

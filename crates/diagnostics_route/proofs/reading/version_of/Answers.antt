@@ -4,7 +4,7 @@ use Rattle.json_text.specs.Json.{Json}
 use Rattle.json_nodes.specs.At.{At}
 use Rattle.diagnostics_route.specs.Published.{version_of}
 use Rattle.diagnostics_route.proofs.Published.{absent, there}
-use Rattle.diagnostics_route.proofs.published.version_of.Goals as goal
+use Rattle.diagnostics_route.proofs.reading.version_of.Goals as goal
 
 pub returns-in-Some : goal.returns-in-Some
 returns-in-Some c = λ o f.

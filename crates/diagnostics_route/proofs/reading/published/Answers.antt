@@ -6,7 +6,7 @@ use Rattle.json_nodes.specs.Doc.{Doc, Holds}
 use Rattle.mux_members.specs.Members.{named_of}
 use Rattle.mux_members.proofs.Roots.{read_params}
 use Rattle.diagnostics_route.specs.Published.{published_in}
-use Rattle.diagnostics_route.proofs.published.published.Goals as goal
+use Rattle.diagnostics_route.proofs.reading.published.Goals as goal
 
 pub returns : goal.returns
 returns c = λ body read.
