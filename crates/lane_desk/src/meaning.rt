@@ -4,7 +4,7 @@ ghost use Rattle.lane_lists.specs.declared.item.Meaning.TheVariants as meant;
 ghost use Rattle.mux_history.specs.declared.cause.Cause.TheVariants as cause;
 ghost use Rattle.mux_history.specs.Cores.{body_length};
 ghost use Rattle.lane_desk.specs.Smalls.{IsSmall};
-ghost use Rattle.lane_lists.specs.Seats.{editor_posted, editor_side, ended_by, gone_if, late, server_posted, server_side, small, ticked};
+ghost use Rattle.lane_lists.specs.Seats.{editor_posted, editor_side, ended_by, gone_if, late, server_posted, server_side, small, start_ended, ticked};
 
 use crate::seat::Seat;
 use lane_lists::{Meaning, Posted, Side};
@@ -69,6 +69,16 @@ fn ended_by(editor: u64, why: Why) -> Meaning
     }
 }
 
+fn start_ended(start: u64, why: Why) -> Meaning
+    ensures means { result ≡ start_ended start why }
+    ensures small { IsSmall result }
+{
+    match why {
+        Why::End | Why::ReadFault | Why::BadFrame => Meaning::Means(Cause::ServerGone(start)),
+        _ => Meaning::Stray,
+    }
+}
+
 // An item that an editor's lane without a session posts.
 fn posted_between(next: u64, tail: bool, item: Posted) -> Meaning
     ensures means { result ≡ editor_posted next None tail item }
@@ -116,7 +126,7 @@ fn posted_by_server(start: u64, tail: bool, item: Posted) -> Meaning
     let _ = tail;
     match item {
         Posted::Body(body) => from_server(start, body),
-        Posted::Ended(_) => Meaning::Means(Cause::ServerGone(start)),
+        Posted::Ended(why) => start_ended(start, why),
         _ => Meaning::Stray,
     }
 }

@@ -48,12 +48,12 @@ sessions_from i (d ∷ deeds) seats fair =
 abbrev said_from : ℕ → Seats → List Deed → List ((ℕ × ℕ) × Side)
 said_from i seats deeds = answers (gather_from (sides_by (lane.Editor i)) seats deeds) (total (seat_at i seats.editors) (gather_from (sessions_by (lane.Editor i)) seats deeds) (gather_from (orders_by (lane.Editor i)) seats deeds))
 
-at_behind : {X : Type 0} (xs ys : List X) (p k : ℕ) (x : X) → k ≡ length xs + p → slice_get ys p ≡ Some x → slice_get (xs ++ ys) k ≡ Some x
+pub at_behind : {X : Type 0} (xs ys : List X) (p k : ℕ) (x : X) → k ≡ length xs + p → slice_get ys p ≡ Some x → slice_get (xs ++ ys) k ≡ Some x
 at_behind [] ys p k x h at = let same : p ≡ k = omega (arith, h) in subst (λ (n : ℕ). slice_get ys n ≡ Some x) same at
 at_behind (y ∷ xs) ys p zero x h at = absurd (omega (arith, h))
 at_behind (y ∷ xs) ys p (suc k) x h at = at_behind xs ys p k x (omega (arith, h)) at
 
-at_either : {X : Type 0} (xs ys : List X) (p : ℕ) (x : X) → slice_get (xs ++ ys) p ≡ Some x → ((q : ℕ) × (slice_get xs q ≡ Some x)) ⊎ ((q : ℕ) × (slice_get ys q ≡ Some x))
+pub at_either : {X : Type 0} (xs ys : List X) (p : ℕ) (x : X) → slice_get (xs ++ ys) p ≡ Some x → ((q : ℕ) × (slice_get xs q ≡ Some x)) ⊎ ((q : ℕ) × (slice_get ys q ≡ Some x))
 at_either [] ys p x at = inr (p, at)
 at_either (y ∷ xs) ys zero x at = inl (0, at)
 at_either (y ∷ xs) ys (suc p) x at = ⊎_elim (λ t. inl (suc t.0, t.1)) (λ t. inr t) (at_either xs ys p x at)

@@ -19,7 +19,7 @@ use Rattle.lane_lists.specs.Seats.{Seat, Seats, seat_at, is_now, meaning, seat_c
 use Rattle.lane_lists.specs.Sessions.{chain}
 use Rattle.lane_lists.specs.Deeds.{Deed, start, behind, gather_from, gather, same_lane, posted_in, entries_in, posts_by, entries_by, FairFrom, Meant, entries, posts}
 use Rattle.lane_lists.specs.Starts.{start_of}
-use Rattle.lane_lists.specs.StartHistory.{causes_from, tried_of, tried_by, StartSessions}
+use Rattle.lane_lists.specs.StartHistory.{cause_from, causes_from, tried_of, tried_by, went, went_of, went_by, StartSessions}
 use Rattle.lane_lists.proofs.Ahead.{no_late}
 use Rattle.lane_lists.proofs.Moves.{set_like, caused, did}
 use Rattle.lane_lists.proofs.BySession.{all_free, many_free}
@@ -27,7 +27,7 @@ use Rattle.lane_lists.proofs.ByOrders.{within_now, is_now_is}
 use Rattle.lane_lists.proofs.Tally.{hit, seated, total, item_keeps, entry_total, deed_total, seated_one, seated_apart, seated_same, spawns_append, none_seated}
 use Rattle.lane_lists.proofs.StartLanes.{by_start, no_start_editor, no_start_ticker}
 use Rattle.lane_lists.proofs.StartMoves.{held, held_seat, held_at, late_at, start_at, held_now, given_kept, StartWays, by_try, start_acted, start_acted_none}
-use Rattle.lane_lists.proofs.StartAhead.{StartAhead, is_try, untried, cause_other, ahead_other, ahead_up, ahead_failed, ahead_word, ahead_over, ahead_broke, ahead_late, ahead_late_end}
+use Rattle.lane_lists.proofs.StartAhead.{StartAhead, unwent, is_try, untried, cause_other, ahead_other, ahead_up, ahead_failed, ahead_word, ahead_over, ahead_broke, ahead_late, ahead_late_end}
 
 -- the lane that has the start of a cause
 pub record StartHere (seats : Seats) (l : LaneName) (s : ℕ) : Type 0 where
@@ -78,7 +78,7 @@ stays seats j x en s m here = by_try (λ x entry now up tail. Stays seats j x en
   failed = λ n outs is so s at. inr (leaves s seats j (item.Posted posted.NoStart) (cause.StartFailed n) outs at (λ t. refl));
   word = λ n tail body outs is so s at.
       inl (((start_acted seats j (item.Posted (posted.Body body)) (cause.FromServer n body) outs).here (within_now seats.servers j s at)).0 ∙ ap (λ (b : Bool). held (start_at j seats) b) (sym so) ∙ ap (λ (o : Option ℕ). held o true) at);
-  over = λ n tail w outs is so s at. inr (leaves s seats j (item.Posted (posted.Ended w)) (cause.ServerGone n) outs at (λ t. refl));
+  over = λ n tail w outs real is so s at. inr (leaves s seats j (item.Posted (posted.Ended w)) (cause.ServerGone n) outs at (λ t. refl));
   broke = λ n tail outs is so s at. inr (leaves s seats j (item.Side side.Broke) (cause.ServerGone n) outs at (λ t. refl));
   idle = λ s now up tail. tt;
   late = λ body now up h. tt;
@@ -95,7 +95,7 @@ no_try seats j x en s m here = by_try (λ x entry now up tail. Untries entry now
   up = λ n outs s is. absurd cc;
   failed = λ n outs s is. absurd cc;
   word = λ n tail body outs s is. refl;
-  over = λ n tail w outs s is. refl;
+  over = λ n tail w outs real s is. refl;
   broke = λ n tail outs s is. refl;
   idle = λ s now up tail. tt;
   late = λ body now up h. tt;
@@ -208,37 +208,37 @@ past_deed l x en seats deeds s m fair once is =
     (stays seats at.place x en s (subst (λ (l : LaneName). Meant (meaning seats l x) (Some en)) at.lane m) at.now)
 
 -- one deed before what is ahead
-start_ahead_at : (held held' : Option ℕ) (tail tail' : Bool) (history : List Entry) (items : List Posted) (ids : List ℕ) → held ≡ held' → tail ≡ tail' → StartAhead held tail history items ids → StartAhead held' tail' history items ids
-start_ahead_at held held' tail tail' history items ids h t a = subst (λ (x : Bool). StartAhead held' x history items ids) t (subst (λ (x : Option ℕ). StartAhead x tail history items ids) h a)
+start_ahead_at : (held held' : Option ℕ) (tail tail' : Bool) (history : List Entry) (by : ℕ → List Item) (items : List Posted) (ids : List ℕ) → held ≡ held' → tail ≡ tail' → StartAhead held tail history by items ids → StartAhead held' tail' history by items ids
+start_ahead_at held held' tail tail' history by items ids h t a = subst (λ (x : Bool). StartAhead held' x history by items ids) t (subst (λ (x : Option ℕ). StartAhead x tail history by items ids) h a)
 
-module _ (seats : Seats) (i : ℕ) (within : i < length seats.servers) (history : List Entry) (items : List Posted) (ids : List ℕ) where
+module _ (seats : Seats) (i : ℕ) (within : i < length seats.servers) (history : List Entry) (by : ℕ → List Item) (items : List Posted) (ids : List ℕ) where
   abbrev then_at : Item → Option Entry → Seats
   then_at x entry = behind seats (did (lane.Server i) x entry)
 
   abbrev Left : Item → Option Entry → Type 0
-  Left x entry = (s : ℕ) → total s (then_at x entry) + 1 ≤ total s seats + spawns s (entries_in entry) → causes_from s history ≡ []
+  Left x entry = (s : ℕ) → total s (then_at x entry) + 1 ≤ total s seats + spawns s (entries_in entry) → (causes_from s history ≡ []) × (by s ≡ [])
 
   abbrev Adds : Item → Option Entry → Option ℕ → Bool → Bool → Type 0
-  Adds x entry now up tail = now ≡ start_at i seats → up ≡ (seat_at i seats.servers).up → tail ≡ late_at i seats → Left x entry → StartAhead (held_at i (then_at x entry)) (late_at i (then_at x entry)) history items ids
-      → StartAhead (held now up) tail (entries_in entry ++ history) (posted_in x ++ items) (tried_of entry ++ ids)
+  Adds x entry now up tail = now ≡ start_at i seats → up ≡ (seat_at i seats.servers).up → tail ≡ late_at i seats → Left x entry → StartAhead (held_at i (then_at x entry)) (late_at i (then_at x entry)) history by items ids
+      → StartAhead (held now up) tail (entries_in entry ++ history) (λ s. went_of s x entry ++ by s) (posted_in x ++ items) (tried_of entry ++ ids)
 
   abbrev some : Cause → List Out → Option Entry
   some c outs = Some (record { cause = c; outs = outs })
 
   -- what was ahead behind an entry and behind none
   past : (x : Item) (c : Cause) (outs : List Out) (now : Option ℕ) (tail : Bool) → held_seat (seat_cause (seat_item (seat_at i seats.servers) x) x c) ≡ now → (seat_cause (seat_item (seat_at i seats.servers) x) x c).tail ≡ tail
-      → StartAhead (held_at i (then_at x (some c outs))) (late_at i (then_at x (some c outs))) history items ids → StartAhead now tail history items ids
+      → StartAhead (held_at i (then_at x (some c outs))) (late_at i (then_at x (some c outs))) history by items ids → StartAhead now tail history by items ids
   past x c outs now tail h t a =
       let y = (start_acted seats i x c outs).here within in let after = then_at x (some c outs) in
-      start_ahead_at (held_at i after) now (late_at i after) tail history items ids (y.0 ∙ h) (y.1 ∙ t) a
+      start_ahead_at (held_at i after) now (late_at i after) tail history by items ids (y.0 ∙ h) (y.1 ∙ t) a
 
   past_none : (x : Item) (now : Option ℕ) (tail : Bool) → held_seat (seat_item (seat_at i seats.servers) x) ≡ now → (seat_item (seat_at i seats.servers) x).tail ≡ tail
-      → StartAhead (held_at i (then_at x None)) (late_at i (then_at x None)) history items ids → StartAhead now tail history items ids
+      → StartAhead (held_at i (then_at x None)) (late_at i (then_at x None)) history by items ids → StartAhead now tail history by items ids
   past_none x now tail h t a =
       let y = (start_acted_none seats i x).here within in let after = then_at x None in
-      start_ahead_at (held_at i after) now (late_at i after) tail history items ids (y.0 ∙ h) (y.1 ∙ t) a
+      start_ahead_at (held_at i after) now (late_at i after) tail history by items ids (y.0 ∙ h) (y.1 ∙ t) a
 
-  over_quiet : (x : Item) (c : Cause) (outs : List Out) (s : ℕ) → Some s ≡ start_at i seats → ((t : Seat) → (seat_cause t x c).now ≡ None) → Left x (some c outs) → causes_from s history ≡ []
+  over_quiet : (x : Item) (c : Cause) (outs : List Out) (s : ℕ) → Some s ≡ start_at i seats → ((t : Seat) → (seat_cause t x c).now ≡ None) → Left x (some c outs) → (causes_from s history ≡ []) × (by s ≡ [])
   over_quiet x c outs s is off left = left s (let h = leaves s seats i x c outs (sym is) off in omega arith)
 
   is_held : (now : Option ℕ) (up : Bool) → now ≡ start_at i seats → up ≡ (seat_at i seats.servers).up → held_at i seats ≡ held now up
@@ -247,58 +247,60 @@ module _ (seats : Seats) (i : ℕ) (within : i < length seats.servers) (history 
   own_ways : StartWays Adds
   own_ways = record {
     up = λ s outs n u t left a.
-        ahead_up s false outs history items ids (past (item.Posted posted.Up) (cause.Started s) outs (Some s) false (ap (λ (o : Option ℕ). held o true) (sym n)) (sym t) a);
+        ahead_up s false outs history by items ids (past (item.Posted posted.Up) (cause.Started s) outs (Some s) false (ap (λ (o : Option ℕ). held o true) (sym n)) (sym t) a);
     failed = λ s outs n u t left a.
         let x = item.Posted posted.NoStart in let c = cause.StartFailed s in
-        ahead_failed s outs history items ids (over_quiet x c outs s n (λ t. refl) left) (past x c outs None false refl refl a);
+        ahead_failed s outs history by items ids (over_quiet x c outs s n (λ t. refl) left).0 (past x c outs None false refl refl a);
     word = λ s tail body outs n u t left a.
-        ahead_word s tail body outs history items ids (past (item.Posted (posted.Body body)) (cause.FromServer s body) outs (Some s) tail (is_held (Some s) true n u) (sym t) a);
-    over = λ s tail w outs n u t left a.
+        ahead_word s tail body outs history by items ids (past (item.Posted (posted.Body body)) (cause.FromServer s body) outs (Some s) tail (is_held (Some s) true n u) (sym t) a);
+    over = λ s tail w outs real n u t left a.
         let x = item.Posted (posted.Ended w) in let c = cause.ServerGone s in
-        ahead_over s tail w outs history items ids (over_quiet x c outs s n (λ t. refl) left) (past x c outs None false refl refl a);
+        let q = over_quiet x c outs s n (λ t. refl) left in
+        ahead_over s tail w real outs history by items ids q.0 q.1 (past x c outs None false refl refl a);
     broke = λ s tail outs n u t left a.
         let x = item.Side side.Broke in let c = cause.ServerGone s in
-        ahead_broke s tail outs history items ids (over_quiet x c outs s n (λ t. refl) left) (past x c outs None true refl refl a);
+        let q = over_quiet x c outs s n (λ t. refl) left in
+        ahead_broke s tail outs history by items ids q.0 q.1 (past x c outs None true refl refl a);
     idle = λ s now up tail n u t left a. past_none (item.Side s) (held now up) tail (is_held now up n u) (sym t) a;
     late = λ body now up none n u t left a.
-        start_ahead_at None (held now up) true true (history) (posted.Body body ∷ items) ids (sym none) refl
-        (ahead_late body history items ids (past_none (item.Posted (posted.Body body)) None true (is_held now up n u ∙ none) (sym t) a));
+        start_ahead_at None (held now up) true true (history) by (posted.Body body ∷ items) ids (sym none) refl
+        (ahead_late body history by items ids (past_none (item.Posted (posted.Body body)) None true (is_held now up n u ∙ none) (sym t) a));
     late_end = λ w now up none n u t left a.
-        start_ahead_at None (held now up) true true (history) (posted.Ended w ∷ items) ids (sym none) refl
-        (ahead_late_end w history items ids (past_none (item.Posted (posted.Ended w)) None false (is_held now up n u ∙ none) refl a));
+        start_ahead_at None (held now up) true true (history) by (posted.Ended w ∷ items) ids (sym none) refl
+        (ahead_late_end w history by items ids (past_none (item.Posted (posted.Ended w)) None false (is_held now up n u ∙ none) refl a));
   }
 
   -- a deed of another lane
   foreign_lane : (l : LaneName) (x : Item) (entry : Option Entry) → l ≢ lane.Server i → ((s : ℕ) → seated s seats.servers ≤ 1) → Meant (meaning seats l x) entry
       → ((s : ℕ) (en : Entry) → entry ≡ Some en → start_of en.cause ≡ Some s → untried (causes_from s history) ≡ false)
-      → StartAhead (held_at i (behind seats (did l x entry))) (late_at i (behind seats (did l x entry))) history items ids → StartAhead (held_at i seats) (late_at i seats) (entries_in entry ++ history) items ids
+      → StartAhead (held_at i (behind seats (did l x entry))) (late_at i (behind seats (did l x entry))) history by items ids → StartAhead (held_at i seats) (late_at i seats) (entries_in entry ++ history) (λ s. went_of s x entry ++ by s) items ids
   foreign_lane l x None off one m p a =
       let o = other_lane l x None seats i off in let after = behind seats (did l x None) in
-      start_ahead_at (held_at i after) (held_at i seats) (late_at i after) (late_at i seats) history items ids o.held o.tail a
+      start_ahead_at (held_at i after) (held_at i seats) (late_at i after) (late_at i seats) history by items ids o.held o.tail a
   foreign_lane l x (Some en) off one m p a =
       let o = other_lane l x (Some en) seats i off in let after = behind seats (did l x (Some en)) in
-      ahead_other (held_at i seats) (late_at i seats) en.cause en.outs history items ids (λ s is. p s en refl is)
+      ahead_other (held_at i seats) (late_at i seats) x en.cause en.outs history by items ids (λ s is. p s en refl is)
       (λ s up. cause_other s en.cause (λ is.
       let at = start_here seats l x en s m is in
       let same : at.place ≡ i = seated_apart s seats.servers at.place i (one s) at.now (held_now (start_at i seats) (seat_at i seats.servers).up s up).0 in
       off (at.lane ∙ ap lane.Server same)))
-      (start_ahead_at (held_at i after) (held_at i seats) (late_at i after) (late_at i seats) history items ids o.held o.tail a)
+      (start_ahead_at (held_at i after) (held_at i seats) (late_at i after) (late_at i seats) history by items ids o.held o.tail a)
 
   pub start_deed : (l : LaneName) (x : Item) (entry : Option Entry) → ((s : ℕ) → seated s seats.servers ≤ 1) → Meant (meaning seats l x) entry
       → ((s : ℕ) (en : Entry) → entry ≡ Some en → start_of en.cause ≡ Some s → untried (causes_from s history) ≡ false)
-      → ((s : ℕ) → total s (behind seats (did l x entry)) + 1 ≤ total s seats + spawns s (entries_in entry) → causes_from s history ≡ [])
-      → StartAhead (held_at i (behind seats (did l x entry))) (late_at i (behind seats (did l x entry))) history items ids
-      → StartAhead (held_at i seats) (late_at i seats) (entries_in entry ++ history) ((if same_lane (lane.Server i) l then posted_in x else []) ++ items) ((if same_lane (lane.Server i) l then tried_of entry else []) ++ ids)
+      → ((s : ℕ) → total s (behind seats (did l x entry)) + 1 ≤ total s seats + spawns s (entries_in entry) → (causes_from s history ≡ []) × (by s ≡ []))
+      → StartAhead (held_at i (behind seats (did l x entry))) (late_at i (behind seats (did l x entry))) history by items ids
+      → StartAhead (held_at i seats) (late_at i seats) (entries_in entry ++ history) (λ s. went_of s x entry ++ by s) ((if same_lane (lane.Server i) l then posted_in x else []) ++ items) ((if same_lane (lane.Server i) l then tried_of entry else []) ++ ids)
   start_deed (lane.Editor j) x entry one m p q a = foreign_lane (lane.Editor j) x entry (λ e. absurd cc) one m p a
   start_deed lane.Ticker x entry one m p q a = foreign_lane lane.Ticker x entry (λ e. absurd cc) one m p a
   start_deed (lane.Server j) x entry one m p q a = ⊎_elim
       (λ (t : ((i == j) ≡ true) × (i ≡ j)).
-      subst (λ (b : Bool). StartAhead (held_at i seats) (late_at i seats) (entries_in entry ++ history) ((if b then posted_in x else []) ++ items) ((if b then tried_of entry else []) ++ ids)) (sym t.0)
+      subst (λ (b : Bool). StartAhead (held_at i seats) (late_at i seats) (entries_in entry ++ history) (λ s. went_of s x entry ++ by s) ((if b then posted_in x else []) ++ items) ((if b then tried_of entry else []) ++ ids)) (sym t.0)
       (by_try Adds own_ways seats i x entry (subst (λ (k : ℕ). Meant (meaning seats (lane.Server k) x) entry) (sym t.1) m) refl refl refl
-      (subst (λ (k : ℕ). (s : ℕ) → total s (behind seats (did (lane.Server k) x entry)) + 1 ≤ total s seats + spawns s (entries_in entry) → causes_from s history ≡ []) (sym t.1) q)
-      (subst (λ (k : ℕ). StartAhead (held_at i (behind seats (did (lane.Server k) x entry))) (late_at i (behind seats (did (lane.Server k) x entry))) history items ids) (sym t.1) a)))
+      (subst (λ (k : ℕ). (s : ℕ) → total s (behind seats (did (lane.Server k) x entry)) + 1 ≤ total s seats + spawns s (entries_in entry) → (causes_from s history ≡ []) × (by s ≡ [])) (sym t.1) q)
+      (subst (λ (k : ℕ). StartAhead (held_at i (behind seats (did (lane.Server k) x entry))) (late_at i (behind seats (did (lane.Server k) x entry))) history by items ids) (sym t.1) a)))
       (λ (t : ((i == j) ≡ false) × (i ≢ j)).
-      subst (λ (b : Bool). StartAhead (held_at i seats) (late_at i seats) (entries_in entry ++ history) ((if b then posted_in x else []) ++ items) ((if b then tried_of entry else []) ++ ids)) (sym t.0)
+      subst (λ (b : Bool). StartAhead (held_at i seats) (late_at i seats) (entries_in entry ++ history) (λ s. went_of s x entry ++ by s) ((if b then posted_in x else []) ++ items) ((if b then tried_of entry else []) ++ ids)) (sym t.0)
       (foreign_lane (lane.Server j) x entry (λ e. let n = t.1 in let same : i ≡ j = cc in n same) one m p a))
       (eqb_tells i j)
 
@@ -312,28 +314,42 @@ past_entry d seats deeds entry s en at is fair once of =
     (past_deed d.lane d.item en seats deeds s m (subst (λ (t : Seats). FairFrom t deeds) (sym same) fair.1)
     (subst (λ (o : Option Entry). total s seats + spawns s (entries_in o ++ gather_from entries_by (behind seats (did d.lane d.item o)) deeds) ≤ 1) e once) of)
 
-start_end : (held : Option ℕ) (tail : Bool) → StartAhead held tail [] [] []
+start_end : (held : Option ℕ) (tail : Bool) → StartAhead held tail [] (λ s. []) [] []
 start_end None tail = record { front = []; made = []; is = refl; opened = (no_late, λ _. refl); each = tt }
-start_end (Some s) tail = record { front = []; made = []; is = refl; opened = record { bodies = []; gone = []; rest = []; says = refl; is = refl; ends = inl (refl, refl) }; each = tt }
+start_end (Some s) tail = record { front = []; made = []; is = refl; opened = record { bodies = []; gone = []; rest = []; says = refl; is = refl; ends = inl (refl, refl, refl) }; each = tt }
+
+none_first : {X : Type 0} (xs ys : List X) → xs ++ ys ≡ [] → (xs ≡ []) × (ys ≡ [])
+none_first [] ys none = (refl, none)
+none_first (x ∷ xs) ys none = absurd cc
+
+-- of a start without causes no item tells how it went
+mute_entry : (s : ℕ) (x : Item) (entry : Option Entry) (history : List Entry) (more : List Item) → causes_from s (entries_in entry ++ history) ≡ [] → (causes_from s history ≡ [] → more ≡ []) → went_of s x entry ++ more ≡ []
+mute_entry s x None history more none f = f none
+mute_entry s x (Some en) history more none f =
+    let e = none_first (cause_from s en.cause) (causes_from s history) none in ap (λ l. l ++ more) (unwent s x en.cause e.0) ∙ f e.1
+
+mute : (deeds : List Deed) (seats : Seats) (s : ℕ) → causes_from s (gather_from entries_by seats deeds) ≡ [] → gather_from (went_by s) seats deeds ≡ []
+mute [] seats s none = refl
+mute (d ∷ deeds) seats s none = mute_entry s d.item d.entry (gather_from entries_by (behind seats d) deeds) (gather_from (went_by s) (behind seats d) deeds) none (λ e. mute deeds (behind seats d) s e)
 
 pub all_starts : (i : ℕ) (deeds : List Deed) (seats : Seats) → i < length seats.servers → FairFrom seats deeds → ((s : ℕ) → total s seats + spawns s (gather_from entries_by seats deeds) ≤ 1)
-    → StartAhead (held_at i seats) (late_at i seats) (gather_from entries_by seats deeds) (gather_from (posts_by (lane.Server i)) seats deeds) (gather_from (tried_by (lane.Server i)) seats deeds)
+    → StartAhead (held_at i seats) (late_at i seats) (gather_from entries_by seats deeds) (λ s. gather_from (went_by s) seats deeds) (gather_from (posts_by (lane.Server i)) seats deeds) (gather_from (tried_by (lane.Server i)) seats deeds)
 all_starts i [] seats within fair once = start_end (held_at i seats) (late_at i seats)
 all_starts i (d ∷ deeds) seats within fair once =
     let after = behind seats d in
     let rest = gather_from entries_by after deeds in
     let still : i < length after.servers = let h = server_len d.lane d.item d.entry seats in omega arith in
-    start_deed seats i within rest (gather_from (posts_by (lane.Server i)) after deeds) (gather_from (tried_by (lane.Server i)) after deeds) d.lane d.item d.entry
+    start_deed seats i within rest (λ s. gather_from (went_by s) after deeds) (gather_from (posts_by (lane.Server i)) after deeds) (gather_from (tried_by (lane.Server i)) after deeds) d.lane d.item d.entry
     (λ s. let h = once s in omega arith) fair.0
     (λ s en is of. past_entry d seats deeds d.entry s en refl is fair (once s) of)
-    (λ s off. let h = once s in let e = spawns_append s (entries_in d.entry) rest in quiet deeds after s fair.1 (omega arith))
+    (λ s off. let h = once s in let e = spawns_append s (entries_in d.entry) rest in let q = quiet deeds after s fair.1 (omega arith) in (q, mute deeds after s q))
     (all_starts i deeds after still fair.1 (λ s. let h = once s in let e = spawns_append s (entries_in d.entry) rest in let g = deed_total s seats d.lane d.item d.entry fair.0 in omega arith))
 
 pub by_start_sessions : StartSessions
 by_start_sessions n m i deeds within fair once =
     let seats = start n m in
-    let a : StartAhead None false (entries n m deeds) (posts n m (lane.Server i) deeds) (gather n m (tried_by (lane.Server i)) deeds) =
-    start_ahead_at (held_at i seats) None (late_at i seats) false (entries n m deeds) (posts n m (lane.Server i) deeds) (gather n m (tried_by (lane.Server i)) deeds) (ap held_seat (all_free m i)) (ap (λ (s : Seat). s.tail) (all_free m i))
+    let a : StartAhead None false (entries n m deeds) (went n m deeds) (posts n m (lane.Server i) deeds) (gather n m (tried_by (lane.Server i)) deeds) =
+    start_ahead_at (held_at i seats) None (late_at i seats) false (entries n m deeds) (went n m deeds) (posts n m (lane.Server i) deeds) (gather n m (tried_by (lane.Server i)) deeds) (ap held_seat (all_free m i)) (ap (λ (s : Seat). s.tail) (all_free m i))
     (all_starts i deeds seats (let h = many_free m in omega arith) fair (λ s. let h = once s in let z = none_seated s m in omega arith)) in record {
       made = a.made;
       posts = a.is ∙ ap (λ l. l ++ chain a.made) (a.opened.1 refl);

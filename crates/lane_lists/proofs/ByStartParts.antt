@@ -1,5 +1,5 @@
 -- The cut before each Up and each NoStart gives the sessions of the starts that were tried, and the cut before each Begin the orders of those that began.
-use Rattle.std.proofs.Common.{◌≡◌, ℕ, zero, suc, List, [], ◌∷◌, ◌++◌, map, slice_get, refl, sym, ap, ◌∙◌, subst, ⊎_elim}
+use Rattle.std.proofs.Common.{◌≡◌, ℕ, zero, suc, List, [], ◌∷◌, ◌++◌, map, slice_get, refl, sym, ap, ◌∙◌, subst, ⊎_elim, arith}
 use Rattle.std.specs.declared.option.Option.TheVariants.{Some}
 use Rattle.mux_history.specs.declared.entry.Entry.{Entry}
 use Rattle.lane_lists.specs.declared.item.LaneName.TheVariants as lane
@@ -9,8 +9,10 @@ use Rattle.lane_lists.specs.Sessions.{parts, IsSession}
 use Rattle.lane_lists.specs.declared.item.Order.{Order}
 use Rattle.lane_lists.specs.declared.item.Order.TheVariants as order
 use Rattle.lane_lists.specs.Deeds.{start, entries, gather}
-use Rattle.lane_lists.specs.History.{AllZip, Mark, Enters, Told, Closed, Leaves, entered, end_until}
-use Rattle.lane_lists.specs.StartHistory.{tried_by, Failed, CameUp, StartPart, is_tried, StartParts}
+use Rattle.lane_lists.specs.History.{AllZip, Late, Mark, Enters, Told, Closed, Leaves, entered, end_until}
+use Rattle.lane_lists.specs.StartHistory.{tried_by, went, GoneBy, Failed, CameUp, StartPart, is_tried, StartParts}
+use Rattle.lane_lists.specs.StartHistory as starts
+use Rattle.lane_lists.specs.declared.item.Item.{Item}
 use Rattle.lane_lists.specs.StartOrders.{start_marks, bodies_to_start, end_to_start, began, OrdersOf, is_begin, StartOrderParts}
 use Rattle.lane_lists.proofs.Parts.{parts_made}
 use Rattle.lane_lists.proofs.ByParts.{Free, free_none, free_more, free_append, free_map, free_late}
@@ -20,25 +22,29 @@ use Rattle.lane_lists.proofs.OrderStarts.{by_start_orders}
 failed_session : (history : List Entry) (s : ℕ) (part : List Posted) → Failed history s part → IsSession is_tried part
 failed_session history s part f = record { first = posted.NoStart; rest = []; is = f.is; begun = refl; none = free_none is_tried }
 
-up_session : (history : List Entry) (s : ℕ) (part : List Posted) → CameUp history s part → IsSession is_tried part
-up_session history s part u =
+gone_late : (by : List Item) (rest : List Posted) → GoneBy by rest → Late rest
+gone_late by rest (starts.ended w real is e) = record { bodies = []; ends = w ∷ []; is = e; one = omega arith }
+gone_late by rest (starts.broke is l) = l
+
+up_session : (history : List Entry) (by : ℕ → List Item) (s : ℕ) (part : List Posted) → CameUp history by s part → IsSession is_tried part
+up_session history by s part u =
     let h = u.heard in
-    let rest : Free is_tried h.rest = ⊎_elim (λ e. subst (λ l. Free is_tried l) (sym e.1) (free_none is_tried)) (λ e. free_late is_tried (λ b. refl) (λ w. refl) h.rest e.1) h.ends in
+    let rest : Free is_tried h.rest = ⊎_elim (λ e. subst (λ l. Free is_tried l) (sym e.1) (free_none is_tried)) (λ e. free_late is_tried (λ b. refl) (λ w. refl) h.rest (gone_late (by s) h.rest e.1)) h.ends in
     let items : Free is_tried u.items = subst (λ l. Free is_tried l) (sym h.is) (free_append is_tried (map posted.Body h.bodies) h.rest (free_map is_tried posted.Body (λ b. refl) h.bodies) rest) in
     record { first = posted.Up; rest = u.items; is = u.is; begun = refl; none = items }
 
-all_sessions : (history : List Entry) (ids : List ℕ) (made : List (List Posted)) → AllZip (StartPart history) ids made → (k : ℕ) (part : List Posted) → slice_get made k ≡ Some part → IsSession is_tried part
-all_sessions history [] [] z k part e = absurd cc
-all_sessions history [] (p ∷ made) z k part e = absurd cc
-all_sessions history (n ∷ ids) [] z k part e = absurd cc
-all_sessions history (n ∷ ids) (p ∷ made) z zero part e = let same : p ≡ part = cc in subst (λ l. IsSession is_tried l) same (⊎_elim (λ f. failed_session history n p f) (λ u. up_session history n p u) z.0)
-all_sessions history (n ∷ ids) (p ∷ made) z (suc k) part e = all_sessions history ids made z.1 k part e
+all_sessions : (history : List Entry) (by : ℕ → List Item) (ids : List ℕ) (made : List (List Posted)) → AllZip (StartPart history by) ids made → (k : ℕ) (part : List Posted) → slice_get made k ≡ Some part → IsSession is_tried part
+all_sessions history by [] [] z k part e = absurd cc
+all_sessions history by [] (p ∷ made) z k part e = absurd cc
+all_sessions history by (n ∷ ids) [] z k part e = absurd cc
+all_sessions history by (n ∷ ids) (p ∷ made) z zero part e = let same : p ≡ part = cc in subst (λ l. IsSession is_tried l) same (⊎_elim (λ f. failed_session history n p f) (λ u. up_session history by n p u) z.0)
+all_sessions history by (n ∷ ids) (p ∷ made) z (suc k) part e = all_sessions history by ids made z.1 k part e
 
 pub by_start_parts : StartParts
 by_start_parts n m i deeds within fair once =
     let b = by_start_sessions n m i deeds within fair once in record {
       made = b.made;
-      cut = ap (λ l. parts is_tried l) b.posts ∙ parts_made is_tried [] b.made (all_sessions (entries n m deeds) (gather n m (tried_by (lane.Server i)) deeds) b.made b.each);
+      cut = ap (λ l. parts is_tried l) b.posts ∙ parts_made is_tried [] b.made (all_sessions (entries n m deeds) (went n m deeds) (gather n m (tried_by (lane.Server i)) deeds) b.made b.each);
       each = b.each;
     }
 

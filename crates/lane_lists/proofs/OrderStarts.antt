@@ -193,15 +193,15 @@ on_len (lane.Editor j) f seats = refl
 on_len (lane.Server j) f seats = length-set seats.servers j (f (seat_at j seats.servers))
 on_len lane.Ticker f seats = refl
 
-first_len : (seats : Seats) (l : LaneName) (x : Item) (c : Cause) → length (first seats l x c).seats.servers ≡ length seats.servers
+pub first_len : (seats : Seats) (l : LaneName) (x : Item) (c : Cause) → length (first seats l x c).seats.servers ≡ length seats.servers
 first_len seats l x c =
     ap (λ (s : Seats). length s.servers) (done_seats (done_at (seat_of l (marked seats l x)) c) l (caused (marked seats l x) l x c)) ∙ on_len l (λ s. seat_cause s x c) (marked seats l x) ∙ on_len l (λ s. seat_item s x) seats
 
-done_none : (i : ℕ) (ds : List Order) (l : LaneName) (s : Seats) → same_lane (lane.Server i) l ≡ false → only (lane.Server i) (with_done ds l s).orders ≡ []
+pub done_none : (i : ℕ) (ds : List Order) (l : LaneName) (s : Seats) → same_lane (lane.Server i) l ≡ false → only (lane.Server i) (with_done ds l s).orders ≡ []
 done_none i [] l s f = refl
 done_none i (o ∷ os) l s f = ap (λ (b : Bool). if b then o ∷ [] else []) f
 
-self : (e : ℕ) → (e == e) ≡ true
+pub self : (e : ℕ) → (e == e) ≡ true
 self e = ⊎_elim (λ t. t.0) (λ t. absurd (t.1 refl)) (eqb_tells e e)
 
 done_open : (i : ℕ) (b : Bool) (e : ℕ) (says : ℕ → List Mark) (rest : List Mark) (s : Seats) → says e ≡ Leaves ∷ rest → Open (Some e) b says (only (lane.Server i) (with_done (if b then [] else order.Done ∷ []) (lane.Server i) s).orders)

@@ -9,6 +9,7 @@ use Rattle.mux_history.specs.declared.out.Out.TheVariants as out
 use Rattle.mux_history.specs.declared.cause.Cause.{Cause}
 use Rattle.mux_history.specs.declared.cause.Cause.TheVariants as cause
 use Rattle.mux_history.specs.declared.cause.Why.{Why}
+use Rattle.mux_history.specs.declared.cause.Why.TheVariants as why
 use Rattle.lane_lists.specs.declared.item.LaneName.{LaneName}
 use Rattle.lane_lists.specs.declared.item.LaneName.TheVariants as lane
 use Rattle.lane_lists.specs.declared.item.Posted.{Posted}
@@ -141,7 +142,7 @@ pub record StartWays (P : Item → Option Entry → Option ℕ → Bool → Bool
   pub up : (s : ℕ) (outs : List Out) → P (item.Posted posted.Up) (Some (record { cause = cause.Started s; outs = outs })) (Some s) false false
   pub failed : (s : ℕ) (outs : List Out) → P (item.Posted posted.NoStart) (Some (record { cause = cause.StartFailed s; outs = outs })) (Some s) false false
   pub word : (s : ℕ) (tail : Bool) (body : List ℕ) (outs : List Out) → P (item.Posted (posted.Body body)) (Some (record { cause = cause.FromServer s body; outs = outs })) (Some s) true tail
-  pub over : (s : ℕ) (tail : Bool) (w : Why) (outs : List Out) → P (item.Posted (posted.Ended w)) (Some (record { cause = cause.ServerGone s; outs = outs })) (Some s) true tail
+  pub over : (s : ℕ) (tail : Bool) (w : Why) (outs : List Out) → w ≢ why.WriteFault → P (item.Posted (posted.Ended w)) (Some (record { cause = cause.ServerGone s; outs = outs })) (Some s) true tail
   pub broke : (s : ℕ) (tail : Bool) (outs : List Out) → P (item.Side side.Broke) (Some (record { cause = cause.ServerGone s; outs = outs })) (Some s) true tail
   pub idle : (s : Side) (now : Option ℕ) (up tail : Bool) → P (item.Side s) None now up tail
   pub late : (body : List ℕ) (now : Option ℕ) (up : Bool) → held now up ≡ None → P (item.Posted (posted.Body body)) None now up true
@@ -171,7 +172,10 @@ module _ (P : Item → Option Entry → Option ℕ → Bool → Bool → Type 0)
   by_posted (Some s) true tail (posted.Body body) entry m = small_one body (cause.FromServer s body) (Q (posted.Body body) (Some s) true tail) entry (ways.word s tail body) m
   by_posted (Some s) false tail (posted.Body body) entry m = late_body body (Some s) false tail entry refl m
   by_posted None up tail (posted.Body body) entry m = late_body body None up tail entry refl m
-  by_posted (Some s) true tail (posted.Ended w) entry m = means (cause.ServerGone s) (Q (posted.Ended w) (Some s) true tail) entry (ways.over s tail w) m
+  by_posted (Some s) true tail (posted.Ended why.WriteFault) entry m = stray (Q (posted.Ended why.WriteFault) (Some s) true tail) entry m
+  by_posted (Some s) true tail (posted.Ended why.End) entry m = means (cause.ServerGone s) (Q (posted.Ended why.End) (Some s) true tail) entry (λ outs. ways.over s tail why.End outs (λ e. absurd cc)) m
+  by_posted (Some s) true tail (posted.Ended why.ReadFault) entry m = means (cause.ServerGone s) (Q (posted.Ended why.ReadFault) (Some s) true tail) entry (λ outs. ways.over s tail why.ReadFault outs (λ e. absurd cc)) m
+  by_posted (Some s) true tail (posted.Ended why.BadFrame) entry m = means (cause.ServerGone s) (Q (posted.Ended why.BadFrame) (Some s) true tail) entry (λ outs. ways.over s tail why.BadFrame outs (λ e. absurd cc)) m
   by_posted (Some s) false tail (posted.Ended w) entry m = late_over w (Some s) false tail entry refl m
   by_posted None up tail (posted.Ended w) entry m = late_over w None up tail entry refl m
   by_posted None up tail posted.Link entry m = stray (Q posted.Link None up tail) entry m

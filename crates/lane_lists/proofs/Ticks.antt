@@ -39,7 +39,7 @@ one_tick seats (lane.Editor j) x entry m =
     seats j x entry refl m
 one_tick seats (lane.Server j) x entry m =
     by_try (λ y e now up tail. Silent e)
-    (record { up = λ s outs. refl; failed = λ s outs. refl; word = λ s tail body outs. refl; over = λ s tail w outs. refl; broke = λ s tail outs. refl; idle = λ s now up tail. refl; late = λ body now up h. refl; late_end = λ w now up h. refl })
+    (record { up = λ s outs. refl; failed = λ s outs. refl; word = λ s tail body outs. refl; over = λ s tail w outs real. refl; broke = λ s tail outs. refl; idle = λ s now up tail. refl; late = λ body now up h. refl; late_end = λ w now up h. refl })
     seats j x entry m
 
 ticks_from : (deeds : List Deed) (seats : Seats) → FairFrom seats deeds → gather_from (posts_by lane.Ticker) seats deeds ≡ map posted.Tick (ticks_of (gather_from entries_by seats deeds))

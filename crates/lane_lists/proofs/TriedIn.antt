@@ -99,7 +99,7 @@ module _ (seats : Seats) (s : ℕ) (down : Down seats s) where
       up = λ n outs is u. tries n (item.Posted posted.Up) (cause.Started n) outs is refl refl (λ h. let now : held (start_at j seats) true ≡ Some s = h in let same : Some n ≡ Some s = ap (λ (o : Option ℕ). held o true) is ∙ now in cc);
       failed = λ n outs is u. tries n (item.Posted posted.NoStart) (cause.StartFailed n) outs is refl refl (λ h. absurd cc);
       word = λ n tail body outs is u. goes n (item.Posted (posted.Body body)) (cause.FromServer n body) outs (other n true is u) refl (down j);
-      over = λ n tail w outs is u. goes n (item.Posted (posted.Ended w)) (cause.ServerGone n) outs (other n true is u) refl (λ h. absurd cc);
+      over = λ n tail w outs real is u. goes n (item.Posted (posted.Ended w)) (cause.ServerGone n) outs (other n true is u) refl (λ h. absurd cc);
       broke = λ n tail outs is u. goes n (item.Side side.Broke) (cause.ServerGone n) outs (other n true is u) refl (λ h. absurd cc);
       idle = λ x now up tail is u. silent_one (item.Side x) refl;
       late = λ body now up h is u. silent_one (item.Posted (posted.Body body)) refl;

@@ -117,7 +117,7 @@ module _ (seats t : Seats) (i : ℕ) (within : i < length seats.servers) (matche
     word = λ s tail body outs n u m once.
         let x = item.Posted (posted.Body body) in let c = cause.FromServer s body in
         by_seat x c outs (Some s) true [] n u m once (seat_at i seats.servers) refl (inl refl) (ap (λ (o : Option ℕ). pending o (held o true)) n ∙ ap (λ (b : Bool). pending (start_at i seats) (held (start_at i seats) b)) u);
-    over = λ s tail w outs n u m once.
+    over = λ s tail w outs real n u m once.
         let x = item.Posted (posted.Ended w) in let c = cause.ServerGone s in
         by_seat x c outs (Some s) true [] n u m once (seat_cause (seat_item (seat_at i seats.servers) x) x c) refl (inr refl) refl;
     broke = λ s tail outs n u m once.

@@ -1,6 +1,7 @@
 -- What each event of the history came of, by the sessions of the links and the starts of the berths.
 use Rattle.std.proofs.Common.{◌≡◌, ◌≢◌, ℕ, zero, suc, ◌<◌, ◌≤◌, ◌+◌, ◌==◌, ◌⊎◌, inl, inr, Bool, true, false, List, [], ◌∷◌, ◌++◌, length, map, slice_get, refl, ap, sym, ◌∙◌, subst, arith, append_assoc, append-nil, ⊎_elim}
-use Rattle.std.specs.Prelude.{Option, Some}
+use Rattle.std.specs.Prelude.{Option, Some, None}
+use Rattle.outside_io.specs.Faults.{Rose}
 use Rattle.outside_io.specs.Sessions.{Session}
 use Rattle.outside_io.specs.Told.{append_to, prepend_to}
 use Rattle.outside_io.specs.contracts.memory.port.MemPortPort.TheImpl as port
@@ -10,6 +11,8 @@ use Rattle.mux_history.specs.declared.cause.Why.TheVariants as why
 use Rattle.lane_lists.specs.declared.item.LaneName.TheVariants as lane
 use Rattle.lane_lists.specs.declared.item.Order.{Order}
 use Rattle.lane_lists.specs.declared.item.Order.TheVariants as order
+use Rattle.lane_lists.specs.declared.item.Posted.TheVariants as posted
+use Rattle.lane_lists.specs.declared.item.Item.{Item}
 use Rattle.lane_lists.specs.declared.item.Side.{Side}
 use Rattle.lane_lists.specs.declared.item.Side.TheVariants as side
 use Rattle.lane_lists.specs.Deeds.{Fair, gather, orders, sessions, sides}
@@ -17,6 +20,8 @@ use Rattle.lane_lists.specs.Sides.{Answered, DrainedAnswered, FailedAnswered, an
 use Rattle.lane_lists.specs.Sessions.{chain}
 use Rattle.lane_lists.specs.History.{bodies_to, end_to}
 use Rattle.lane_lists.specs.StartHistory.{tried_by}
+use Rattle.lane_lists.specs.StartSides.{BeginOnce, StartAnswered, StartFailedAnswered, start_tagged}
+use Rattle.mux_history.specs.Cores.{spawns}
 use Rattle.lane_lists.specs.Origins.{AllIn, SitsIn, TriedIn}
 use Rattle.lane_lists.specs.StartOrders.{bodies_to_start, end_to_start}
 use Rattle.session_io.specs.declared.part.End.TheVariants as end
@@ -29,9 +34,9 @@ use Rattle.mux_daemon.specs.declared.open.Lanes.{Lanes}
 use Rattle.mux_daemon.specs.declared.serve.Answer.{Answer}
 use Rattle.mux_daemon.specs.Served.{Story, history, is_end}
 use Rattle.mux_daemon.specs.Sessions.{PortSessions, SaidIn, WrittenAs}
-use Rattle.mux_daemon.specs.Starts.{BerthStarts, StartFailedAs, StartRan}
+use Rattle.mux_daemon.specs.Starts.{BerthStarts, StartFailedAs, StartRan, failed_turn, how, up_turn}
 use Rattle.mux_daemon.specs.Events.{CameOf}
-use Rattle.mux_daemon.specs.Causes.{BodySaid, CameFrom, EditorCame, EventsOf, FailureCame, JoinedBy, ProgramCame, SourceOver, StartedBy, by_own, by_port, came_up, failed, of_own, of_port}
+use Rattle.mux_daemon.specs.Causes.{BodySaid, CameFrom, EditorCame, EventsOf, FailureCame, JoinedBy, ProgramCame, SinkRose, SourceOver, StartedBy, by_own, by_port, came_up, failed, in_berth, of_own, of_port}
 use Rattle.mux_daemon.proofs.Places.{same_item}
 
 item_at : {X : Type 0} (xs : List X) (i : ℕ) → i < length xs → (x : X) × (slice_get xs i ≡ Some x)
@@ -93,12 +98,12 @@ module _ {P : Type 0} (limit : ℕ) (s : Story) (went : Bool) (i : ℕ) (back le
       }
 
   -- what was said of a body, in the session of its editor
-  said_came : went ≡ true → (k e bytes : ℕ) (what : Side)
+  said_came : (k e bytes : ℕ) (what : Side)
       → slice_get (answers (sides s.editors s.servers (lane.Editor i) s.deeds) (tagged (sessions s.editors s.servers (lane.Editor i) s.deeds) (orders s.editors s.servers (lane.Editor i) s.deeds))) k ≡ Some ((e, bytes), what)
       → (came : EditorCame limit (history s) went back left old new e) × SaidIn came.run bytes what
   unfolding editor_came
-  said_came w k e bytes what at =
-      let t = f.said w k e bytes what at in
+  said_came k e bytes what at =
+      let t = f.said k e bytes what at in
       let r = f.served t.place e t.of in
       (editor_came t.place e t.of, subst (λ run. SaidIn run bytes what) (same_item t.run r.0 (sym t.at ∙ r.1)) t.said)
 
@@ -107,8 +112,8 @@ rises_at [] k turn at = absurd cc
 rises_at (t ∷ turns) zero turn at = let same = ap (λ (t : Turn). t.rises) (same_item t turn at) in omega (arith, same)
 rises_at (t ∷ turns) (suc k) turn at = let more = rises_at turns k turn at in omega (arith, more)
 
-abbrev ran_as : (A W : Type 0) (limit servers : ℕ) (history : List Entry) (start : ℕ) (turn : Turn) → (W → A) → StartRan A limit servers history start turn → StartRan W limit servers history start turn
-ran_as A W limit servers history start turn f r = record { run = r.run; is = r.is; is_run = r.is_run; whole = λ w. r.whole (f w); read = r.read; written = r.written }
+abbrev ran_as : (A W : Type 0) (limit servers : ℕ) (history : List Entry) (by : List Item) (start : ℕ) (turn : Turn) → (W → A) → StartRan A limit servers history by start turn → StartRan W limit servers history by start turn
+ran_as A W limit servers history by start turn f r = record { run = r.run; is = r.is; is_run = r.is_run; whole = λ w. r.whole (f w); read = r.read; written = r.written }
 
 failed_as : (A W : Type 0) (servers : ℕ) (history : List Entry) (start : ℕ) (turn : Turn) → (W → A) → StartFailedAs A servers history start turn → StartFailedAs W servers history start turn
 failed_as A W servers history start turn f r = record { orders = r.orders; is = r.is; says = r.says; ends = λ w. r.ends (f w) }
@@ -131,7 +136,7 @@ module _ {B : Type 0} (limit : ℕ) (s : Story) (went : Bool) (i : ℕ) (runs le
   not_cut : (k : ℕ) (turn : Turn) → slice_get (f.turns ++ f.last) k ≡ Some turn → went ≡ true → k < length f.turns
   not_cut k turn at w = within_at f.turns k turn (ap (λ l. slice_get l k) (sym (append-nil f.turns) ∙ ap (λ l. f.turns ++ l) (sym (f.whole w))) ∙ at)
 
-  program_came : (k x : ℕ) (turn : Turn) → slice_get (f.turns ++ f.last) k ≡ Some turn → StartRan (k < length f.turns) limit s.servers (history s) x turn → ProgramCame limit s.servers (history s) went runs left old new x
+  program_came : (k x : ℕ) (turn : Turn) → slice_get (f.turns ++ f.last) k ≡ Some turn → StartRan (k < length f.turns) limit s.servers (history s) (how s x) x turn → ProgramCame limit s.servers (history s) (how s x) went runs left old new x
   program_came k x turn at did =
       let run = did.run in
       let all = f.turns ++ f.last in
@@ -139,11 +144,38 @@ module _ {B : Type 0} (limit : ℕ) (s : Story) (went : Bool) (i : ℕ) (runs le
       let b = around_chain (λ (t : Turn). t.back) all k turn at in
       record {
         turn = turn;
-        did = ran_as (k < length f.turns) (went ≡ true) limit s.servers (history s) x turn (not_cut k turn at) did;
+        did = ran_as (k < length f.turns) (went ≡ true) limit s.servers (history s) (how s x) x turn (not_cut k turn at) did;
         program = came_from runs left old new run (chain (map (λ (t : Turn). t.came) all)) (chain (map (λ (t : Turn). t.back) all)) f.left_are f.back_are
             (c.0, c.1, c.2 ∙ ap (λ (t : Turn). c.0 ++ (t.came ++ c.1)) did.is) (b.0, b.1, b.2 ∙ ap (λ (t : Turn). b.0 ++ (t.back ++ b.1)) did.is);
         over = λ whole. over_as limit (bodies_to_start s.servers x (history s)) (end_to_start s.servers x (history s)) run run.stop refl did.is_run did.written whole;
+        ended = λ w is whole. ⊎_elim (λ t. inl t) (λ t. inr (closed_by (bodies_to_start s.servers x (history s)) (end_to_start s.servers x (history s)) run did.written whole (t.1 whole))) (did.read.ended w is);
       }
+
+  -- one turn is that of a run, and it is that of another, or of a start that failed
+  began_same : (x : ℕ) (a b : Run) → up_turn x a ≡ up_turn x b → a.began ≡ b.began
+  began_same x a b same = let came : a.began ∷ [] ≡ b.began ∷ [] = ap (λ (t : Turn). t.came) same in cc
+
+  ended_same : (x : ℕ) (a b : Run) → up_turn x a ≡ up_turn x b → a.ended ≡ b.ended
+  ended_same x a b same = let back : a.ended ∷ [] ≡ b.ended ∷ [] = ap (λ (t : Turn). t.back) same in cc
+
+  not_failed : (x : ℕ) (orders : List Order) (run : Run) → failed_turn x orders ≡ up_turn x run → ⊥
+  not_failed x orders run same = let posts : posted.NoStart ∷ [] ≡ posted.Up ∷ run.posts = ap (λ (t : Turn). t.posts) same in absurd cc
+
+  -- the session of a start that went since a write failed
+  sink_came : BeginOnce (orders s.editors s.servers (lane.Server i) s.deeds) → (k x bytes : ℕ)
+      → slice_get (answers (sides s.editors s.servers (lane.Server i) s.deeds) (start_tagged None (orders s.editors s.servers (lane.Server i) s.deeds))) k ≡ Some ((x, bytes), side.Broke)
+      → (place : ℕ) → slice_get (gather s.editors s.servers (tried_by (lane.Server i)) s.deeds) place ≡ Some x → (came : ProgramCame limit s.servers (history s) (how s x) went runs left old new x) × Rose came.did.run.began.sink_faults came.did.run.ended.sink_faults
+  unfolding program_came
+  sink_came once k x bytes at place tried =
+      let b = f.broke once k x bytes at in
+      let r = f.served place x tried in
+      elim r.2 [
+        | inl did ↦ absurd (not_failed x did.orders b.run (sym did.is ∙ b.only place r.0 did.orders r.1 (ap (λ (t : Turn). t.orders) did.is) ∙ b.is))
+        | inr did ↦ (let same : up_turn x did.run ≡ up_turn x b.run = sym did.is ∙ b.only place r.0 did.run.orders r.1 (ap (λ (t : Turn). t.orders) did.is) ∙ b.is in (
+          program_came place x r.0 r.1 did,
+          subst (λ (y : Session). Rose y.sink_faults did.run.ended.sink_faults) (sym (began_same x did.run b.run same)) (subst (λ (z : Session). Rose b.run.began.sink_faults z.sink_faults) (sym (ended_same x did.run b.run same)) b.rose),
+        ))
+      ]
 
   failure_came : (k x : ℕ) (turn : Turn) → slice_get (f.turns ++ f.last) k ≡ Some turn → StartFailedAs (k < length f.turns) s.servers (history s) x turn → FailureCame s.servers (history s) went misses old new x
   failure_came k x turn at did = record {
@@ -187,28 +219,38 @@ module _ {P B C : Type 0} (links_back links : P → Option (List Session)) (runs
       (λ did. came_up i p.0 q.0 p.1 q.1 (program_came limit s (is_end x) i runs left misses p.0.outside q.0.outside b tried.place n r.0 r.1 did))
       r.2
 
-  body_said : is_end x ≡ true → (e bytes : ℕ) (what : Side) → Answered s.editors s.servers s.deeds e bytes what → s.editors ≡ length old.ports.items + 1 → BodySaid links_back links runs left misses limit s x old new e bytes what
-  body_said went e bytes what a n =
+  body_said : (e bytes : ℕ) (what : Side) → Answered s.editors s.servers s.deeds e bytes what → s.editors ≡ length old.ports.items + 1 → BodySaid links_back links runs left misses limit s x old new e bytes what
+  body_said e bytes what a n =
       let i = a.number in
       let w = a.within in
       ⊎_elim
       (λ (t : ((i == length old.ports.items) ≡ true) × (i ≡ length old.ports.items)).
       let at = subst (λ (k : ℕ). slice_get (answers (sides s.editors s.servers (lane.Editor k) s.deeds) (tagged (sessions s.editors s.servers (lane.Editor k) s.deeds) (orders s.editors s.servers (lane.Editor k) s.deeds))) a.place ≡ Some ((e, bytes), what)) t.1 a.at in
-      let said = said_came limit s (is_end x) (length old.ports.items) port.ghosts.sessions port.ghosts.links old.own.outside new.own.outside f.own went a.place e bytes what at in
-      let sits = (f.own.said went a.place e bytes what at) in
+      let said = said_came limit s (is_end x) (length old.ports.items) port.ghosts.sessions port.ghosts.links old.own.outside new.own.outside f.own a.place e bytes what at in
+      let sits = (f.own.said a.place e bytes what at) in
       by_own (λ stopped. let none : slice_get [] sits.place ≡ Some e = subst (λ l. slice_get l sits.place ≡ Some e) (f.stopped stopped) sits.of in absurd cc) said.0 said.1)
       (λ (t : ((i == length old.ports.items) ≡ false) × (i ≢ length old.ports.items)).
       let apart = t.1 in
       let p = item_at old.ports.items i (omega (arith, w, n, apart)) in
       let q = item_at new.ports.items i (omega (arith, w, n, apart, ports_len)) in
-      let said = said_came limit s (is_end x) i links_back links p.0.outside q.0.outside (f.ports i p.0 q.0 p.1 q.1) went a.place e bytes what a.at in
+      let said = said_came limit s (is_end x) i links_back links p.0.outside q.0.outside (f.ports i p.0 q.0 p.1 q.1) a.place e bytes what a.at in
       by_port i p.0 q.0 p.1 q.1 said.0 said.1)
       (eqb_tells i (length old.ports.items))
 
-  pub events_of : Fair s.editors s.servers s.deeds → AllIn s.editors s.servers s.deeds → DrainedAnswered → FailedAnswered → s.editors ≡ length old.ports.items + 1 → EventsOf links_back links runs left misses limit s x old new
-  events_of fair lanes drained_law failed_law n = record {
+  sink_rose : (n bytes : ℕ) → StartAnswered s.editors s.servers s.deeds n bytes side.Broke → SinkRose links_back links runs left misses limit s x old new n
+  sink_rose n bytes a =
+      let i = a.number in
+      let w = a.within in
+      let p = item_at old.berths.items i (omega (arith, w, servers)) in
+      let q = item_at new.berths.items i (omega (arith, w, servers, berths_len)) in
+      let came = sink_came limit s (is_end x) i runs left misses p.0.outside q.0.outside (f.berths i p.0 q.0 p.1 q.1) a.once a.place n bytes a.at a.tried a.tried_at in
+      in_berth i p.0 q.0 p.1 q.1 came.0 came.1
+
+  pub events_of : Fair s.editors s.servers s.deeds → AllIn s.editors s.servers s.deeds → DrainedAnswered → FailedAnswered → ((y : ℕ) → spawns y (history s) ≤ 1) → StartFailedAnswered → s.editors ≡ length old.ports.items + 1 → EventsOf links_back links runs left misses limit s x old new
+  events_of fair lanes drained_law failed_law once starts_law n = record {
     editors = λ e below. joined_by e (f.editors e below) n;
     starts = λ k some. started_by k (f.starts k some) n;
-    drained = λ went k e bytes at. body_said went e bytes side.Wrote (drained_law s.editors s.servers s.deeds fair lanes k e bytes at) n;
-    broke = λ went k e at. let a = failed_law s.editors s.servers s.deeds fair lanes k e at in (a.0, body_said went e a.0 side.Broke a.1 n);
+    drained = λ k e bytes at. body_said e bytes side.Wrote (drained_law s.editors s.servers s.deeds fair lanes k e bytes at) n;
+    broke = λ k e at. let a = failed_law s.editors s.servers s.deeds fair lanes k e at in (a.0, body_said e a.0 side.Broke a.1 n);
+    sinks = λ k m at. let a = starts_law s.editors s.servers s.deeds fair lanes once m k at in sink_rose m a.0 a.1;
   }

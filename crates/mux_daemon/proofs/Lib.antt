@@ -9,6 +9,7 @@ mod EndSessions
 mod Writing
 mod Rising
 mod Saying
+mod StartSaying
 mod Sessions
 mod ReadStarts
 mod WriteStarts

@@ -1,28 +1,34 @@
 -- The bodies from a start are the first frames that its program's session read.
-use Rattle.std.proofs.Common.{◌≡◌, ℕ, zero, suc, ◌≤◌, ◌<◌, ◌⊎◌, inl, inr, List, [], ◌∷◌, ◌++◌, length, map, slice_get, refl, ap, sym, ◌∙◌, subst, arith, append_assoc}
+use Rattle.std.proofs.Common.{◌≡◌, ◌≢◌, ℕ, zero, suc, ◌≤◌, ◌<◌, ◌⊎◌, inl, inr, List, [], ◌∷◌, ◌++◌, length, map, slice_get, refl, ap, sym, ◌∙◌, subst, arith, append_assoc, append-nil}
 use Rattle.std.specs.Prelude.{All, Option, Some, None}
 use Rattle.std.proofs.lemmas.List.Elements.{All-head, All-tail}
 use Rattle.base_frame.specs.Frames.{Splits}
 use Rattle.mux_history.specs.declared.entry.Entry.{Entry}
 use Rattle.mux_history.specs.declared.cause.Why.{Why}
+use Rattle.mux_history.specs.declared.cause.Why.TheVariants as why
+use Rattle.mux_history.specs.declared.cause.Cause.{Cause}
 use Rattle.mux_history.specs.declared.cause.Cause.TheVariants as cause
 use Rattle.lane_lists.specs.declared.item.Order.{Order}
 use Rattle.lane_lists.specs.declared.item.Order.TheVariants as order
 use Rattle.lane_lists.specs.declared.item.Posted.{Posted}
 use Rattle.lane_lists.specs.declared.item.Posted.TheVariants as posted
+use Rattle.lane_lists.specs.declared.item.Side.TheVariants as side
+use Rattle.lane_lists.specs.declared.item.Item.{Item}
+use Rattle.lane_lists.specs.declared.item.Item.TheVariants as item
 use Rattle.lane_lists.specs.Sessions.{chain, parts, IsSession}
-use Rattle.lane_lists.specs.StartHistory.{CameUp, Failed, is_tried}
+use Rattle.lane_lists.specs.StartHistory.{CameUp, Failed, GoneBy, StartHeard, is_tried}
+use Rattle.lane_lists.specs.StartHistory as starts
 use Rattle.lane_lists.proofs.Parts.{parts_go_on, parts_made}
 use Rattle.lane_lists.proofs.ByParts.{Free, free_append, free_map, free_more, free_none}
 use Rattle.session_io.specs.declared.part.End.{End}
-use Rattle.session_io.specs.Reads.{bodies, end_items, why_of}
+use Rattle.session_io.specs.Reads.{StoppedBy, bodies, end_items, why_of}
 use Rattle.mux_lanes.specs.Runs.{IsRun, IsWholeRun, Run, order_of}
 use Rattle.mux_lanes.specs.Lanes.{Turn, linked, ran, refused}
 use Rattle.mux_lanes.specs.Starts.{Begun, CutBegun, WholeStart}
 use Rattle.mux_lanes.specs.Starts as begins
-use Rattle.mux_daemon.specs.Starts.{StartRead, failed_turn, up_turn}
+use Rattle.mux_daemon.specs.Starts.{StartRead, WentBy, failed_turn, up_turn}
 use Rattle.mux_daemon.proofs.Places.{same_item}
-use Rattle.mux_daemon.proofs.Reading.{first_of}
+use Rattle.mux_daemon.proofs.Reading.{first_of, stopped_as}
 
 -- what a turn of a start shows: that it failed, or a session
 pub record ShowsNone (Whole : Type 0) (turn : Turn) : Type 0 where
@@ -153,10 +159,32 @@ turn_at limit count turns f taken rest made whole cut k part at =
     let e = f.each k t.0 t.1 in
     record { turn = t.0; at = e.0; shown = e.1; more = goes.more; posts = t.2 }
 
+-- by which items a start went
+went_by_item : (by : List Item) (rest : List Posted) → GoneBy by rest → WentBy by
+went_by_item by rest (starts.ended w real is e) = inl (w, real, is)
+went_by_item by rest (starts.broke is l) = inr is
+
+-- where it went by an end, nothing was posted between its bodies and this end
+end_alone : (w : Why) (more : List Posted) (others : List (List ℕ)) (end : Option Why) → posted.Ended w ∷ more ≡ bodies others ++ end_items end → (others ≡ []) × (end ≡ Some w)
+end_alone w more [] None e = absurd cc
+end_alone w more [] (Some v) e = (refl, cc)
+end_alone w more (b ∷ others) end e = absurd cc
+
+ended_so : (causes : List Cause) (by : List Item) (start : ℕ) (items : List Posted) (h : StartHeard causes by start items) (w : Why) → by ≡ item.Posted (posted.Ended w) ∷ [] → (w ≢ why.WriteFault) × (h.rest ≡ posted.Ended w ∷ [])
+ended_so causes by start items h w is = elim h.ends [
+  | inl n ↦ (let f : [] ≡ item.Posted (posted.Ended w) ∷ [] = sym n.2 ∙ is in absurd cc)
+  | inr n ↦ by_item n.1
+] where
+  by_item : GoneBy by h.rest → (w ≢ why.WriteFault) × (h.rest ≡ posted.Ended w ∷ [])
+  by_item (starts.ended v real told e) =
+      let both : item.Posted (posted.Ended v) ∷ [] ≡ item.Posted (posted.Ended w) ∷ [] = sym told ∙ is in
+      let same : v ≡ w = cc in (subst (λ x. x ≢ why.WriteFault) same real, e ∙ ap (λ x. posted.Ended x ∷ []) same)
+  by_item (starts.broke told l) = let f : item.Side side.Broke ∷ [] ≡ item.Posted (posted.Ended w) ∷ [] = sym told ∙ is in absurd cc
+
 -- a start that came up has a run, and one that failed has none
-pub up_run : (Whole : Type 0) (limit : ℕ) (history : List Entry) (start : ℕ) (turn : Turn) (part more : List Posted) → CameUp history start part → turn.posts ≡ part ++ more → Shown Whole limit turn → (s : ShowsRun Whole limit turn) × StartRead limit history start s.run
-up_run Whole limit history start turn part more c e (inl r) = let f : posted.NoStart ∷ [] ≡ (posted.Up ∷ c.items) ++ more = sym (ap (λ (t : Turn). t.posts) r.is) ∙ e ∙ ap (λ l. l ++ more) c.is in absurd cc
-up_run Whole limit history start turn part more c e (inr s) =
+pub up_run : (Whole : Type 0) (limit : ℕ) (history : List Entry) (by : ℕ → List Item) (start : ℕ) (turn : Turn) (part more : List Posted) → CameUp history by start part → turn.posts ≡ part ++ more → Shown Whole limit turn → (s : ShowsRun Whole limit turn) × StartRead limit history (by start) start s.run
+up_run Whole limit history by start turn part more c e (inl r) = let f : posted.NoStart ∷ [] ≡ (posted.Up ∷ c.items) ++ more = sym (ap (λ (t : Turn). t.posts) r.is) ∙ e ∙ ap (λ l. l ++ more) c.is in absurd cc
+up_run Whole limit history by start turn part more c e (inr s) =
     let h = c.heard in
     let read = s.is_run.read in
     let whole : posted.Up ∷ s.run.posts ≡ posted.Up ∷ (c.items ++ more) = sym (ap (λ (t : Turn). t.posts) s.is) ∙ e ∙ ap (λ l. l ++ more) c.is in
@@ -168,12 +196,17 @@ up_run Whole limit history start turn part more c e (inr s) =
         bodies = h.bodies;
         gone = h.gone;
         says = c.says ∙ ap (λ l. cause.Started start ∷ l) h.says;
-        ends = elim h.ends [ inl n ↦ inl n.0 | inr n ↦ inr n.0 ];
+        ends = elim h.ends [ inl n ↦ inl (n.0, n.2) | inr n ↦ inr (n.0, went_by_item (by start) h.rest n.1) ];
         fed = read.fed;
         others = f.others ++ read.lost;
         rest = read.rest;
         read = read.read;
         splits = subst (λ l. Splits limit read.fed l read.rest) (ap (λ l. l ++ read.lost) f.are ∙ append_assoc h.bodies f.others read.lost) read.splits;
+        ended = λ w is.
+            let so = ended_so c.causes (by start) start c.items h w is in
+            let b = end_alone w more f.others (why_of s.run.stop) (ap (λ l. l ++ more) (sym so.1) ∙ f.rest) in
+            let given : read.given ≡ h.bodies = f.are ∙ ap (λ l. h.bodies ++ l) b.0 ∙ append-nil h.bodies in
+            stopped_as limit s.run read.fed h.bodies w s.run.stop refl so.0 b.1 (subst (λ l. StoppedBy limit read.fed l s.run.ended.left s.run.began.source_faults s.run.ended.source_faults s.run.stop) given read.stopped);
       },
     )
 

@@ -168,7 +168,7 @@ ended_by why.BadFrame [] behind None real e = absurd cc
 ended_by why.BadFrame [] behind (Some v) real e = (refl, cc)
 ended_by why.BadFrame (b ∷ others) behind end real e = absurd cc
 
-stopped_as : (limit : ℕ) (run : Run) (fed : List ℕ) (given : List (List ℕ)) (w : Why) (told : Stop) → run.stop ≡ told → w ≢ why.WriteFault → why_of told ≡ Some w → StoppedBy limit fed given run.ended.left run.began.source_faults run.ended.source_faults told
+pub stopped_as : (limit : ℕ) (run : Run) (fed : List ℕ) (given : List (List ℕ)) (w : Why) (told : Stop) → run.stop ≡ told → w ≢ why.WriteFault → why_of told ≡ Some w → StoppedBy limit fed given run.ended.left run.began.source_faults run.ended.source_faults told
     → StoppedBy limit fed given run.ended.left run.began.source_faults run.ended.source_faults (stop.Ended w) ⊎ ((w ≡ why.End) × (IsWholeRun run → run.wrote.end ≡ Some order.Close))
 stopped_as limit run fed given w (stop.Ended v) is real e s = let same : v ≡ w = same_item v w e in inl (subst (λ x. StoppedBy limit fed given run.ended.left run.began.source_faults run.ended.source_faults (stop.Ended x)) same s)
 stopped_as limit run fed given w (stop.Told end.Closed) is real e s = inr (sym (same_item why.End w e), λ whole. whole.ordered ∙ ap (λ x. Some (order_of x)) (sym (whole.agreed end.Closed is)))

@@ -12,6 +12,9 @@ use Rattle.mux_history.specs.declared.cause.Why.{Why}
 use Rattle.mux_history.specs.declared.cause.Why.TheVariants as why
 use Rattle.mux_history.specs.Cores.{joined}
 use Rattle.lane_lists.specs.declared.item.Order.TheVariants as order
+use Rattle.lane_lists.specs.declared.item.Posted.TheVariants as posted
+use Rattle.lane_lists.specs.declared.item.Item.{Item}
+use Rattle.lane_lists.specs.declared.item.Item.TheVariants as item
 use Rattle.lane_lists.specs.declared.item.Side.{Side}
 use Rattle.lane_lists.specs.declared.item.Side.TheVariants as side
 use Rattle.lane_lists.specs.History.{bodies_from, end_to, gone_of}
@@ -29,7 +32,7 @@ use Rattle.mux_daemon.specs.declared.serve.Answer.{Answer}
 use Rattle.mux_daemon.specs.declared.serve.Answer.TheVariants as answer
 use Rattle.mux_daemon.specs.Served.{ServedAs, Story, history, is_end}
 use Rattle.mux_daemon.specs.Sessions.{ReadOf, SaidIn, WrittenOf}
-use Rattle.mux_daemon.specs.Starts.{StartFailedAs, StartRan}
+use Rattle.mux_daemon.specs.Starts.{StartFailedAs, StartRan, how}
 
 -- the link or the program of a run came from here, and was handed back here as the run left it
 pub record CameFrom {P : Type 0} (back left : P → Option (List Session)) (old new : P) (run : Run) : Type 0 where
@@ -69,12 +72,14 @@ pub record SourceOver (limit : ℕ) (run : Run) : Type 0 where
   pub read : run.ended.read ≡ append_known run.began.read fed
   pub stopped : StoppedBy limit fed given run.ended.left run.began.source_faults run.ended.source_faults (stop.Ended by)
 
--- a start whose program ran in a berth. Its whole session is over since its source stopped, since the history has before that it was ended, or since it went otherwise before its source stopped
-pub record ProgramCame {B : Type 0} (limit servers : ℕ) (history : List Entry) (went : Bool) (runs left : B → Option (List Session)) (old new : B) (start : ℕ) : Type 0 where
+-- a start whose program ran in a berth. Its whole session is over since its source stopped, since the history has before that it was ended, or since it went otherwise before its source stopped. Where it went by the end that was posted of its source, the history has all frames that were read, or it has before that the start was ended
+pub record ProgramCame {B : Type 0} (limit servers : ℕ) (history : List Entry) (by : List Item) (went : Bool) (runs left : B → Option (List Session)) (old new : B) (start : ℕ) : Type 0 where
   pub turn : Turn
-  pub did : StartRan (went ≡ true) limit servers history start turn
+  pub did : StartRan (went ≡ true) limit servers history by start turn
   pub program : CameFrom runs left old new did.run
   pub over : IsWholeRun did.run → SourceOver limit did.run ⊎ (end_to_start servers start history ≡ order.Close ∷ []) ⊎ (did.run.stop ≡ stop.Told end.Done)
+  pub ended : (w : Why) → by ≡ item.Posted (posted.Ended w) ∷ [] → IsWholeRun did.run
+      → StoppedBy limit did.read.fed did.read.bodies did.run.ended.left did.run.began.source_faults did.run.ended.source_faults (stop.Ended w) ⊎ (end_to_start servers start history ≡ order.Close ∷ [])
 
 -- a start that failed: the berth's count rose
 pub record FailureCame {B : Type 0} (servers : ℕ) (history : List Entry) (went : Bool) (misses : B → ℕ) (old new : B) (start : ℕ) : Type 0 where
@@ -90,7 +95,7 @@ module _ {P B C : Type 0} (links_back links : P → Option (List Session)) (runs
 
   -- a start of which the history has a cause came up in a berth, or failed there
   pub data StartedBy (s : Story) (x : Answer) (old new : Lanes P B C) (n : ℕ) : Type 0 where
-    came_up : (i : ℕ) (p q : LaneJob B) → slice_get old.berths.items i ≡ Some p → slice_get new.berths.items i ≡ Some q → ProgramCame limit s.servers (history s) (is_end x) runs left p.outside q.outside n → StartedBy s x old new n
+    came_up : (i : ℕ) (p q : LaneJob B) → slice_get old.berths.items i ≡ Some p → slice_get new.berths.items i ≡ Some q → ProgramCame limit s.servers (history s) (how s n) (is_end x) runs left p.outside q.outside n → StartedBy s x old new n
     failed : (i : ℕ) (p q : LaneJob B) → slice_get old.berths.items i ≡ Some p → slice_get new.berths.items i ≡ Some q → FailureCame s.servers (history s) (is_end x) misses p.outside q.outside n → StartedBy s x old new n
 
   -- what the history has of a body to an editor was so in that editor's session, of a link of a port or of the own one
@@ -99,12 +104,19 @@ module _ {P B C : Type 0} (links_back links : P → Option (List Session)) (runs
         → (came : EditorCame limit (history s) (is_end x) links_back links p.outside q.outside e) → SaidIn came.run bytes what → BodySaid s x old new e bytes what
     by_own : x ≢ answer.Stopped → (came : EditorCame limit (history s) (is_end x) port.ghosts.sessions port.ghosts.links old.own.outside new.own.outside e) → SaidIn came.run bytes what → BodySaid s x old new e bytes what
 
+  -- a start went since a write failed, and the count of the sink of its program rose in its session
+  pub data SinkRose (s : Story) (x : Answer) (old new : Lanes P B C) (n : ℕ) : Type 0 where
+    in_berth : (i : ℕ) (p q : LaneJob B) → slice_get old.berths.items i ≡ Some p → slice_get new.berths.items i ≡ Some q
+        → (came : ProgramCame limit s.servers (history s) (how s n) (is_end x) runs left p.outside q.outside n) → Rose came.did.run.began.sink_faults came.did.run.ended.sink_faults → SinkRose s x old new n
+
   pub record EventsOf (s : Story) (x : Answer) (old new : Lanes P B C) : Type 0 where
     pub editors : (e : ℕ) → e < joined (history s) → JoinedBy s x old new e
     pub starts : (n : ℕ) → causes_from n (history s) ≢ [] → StartedBy s x old new n
-    -- where the work was done: each body of which the history has that it was drained was written whole, and each editor that went by a failed write had one in its session
-    pub drained : is_end x ≡ true → (k e bytes : ℕ) → slice_get (told_of drained_in (history s)) k ≡ Some (e, bytes) → BodySaid s x old new e bytes side.Wrote
-    pub broke : is_end x ≡ true → (k e : ℕ) → slice_get (told_of failed_in (history s)) k ≡ Some e → (bytes : ℕ) × BodySaid s x old new e bytes side.Broke
+    -- whatever the answer is, each body of which the history has that it was drained was written whole, and each editor that went by a failed write had one in its session
+    pub drained : (k e bytes : ℕ) → slice_get (told_of drained_in (history s)) k ≡ Some (e, bytes) → BodySaid s x old new e bytes side.Wrote
+    pub broke : (k e : ℕ) → slice_get (told_of failed_in (history s)) k ≡ Some e → (bytes : ℕ) × BodySaid s x old new e bytes side.Broke
+    -- and a start went since a write failed only where its sink's count rose
+    pub sinks : (k n : ℕ) → slice_get (how s n) k ≡ Some (item.Side side.Broke) → SinkRose s x old new n
 
 module _ {K P B C : Type 0} (stands : K → List Entry → Type 0) (stops : List Entry → Bool) (links_back links : P → Option (List Session)) (faults : P → ℕ) (runs left : B → Option (List Session)) (misses : B → ℕ) (given moments : C → Option (List ℕ)) where
   abbrev pub EventsLaw : Type 0
