@@ -138,9 +138,11 @@ module _ (settings : Settings) (s : ℕ) where
       event = did (ToEditor n body) (request id method params)
 
       go : (b : Bool) → is_creating method ≡ b → (o : Option Token) → token_marked s params x ≡ o → AllByRecursion (IsSet s (before ++ event ∷ [])) (if b then with_asked n (next_ask n before) o x else x).takings
-      go true creating (Some t) marked = all_join (IsSet s (before ++ event ∷ [])) x.takings (asked n (next_ask n before) t ∷ []) (lifted before x event h)
-          (subst (IsNumbered (before ++ event ∷ []) n (next_ask n before)) (ap (λ b. if b then string_of (named_of (codes "token") params) else None) creating ∙ marked_string s (named_of (codes "token") params) t (find_true (is_marked s (named_of (codes "token") params)) x.tokens t marked))
-          (numbered_new before n body id method params), tt)
+      go true creating (Some t) marked = all_join (IsSet s (before ++ event ∷ [])) x.takings (asked n (next_ask n before) t ∷ []) (lifted before x event h) (
+        subst (IsNumbered (before ++ event ∷ []) n (next_ask n before)) (ap (λ b. if b then string_of (named_of (codes "token") params) else None) creating ∙ marked_string s (named_of (codes "token") params) t (find_true (is_marked s (named_of (codes "token") params)) x.tokens t marked))
+            (numbered_new before n body id method params),
+        tt,
+      )
       go true creating None marked = lifted before x event h
       go false plain o marked = lifted before x event h
 

@@ -171,7 +171,7 @@ module _ (settings : Settings) (range : InRange settings) (before : List Event) 
       go d is n = subst (λ z. sent_outs s k e (outs_of settings before z) ≡ map (marked_text (created_text s k)) gains) (sym n.from ∙ is)
           (ap (λ j. sent_outs s j e (outs_of settings before (FromEditor e n.answer))) (sym token)
           ∙ (handed_exactly settings before facts settled few s k e n.answer c (record { answer = n.answer; from = refl; ran = n.ran; ready = n.ready; found = n.found; accepted = n.accepted }) token
-              (clear.apart s e (answered_id (message_of n.answer)) c n.found) n.found n.accepted (subst (λ z. Reasons (Why settings before z) (with_cause before z) (outs_of settings before z)) (sym is ∙ n.from) why)
+          (clear.apart s e (answered_id (message_of n.answer)) c n.found) n.found n.accepted (subst (λ z. Reasons (Why settings before z) (with_cause before z) (outs_of settings before z)) (sym is ∙ n.from) why)
           ∙ (ap (λ j. map (marked_text (created_text s j)) c.held) token ∙ sym (ap (map (marked_text (created_text s k))) (gain_taken c taken token)))))
 
   -- what is due has such a source

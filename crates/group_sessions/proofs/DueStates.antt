@@ -92,8 +92,20 @@ module _ (e k : ℕ) where
 
     idle_waits : IsWaiting e k x ws → Steps e k y ws w []
     idle_waits i = record {
-      state = waits (record { us = i.us; number = i.number; vs = i.vs ++ w ∷ []; taking = i.taking; is = is; first = i.first; unsettled = unsettled; only = same ∙ i.only; unaccepted = i.unaccepted; under = i.under;
-        held = i.held ∙ ap (λ z. held_of held_most (opening (bodies i.us) ++ z)) (sym (silent_last i.vs w quiet)); created = low i.created });
+      state = waits (record {
+        us = i.us;
+        number = i.number;
+        vs = i.vs ++ w ∷ [];
+        taking = i.taking;
+        is = is;
+        first = i.first;
+        unsettled = unsettled;
+        only = same ∙ i.only;
+        unaccepted = i.unaccepted;
+        under = i.under;
+        held = i.held ∙ ap (λ z. held_of held_most (opening (bodies i.us) ++ z)) (sym (silent_last i.vs w quiet));
+        created = low i.created;
+      });
       grows = still_none ws (ws ++ w ∷ []) (waits_due x ws i) (ap due is ∙ due_waits i.us i.number (i.vs ++ w ∷ []) i.first unsettled);
     }
       where
@@ -147,8 +159,20 @@ module _ (e k : ℕ) where
 
   pub ask : (x y : Created) (ws : List Word) (n : ℕ) (t : Token) → list_any is_asks ws ≡ false → own e k y ≡ own e k x ++ asked e n t ∷ [] → held_first t.begin ≡ opening (bodies ws) → k < y.next → State e k x ws → Steps e k y ws (asks n) []
   ask x y ws n t none same first low s = record {
-    state = waits (record { us = ws; number = n; vs = []; taking = asked e n t; is = refl; first = none; unsettled = refl; only = same ∙ ap (λ z. z ++ asked e n t ∷ []) (nobody s); unaccepted = refl; under = refl;
-      held = first ∙ sym (held_one (filter begins (bodies ws))); created = low });
+    state = waits (record {
+      us = ws;
+      number = n;
+      vs = [];
+      taking = asked e n t;
+      is = refl;
+      first = none;
+      unsettled = refl;
+      only = same ∙ ap (λ z. z ++ asked e n t ∷ []) (nobody s);
+      unaccepted = refl;
+      under = refl;
+      held = first ∙ sym (held_one (filter begins (bodies ws)));
+      created = low;
+    });
     grows = still_none ws (ws ++ asks n ∷ []) (due_fresh ws none) (due_waits ws n [] none refl);
   }
     where

@@ -129,7 +129,9 @@ module _ (settings : Settings) (t : Tables) (before : List Event) (e : ℕ) (bod
       pub goes_here : message_of body ≡ notification (codes "window/workDoneProgress/cancel") params → (text : List ℕ) (work : Work) → has_accepted e k (created_of settings s before) ≡ true
           → Some text ≡ option_map (λ (t : Token). t.text) (find (is_numbered k) (created_of settings s before).tokens) → work.group ≡ g → work.text ≡ marked_text text body → Goes settings before e body params (map number_in t.lasts.items) (Some work)
       goes_here says text work on some place is =
-          let new = marked_says text body (codes "window/workDoneProgress/cancel") params (written_text k (created_of settings s before).tokens text (tokens_written settings s before) some) says in
-          ((new.0, ap message_of is ∙ new.1), λ m there.
-          let same = same_place (sym (number_there t.lasts.items g x here) ∙ (ap (slice_get (map number_in t.lasts.items)) (sym place) ∙ there)) in
-          alike_then row_here (alike_then (taken_work settings before e body params s k at_here text on some) (alike (ap₂ (λ i w. send (ToServer i w)) same (sym is)))))
+          let new = marked_says text body (codes "window/workDoneProgress/cancel") params (written_text k (created_of settings s before).tokens text (tokens_written settings s before) some) says in (
+            (new.0, ap message_of is ∙ new.1),
+            λ m there.
+                let same = same_place (sym (number_there t.lasts.items g x here) ∙ (ap (slice_get (map number_in t.lasts.items)) (sym place) ∙ there)) in
+                alike_then row_here (alike_then (taken_work settings before e body params s k at_here text on some) (alike (ap₂ (λ i w. send (ToServer i w)) same (sym is)))),
+          )

@@ -74,12 +74,14 @@ module _ (settings : Settings) (s e : ℕ) where
   spared : (t : Token) (events : List Event) (us : List Token) → Can events t → AreOther t us → AllByRecursion (Can events) us → AllByRecursion (Can (behind events (outs (offer s e t) events))) us
   spared t events [] can other h = tt
   spared t events (u ∷ us) can other h =
-      let one = h.0 in
-      (record {
-        live = ap (find (is_numbered u.number)) (offer_lives settings s t e events) ∙ one.live;
-        unasked = offer_spares settings s t e e u.number events can (ap (λ b. nat_eq e e && b) other.0 ∙ and_none (nat_eq e e)) one.unasked;
-        small = offer_small settings s t e events one.small;
-      }, spared t events us can other.1 h.1)
+      let one = h.0 in (
+        record {
+          live = ap (find (is_numbered u.number)) (offer_lives settings s t e events) ∙ one.live;
+          unasked = offer_spares settings s t e e u.number events can (ap (λ b. nat_eq e e && b) other.0 ∙ and_none (nat_eq e e)) one.unasked;
+          small = offer_small settings s t e events one.small;
+        },
+        spared t events us can other.1 h.1,
+      )
     where
       and_none : (b : Bool) → (b && false) ≡ false
       and_none true = refl

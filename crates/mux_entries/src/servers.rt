@@ -34,9 +34,10 @@ use mux_history::Outs;
 use mux_starts::mux_members::{asked_class, is_first_result, told_class};
 use mux_starts::mux_tables::Tables;
 use mux_starts::{
-    answered_number, is_first_error, stage_at, take_answer, take_broadcast, take_create, take_ending,
-    take_focused, take_folders, take_hasty, take_lowest, take_progress, take_recall, take_refresh,
-    take_refused, take_register, take_repeated, take_result, take_stopping, take_unregister,
+    answered_number, is_first_error, stage_at, take_answer, take_broadcast, take_create,
+    take_ending, take_focused, take_folders, take_hasty, take_lowest, take_progress, take_recall,
+    take_refresh, take_refused, take_register, take_repeated, take_result, take_stopping,
+    take_unregister,
 };
 use rpc_message::{Malformed, Message, Sort};
 use std::alloc::Global;

@@ -53,10 +53,7 @@ const A_TOKEN: [(&str, &str); 14] = [
         "ed 1 {\"jsonrpc\":\"2.0\",\"id\":2,\"result\":null}\n",
         ">ed 1 {\"jsonrpc\":\"2.0\",\"method\":\"$/progress\",\"params\":{\"token\":\"lspmux:0:2\",\"value\":{\"kind\":\"begin\"}}}\n>ed 1 {\"jsonrpc\":\"2.0\",\"method\":\"$/progress\",\"params\":{\"token\":\"lspmux:0:2\",\"value\":{\"kind\":\"end\"}}}\n",
     ),
-    (
-        "ed 1 {\"jsonrpc\":\"2.0\",\"id\":2,\"result\":null}\n",
-        "",
-    ),
+    ("ed 1 {\"jsonrpc\":\"2.0\",\"id\":2,\"result\":null}\n", ""),
     (
         "ed 0 {\"jsonrpc\":\"2.0\",\"id\":2,\"result\":null}\n",
         ">ed 0 {\"jsonrpc\":\"2.0\",\"method\":\"$/progress\",\"params\":{\"token\":\"lspmux:0:2\",\"value\":{\"kind\":\"begin\"}}}\n>ed 0 {\"jsonrpc\":\"2.0\",\"method\":\"$/progress\",\"params\":{\"token\":\"lspmux:0:2\",\"value\":{\"kind\":\"end\"}}}\n",
@@ -148,10 +145,7 @@ const TAKEN_WORK: [(&str, &str); 10] = [
         "ed 0 {\"jsonrpc\":\"2.0\",\"method\":\"window/workDoneProgress/cancel\",\"params\":{\"token\":7}}\n",
         "",
     ),
-    (
-        "ed 1 {\"jsonrpc\":\"2.0\",\"id\":4,\"result\":null}\n",
-        "",
-    ),
+    ("ed 1 {\"jsonrpc\":\"2.0\",\"id\":4,\"result\":null}\n", ""),
     (
         "ed 1 {\"jsonrpc\":\"2.0\",\"method\":\"window/workDoneProgress/cancel\",\"params\":{\"token\":\"lspmux:0:4\"}}\n",
         ">sv 0 {\"jsonrpc\":\"2.0\",\"method\":\"window/workDoneProgress/cancel\",\"params\":{\"token\":\"7\"}}\n",

@@ -24,9 +24,10 @@ met a b m n a' m' p q = ap (λ k. meets k b m' n) p ∙ ap (λ k. meets a b k n)
 
 -- beside the same
 pub other_left : (a b d : Taking) → SameSeat a d → IsOther a b → IsOther d b
-other_left a b d s h =
-    (ap (λ k. nat_eq b.editor k && nat_eq b.number d.number) s.editor ∙ (ap (λ k. nat_eq b.editor a.editor && nat_eq b.number k) s.number ∙ h.0),
-    ap (λ k. nat_eq b.editor k && nat_eq b.token d.token) s.editor ∙ (ap (λ k. nat_eq b.editor a.editor && nat_eq b.token k) s.token ∙ h.1))
+other_left a b d s h = (
+  ap (λ k. nat_eq b.editor k && nat_eq b.number d.number) s.editor ∙ (ap (λ k. nat_eq b.editor a.editor && nat_eq b.number k) s.number ∙ h.0),
+  ap (λ k. nat_eq b.editor k && nat_eq b.token d.token) s.editor ∙ (ap (λ k. nat_eq b.editor a.editor && nat_eq b.token k) s.token ∙ h.1),
+)
 
 pub other_right : (a b d : Taking) → SameSeat b d → IsOther a b → IsOther a d
 other_right a b d s h =

@@ -64,11 +64,12 @@ module _ (settings : Settings) (rows : Rows) (events : List Event) (st : Created
 
   own_begins : (n : ℕ) (ts : List Token) → Up n (map row_of ts) → AllByRecursion (λ (u : Token). begin_at u.number ts ≡ u.begin) ts
   own_begins n [] h = tt
-  own_begins n (u ∷ ts) h =
-      (ap (λ b. option_and_then (λ (t : Token). t.begin) (cond b (Some u) (find (is_numbered u.number) ts))) (num_itself u.number),
-      all_so (λ (v : Token). (u.number + 1 ≤ v.number) × (begin_at v.number ts ≡ v.begin)) (λ (v : Token). begin_at v.number (u ∷ ts) ≡ v.begin)
-      (λ v k. ap (λ b. option_and_then (λ (t : Token). t.begin) (cond b (Some u) (find (is_numbered v.number) ts))) (num_below u.number v.number (let l : u.number + 1 ≤ v.number = k.0 in omega (arith, l))) ∙ k.1) ts
-      (all_both (λ (v : Token). u.number + 1 ≤ v.number) (λ (v : Token). begin_at v.number ts ≡ v.begin) ts (above (u.number + 1) ts h.1) (own_begins (u.number + 1) ts h.1)))
+  own_begins n (u ∷ ts) h = (
+    ap (λ b. option_and_then (λ (t : Token). t.begin) (cond b (Some u) (find (is_numbered u.number) ts))) (num_itself u.number),
+    all_so (λ (v : Token). (u.number + 1 ≤ v.number) × (begin_at v.number ts ≡ v.begin)) (λ (v : Token). begin_at v.number (u ∷ ts) ≡ v.begin)
+        (λ v k. ap (λ b. option_and_then (λ (t : Token). t.begin) (cond b (Some u) (find (is_numbered v.number) ts))) (num_below u.number v.number (let l : u.number + 1 ≤ v.number = k.0 in omega (arith, l))) ∙ k.1) ts
+        (all_both (λ (v : Token). u.number + 1 ≤ v.number) (λ (v : Token). begin_at v.number ts ≡ v.begin) ts (above (u.number + 1) ts h.1) (own_begins (u.number + 1) ts h.1)),
+  )
 
   listed : (begins : List (ℕ × List ℕ)) (ts : List Token) → AllByRecursion (λ (u : Token). at u.number begins ≡ u.begin) ts → all_in (map row_of ts) begins ≡ map (λ (t : Token). (t.number, is_some t.begin)) ts
   listed begins [] h = refl

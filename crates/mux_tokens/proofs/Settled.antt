@@ -111,15 +111,17 @@ module _ (e n : ℕ) (holds : Bool) where
     -- nothing else is under its number, or of its token
     not_right : (c : Taking) → c.editor ≡ e → IsOther one c → (c.number ≡ n → ⊥) × (c.token ≡ k → ⊥)
     not_right c own o =
-        let same : c.editor ≡ one.editor = own ∙ sym (hit_editor one one_hits) in
-        ((λ is. clash (sym (both c.editor one.editor c.number one.number same (is ∙ sym (hit_number one one_hits))) ∙ o.0)),
-        (λ is. clash (sym (both c.editor one.editor c.token one.token same is) ∙ o.1)))
+        let same : c.editor ≡ one.editor = own ∙ sym (hit_editor one one_hits) in (
+          (λ is. clash (sym (both c.editor one.editor c.number one.number same (is ∙ sym (hit_number one one_hits))) ∙ o.0)),
+          (λ is. clash (sym (both c.editor one.editor c.token one.token same is) ∙ o.1)),
+        )
 
     not_left : (c : Taking) → c.editor ≡ e → IsOther c one → (c.number ≡ n → ⊥) × (c.token ≡ k → ⊥)
     not_left c own o =
-        let same : one.editor ≡ c.editor = hit_editor one one_hits ∙ sym own in
-        ((λ is. clash (sym (both one.editor c.editor one.number c.number same (hit_number one one_hits ∙ sym is)) ∙ o.0)),
-        (λ is. clash (sym (both one.editor c.editor one.token c.token same (sym is)) ∙ o.1)))
+        let same : one.editor ≡ c.editor = hit_editor one one_hits ∙ sym own in (
+          (λ is. clash (sym (both one.editor c.editor one.number c.number same (hit_number one one_hits ∙ sym is)) ∙ o.0)),
+          (λ is. clash (sym (both one.editor c.editor one.token c.token same (sym is)) ∙ o.1)),
+        )
 
     -- what is under its number has its token
     pub same_token : AllByRecursion (λ c. hits c ≡ true → c.token ≡ k) cs
