@@ -98,12 +98,12 @@ module _ {P : Type 0} (limit : ℕ) (s : Story) (went : Bool) (i : ℕ) (back le
       }
 
   -- what was said of a body, in the session of its editor
-  said_came : went ≡ true → (k e bytes : ℕ) (what : Side)
+  said_came : (k e bytes : ℕ) (what : Side)
       → slice_get (answers (sides s.editors s.servers (lane.Editor i) s.deeds) (tagged (sessions s.editors s.servers (lane.Editor i) s.deeds) (orders s.editors s.servers (lane.Editor i) s.deeds))) k ≡ Some ((e, bytes), what)
       → (came : EditorCame limit (history s) went back left old new e) × SaidIn came.run bytes what
   unfolding editor_came
-  said_came w k e bytes what at =
-      let t = f.said w k e bytes what at in
+  said_came k e bytes what at =
+      let t = f.said k e bytes what at in
       let r = f.served t.place e t.of in
       (editor_came t.place e t.of, subst (λ run. SaidIn run bytes what) (same_item t.run r.0 (sym t.at ∙ r.1)) t.said)
 
@@ -162,17 +162,16 @@ module _ {B : Type 0} (limit : ℕ) (s : Story) (went : Bool) (i : ℕ) (runs le
   not_failed x orders run same = let posts : posted.NoStart ∷ [] ≡ posted.Up ∷ run.posts = ap (λ (t : Turn). t.posts) same in absurd cc
 
   -- the session of a start that went since a write failed
-  sink_came : went ≡ true → BeginOnce (orders s.editors s.servers (lane.Server i) s.deeds) → (k x bytes : ℕ)
+  sink_came : BeginOnce (orders s.editors s.servers (lane.Server i) s.deeds) → (k x bytes : ℕ)
       → slice_get (answers (sides s.editors s.servers (lane.Server i) s.deeds) (start_tagged None (orders s.editors s.servers (lane.Server i) s.deeds))) k ≡ Some ((x, bytes), side.Broke)
       → (place : ℕ) → slice_get (gather s.editors s.servers (tried_by (lane.Server i)) s.deeds) place ≡ Some x → (came : ProgramCame limit s.servers (history s) (how s x) went runs left old new x) × Rose came.did.run.began.sink_faults came.did.run.ended.sink_faults
   unfolding program_came
-  sink_came w once k x bytes at place tried =
-      let b = f.broke w once k x bytes at in
+  sink_came once k x bytes at place tried =
+      let b = f.broke once k x bytes at in
       let r = f.served place x tried in
-      let here : slice_get f.turns place ≡ Some r.0 = ap (λ l. slice_get l place) (sym (append-nil f.turns) ∙ ap (λ l. f.turns ++ l) (sym (f.whole w))) ∙ r.1 in
       elim r.2 [
-        | inl did ↦ absurd (not_failed x did.orders b.run (sym did.is ∙ b.only place r.0 did.orders here (ap (λ (t : Turn). t.orders) did.is) ∙ b.is))
-        | inr did ↦ (let same : up_turn x did.run ≡ up_turn x b.run = sym did.is ∙ b.only place r.0 did.run.orders here (ap (λ (t : Turn). t.orders) did.is) ∙ b.is in (
+        | inl did ↦ absurd (not_failed x did.orders b.run (sym did.is ∙ b.only place r.0 did.orders r.1 (ap (λ (t : Turn). t.orders) did.is) ∙ b.is))
+        | inr did ↦ (let same : up_turn x did.run ≡ up_turn x b.run = sym did.is ∙ b.only place r.0 did.run.orders r.1 (ap (λ (t : Turn). t.orders) did.is) ∙ b.is in (
           program_came place x r.0 r.1 did,
           subst (λ (y : Session). Rose y.sink_faults did.run.ended.sink_faults) (sym (began_same x did.run b.run same)) (subst (λ (z : Session). Rose b.run.began.sink_faults z.sink_faults) (sym (ended_same x did.run b.run same)) b.rose),
         ))
@@ -220,38 +219,38 @@ module _ {P B C : Type 0} (links_back links : P → Option (List Session)) (runs
       (λ did. came_up i p.0 q.0 p.1 q.1 (program_came limit s (is_end x) i runs left misses p.0.outside q.0.outside b tried.place n r.0 r.1 did))
       r.2
 
-  body_said : is_end x ≡ true → (e bytes : ℕ) (what : Side) → Answered s.editors s.servers s.deeds e bytes what → s.editors ≡ length old.ports.items + 1 → BodySaid links_back links runs left misses limit s x old new e bytes what
-  body_said went e bytes what a n =
+  body_said : (e bytes : ℕ) (what : Side) → Answered s.editors s.servers s.deeds e bytes what → s.editors ≡ length old.ports.items + 1 → BodySaid links_back links runs left misses limit s x old new e bytes what
+  body_said e bytes what a n =
       let i = a.number in
       let w = a.within in
       ⊎_elim
       (λ (t : ((i == length old.ports.items) ≡ true) × (i ≡ length old.ports.items)).
       let at = subst (λ (k : ℕ). slice_get (answers (sides s.editors s.servers (lane.Editor k) s.deeds) (tagged (sessions s.editors s.servers (lane.Editor k) s.deeds) (orders s.editors s.servers (lane.Editor k) s.deeds))) a.place ≡ Some ((e, bytes), what)) t.1 a.at in
-      let said = said_came limit s (is_end x) (length old.ports.items) port.ghosts.sessions port.ghosts.links old.own.outside new.own.outside f.own went a.place e bytes what at in
-      let sits = (f.own.said went a.place e bytes what at) in
+      let said = said_came limit s (is_end x) (length old.ports.items) port.ghosts.sessions port.ghosts.links old.own.outside new.own.outside f.own a.place e bytes what at in
+      let sits = (f.own.said a.place e bytes what at) in
       by_own (λ stopped. let none : slice_get [] sits.place ≡ Some e = subst (λ l. slice_get l sits.place ≡ Some e) (f.stopped stopped) sits.of in absurd cc) said.0 said.1)
       (λ (t : ((i == length old.ports.items) ≡ false) × (i ≢ length old.ports.items)).
       let apart = t.1 in
       let p = item_at old.ports.items i (omega (arith, w, n, apart)) in
       let q = item_at new.ports.items i (omega (arith, w, n, apart, ports_len)) in
-      let said = said_came limit s (is_end x) i links_back links p.0.outside q.0.outside (f.ports i p.0 q.0 p.1 q.1) went a.place e bytes what a.at in
+      let said = said_came limit s (is_end x) i links_back links p.0.outside q.0.outside (f.ports i p.0 q.0 p.1 q.1) a.place e bytes what a.at in
       by_port i p.0 q.0 p.1 q.1 said.0 said.1)
       (eqb_tells i (length old.ports.items))
 
-  sink_rose : is_end x ≡ true → (n bytes : ℕ) → StartAnswered s.editors s.servers s.deeds n bytes side.Broke → SinkRose links_back links runs left misses limit s x old new n
-  sink_rose went n bytes a =
+  sink_rose : (n bytes : ℕ) → StartAnswered s.editors s.servers s.deeds n bytes side.Broke → SinkRose links_back links runs left misses limit s x old new n
+  sink_rose n bytes a =
       let i = a.number in
       let w = a.within in
       let p = item_at old.berths.items i (omega (arith, w, servers)) in
       let q = item_at new.berths.items i (omega (arith, w, servers, berths_len)) in
-      let came = sink_came limit s (is_end x) i runs left misses p.0.outside q.0.outside (f.berths i p.0 q.0 p.1 q.1) went a.once a.place n bytes a.at a.tried a.tried_at in
+      let came = sink_came limit s (is_end x) i runs left misses p.0.outside q.0.outside (f.berths i p.0 q.0 p.1 q.1) a.once a.place n bytes a.at a.tried a.tried_at in
       in_berth i p.0 q.0 p.1 q.1 came.0 came.1
 
   pub events_of : Fair s.editors s.servers s.deeds → AllIn s.editors s.servers s.deeds → DrainedAnswered → FailedAnswered → ((y : ℕ) → spawns y (history s) ≤ 1) → StartFailedAnswered → s.editors ≡ length old.ports.items + 1 → EventsOf links_back links runs left misses limit s x old new
   events_of fair lanes drained_law failed_law once starts_law n = record {
     editors = λ e below. joined_by e (f.editors e below) n;
     starts = λ k some. started_by k (f.starts k some) n;
-    drained = λ went k e bytes at. body_said went e bytes side.Wrote (drained_law s.editors s.servers s.deeds fair lanes k e bytes at) n;
-    broke = λ went k e at. let a = failed_law s.editors s.servers s.deeds fair lanes k e at in (a.0, body_said went e a.0 side.Broke a.1 n);
-    sinks = λ went k m at. let a = starts_law s.editors s.servers s.deeds fair lanes once m k at in sink_rose went m a.0 a.1;
+    drained = λ k e bytes at. body_said e bytes side.Wrote (drained_law s.editors s.servers s.deeds fair lanes k e bytes at) n;
+    broke = λ k e at. let a = failed_law s.editors s.servers s.deeds fair lanes k e at in (a.0, body_said e a.0 side.Broke a.1 n);
+    sinks = λ k m at. let a = starts_law s.editors s.servers s.deeds fair lanes once m k at in sink_rose m a.0 a.1;
   }

@@ -61,8 +61,8 @@ ran_none Whole Cut at end over = record {
     rise = omega arith;
     posts = sym (append-nil at.posts);
     orders = sym (append-nil at.orders);
+    sides = sym (append-nil at.sides);
   };
-  sides = λ _. sym (append-nil at.sides);
   whole = λ _. refl;
   torn = λ e. absurd cc;
 }

@@ -1,5 +1,5 @@
 -- The sessions of a port's lane, by what the lane did and what the deck took of it.
-use Rattle.std.proofs.Common.{◌≡◌, ℕ, Bool, true, List, ◌∷◌, ◌++◌, map, slice_get, ap, sym, ◌∙◌, subst, append_assoc, append-nil}
+use Rattle.std.proofs.Common.{◌≡◌, ℕ, Bool, List, ◌∷◌, ◌++◌, map, slice_get, ap, sym, ◌∙◌, subst, append_assoc}
 use Rattle.std.specs.Prelude.{Option, Some}
 use Rattle.outside_io.specs.Sessions.{Session}
 use Rattle.outside_io.specs.Told.{append_to, prepend_to}
@@ -11,7 +11,7 @@ use Rattle.lane_lists.specs.Sides.{answers, tagged}
 use Rattle.lane_lists.specs.History.{ByOrders, ByParts, SessionOf}
 use Rattle.lane_desk.specs.Desks.{posted_at, side_at}
 use Rattle.mux_lanes.specs.Runs.{Run}
-use Rattle.mux_lanes.specs.Lanes.{CutLink, Turn, WholeLink}
+use Rattle.mux_lanes.specs.Lanes.{CutLink, WholeLink}
 use Rattle.mux_daemon.specs.Served.{LaneServed, Story, history}
 use Rattle.mux_daemon.specs.Sessions.{PortSessions, SaidBy}
 use Rattle.lane_lists.specs.Sessions.{chain}
@@ -21,21 +21,19 @@ use Rattle.mux_daemon.proofs.Rising.{rising}
 use Rattle.mux_daemon.proofs.Saying.{all_said}
 use Rattle.mux_daemon.proofs.Writing.{has_editor, written_at}
 
--- where the work was done, what was said of a body was said in its editor's session
+-- what was said of a body was said in its editor's session, also in a last one that was cut off
 said_by : {P : Type 0} (limit : ℕ) (s : Story) (went : Bool) (i : ℕ) (back left : P → Option (List Session)) (faults : P → ℕ) (old new : P) → Fair s.editors s.servers s.deeds
-    → (f : LaneServed s went (lane.Editor i) (WholeLink posted.Link limit) (CutLink posted.Link limit) back left faults old new) → went ≡ true → (k : ℕ) (a : (ℕ × ℕ) × Side)
+    → (f : LaneServed s went (lane.Editor i) (WholeLink posted.Link limit) (CutLink posted.Link limit) back left faults old new) → (k : ℕ) (a : (ℕ × ℕ) × Side)
     → slice_get (answers (sides s.editors s.servers (lane.Editor i) s.deeds) (tagged (sessions s.editors s.servers (lane.Editor i) s.deeds) (orders s.editors s.servers (lane.Editor i) s.deeds))) k ≡ Some a
     → SaidBy (sessions s.editors s.servers (lane.Editor i) s.deeds) (all_runs limit f.ran.turns f.ran.last f.ran.each f.ran.cut f.ran.few).runs a.0.0 a.0.1 a.1
-said_by limit s went i back left faults old new fair f e k a at =
+said_by limit s went i back left faults old new fair f k a at =
     let r = all_runs limit f.ran.turns f.ran.last f.ran.each f.ran.cut f.ran.few in
     let q = f.queues in
-    let none = f.ran.whole (f.whole e) in
     let ids = sessions s.editors s.servers (lane.Editor i) s.deeds in
     let said = sides s.editors s.servers (lane.Editor i) s.deeds in
-    let turns : chain (map (λ (t : Turn). t.sides) f.ran.turns) ≡ chain (map (λ (r : Run). r.sides) r.runs) = ap (λ l. chain (map (λ (t : Turn). t.sides) l)) (sym (append-nil f.ran.turns) ∙ ap (λ l. f.ran.turns ++ l) (sym none)) ∙ r.sides in
-    let sides_are : said ++ (side_at (lane.Editor i) s.more ++ q.unsaid) ≡ chain (map (λ (r : Run). r.sides) r.runs) = sym (append_assoc said (side_at (lane.Editor i) s.more) q.unsaid) ∙ sym q.sides_are ∙ f.ran.sides none ∙ turns in
-    let orders_are : orders s.editors s.servers (lane.Editor i) s.deeds ≡ chain (map (λ (r : Run). r.orders) r.runs) = q.orders_are ∙ ap (λ l. f.ordered ++ l) (q.all e) ∙ append-nil f.ordered ∙ f.ran.adds.orders ∙ r.orders in
-    all_said limit 0 ids r.runs r.each (r.whole none).1 (rising s.editors s.servers i s.deeds fair) said (side_at (lane.Editor i) s.more ++ q.unsaid) k a sides_are (subst (λ os. slice_get (answers said (tagged ids os)) k ≡ Some a) orders_are at)
+    let sides_are : said ++ (side_at (lane.Editor i) s.more ++ q.unsaid) ≡ chain (map (λ (r : Run). r.sides) r.runs) = sym (append_assoc said (side_at (lane.Editor i) s.more) q.unsaid) ∙ sym q.sides_are ∙ f.ran.adds.sides ∙ r.sides in
+    let orders_are : orders s.editors s.servers (lane.Editor i) s.deeds ≡ chain (map (λ (r : Run). r.orders) r.runs) ++ q.unheard = q.orders_are ∙ ap (λ l. l ++ q.unheard) (f.ran.adds.orders ∙ r.orders) in
+    all_said limit 0 ids r.runs q.unheard r.each r.front (rising s.editors s.servers i s.deeds fair) said (side_at (lane.Editor i) s.more ++ q.unsaid) k a sides_are (subst (λ os. slice_get (answers said (tagged ids os)) k ≡ Some a) orders_are at)
 
 pub port_sessions : {P : Type 0} (limit : ℕ) (s : Story) (went : Bool) (i : ℕ) (back left : P → Option (List Session)) (faults : P → ℕ) (old new : P) → Fair s.editors s.servers s.deeds → ByParts s.editors s.servers i s.deeds → ByOrders s.editors s.servers i s.deeds → AllEnd (history s) (sessions s.editors s.servers (lane.Editor i) s.deeds)
     → LaneServed s went (lane.Editor i) (WholeLink posted.Link limit) (CutLink posted.Link limit) back left faults old new → PortSessions limit s went i back left old new
@@ -61,5 +59,5 @@ port_sessions limit s went i back left faults old new fair cut told ends f =
           let part = zip_at (λ e part. SessionOf (history s) e part) (sessions s.editors s.servers (lane.Editor i) s.deeds) cut.made cut.each k e at in
           let run = run_at limit r.runs taken more cut.made r.each whole cut.cut k part.0 part.1 in
           (run.0, run.1, read_of limit (history s) e run.0 part.0 run.2.0 (r.each k run.0 run.1) part.2 run.2.1, written_at limit (history s) r.runs q.unheard (sessions s.editors s.servers (lane.Editor i) s.deeds) told.made r.each r.front told.each ends ordered k e run.0 at run.1);
-      said = λ e k n bytes what at. said_by limit s went i back left faults old new fair f e k ((n, bytes), what) at;
+      said = λ k n bytes what at. said_by limit s went i back left faults old new fair f k ((n, bytes), what) at;
     }

@@ -1,5 +1,5 @@
 -- What a lane said of the bodies to its starts was said in their own sessions.
-use Rattle.std.proofs.Common.{◌≡◌, ◌≢◌, ℕ, zero, suc, ◌==◌, ◌⊎◌, inl, inr, true, false, List, [], ◌∷◌, ◌++◌, length, map, slice_get, refl, ap, sym, ◌∙◌, subst, ⊎_elim, append_assoc}
+use Rattle.std.proofs.Common.{◌≡◌, ◌≢◌, ℕ, zero, suc, ◌==◌, ◌≤◌, ◌⊎◌, inl, inr, true, false, List, [], ◌∷◌, ◌++◌, length, map, slice_get, refl, ap, sym, ◌∙◌, subst, arith, ⊎_elim, append_assoc, append-nil}
 use Rattle.std.specs.Prelude.{All, Option, Some, None}
 use Rattle.std.proofs.lemmas.List.Elements.{All-head, All-tail}
 use Rattle.outside_io.specs.Faults.{Rose}
@@ -16,14 +16,14 @@ use Rattle.lane_lists.specs.StartSides.{BeginOnce, Unbegun, start_tagged, tag}
 use Rattle.session_io.specs.declared.part.End.{End}
 use Rattle.session_io.specs.declared.part.End.TheVariants as end
 use Rattle.session_io.specs.Writes.{body_orders, end_orders}
-use Rattle.mux_lanes.specs.Lanes.{Turn, WholeLink}
-use Rattle.mux_lanes.specs.Runs.{Run, order_of}
-use Rattle.mux_lanes.specs.Starts.{Begun, WholeStart}
+use Rattle.mux_lanes.specs.Lanes.{Turn, WholeLink, linked, ran, refused}
+use Rattle.mux_lanes.specs.Runs.{IsRun, Run, order_of}
+use Rattle.mux_lanes.specs.Starts.{Begun, CutBegun, WholeStart}
 use Rattle.mux_lanes.specs.Starts as begins
 use Rattle.mux_daemon.specs.Sessions.{SaidIn}
 use Rattle.mux_daemon.specs.Starts.{StartBroke, up_turn}
 use Rattle.mux_daemon.proofs.Places.{same_item}
-use Rattle.mux_daemon.proofs.Saying.{Answer, Behind, Off, SaidOf, none_said, run_said, self, tags}
+use Rattle.mux_daemon.proofs.Saying.{Answer, Behind, Off, SaidOf, last_said, none_left, run_said, self, tags}
 use Rattle.mux_daemon.proofs.Writing.{bodies_of}
 
 abbrev pub orders_of : List Turn → List Order
@@ -37,6 +37,10 @@ tagged_behind : (n : ℕ) (bs : List (List ℕ)) (o : End) (os : List Order) →
 tagged_behind n [] end.Closed os = refl
 tagged_behind n [] end.Done os = refl
 tagged_behind n (b ∷ bs) o os = ap (λ l. (n, length b) ∷ l) (tagged_behind n bs o os)
+
+tagged_bodies : (n : ℕ) (bs : List (List ℕ)) (os : List Order) → start_tagged (Some n) (body_orders bs ++ os) ≡ tags n bs ++ start_tagged (Some n) os
+tagged_bodies n [] os = refl
+tagged_bodies n (b ∷ bs) os = ap (λ l. (n, length b) ∷ l) (tagged_bodies n bs os)
 
 unbegun_behind : (n : ℕ) (bs : List (List ℕ)) (o : End) (os : List Order) → Unbegun n (body_orders bs ++ (order_of o ∷ os)) → Unbegun n os
 unbegun_behind n [] end.Closed os u = u
@@ -117,22 +121,59 @@ rose_in t turns n a run is broke said =
     let both = subst (λ (x : Side). SaidIn run a.0.1 x) broke said.1 in
     record { place = 0; turn = t; at = refl; run = run; is = is ∙ ap (λ (k : ℕ). up_turn k run) (sym said.0); rose = both.1 }
 
-pub all_broke : (limit : ℕ) (turns : List Turn) → All (Begun (WholeStart limit)) turns → BeginOnce (orders_of turns) → (said unsaid : List Side) (p : ℕ) (a : Answer) → a.1 ≡ side.Broke → said ++ unsaid ≡ sides_of turns
-    → slice_get (answers said (start_tagged None (orders_of turns))) p ≡ Some a → BrokeAt turns a.0.0
-all_broke limit [] each once said unsaid p a broke e at = absurd (none_said said p a at)
-all_broke limit (t ∷ turns) each once said unsaid p a broke e at =
+-- a turn that was cut off and said nothing
+silent : (t : Turn) (os : List Order) (said unsaid : List Side) (p : ℕ) (a : Answer) → t.sides ≡ [] → said ++ unsaid ≡ t.sides ++ [] → slice_get (answers said (start_tagged None os)) p ≡ Some a → BrokeAt (t ∷ []) a.0.0
+silent t os said unsaid p a none e at = absurd (none_left said unsaid (start_tagged None os) p a (e ∙ ap (λ l. l ++ []) none) at)
+
+-- a session that was cut off: behind its orders stand those that were never taken
+torn_said : (limit n : ℕ) (t rest : Turn) (run : Run) (unheard : List Order) → t ≡ record rest { orders = order.Begin n ∷ rest.orders } → IsRun limit run → rest ≡ linked posted.Up run → (said unsaid : List Side) (p : ℕ) (a : Answer) → a.1 ≡ side.Broke
+    → said ++ unsaid ≡ t.sides ++ [] → slice_get (answers said (start_tagged None ((t.orders ++ []) ++ unheard))) p ≡ Some a → BrokeAt (t ∷ []) a.0.0
+torn_said limit n t rest run unheard begun is e said unsaid p a broke are at =
+    let turn : t ≡ up_turn n run = begun ∙ ap (λ (t : Turn). record t { orders = order.Begin n ∷ t.orders }) e in
+    let bodies = bodies_of is in
+    let ends = end_orders run.wrote.end in
+    let owed = start_tagged (Some n) (ends ++ unheard) in
+    let spread : start_tagged None ((t.orders ++ []) ++ unheard) ≡ tags n bodies ++ owed =
+    ap (λ (t : Turn). start_tagged None ((t.orders ++ []) ++ unheard)) turn ∙ ap (λ l. start_tagged (Some n) (l ++ unheard)) (append-nil run.orders ∙ is.wrote.took) ∙ ap (λ l. start_tagged (Some n) l) (append_assoc (body_orders bodies) ends unheard)
+    ∙ tagged_bodies n bodies (ends ++ unheard) in
+    rose_in t [] n a run turn broke (last_said limit n run is a unsaid owed said p (are ∙ ap (λ (t : Turn). t.sides ++ []) turn) (subst (λ l. slice_get (answers said l) p ≡ Some a) spread at))
+
+last_broke : (limit : ℕ) (t : Turn) (unheard : List Order) → CutBegun limit t → (said unsaid : List Side) (p : ℕ) (a : Answer) → a.1 ≡ side.Broke → said ++ unsaid ≡ t.sides ++ []
+    → slice_get (answers said (start_tagged None ((t.orders ++ []) ++ unheard))) p ≡ Some a → BrokeAt (t ∷ []) a.0.0
+last_broke limit t unheard (begins.misled o is) said unsaid p a broke e at = silent t ((t.orders ++ []) ++ unheard) said unsaid p a (ap (λ (t : Turn). t.sides) is) e at
+last_broke limit t unheard (begins.begun b) said unsaid p a broke e at =
+    let first : t.sides ≡ b.rest.sides = ap (λ (t : Turn). t.sides) b.is in
+    let os = (t.orders ++ []) ++ unheard in
+    elim b.behind [
+      | begins.cut_up c ↦ elim c [
+        | ran run is torn same ↦ torn_said limit b.start t b.rest run unheard b.is is same said unsaid p a broke e at
+        | refused session same ↦ silent t os said unsaid p a (first ∙ ap (λ (t : Turn). t.sides) same) e at
+      ]
+      | begins.cut_failed orders few short same ↦ silent t os said unsaid p a (first ∙ ap (λ (t : Turn). t.sides) same) e at
+      | begins.wanted rises same ↦ silent t os said unsaid p a (first ∙ ap (λ (t : Turn). t.sides) same) e at
+    ]
+
+-- a last turn may be cut off; behind what all turns took stand orders that were never taken
+pub all_broke : (limit : ℕ) (turns last : List Turn) (unheard : List Order) → All (Begun (WholeStart limit)) turns → All (CutBegun limit) last → length last ≤ 1 → BeginOnce (orders_of (turns ++ last) ++ unheard) → (said unsaid : List Side) (p : ℕ) (a : Answer) → a.1 ≡ side.Broke
+    → said ++ unsaid ≡ sides_of (turns ++ last) → slice_get (answers said (start_tagged None (orders_of (turns ++ last) ++ unheard))) p ≡ Some a → BrokeAt (turns ++ last) a.0.0
+all_broke limit [] [] unheard each cut few once said unsaid p a broke e at = absurd (none_left said unsaid (start_tagged None unheard) p a e at)
+all_broke limit [] (t ∷ u ∷ last) unheard each cut few once said unsaid p a broke e at = absurd (omega (arith, few))
+all_broke limit [] (t ∷ []) unheard each cut few once said unsaid p a broke e at = last_broke limit t unheard (All-head (CutBegun limit) t [] cut) said unsaid p a broke e at
+all_broke limit (t ∷ turns) last unheard each cut few once said unsaid p a broke e at =
     let k = took limit t (All-head (Begun (WholeStart limit)) t turns each) in
-    let os = orders_of turns in
-    let spread : t.orders ++ os ≡ order.Begin k.start ∷ (body_orders k.bodies ++ (order_of k.close ∷ os)) = ap (λ l. l ++ os) k.orders ∙ ap (λ l. order.Begin k.start ∷ l) (append_assoc (body_orders k.bodies) (order_of k.close ∷ []) os) in
+    let later = orders_of (turns ++ last) in
+    let os = later ++ unheard in
+    let spread : (t.orders ++ later) ++ unheard ≡ order.Begin k.start ∷ (body_orders k.bodies ++ (order_of k.close ∷ os)) =
+    append_assoc t.orders later unheard ∙ ap (λ l. l ++ os) k.orders ∙ ap (λ l. order.Begin k.start ∷ l) (append_assoc (body_orders k.bodies) (order_of k.close ∷ []) os) in
     let begun = subst (λ l. BeginOnce l) spread once in
     let off = off_tags k.start None os refl (unbegun_behind k.start k.bodies k.close os begun.0) in
     let tagged = ap (λ l. start_tagged None l) spread ∙ tagged_behind k.start k.bodies k.close os in
     ⊎_elim
-    (λ t'. rose_in t turns k.start a t'.0 t'.1 broke t'.2)
+    (λ t'. rose_in t (turns ++ last) k.start a t'.0 t'.1 broke t'.2)
     (λ b.
-    let more = all_broke limit turns (All-tail (Begun (WholeStart limit)) t turns each) (once_behind k.bodies k.close os begun.1) b.said unsaid b.place a broke b.are b.at in
+    let more = all_broke limit turns last unheard (All-tail (Begun (WholeStart limit)) t turns each) cut few (once_behind k.bodies k.close os begun.1) b.said unsaid b.place a broke b.are b.at in
     record { place = suc more.place; turn = more.turn; at = more.at; run = more.run; is = more.is; rose = more.rose })
-    (k.said said unsaid (sides_of turns) (start_tagged None os) p a off e (subst (λ l. slice_get (answers said l) p ≡ Some a) tagged at))
+    (k.said said unsaid (sides_of (turns ++ last)) (start_tagged None os) p a off e (subst (λ l. slice_get (answers said l) p ≡ Some a) tagged at))
 
 -- two turns that begin one start are the same, where no start begins twice
 unbegun_front : (n : ℕ) (xs ys : List Order) → Unbegun n (xs ++ ys) → Unbegun n ys
@@ -148,6 +189,20 @@ once_front (order.Begin m ∷ xs) ys u = once_front xs ys u.1
 once_front (order.Body body ∷ xs) ys u = once_front xs ys u
 once_front (order.Close ∷ xs) ys u = once_front xs ys u
 once_front (order.Done ∷ xs) ys u = once_front xs ys u
+
+unbegun_first : (n : ℕ) (xs ys : List Order) → Unbegun n (xs ++ ys) → Unbegun n xs
+unbegun_first n [] ys u = tt
+unbegun_first n (order.Begin m ∷ xs) ys u = (u.0, unbegun_first n xs ys u.1)
+unbegun_first n (order.Body body ∷ xs) ys u = unbegun_first n xs ys u
+unbegun_first n (order.Close ∷ xs) ys u = unbegun_first n xs ys u
+unbegun_first n (order.Done ∷ xs) ys u = unbegun_first n xs ys u
+
+pub once_first : (xs ys : List Order) → BeginOnce (xs ++ ys) → BeginOnce xs
+once_first [] ys u = tt
+once_first (order.Begin m ∷ xs) ys u = (unbegun_first m xs ys u.0, once_first xs ys u.1)
+once_first (order.Body body ∷ xs) ys u = once_first xs ys u
+once_first (order.Close ∷ xs) ys u = once_first xs ys u
+once_first (order.Done ∷ xs) ys u = once_first xs ys u
 
 begins_later : (n : ℕ) (turns : List Turn) (k : ℕ) (t : Turn) (rest : List Order) → Unbegun n (orders_of turns) → slice_get turns k ≡ Some t → t.orders ≡ order.Begin n ∷ rest → ⊥
 begins_later n [] k t rest u at is = absurd cc

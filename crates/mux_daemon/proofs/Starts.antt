@@ -1,5 +1,5 @@
 -- The starts of a berth's lane, by what the lane did and what the deck took of it.
-use Rattle.std.proofs.Common.{◌≡◌, ℕ, zero, suc, ◌<◌, ◌⊎◌, inl, inr, Bool, true, List, [], ◌∷◌, ◌++◌, length, map, slice_get, refl, ap, sym, ◌∙◌, append_assoc, append-nil, subst}
+use Rattle.std.proofs.Common.{◌≡◌, ℕ, zero, suc, ◌<◌, ◌⊎◌, inl, inr, Bool, List, [], ◌∷◌, ◌++◌, length, map, slice_get, refl, ap, sym, ◌∙◌, append_assoc, append-nil, subst}
 use Rattle.std.specs.Prelude.{Option, Some, None}
 use Rattle.outside_io.specs.Sessions.{Session}
 use Rattle.mux_history.specs.declared.entry.Entry.{Entry}
@@ -21,7 +21,7 @@ use Rattle.mux_daemon.specs.Served.{LaneServed, Story, history}
 use Rattle.mux_daemon.specs.Starts.{BerthStarts, StartBroke, StartFailedAs, StartRan, failed_turn, how, up_turn}
 use Rattle.mux_daemon.proofs.Reading.{zip_at}
 use Rattle.mux_daemon.proofs.ReadStarts.{Shown, all_kept, no_run, turn_at, up_run}
-use Rattle.mux_daemon.proofs.StartSaying.{all_broke, broke_so}
+use Rattle.mux_daemon.proofs.StartSaying.{all_broke, broke_so, once_first}
 use Rattle.mux_daemon.proofs.WriteStarts.{ToldAt, all_begun, begun_at, none_start, told_at, written_start}
 
 front_item : (xs ys : List ℕ) (k x : ℕ) → slice_get xs k ≡ Some x → slice_get (xs ++ ys) k ≡ Some x
@@ -45,21 +45,20 @@ start_served Whole limit servers history by start turn part more (inr c) e s f =
     let w = written_start limit servers history start r.0.start turn r.0.run r.0.is_run r.0.is f in
     inr (record { run = r.0.run; is = subst (λ x. turn ≡ up_turn x r.0.run) w.0 r.0.is; is_run = r.0.is_run; whole = r.0.whole; read = r.1; written = w.1 })
 
--- where the work was done, a write that failed by what the lane said did so in the turn of its start
+-- a write that failed by what the lane said did so in the turn of its start, also in a last turn that was cut off
 broke_in : {B : Type 0} (limit : ℕ) (s : Story) (went : Bool) (i : ℕ) (runs left : B → Option (List Session)) (misses : B → ℕ) (old new : B) → (f : LaneServed s went (lane.Server i) (Begun (WholeStart limit)) (CutBegun limit) runs left misses old new)
-    → went ≡ true → BeginOnce (orders s.editors s.servers (lane.Server i) s.deeds) → (k : ℕ) (a : (ℕ × ℕ) × Side) → a.1 ≡ side.Broke
-    → slice_get (answers (sides s.editors s.servers (lane.Server i) s.deeds) (start_tagged None (orders s.editors s.servers (lane.Server i) s.deeds))) k ≡ Some a → StartBroke f.ran.turns a.0.0
-broke_in limit s went i runs left misses old new f e once k a is at =
+    → BeginOnce (orders s.editors s.servers (lane.Server i) s.deeds) → (k : ℕ) (a : (ℕ × ℕ) × Side) → a.1 ≡ side.Broke
+    → slice_get (answers (sides s.editors s.servers (lane.Server i) s.deeds) (start_tagged None (orders s.editors s.servers (lane.Server i) s.deeds))) k ≡ Some a → StartBroke (f.ran.turns ++ f.ran.last) a.0.0
+broke_in limit s went i runs left misses old new f once k a is at =
     let q = f.queues in
-    let none = f.ran.whole (f.whole e) in
-    let turns = f.ran.turns in
+    let turns = f.ran.turns ++ f.ran.last in
     let said = sides s.editors s.servers (lane.Server i) s.deeds in
     let given = orders s.editors s.servers (lane.Server i) s.deeds in
-    let turns_are : turns ++ f.ran.last ≡ turns = ap (λ l. turns ++ l) none ∙ append-nil turns in
-    let sides_are : said ++ (side_at (lane.Server i) s.more ++ q.unsaid) ≡ chain (map (λ (t : Turn). t.sides) turns) = sym (append_assoc said (side_at (lane.Server i) s.more) q.unsaid) ∙ sym q.sides_are ∙ f.ran.sides none in
-    let orders_are : given ≡ chain (map (λ (t : Turn). t.orders) turns) = q.orders_are ∙ ap (λ l. f.ordered ++ l) (q.all e) ∙ append-nil f.ordered ∙ f.ran.adds.orders ∙ ap (λ l. chain (map (λ (t : Turn). t.orders) l)) turns_are in
-    let apart : BeginOnce (chain (map (λ (t : Turn). t.orders) turns)) = subst (λ l. BeginOnce l) orders_are once in
-    broke_so a.0.0 turns apart (all_broke limit turns f.ran.each apart said (side_at (lane.Server i) s.more ++ q.unsaid) k a is sides_are (subst (λ l. slice_get (answers said (start_tagged None l)) k ≡ Some a) orders_are at))
+    let sides_are : said ++ (side_at (lane.Server i) s.more ++ q.unsaid) ≡ chain (map (λ (t : Turn). t.sides) turns) = sym (append_assoc said (side_at (lane.Server i) s.more) q.unsaid) ∙ sym q.sides_are ∙ f.ran.adds.sides in
+    let taken = chain (map (λ (t : Turn). t.orders) turns) in
+    let orders_are : given ≡ taken ++ q.unheard = q.orders_are ∙ ap (λ l. l ++ q.unheard) f.ran.adds.orders in
+    let apart : BeginOnce (taken ++ q.unheard) = subst (λ l. BeginOnce l) orders_are once in
+    broke_so a.0.0 turns (once_first taken q.unheard apart) (all_broke limit f.ran.turns f.ran.last q.unheard f.ran.each f.ran.cut f.ran.few apart said (side_at (lane.Server i) s.more ++ q.unsaid) k a is sides_are (subst (λ l. slice_get (answers said (start_tagged None l)) k ≡ Some a) orders_are at))
 
 pub berth_starts : {B : Type 0} (limit : ℕ) (s : Story) (went : Bool) (i : ℕ) (runs left : B → Option (List Session)) (misses : B → ℕ) (old new : B) → ByStartParts s.editors s.servers i s.deeds → ByStartOrders s.editors s.servers i s.deeds → ByTried s.editors s.servers i s.deeds
     → LaneServed s went (lane.Server i) (Begun (WholeStart limit)) (CutBegun limit) runs left misses old new → BerthStarts limit s went i runs left misses old new
@@ -95,5 +94,5 @@ berth_starts limit s went i runs left misses old new cut told tried f =
           let here : slice_get begun k ≡ Some x = ap (λ l. slice_get l k) tried.is ∙ front_item ids tried.rest k x at in
           let g = told_at limit s.servers (history s) ran.turns ran.last q.unheard begun told.made ran.each ran.few told.each ordered k x t.turn here t.at in
           (t.turn, t.at, start_served (k < length ran.turns) limit s.servers (history s) (how s) x t.turn part.0 t.more part.2 t.posts t.shown g);
-      broke = λ e once k x bytes at. broke_in limit s went i runs left misses old new f e once k ((x, bytes), side.Broke) refl at;
+      broke = λ once k x bytes at. broke_in limit s went i runs left misses old new f once k ((x, bytes), side.Broke) refl at;
     }

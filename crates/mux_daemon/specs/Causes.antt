@@ -112,11 +112,11 @@ module _ {P B C : Type 0} (links_back links : P → Option (List Session)) (runs
   pub record EventsOf (s : Story) (x : Answer) (old new : Lanes P B C) : Type 0 where
     pub editors : (e : ℕ) → e < joined (history s) → JoinedBy s x old new e
     pub starts : (n : ℕ) → causes_from n (history s) ≢ [] → StartedBy s x old new n
-    -- where the work was done: each body of which the history has that it was drained was written whole, and each editor that went by a failed write had one in its session
-    pub drained : is_end x ≡ true → (k e bytes : ℕ) → slice_get (told_of drained_in (history s)) k ≡ Some (e, bytes) → BodySaid s x old new e bytes side.Wrote
-    pub broke : is_end x ≡ true → (k e : ℕ) → slice_get (told_of failed_in (history s)) k ≡ Some e → (bytes : ℕ) × BodySaid s x old new e bytes side.Broke
+    -- whatever the answer is, each body of which the history has that it was drained was written whole, and each editor that went by a failed write had one in its session
+    pub drained : (k e bytes : ℕ) → slice_get (told_of drained_in (history s)) k ≡ Some (e, bytes) → BodySaid s x old new e bytes side.Wrote
+    pub broke : (k e : ℕ) → slice_get (told_of failed_in (history s)) k ≡ Some e → (bytes : ℕ) × BodySaid s x old new e bytes side.Broke
     -- and a start went since a write failed only where its sink's count rose
-    pub sinks : is_end x ≡ true → (k n : ℕ) → slice_get (how s n) k ≡ Some (item.Side side.Broke) → SinkRose s x old new n
+    pub sinks : (k n : ℕ) → slice_get (how s n) k ≡ Some (item.Side side.Broke) → SinkRose s x old new n
 
 module _ {K P B C : Type 0} (stands : K → List Entry → Type 0) (stops : List Entry → Bool) (links_back links : P → Option (List Session)) (faults : P → ℕ) (runs left : B → Option (List Session)) (misses : B → ℕ) (given moments : C → Option (List ℕ)) where
   abbrev pub EventsLaw : Type 0

@@ -81,7 +81,8 @@ pub record PortSessions {P : Type 0} (limit : ℕ) (s : Story) (went : Bool) (i 
   pub whole : went ≡ true → (refused ≡ []) × ((k : ℕ) (run : Run) → slice_get runs k ≡ Some run → IsWholeRun run)
   pub editor : (k : ℕ) (run : Run) → slice_get runs k ≡ Some run → IsWholeRun run → (e : ℕ) × (slice_get (sessions s.editors s.servers (lane.Editor i) s.deeds) k ≡ Some e)
   pub served : (k e : ℕ) → slice_get (sessions s.editors s.servers (lane.Editor i) s.deeds) k ≡ Some e → (run : Run) × (slice_get runs k ≡ Some run) × ReadOf limit (history s) e run × WrittenOf (history s) e run
-  pub said : went ≡ true → (k e bytes : ℕ) (what : Side) → slice_get (answers (sides s.editors s.servers (lane.Editor i) s.deeds) (tagged (sessions s.editors s.servers (lane.Editor i) s.deeds) (orders s.editors s.servers (lane.Editor i) s.deeds))) k ≡ Some ((e, bytes), what)
+  -- whatever the answer is, what the lane said of a body it said in the session of its editor
+  pub said : (k e bytes : ℕ) (what : Side) → slice_get (answers (sides s.editors s.servers (lane.Editor i) s.deeds) (tagged (sessions s.editors s.servers (lane.Editor i) s.deeds) (orders s.editors s.servers (lane.Editor i) s.deeds))) k ≡ Some ((e, bytes), what)
       → SaidBy (sessions s.editors s.servers (lane.Editor i) s.deeds) runs e bytes what
 
 abbrev pub PortLaw : {P : Type 0} → (P → Option (List Session)) → (P → Option (List Session)) → (P → ℕ) → Type 0

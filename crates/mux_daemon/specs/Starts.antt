@@ -104,9 +104,9 @@ pub record BerthStarts {B : Type 0} (limit : ℕ) (s : Story) (went : Bool) (i :
   pub all : went ≡ true → length (began s.servers i (history s)) ≡ length turns
   pub served : (k x : ℕ) → slice_get (gather s.editors s.servers (tried_by (lane.Server i)) s.deeds) k ≡ Some x → (turn : Turn) × (slice_get (turns ++ last) k ≡ Some turn)
       × (StartFailedAs (k < length turns) s.servers (history s) x turn ⊎ StartRan (k < length turns) limit s.servers (history s) (how s x) x turn)
-  -- where the work was done, and no start begins twice, each write that failed by what the lane said did so in the turn of its start
-  pub broke : went ≡ true → BeginOnce (orders s.editors s.servers (lane.Server i) s.deeds) → (k x bytes : ℕ)
-      → slice_get (answers (sides s.editors s.servers (lane.Server i) s.deeds) (start_tagged None (orders s.editors s.servers (lane.Server i) s.deeds))) k ≡ Some ((x, bytes), side.Broke) → StartBroke turns x
+  -- whatever the answer is, where no start begins twice, each write that failed by what the lane said did so in the turn of its start
+  pub broke : BeginOnce (orders s.editors s.servers (lane.Server i) s.deeds) → (k x bytes : ℕ)
+      → slice_get (answers (sides s.editors s.servers (lane.Server i) s.deeds) (start_tagged None (orders s.editors s.servers (lane.Server i) s.deeds))) k ≡ Some ((x, bytes), side.Broke) → StartBroke (turns ++ last) x
 
 -- what follows of a berth's lane, served by a fair story that spawns no start twice; ServedAs says this of its story (`once`)
 abbrev pub BerthLaw : {B : Type 0} → (B → Option (List Session)) → (B → Option (List Session)) → (B → ℕ) → Type 0

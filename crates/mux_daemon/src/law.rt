@@ -19,8 +19,8 @@ pub fn port_law<P: Port>()
 /// Where no start is spawned twice, as is so of what `serve_core` served, the starts that were tried in a served berth's lane have
 /// its first turns, in their order. Each failed; or it came up, its bodies are the first frames that were read of its program, and
 /// what was written are the frames of the bodies to it; they are all of them where the start went by the end that was posted of its
-/// source, and wasn't ordered to end before. Where the work was done, a write that failed by what the lane said did so in the turn
-/// of its start, whose sink's count rose.
+/// source, and wasn't ordered to end before. A write that failed by what the lane said did so in the turn of its start, whose sink's
+/// count rose.
 pub fn berth_law<B: Berth>()
     ensures { BerthLaw B.runs B.left B.faults }
 {
@@ -45,9 +45,9 @@ pub fn served_law<K: Steps, P: Port, B: Berth, C: Clock>()
 /// frame only where a fault stands in the bytes that were read, and by the end of its source, in a whole session, only where its source
 /// has no bytes left or it was closed before. Each start of which there is a cause came up in a berth that gave a program for it, or
 /// failed in one whose count rose. A program's whole session is over only since its source stopped, since it was ended before, or
-/// since its writing part was told first that it went. With `Stopped` and `PortsClosed` each session is whole, each body that was
-/// drained was written whole in the session of its editor, and an editor went by a failed write only where one failed in its
-/// session, whose sink's count rose; a start went since a write failed only where the count of its program's sink rose in its
+/// since its writing part was told first that it went. With `Stopped` and `PortsClosed` each session is whole. With any answer each
+/// body that was drained was written whole in the session of its editor, and an editor went by a failed write only where one failed
+/// in its session, whose sink's count rose; a start went since a write failed only where the count of its program's sink rose in its
 /// session. Where a start went by the end that was posted of its source, in a whole session, the history has all frames that were
 /// read, unless it has before that the start was ended.
 pub fn events_law<K: Steps, P: Port, B: Berth, C: Clock>()

@@ -39,7 +39,7 @@ module _ (first : Posted) (limit : ℕ) (began ended : Session) (posts posts' : 
       wrote = written.wrote;
       front = written.front;
       all = written.all;
-      items = λ _. refl;
+      items = refl;
       failing = written.failing;
       fault = written.fault;
       ends = written.ends;
@@ -59,16 +59,17 @@ module _ (first : Posted) (limit : ℕ) (began ended : Session) (posts posts' : 
       rise = omega (arith, later);
       posts = p ∙ read.posted ∙ ap (λ l. l ++ run_of.posts) linked_before ∙ append_assoc before.posts (first ∷ []) run_of.posts;
       orders = o' ∙ written.took ∙ ap (λ l. l ++ run_of.orders) (sym o);
+      sides = s' ∙ written.items ∙ ap (λ l. l ++ run_of.sides) (sym s);
     };
-    whole = λ e. (record { run = run_of; is_run = is_run; is_whole = whole.0 e; is = refl }, s' ∙ written.items (whole.0 e).written ∙ ap (λ l. l ++ run_of.sides) (sym s));
+    whole = λ e. record { run = run_of; is_run = is_run; is_whole = whole.0 e; is = refl };
     cut = λ e. ran run_of is_run (λ w. (let t = whole.1 w in absurd cc)) refl;
   }
 
-pub link_refused : (first : Posted) (limit : ℕ) (came : Session) (before after : Standing) → after.posts ≡ before.posts → after.orders ≡ before.orders → after.back ≡ append_to before.back (came ∷ []) → after.left ≡ before.left → before.faults ≤ after.faults
+pub link_refused : (first : Posted) (limit : ℕ) (came : Session) (before after : Standing) → after.posts ≡ before.posts → after.orders ≡ before.orders → after.sides ≡ before.sides → after.back ≡ append_to before.back (came ∷ []) → after.left ≡ before.left → before.faults ≤ after.faults
     → Takes (WholeLink first limit) (CutLink first limit) (record before { left = prepend_to (came ∷ []) before.left }) after false
-link_refused first limit came before after p o back left later = record {
+link_refused first limit came before after p o s back left later = record {
   turn = unlinked came;
-  adds = record { left = ap (prepend_to (came ∷ [])) (sym left); back = back; later = later; rise = omega (arith, later); posts = p ∙ sym (append-nil before.posts); orders = o ∙ sym (append-nil before.orders) };
+  adds = record { left = ap (prepend_to (came ∷ [])) (sym left); back = back; later = later; rise = omega (arith, later); posts = p ∙ sym (append-nil before.posts); orders = o ∙ sym (append-nil before.orders); sides = s ∙ sym (append-nil before.sides) };
   whole = λ e. absurd cc;
   cut = λ _. refused came refl;
 }

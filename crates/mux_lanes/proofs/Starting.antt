@@ -25,8 +25,9 @@ took_up limit b b' c w back left later posts orders sides f = record {
     rise = (let x = f.adds.rise in omega (arith, x, later));
     posts = f.adds.posts ∙ ap (λ l. l ++ f.turn.posts) posts;
     orders = f.adds.orders ∙ ap (λ l. l ++ f.turn.orders) orders;
+    sides = f.adds.sides ∙ ap (λ l. l ++ f.turn.sides) sides;
   };
-  whole = λ e. (went_up (f.whole e).0, (f.whole e).1 ∙ ap (λ l. l ++ f.turn.sides) sides);
+  whole = λ e. went_up (f.whole e);
   cut = λ e. cut_up (f.cut e);
 }
 
@@ -34,13 +35,13 @@ pub took_failed : (limit : ℕ) (b c : Standing) (w : Bool) → c.back ≡ b.bac
     → Takes (WholeStart limit) (CutStart limit) b c w
 took_failed limit b c w back left later rose sides f = record {
   turn = idle 1 f.more f.taken;
-  adds = record { left = sym left ∙ prepended_none c.left; back = back ∙ appended_none b.back; later = later; rise = rose; posts = f.posts_are; orders = f.orders_are };
-  whole = λ e. (let x = f.whole e in (failed x.0 (ap₂ (idle 1) x.1 x.2), sides ∙ sym (append-nil b.sides)));
+  adds = record { left = sym left ∙ prepended_none c.left; back = back ∙ appended_none b.back; later = later; rise = rose; posts = f.posts_are; orders = f.orders_are; sides = sides ∙ sym (append-nil b.sides) };
+  whole = λ e. (let x = f.whole e in failed x.0 (ap₂ (idle 1) x.1 x.2));
   cut = λ e. elim f.cut [ inl none ↦ wanted 1 (ap₂ (idle 1) none.0 none.1) | inr some ↦ cut_failed f.taken some.1 (f.unended e) (ap (λ l. idle 1 l f.taken) some.0) ];
 }
 
-pub took_none : (limit : ℕ) (b c : Standing) → c.back ≡ b.back → c.left ≡ b.left → b.faults ≤ c.faults → c.posts ≡ b.posts → c.orders ≡ b.orders → Takes (WholeStart limit) (CutStart limit) b c false
-took_none limit b c back left later posts orders = record {
+pub took_none : (limit : ℕ) (b c : Standing) → c.back ≡ b.back → c.left ≡ b.left → b.faults ≤ c.faults → c.posts ≡ b.posts → c.orders ≡ b.orders → c.sides ≡ b.sides → Takes (WholeStart limit) (CutStart limit) b c false
+took_none limit b c back left later posts orders sides = record {
   turn = idle 0 [] [];
   adds = record {
     left = sym left ∙ prepended_none c.left;
@@ -49,6 +50,7 @@ took_none limit b c back left later posts orders = record {
     rise = omega (arith, later);
     posts = posts ∙ sym (append-nil b.posts);
     orders = orders ∙ sym (append-nil b.orders);
+    sides = sides ∙ sym (append-nil b.sides);
   };
   whole = λ e. absurd cc;
   cut = λ _. wanted 0 refl;
@@ -66,15 +68,16 @@ took_begun limit start b b' c w back left later posts orders sides f = record {
     rise = (let x = f.adds.rise in omega (arith, x, later));
     posts = f.adds.posts ∙ ap (λ l. l ++ f.turn.posts) posts;
     orders = f.adds.orders ∙ ap (λ l. l ++ f.turn.orders) orders ∙ append_assoc b.orders (order.Begin start ∷ []) f.turn.orders;
+    sides = f.adds.sides ∙ ap (λ l. l ++ f.turn.sides) sides;
   };
-  whole = λ e. (record { start = start; rest = f.turn; behind = (f.whole e).0; is = refl }, (f.whole e).1 ∙ ap (λ l. l ++ f.turn.sides) sides);
+  whole = λ e. record { start = start; rest = f.turn; behind = f.whole e; is = refl };
   cut = λ e. begun (record { start = start; rest = f.turn; behind = f.cut e; is = refl });
 }
 
-pub took_misled : (limit : ℕ) (o : Order) (b c : Standing) → c.back ≡ b.back → c.left ≡ b.left → b.faults ≤ c.faults → c.posts ≡ b.posts → c.orders ≡ b.orders ++ o ∷ [] → Takes (Begun (WholeStart limit)) (CutBegun limit) b c false
-took_misled limit o b c back left later posts orders = record {
+pub took_misled : (limit : ℕ) (o : Order) (b c : Standing) → c.back ≡ b.back → c.left ≡ b.left → b.faults ≤ c.faults → c.posts ≡ b.posts → c.orders ≡ b.orders ++ o ∷ [] → c.sides ≡ b.sides → Takes (Begun (WholeStart limit)) (CutBegun limit) b c false
+took_misled limit o b c back left later posts orders sides = record {
   turn = idle 0 [] (o ∷ []);
-  adds = record { left = sym left ∙ prepended_none c.left; back = back ∙ appended_none b.back; later = later; rise = omega (arith, later); posts = posts ∙ sym (append-nil b.posts); orders = orders };
+  adds = record { left = sym left ∙ prepended_none c.left; back = back ∙ appended_none b.back; later = later; rise = omega (arith, later); posts = posts ∙ sym (append-nil b.posts); orders = orders; sides = sides ∙ sym (append-nil b.sides) };
   whole = λ e. absurd cc;
   cut = λ _. misled o refl;
 }

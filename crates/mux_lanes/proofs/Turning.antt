@@ -40,23 +40,22 @@ adds_more turns turn a b c f g = record {
   rise = (let x = f.rise in let y = g.rise in let z = g.later in let sum = rises_more turns turn in omega (arith, x, y, z, sum));
   posts = list_more (λ t. t.posts) turns turn a.posts b.posts c.posts f.posts g.posts;
   orders = list_more (λ t. t.orders) turns turn a.orders b.orders c.orders f.orders g.orders;
+  sides = list_more (λ t. t.sides) turns turn a.sides b.sides c.sides f.sides g.sides;
 }
 
 pub ran_none : (Whole : Turn → Type 0) (a : Standing) → RanSoFar Whole a a
 ran_none Whole a = record {
   turns = [];
   each = All-nil Whole;
-  adds = record { left = prepended_none a.left; back = appended_none a.back; later = omega arith; rise = omega arith; posts = sym (append-nil a.posts); orders = sym (append-nil a.orders) };
-  sides = sym (append-nil a.sides);
+  adds = record { left = prepended_none a.left; back = appended_none a.back; later = omega arith; rise = omega arith; posts = sym (append-nil a.posts); orders = sym (append-nil a.orders); sides = sym (append-nil a.sides) };
 }
 
 module _ (Whole Cut : Turn → Type 0) (a b c : Standing) where
   pub ran_more : (is_whole : Bool) → not is_whole ≡ false → RanSoFar Whole a b → Takes Whole Cut b c is_whole → RanSoFar Whole a c
   ran_more is_whole e f g = record {
     turns = f.turns ++ g.turn ∷ [];
-    each = All-append Whole f.turns (g.turn ∷ []) f.each (All-cons Whole g.turn [] (g.whole (is_true is_whole e)).0 (All-nil Whole));
+    each = All-append Whole f.turns (g.turn ∷ []) f.each (All-cons Whole g.turn [] (g.whole (is_true is_whole e)) (All-nil Whole));
     adds = adds_more f.turns g.turn a b c f.adds g.adds;
-    sides = list_more (λ t. t.sides) f.turns g.turn a.sides b.sides c.sides f.sides (g.whole (is_true is_whole e)).1;
   }
 
   pub ran_cut : (is_whole : Bool) → not is_whole ≡ true → RanSoFar Whole a b → Takes Whole Cut b c is_whole → RanAs Whole Cut a c lane_end.Cut
@@ -67,7 +66,6 @@ module _ (Whole Cut : Turn → Type 0) (a b c : Standing) where
     cut = All-cons Cut g.turn [] (g.cut (is_false is_whole e)) (All-nil Cut);
     few = omega arith;
     adds = adds_more f.turns g.turn a b c f.adds g.adds;
-    sides = λ none. absurd cc;
     whole = λ h. absurd (h refl);
     torn = λ _. refl;
   }
@@ -80,7 +78,6 @@ ran_ends Whole Cut a b end on f = record {
   cut = All-nil Cut;
   few = omega arith;
   adds = rw (sym (append-nil f.turns)) at f.adds;
-  sides = λ _. f.sides;
   whole = λ _. refl;
   torn = λ e. absurd (on e);
 }
@@ -101,8 +98,8 @@ stays Whole a back back' left left' n m posts orders sides e g later f = record 
     rise = (let x = f.adds.rise in omega (arith, x, later));
     posts = f.adds.posts;
     orders = f.adds.orders;
+    sides = f.adds.sides;
   };
-  sides = f.sides;
 }
 
 -- where nothing of what is told changed
@@ -117,6 +114,6 @@ still Whole a b b' back left later posts orders sides f = record {
     rise = (let x = f.adds.rise in omega (arith, x, later));
     posts = posts ∙ f.adds.posts;
     orders = orders ∙ f.adds.orders;
+    sides = sides ∙ f.adds.sides;
   };
-  sides = sides ∙ f.sides;
 }

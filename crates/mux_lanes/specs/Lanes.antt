@@ -49,15 +49,13 @@ pub record Adds (turn : Turn) (before after : Standing) : Type 0 where
   pub rise : RoseBy turn.rises before.faults after.faults
   pub posts : after.posts ≡ before.posts ++ turn.posts
   pub orders : after.orders ≡ before.orders ++ turn.orders
+  pub sides : after.sides ≡ before.sides ++ turn.sides
 
-abbrev pub AddsSides : Turn → Standing → Standing → Type 0
-AddsSides turn before after = after.sides ≡ before.sides ++ turn.sides
-
--- a turn that isn't cut off tells what it said of its orders too
+-- one turn, whole or cut off
 pub record Takes (Whole Cut : Turn → Type 0) (before after : Standing) (is_whole : Bool) : Type 0 where
   pub turn : Turn
   pub adds : Adds turn before after
-  pub whole : is_whole ≡ true → Whole turn × AddsSides turn before after
+  pub whole : is_whole ≡ true → Whole turn
   pub cut : is_whole ≡ false → Cut turn
 
 abbrev pub all_rises : List Turn → ℕ
@@ -78,9 +76,8 @@ pub record RanSoFar (Whole : Turn → Type 0) (before after : Standing) : Type 0
   pub turns : List Turn
   pub each : All Whole turns
   pub adds : Adds (all_turns turns) before after
-  pub sides : AddsSides (all_turns turns) before after
 
--- what the lane did: its turns, and perhaps a last one that was cut off, of which what it said of its orders isn't told
+-- what the lane did: its turns, and perhaps a last one that was cut off; what it said of its orders are the side items of all of them
 pub record RanAs (Whole Cut : Turn → Type 0) (before after : Standing) (end : LaneEnd) : Type 0 where
   pub turns : List Turn
   pub last : List Turn
@@ -88,7 +85,6 @@ pub record RanAs (Whole Cut : Turn → Type 0) (before after : Standing) (end : 
   pub cut : All Cut last
   pub few : length last ≤ 1
   pub adds : Adds (all_turns (turns ++ last)) before after
-  pub sides : last ≡ [] → AddsSides (all_turns turns) before after
   pub whole : (end ≡ lane_end.Cut → ⊥) → last ≡ []
   pub torn : end ≡ lane_end.Cut → length last ≡ 1
 

@@ -126,7 +126,7 @@ module _ (w0 w : Option (List ℕ)) (b0 b : ℕ) (t0 t t1 : List Order) (s0 s : 
     wrote = f.wrote;
     front = f.front;
     all = λ _. f.unbroken;
-    items = λ _. f.items;
+    items = f.items;
     failing = f.failing;
     fault = f.fault;
     ends = λ cut h. absurd (cc);
@@ -145,7 +145,7 @@ module _ (w0 w : Option (List ℕ)) (b0 b : ℕ) (t0 t t1 : List Order) (s0 s : 
     wrote = f.wrote;
     front = f.front;
     all = λ h. absurd cc;
-    items = λ h. absurd cc;
+    items = f.items;
     failing = f.failing;
     fault = f.fault;
     ends = λ cut. absurd (cc);
@@ -153,10 +153,10 @@ module _ (w0 w : Option (List ℕ)) (b0 b : ℕ) (t0 t t1 : List Order) (s0 s : 
     later = f.later;
   }
 
--- cut off in a body
-pub cut_in : (w0 w w1 : Option (List ℕ)) (b0 b b1 : ℕ) (t0 t t1 : List Order) (s0 s s1 : List Side) (body : List ℕ) → WroteSoFar w0 w b0 b t0 t s0 s false → t1 ≡ t ++ order.Body body ∷ [] → WroteFront body w w1 b b1
+-- cut off in a body, of which nothing was said
+pub cut_in : (w0 w w1 : Option (List ℕ)) (b0 b b1 : ℕ) (t0 t t1 : List Order) (s0 s s1 : List Side) (body : List ℕ) → WroteSoFar w0 w b0 b t0 t s0 s false → t1 ≡ t ++ order.Body body ∷ [] → WroteFront body w w1 b b1 → s1 ≡ s
     → WroteAs w0 w1 b0 b1 t0 t1 s0 s1 (by None false true)
-cut_in w0 w w1 b0 b b1 t0 t t1 s0 s s1 body f took g = record {
+cut_in w0 w w1 b0 b b1 t0 t t1 s0 s s1 body f took g none = record {
   whole = f.whole;
   others = body ∷ [];
   part = g.part;
@@ -167,7 +167,7 @@ cut_in w0 w w1 b0 b b1 t0 t t1 s0 s s1 body f took g = record {
       g.wrote ∙ ap (λ x. append_known x g.part) (f.wrote ∙ ap (append_known w0) before) ∙ known_more w0 (all_framed f.whole) g.part;
   front = append-nil (framed body) ∙ g.front;
   all = λ h. absurd cc;
-  items = λ h. absurd cc;
+  items = none ∙ f.items;
   failing = λ h. absurd cc;
   fault = λ h. absurd cc;
   ends = λ cut. absurd (cc);

@@ -46,7 +46,7 @@ abbrev pub end_orders : Option Order → List Order
 end_orders None = []
 end_orders (Some o) = o ∷ []
 
--- a session's writing: the orders taken, what was written, and what was said of each body; nothing of the last is claimed where memory ran out or the core goes on no more
+-- a session's writing: the orders taken, what was written, and what was said of each body. Where memory ran out or the core goes on no more, what was said is told too: a body in which it was cut off is one of the others, of which nothing was said
 pub record WroteAs (written written' : Option (List ℕ)) (before now : ℕ) (taken taken' : List Order) (sides sides' : List Side) (x : Wrote) : Type 0 where
   pub whole : List (List ℕ)
   pub others : List (List ℕ)
@@ -56,7 +56,7 @@ pub record WroteAs (written written' : Option (List ℕ)) (before now : ℕ) (ta
   pub wrote : written' ≡ append_known written (all_framed whole ++ part)
   pub front : all_framed others ≡ part ++ rest
   pub all : x.cut ≡ false → x.broke ≡ false → (others ≡ []) × (part ≡ [])
-  pub items : x.cut ≡ false → sides' ≡ sides ++ (replicate (length whole) side.Wrote ++ broken x.broke)
+  pub items : sides' ≡ sides ++ (replicate (length whole) side.Wrote ++ broken x.broke)
   pub failing : x.broke ≡ true → others ≢ []
   pub fault : x.broke ≡ true → Rose before now
   pub ends : x.cut ≡ false → x.end ≡ None → ⊥

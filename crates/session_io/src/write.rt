@@ -47,7 +47,7 @@ fn close_if<K: Sink>(sink: &mut K, broke: bool)
 pub struct Wrote {
     /// The order that ended it.
     pub end: Option<Order>,
-    /// Did a write fail?
+    /// Was it said that a write failed?
     pub broke: bool,
     /// Did memory run out, or go the core on no more?
     pub cut: bool,
@@ -66,7 +66,8 @@ fn write_body<R: Wait, K: Sink>(
     ensures orders { out.new.orders ≡ out.old.orders }
     ensures some { IfSome result (λ whole. WroteFrame body.now (K.written sink.old) (K.written sink.new) (K.faults sink.old) (K.faults sink.new) whole
         × (out.new.sides.pushed ≡ out.old.sides.pushed ++ (if whole then Side.Wrote else Side.Broke) ∷ [])) }
-    ensures none { IfNone result (WroteFront body.now (K.written sink.old) (K.written sink.new) (K.faults sink.old) (K.faults sink.new)) }
+    ensures none { IfNone result (WroteFront body.now (K.written sink.old) (K.written sink.new) (K.faults sink.old) (K.faults sink.new)
+        × (out.new.sides.pushed ≡ out.old.sides.pushed)) }
 {
     let whole = write_frame(alloc, sink, body)?;
     let item = if whole { Side::Wrote } else { Side::Broke };
@@ -91,7 +92,8 @@ fn write_order<R: Wait, K: Sink>(
     ensures orders { out.new.orders ≡ out.old.orders }
     ensures some { IfSome result (λ now. WroteOrder body.now (K.written sink.old) (K.written sink.new) (K.faults sink.old)
         (K.faults sink.new) out.old.sides.pushed out.new.sides.pushed broke now) }
-    ensures none { IfNone result (WroteFront body.now (K.written sink.old) (K.written sink.new) (K.faults sink.old) (K.faults sink.new) × (broke ≡ false)) }
+    ensures none { IfNone result (WroteFront body.now (K.written sink.old) (K.written sink.new) (K.faults sink.old) (K.faults sink.new) × (broke ≡ false)
+        × (out.new.sides.pushed ≡ out.old.sides.pushed)) }
 {
     if broke {
         return Some(true);

@@ -9,7 +9,7 @@ pub returns-then-not-post-clause-turn : goal.returns-then-not-post-clause-turn
 returns-then-not-post-clause-turn g c =
     link_refused posted.Link c.args.limit (session_of g.P.In.Source.taken g.P.In.Source.left g.P.In.Source.faults g.P.Out.Sink.written g.P.Out.Sink.faults c.args.link.source c.args.link.sink)
     (standing g.P.Port.sessions g.P.Port.links g.P.Port.faults c.args.port.now c.args.ends) (standing g.P.Port.sessions g.P.Port.links g.P.Port.faults c.hang_up.new.port record { inn = c.post.new.inn; out = c.args.ends.out })
-    c.if-not-post.ensures.posts refl c.hang_up.ensures.session c.hang_up.ensures.links c.hang_up.ensures.later
+    c.if-not-post.ensures.posts refl refl c.hang_up.ensures.session c.hang_up.ensures.links c.hang_up.ensures.later
 
 pub returns-clause-turn : goal.returns-clause-turn
 returns-clause-turn g c =

@@ -9,7 +9,7 @@ pub returns-then-not-post-clause-turn : goal.returns-then-not-post-clause-turn
 returns-then-not-post-clause-turn g c =
     link_refused posted.Up c.args.limit (session_of g.B.In.Source.taken g.B.In.Source.left g.B.In.Source.faults g.B.Out.Sink.written g.B.Out.Sink.faults c.args.link.source c.args.link.sink)
     (standing g.B.Berth.runs g.B.Berth.left g.B.Berth.faults c.args.berth.now c.args.ends) (standing g.B.Berth.runs g.B.Berth.left g.B.Berth.faults c.finish.new.berth record { inn = c.post.new.inn; out = c.args.ends.out })
-    c.if-not-post.ensures.posts refl c.finish.ensures.run c.finish.ensures.left c.finish.ensures.later
+    c.if-not-post.ensures.posts refl refl c.finish.ensures.run c.finish.ensures.left c.finish.ensures.later
 
 pub returns-clause-turn : goal.returns-clause-turn
 returns-clause-turn g c =

@@ -23,4 +23,4 @@ returns-in-Err-Failed-clause-turn g c =
 pub returns-in-Err-Memory-clause-turn : goal.returns-in-Err-Memory-clause-turn
 returns-in-Err-Memory-clause-turn g c =
     took_none c.args.limit (standing g.B.Berth.runs g.B.Berth.left g.B.Berth.faults c.args.berth.now c.args.ends) (standing g.B.Berth.runs g.B.Berth.left g.B.Berth.faults c.start.new.berth c.args.ends)
-    c.start.ensures.runs c.in-Err-Memory.ensures.none c.start.ensures.later refl refl
+    c.start.ensures.runs c.in-Err-Memory.ensures.none c.start.ensures.later refl refl refl

@@ -37,7 +37,7 @@ returns-in-Ok g c =
     let a = c.loop.invariant.lane in record {
       lane = record { posted = a.posted; orders = c.next_order.ensures.queue ∙ a.orders; sides = ap (λ s. s.queue) c.next_order.ensures.sides ∙ a.sides };
       ran = ran_cut (Begun (WholeStart c.args.limit)) (CutBegun c.args.limit) first before after false refl c.loop.invariant.ran
-          (took_misled c.args.limit c.in-Ok.field-0 before after refl refl (omega arith) refl c.in-Ok.ensures.order);
+          (took_misled c.args.limit c.in-Ok.field-0 before after refl refl (omega arith) refl c.in-Ok.ensures.order (ap (λ s. s.pushed) c.next_order.ensures.sides));
       goes_on = λ e. absurd cc;
       stopped = λ e. absurd cc;
     }
