@@ -14,7 +14,7 @@ use Rattle.event_model.specs.Row.{Row, choose, nothing, on, send}
 use Rattle.event_model.specs.Settings.{Settings}
 use Rattle.event_model.specs.Stages.{is_ready}
 use Rattle.event_model.proofs.Turns.{alike, alike_false, alike_then, alike_true}
-use Rattle.group_rows.specs.Created.{Created, Token, created_of, has_accepted, is_marked, is_numbered, token_marked}
+use Rattle.group_rows.specs.Created.{Created, Token, created_of, has_accepted, is_marked, is_numbered}
 use Rattle.group_rows.specs.CreatedRows.{cancel_created, created_work, work_row}
 use Rattle.group_rows.specs.Tokens.{marked_text}
 use Rattle.group_rows.proofs.CreatedKept.{IsWritten, found_one, tokens_written}

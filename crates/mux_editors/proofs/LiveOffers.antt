@@ -1,6 +1,6 @@
 -- L2: an editor that begins to run is asked to take each token that lives, one after the other.
 use Rattle.std.proofs.Common.{◌≡◌, ℕ, zero, suc, ◌+◌, ◌<◌, ◌≤◌, Bool, true, false, ◌&&◌, cond, List, [], ◌∷◌, ◌++◌, append-nil, find, get_or, length, map, nat_eq, take, refl, ap, sym, subst, ◌∙◌, arith}
-use Rattle.std.specs.Prelude.{Option, None, Some, is_some}
+use Rattle.std.specs.Prelude.{None, Some, is_some}
 use Rattle.std.specs.List.{AllByRecursion}
 use Rattle.std.proofs.lemmas.Bool.Decides.{nat_tests}
 use Rattle.mux_history.specs.declared.out.Out.{Out}
@@ -9,7 +9,7 @@ use Rattle.event_model.specs.Event.{Event, behind}
 use Rattle.event_model.specs.Row.{Row, each, outs}
 use Rattle.event_model.specs.Settings.{Settings}
 use Rattle.event_model.proofs.Turns.{behind_more}
-use Rattle.group_rows.specs.Created.{Taking, Token, created_of, is_at, is_numbered}
+use Rattle.group_rows.specs.Created.{Taking, Token, created_of, is_numbered}
 use Rattle.group_rows.specs.CreatedRows.{offer}
 use Rattle.mux_tables.specs.declared.tables.Tables.{Tables}
 use Rattle.mux_tables.specs.Stands.{Stands}

@@ -1,5 +1,5 @@
 -- E19: what an editor's response answers, by its row: what a start asked, or whether the editor takes a token.
-use Rattle.std.proofs.Common.{◌≡◌, ℕ, zero, suc, ◌<◌, Bool, true, false, cond, List, [], ◌∷◌, find, get_or, length, if◌then◌else◌, refl, ap, sym, subst, ◌∙◌, arith}
+use Rattle.std.proofs.Common.{◌≡◌, ℕ, zero, suc, ◌<◌, Bool, true, false, List, [], ◌∷◌, find, get_or, length, if◌then◌else◌, refl, ap, sym, subst, ◌∙◌, arith}
 use Rattle.std.specs.Prelude.{Option, Some, None, IfSome, option_map}
 use Rattle.std.specs.List.{AllByRecursion}
 use Rattle.mux_history.specs.declared.cause.Cause.TheVariants.{FromEditor, FromServer}
@@ -19,7 +19,7 @@ use Rattle.group_rows.specs.AskRows.{hand_back}
 use Rattle.group_rows.specs.Asks.{Ask}
 use Rattle.group_rows.specs.Created.{Taking, accepts, created_of, is_answered}
 use Rattle.group_rows.specs.CreatedRows.{hand_out, taking_row, tell}
-use Rattle.group_rows.proofs.CreatedKept.{AreTellings, IsTelling, found_one, held_told}
+use Rattle.group_rows.proofs.CreatedKept.{AreTellings, found_one, held_told}
 use Rattle.group_rows.proofs.Versions as versions
 use Rattle.group_rows.proofs.Versions.{AllMeant}
 use Rattle.mux_turns.specs.group_facts.specs.Facts.{IsMeant, Meant}
@@ -58,10 +58,10 @@ all_held [] h = tt
 all_held (c ∷ cs) h = (held_tellings c.held h.0, all_held cs h.1)
 
 -- one of them
-pub held_at : (bodies : List (List ℕ)) (i : ℕ) → AreHeld bodies → i < length bodies → IsNotice (get_or bodies i [])
-held_at [] i h less = absurd (omega (arith, less))
-held_at (body ∷ bodies) zero h less = h.0
-held_at (body ∷ bodies) (suc i) h less = held_at bodies i h.1 (omega (arith, less))
+pub held_at : (bodies : List (List ℕ)) (i : ℕ) (d : List ℕ) → AreHeld bodies → i < length bodies → IsNotice (get_or bodies i d)
+held_at [] i d h less = absurd (omega (arith, less))
+held_at (body ∷ bodies) zero d h less = h.0
+held_at (body ∷ bodies) (suc i) d h less = held_at bodies i d h.1 (omega (arith, less))
 
 -- what is handed out
 abbrev pub given_of : Message → Taking → ℕ × List (List ℕ)

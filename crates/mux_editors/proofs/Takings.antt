@@ -5,7 +5,7 @@ use Rattle.std.specs.List.{AllByRecursion}
 use Rattle.std.proofs.lemmas.Bool.Decides.{nat_tests}
 use Rattle.rpc_message.specs.Message.{Id, Message}
 use Rattle.mux_history.specs.declared.cause.Cause.TheVariants.{FromEditor}
-use Rattle.event_model.specs.declared.stage.Stage.TheVariants.{Ended, Ready}
+use Rattle.event_model.specs.declared.stage.Stage.TheVariants.{Ended}
 use Rattle.event_model.specs.Event.{Event, requests}
 use Rattle.event_model.specs.Phases.{desk_of, is_running, is_served}
 use Rattle.event_model.specs.Requests.{answered_id}

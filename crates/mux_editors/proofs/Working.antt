@@ -1,5 +1,5 @@
 -- E11: the open request whose work an editor cancels, and the row.
-use Rattle.std.proofs.Common.{◌≡◌, ℕ, Bool, true, false, ◌&&◌, cond, List, [], ◌∷◌, find, refl, ap, sym, ◌∙◌, codes}
+use Rattle.std.proofs.Common.{◌≡◌, ℕ, true, false, ◌&&◌, cond, List, [], ◌∷◌, find, refl, ap, sym, ◌∙◌, codes}
 use Rattle.std.specs.Prelude.{Option, Some, None, option_map}
 use Rattle.std.specs.Option.{option_and_then, option_map_or}
 use Rattle.json_text.specs.Json.{Json}

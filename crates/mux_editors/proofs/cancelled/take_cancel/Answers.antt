@@ -9,9 +9,9 @@ use Rattle.rpc_message.specs.Message.{message_of}
 use Rattle.mux_tables.specs.declared.tables.Start.{Start}
 use Rattle.mux_tables.specs.Resumes.{unasked}
 use Rattle.mux_tables.specs.Stands.{is_answer, number_in}
-use Rattle.mux_tables.specs.mux_tokens.proofs.Stays.{takes_none}
 use Rattle.mux_tables.proofs.Asking.{answers_none}
 use Rattle.mux_tables.proofs.DocumentOwed.{number_there}
+use Rattle.mux_tables.specs.mux_tokens.proofs.Stays.{takes_none}
 use Rattle.mux_editors.specs.Cancels.{Names}
 use Rattle.mux_editors.proofs.Beginning.{same_kept, same_length}
 use Rattle.mux_editors.proofs.Cancelling.{cancel_keeps}

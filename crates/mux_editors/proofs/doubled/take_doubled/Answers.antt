@@ -9,12 +9,12 @@ use Rattle.event_model.specs.Phases.{is_served}
 use Rattle.rpc_message.specs.Message.{message_of, request}
 use Rattle.mux_tables.specs.Stands.{is_answer}
 use Rattle.mux_tables.proofs.Asking.{answers_none}
+use Rattle.mux_tables.specs.mux_tokens.proofs.Stays.{takes_none}
 use Rattle.mux_editors.proofs.Asides.{unserved_keeps}
 use Rattle.mux_editors.proofs.Classes.{shutdown_named}
 use Rattle.mux_editors.proofs.Doubling.{doubled_placed, doubled_stays, doubled_stops, doubled_unopened, serves_standard}
-use Rattle.mux_editors.proofs.Serving.{request_keeps, request_runs, stands_so, request_makes}
+use Rattle.mux_editors.proofs.Serving.{request_keeps, request_makes, request_runs, stands_so}
 use Rattle.mux_editors.proofs.Takings.{takes_unserved}
-use Rattle.mux_tables.specs.mux_tokens.proofs.Stays.{takes_none}
 use Rattle.mux_editors.proofs.Runs.{no_shutdown}
 use Rattle.mux_editors.proofs.doubled.take_doubled.Goals as goal
 

@@ -4,10 +4,10 @@ use Rattle.event_model.specs.Phases.{desk_of}
 use Rattle.rpc_message.specs.Message.{message_of}
 use Rattle.mux_tables.specs.Stands.{is_answer}
 use Rattle.mux_tables.proofs.Asking.{answers_none}
+use Rattle.mux_tables.specs.mux_tokens.proofs.Stays.{takes_none}
 use Rattle.mux_editors.proofs.Asides.{old_unopened}
 use Rattle.mux_editors.proofs.Doubling.{begun_new}
-use Rattle.mux_editors.proofs.Lspmux.{lspmux_is, own_keeps, own_placed, own_stays, own_stops, own_shuts}
-use Rattle.mux_tables.specs.mux_tokens.proofs.Stays.{takes_none}
+use Rattle.mux_editors.proofs.Lspmux.{lspmux_is, own_keeps, own_placed, own_shuts, own_stays, own_stops}
 use Rattle.mux_editors.proofs.doubled.take_doubled_own.Goals as goal
 
 pub returns-clause-does : goal.returns-clause-does

@@ -8,8 +8,8 @@ use Rattle.rpc_message.specs.Message.{message_of}
 use Rattle.mux_tables.specs.Documents.{noticing, owes}
 use Rattle.mux_tables.specs.Resumes.{unasked}
 use Rattle.mux_tables.specs.Stands.{is_answer}
-use Rattle.mux_tables.specs.mux_tokens.proofs.Stays.{takes_none}
 use Rattle.mux_tables.proofs.Asking.{answers_none}
+use Rattle.mux_tables.specs.mux_tokens.proofs.Stays.{takes_none}
 use Rattle.mux_editors.proofs.Asides.{old_unopened}
 use Rattle.mux_editors.proofs.Noticing.{noticed}
 use Rattle.mux_editors.proofs.Runs.{runs_now, then_rest}

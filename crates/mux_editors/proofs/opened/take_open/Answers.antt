@@ -12,11 +12,11 @@ use Rattle.mux_tables.specs.Documents.{AllStand, nothing_owed}
 use Rattle.mux_tables.specs.Stands.{Stands, is_answer}
 use Rattle.mux_tables.proofs.Asking.{answers_none}
 use Rattle.mux_tables.proofs.DocumentOwed.{all_does}
+use Rattle.mux_tables.specs.mux_tokens.proofs.Stays.{takes_none}
 use Rattle.mux_turns.proofs.Departing.{behind_first}
 use Rattle.mux_turns.proofs.Keeping.{chosen, unchosen}
-use Rattle.mux_editors.proofs.Lspmux.{first_new, lspmux_is, open_asks, own_keeps, own_placed, own_stays, own_stops, own_shuts}
+use Rattle.mux_editors.proofs.Lspmux.{first_new, lspmux_is, open_asks, own_keeps, own_placed, own_shuts, own_stays, own_stops}
 use Rattle.mux_turns.proofs.Matched.{whole_entry}
-use Rattle.mux_tables.specs.mux_tokens.proofs.Stays.{takes_none}
 use Rattle.mux_editors.proofs.opened.take_open.Goals as goal
 
 pub returns-in_ok-answer_named-clause-does : goal.returns-in_ok-answer_named-clause-does

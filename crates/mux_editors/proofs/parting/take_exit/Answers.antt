@@ -3,8 +3,8 @@ use Rattle.std.proofs.Common.{sym, ◌∙◌}
 use Rattle.event_model.specs.Phases.{desk_of}
 use Rattle.rpc_message.specs.Message.{message_of}
 use Rattle.mux_tables.proofs.Asking.{answers_none}
-use Rattle.mux_editors.proofs.Asides.{aside, desk_now, exit_answers, exit_aside, exit_keeps, exit_stays, exit_shuts}
 use Rattle.mux_tables.specs.mux_tokens.proofs.Stays.{takes_none}
+use Rattle.mux_editors.proofs.Asides.{aside, desk_now, exit_answers, exit_aside, exit_keeps, exit_shuts, exit_stays}
 use Rattle.mux_editors.proofs.parting.take_exit.Goals as goal
 
 pub returns-clause-does : goal.returns-clause-does

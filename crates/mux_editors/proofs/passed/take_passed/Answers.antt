@@ -14,9 +14,9 @@ use Rattle.mux_tables.specs.declared.tables.Start.{Start}
 use Rattle.mux_tables.specs.Documents.{AllStand, nothing_owed}
 use Rattle.mux_tables.specs.Resumes.{unasked}
 use Rattle.mux_tables.specs.Stands.{is_answer}
-use Rattle.mux_tables.specs.mux_tokens.proofs.Stays.{takes_none}
 use Rattle.mux_tables.proofs.Asking.{answers_none}
 use Rattle.mux_tables.proofs.DocumentOwed.{number_there}
+use Rattle.mux_tables.specs.mux_tokens.proofs.Stays.{takes_none}
 use Rattle.mux_editors.proofs.Beginning.{by_kept, same_kept, same_length}
 use Rattle.mux_editors.proofs.Passing.{passed_keeps}
 use Rattle.mux_editors.proofs.Runs.{then_rest}

@@ -9,7 +9,7 @@ use Rattle.mux_tables.specs.Documents.{AllStand, nothing_owed}
 use Rattle.mux_tables.proofs.DocumentOwed.{all_does}
 use Rattle.mux_tables.specs.Stands.{is_answer}
 use Rattle.mux_tables.proofs.Asking.{answers_none}
-use Rattle.mux_editors.proofs.Asides.{desk_now, early_keeps, early_stays, unnamed_unopened}
+use Rattle.mux_editors.proofs.Asides.{desk_now, early_keeps, early_stays, early_unserved, unnamed_unopened}
 use Rattle.mux_editors.proofs.Lspmux.{unasked_open}
 use Rattle.mux_turns.proofs.Matched.{whole_entry}
 use Rattle.mux_editors.proofs.Takings.{takes_unserved}

@@ -11,9 +11,9 @@ use Rattle.event_model.proofs.Frames.{never}
 use Rattle.mux_tables.specs.Documents.{AllStand, nothing_owed}
 use Rattle.mux_tables.proofs.DocumentOwed.{all_does}
 use Rattle.mux_tables.proofs.Asking.{answers_none}
-use Rattle.mux_editors.proofs.Asides.{aside, desk_now, malformed_aside, malformed_keeps, malformed_silent, malformed_stays, refused, malformed_shuts}
-use Rattle.mux_turns.proofs.Matched.{whole_entry}
 use Rattle.mux_tables.specs.mux_tokens.proofs.Stays.{takes_none}
+use Rattle.mux_editors.proofs.Asides.{aside, desk_now, malformed_aside, malformed_keeps, malformed_shuts, malformed_silent, malformed_stays, refused}
+use Rattle.mux_turns.proofs.Matched.{whole_entry}
 use Rattle.mux_editors.proofs.quiet.take_malformed.Goals as goal
 use Rattle.mux_editors.proofs.quiet.take_malformed.Goals.{in-Memory, in_default}
 

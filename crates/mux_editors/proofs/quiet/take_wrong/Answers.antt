@@ -6,8 +6,8 @@ use Rattle.rpc_message.specs.Message.{message_of}
 use Rattle.mux_tables.specs.Documents.{nothing_owed}
 use Rattle.mux_tables.proofs.DocumentOwed.{all_does}
 use Rattle.mux_tables.specs.Stands.{is_answer}
-use Rattle.mux_tables.specs.mux_tokens.proofs.Stays.{takes_none}
 use Rattle.mux_tables.proofs.Asking.{answers_none}
+use Rattle.mux_tables.specs.mux_tokens.proofs.Stays.{takes_none}
 use Rattle.mux_editors.proofs.Classes.{misplaced_serves}
 use Rattle.mux_editors.proofs.Runs.{no_shutdown, then_rest}
 use Rattle.mux_editors.proofs.Serving.{request_keeps, request_makes}

@@ -13,12 +13,12 @@ use Rattle.mux_tables.specs.Stands.{Keeps}
 use Rattle.mux_tables.proofs.DocumentOwed.{all_does}
 use Rattle.mux_tables.specs.Stands.{is_answer}
 use Rattle.mux_tables.proofs.Asking.{answers_none}
+use Rattle.mux_tables.specs.mux_tokens.proofs.Stays.{takes_none}
 use Rattle.mux_editors.proofs.Asides.{unnamed_unopened}
 use Rattle.mux_turns.proofs.Departing.{behind_first}
 use Rattle.mux_turns.proofs.Keeping.{keeps_reply, told_as}
-use Rattle.mux_editors.proofs.Lspmux.{lspmux_is, own_keeps, own_others, own_placed, own_stays, own_stops, status_asks, status_unnamed, own_shuts}
+use Rattle.mux_editors.proofs.Lspmux.{lspmux_is, own_keeps, own_others, own_placed, own_shuts, own_stays, own_stops, status_asks, status_unnamed}
 use Rattle.mux_turns.proofs.Matched.{whole_entry}
-use Rattle.mux_tables.specs.mux_tokens.proofs.Stays.{takes_none}
 use Rattle.mux_editors.proofs.status.take_status.Goals as goal
 
 pub returns-clause-does : goal.returns-clause-does

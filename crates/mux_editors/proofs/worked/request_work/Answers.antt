@@ -8,8 +8,8 @@ use Rattle.mux_editors.proofs.worked.request_work.Goals as goal
 pub returns-clause-cancels : goal.returns-clause-cancels
 returns-clause-cancels c = λ body params read says.
     let n = c.args.request.number in
-    let low = c.ranges.request.number.fits in
-    let below : 2 * n < 10 ^ 64 = omega (arith, low) in
+    let fits = c.well_formed in
+    let below : 2 * n < 10 ^ 64 = omega (arith, fits) in
     let new = marked_says (mark_text (work_mark n)) body (codes "window/workDoneProgress/cancel") params (mark_token (work_mark n) below) says in
     let is = c.in_ok-text.ensures body (codes "window/workDoneProgress/cancel") params read says ∙ ap (λ w. marked_text w body) (c.deref.ensures.value ∙ (c.in_ok-token.ensures ∙ ap (λ m. mark_text (2 * m)) c.from.ensures)) in
     (new.0, ap message_of is ∙ new.1)
