@@ -1,5 +1,5 @@
 //! E19: what an editor answers of what its group's start asked, and whether it takes a token.
-ghost use Rattle.std.specs.Prelude.{◌≡◌, ◌<◌, ℕ, List, [], Option, Some, IfOk, IfSome, find, if◌then◌else◌, length, map, option_map, true, OnOk, slice_get};
+ghost use Rattle.std.specs.Prelude.{◌≡◌, ◌<◌, ℕ, List, [], Option, Some, IfSome, find, if◌then◌else◌, length, map, option_map, true, OnOk, slice_get};
 ghost use Rattle.mux_editors.specs.Running.{may_begin, running_row};
 ghost use Rattle.event_model.specs.declared.stage.Stage.TheVariants.{Ended};
 ghost use Rattle.event_model.specs.Does.{Does, Done};
