@@ -80,7 +80,8 @@ def libs(todo, lanes, jobs):
 import fcntl
 verb, words = sys.argv[1], sys.argv[2:]
 if os.path.exists("/work/h/tools/gate"):
-    os.nice(9)
+    own = '/work/h/tools/nice.' + os.path.basename(ROOT)
+    os.nice(int(open(own if os.path.exists(own) else '/work/h/tools/nice').read()))
     LOCK = None
     while LOCK is None:
         try: slots = int(open("/work/h/tools/slots").read())
@@ -90,7 +91,6 @@ if os.path.exists("/work/h/tools/gate"):
             try: fcntl.flock(f, fcntl.LOCK_EX | fcntl.LOCK_NB); LOCK = f; break
             except OSError: f.close()
         if LOCK is None: time.sleep(2)
-    os.environ["FRT_LANES"] = "1"; os.environ["FRT_LJOBS"] = "1"; os.environ["FRT_JOBS"] = "1"
 lanes = int(os.environ.get("FRT_LANES", "4")); ljobs = int(os.environ.get("FRT_LJOBS", "1")); jobs = os.environ.get("FRT_JOBS", "2")
 if verb == "libs":
     sys.exit(0 if libs([crate(n) for n in words], lanes, ljobs) else 1)
