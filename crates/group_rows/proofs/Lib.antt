@@ -19,3 +19,4 @@ pub mod WorkedTokens
 pub mod WorkedCreated
 pub mod CreatedTexts
 pub mod CreatedKept
+pub mod WorkedLists
