@@ -20,3 +20,5 @@ pub mod WorkedCreated
 pub mod CreatedTexts
 pub mod CreatedKept
 pub mod WorkedLists
+pub mod ListTexts
+pub mod ListsKept
