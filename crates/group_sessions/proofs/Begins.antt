@@ -12,7 +12,7 @@ use Rattle.event_model.specs.declared.phase.Phase.TheVariants.{Answered, Gone, R
 use Rattle.event_model.specs.declared.phase.Phase.{Phase}
 use Rattle.event_model.specs.declared.stage.Stage.{Stage}
 use Rattle.event_model.specs.declared.stage.Stage.TheVariants.{Unspawned, Spawning, Initializing, Ready, Stopping, Ending, Ended}
-use Rattle.event_model.specs.Event.{Event, behind, requests, said, with_cause}
+use Rattle.event_model.specs.Event.{Event, behind, heard, requests, said, with_cause}
 use Rattle.event_model.specs.Phases.{Desk, desk_of, is_malformed, is_new, is_running, makes_running, needs_server, phase_closed}
 use Rattle.event_model.specs.Row.{Row, choose, each, nothing, on, outs, send, ◌⨾◌}
 use Rattle.event_model.specs.Settings.{Settings}
