@@ -176,12 +176,13 @@ plain_says body method params is = go (params_of body) refl
         let r : Rest p (without body (codes "version") None p) = rest_of body p (inside p at) in
         let es : List Edit = plain_edits body (Some p) in
         let ls : Members = v.members in
+        let old : depth (object v.span ls) ≤ 1024 = sound.1 in
         let ns : Members = put_named (codes "params") r.tree ls in
         let made : Replaced body es (object v.span ns) = replaced body es root (object v.span ns) sound.0
         (in_object v.span ls ns es (named_step (codes "params") ls p r.tree es at (swapped p r.tree (without body (codes "version") None p) r.written))) in
         (
           given (Some r.tree),
-          message_says (object v.span ns) (replace body es) made.says (omega (arith, sound.1, r.low, named_below (codes "params") ls p at, members_deep (codes "params") ls r.tree))
+          message_says (object v.span ns) (replace body es) made.says (omega (arith, old, r.low, named_below (codes "params") ls p at, members_deep (codes "params") ls r.tree))
               ∙ ap (λ b. if b then by_method (named (codes "method") ns) ns else not_message)
               (ap₂ (λ b o. b && is_two o) (once_put (codes "params") ls r.tree) (named_put_other (codes "params") (codes "jsonrpc") ls r.tree refl) ∙ v.test)
               ∙ ap (λ o. by_method o ns) (named_put_other (codes "params") (codes "method") ls r.tree refl ∙ v.named_method)
