@@ -34,11 +34,11 @@ published_body place body l is = go (is_array_value (named_of (codes "diagnostic
 
 put_kept : (l : LastList) (lists : List LastList) → IsList l → AllByRecursion IsList lists → AllByRecursion IsList (with_list l lists)
 put_kept l [] h k = (h, tt)
-put_kept l (x ∷ lists) h k = go (is_of l.uri x)
+put_kept l (x ∷ lists) h k = go (is_of l.uri x) (put_kept l lists h k.1)
   where
-    go : (b : Bool) → AllByRecursion IsList (if b then l ∷ lists else x ∷ with_list l lists)
-    go true = (h, k.1)
-    go false = (k.0, put_kept l lists h k.1)
+    go : (b : Bool) → AllByRecursion IsList (with_list l lists) → AllByRecursion IsList (if b then l ∷ lists else x ∷ with_list l lists)
+    go true rest = (h, k.1)
+    go false rest = (k.0, rest)
 
 published_kept : (place : ℕ) (body method : List ℕ) (params : Option Json) → message_of body ≡ notification method params → is_publishing method ≡ true → (lists : List LastList) → AllByRecursion IsList lists
     → (o : Option LastList) → published place body ≡ o → AllByRecursion IsList (with_published o lists)
