@@ -52,7 +52,8 @@ use Rattle.group_rows.specs.Cancelling.{cancelling_at, cancelling_row}
 use Rattle.group_rows.specs.Forwarded.{Forwarded, forwarding_of}
 use Rattle.group_rows.specs.diagnostics_route.specs.declared.last_list.LastList.{LastList}
 use Rattle.group_rows.specs.ListRows.{list_row, show, show_full, show_opened}
-use Rattle.group_rows.specs.Lists.{lists_of}
+use Rattle.group_rows.specs.diagnostics_route.specs.Published.{published}
+use Rattle.group_rows.specs.Lists.{lists_of, sayings_of}
 use Rattle.group_rows.specs.Leaves.{cancel, cancel_text, cancels, closings, leave_bodies, leave_row, refusals, refuse, uncancelled_of}
 use Rattle.group_rows.specs.AskRows.{ask, ask_edit, asking_row, broadcast, current_version, edited, notified_row, response_at, response_row, run_at, run_row}
 use Rattle.group_rows.specs.Asks.{Ask, Parked, asks_of, is_with, next_ask, parked_of, running_in}
@@ -237,8 +238,11 @@ module _ (settings : Settings) (before : List Event) where
   quiet_listed s l [] events = by_nothing
   quiet_listed s l (e ∷ es) events = by_then (quiet_show before s e l events) (quiet_listed s l es (behind events (outs (show settings before s e l) events)))
 
+  quiet_group_list : (s : ℕ) (l : LastList) (events : List Event) → Quiet events (on (group_of s before) nothing (λ g. each (λ e. show settings before s e l) (running_in settings g before)))
+  quiet_group_list s l events = by_on (λ none. by_nothing) (λ g home. quiet_listed s l (running_in settings g before) events)
+
   quiet_list : (s : ℕ) (body : List ℕ) (events : List Event) → Quiet events (list_row settings s before body)
-  quiet_list s body events = by_on (λ none. by_nothing) (λ l came. by_on (λ none. by_nothing) (λ g home. quiet_listed s l (running_in settings g before) events))
+  quiet_list s body events = by_on {o = published (sayings_of s before) body} {row = λ l. on (group_of s before) nothing (λ g. each (λ e. show settings before s e l) (running_in settings g before))} (λ none. by_nothing) (λ l came. quiet_group_list s l events)
 
   quiet_told : (e : ℕ) (body : List ℕ) (x : Saying) (events : List Event) (g s : ℕ) → Quiet events (document_at settings before e body x g s)
   quiet_told e body x events g s = by_choose (λ ready. by_then (quiet_bodies s (document_bodies settings.limits.versions (encoding_of g before) (texts_of settings g before) (λ u. held_at s u before) e body x) events) (quiet_opened s e x _)) (λ off. by_nothing)

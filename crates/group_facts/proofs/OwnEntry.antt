@@ -432,7 +432,12 @@ module _ (settings : Settings) (before : List Event) (n : ℕ) (body : List ℕ)
 
     -- Notifications
 
-    -- behind bodies to a start the editor may be shown a list
+    -- it runs at this place
+    record Runs (events : List Event) : Type 0 where
+      running : (desk_of n events).phase ≡ Running
+      rests : OpenAt settings n Nobody events
+
+    -- behind bodies to a start it may be shown a list
     document_rests : (method : List ℕ) (params : Option Json) → message_of body ≡ notification method params → is_served (desk_of n before).phase ≡ true → bytes_eq (codes "exit") method ≡ false → Rests (outs (document_row settings before n body (saying_by method params)) now)
     document_rests method params says served stays_open = home_rests (home_of settings n before)
       where
@@ -451,10 +456,6 @@ module _ (settings : Settings) (before : List Event) (n : ℕ) (body : List ℕ)
         hears Down k = never (sym k)
         hears Closed k = never (sym k)
         hears Gone k = never (sym k)
-
-        record Runs (events : List Event) : Type 0 where
-          running : (desk_of n events).phase ≡ Running
-          rests : OpenAt settings n Nobody events
 
         runs_now : Runs now
         runs_now = record {

@@ -323,8 +323,8 @@ module _ (settings : Settings) (before : List Event) (e : ℕ) (body : List ℕ)
   -- an editor that runs does so behind what it is asked and told
   still_running : (xs : List Out) (events : List Event) → AllByRecursion (IsQuestion e) xs → (desk_of e events).phase ≡ Running → (desk_of e (behind events xs)).phase ≡ Running
   still_running [] events h running = subst (λ z. (desk_of e z).phase ≡ Running) (sym (append-nil events)) running
-  still_running (ToEditor n text ∷ xs) events h running = subst (λ z. (desk_of e z).phase ≡ Running) (append_assoc events (said (ToEditor n text) ∷ []) (map said xs)) (still_running xs (events ++ said (ToEditor n text) ∷ []) h.1 (still_runs events n text e running))
-  still_running (ToServer n text ∷ xs) events h running = absurd h.0
+  still_running (ToEditor n words ∷ xs) events h running = subst (λ z. (desk_of e z).phase ≡ Running) (append_assoc events (said (ToEditor n words) ∷ []) (map said xs)) (still_running xs (events ++ said (ToEditor n words) ∷ []) h.1 (still_runs events n words e running))
+  still_running (ToServer n words ∷ xs) events h running = absurd h.0
   still_running (Spawn n g ∷ xs) events h running = absurd h.0
   still_running (CloseEditor n ∷ xs) events h running = absurd h.0
   still_running (EndServer n ∷ xs) events h running = absurd h.0
