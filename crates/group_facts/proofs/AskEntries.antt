@@ -28,7 +28,7 @@ use Rattle.group_rows.specs.Rows.{outs_of}
 use Rattle.group_facts.specs.Built.{built_behind}
 use Rattle.group_facts.specs.Facts.{ends_link, is_unready, is_up, leaves, shuts}
 use Rattle.group_facts.specs.Settled.{HasSeat}
-use Rattle.group_facts.specs.Why.{IsAsk, IsResumed, Why, WhyToEditor, answers, asks, passes, recalls, refuses, registers, rejects, resumes, spreads, turns_away, welcomes, progresses}
+use Rattle.group_facts.specs.Why.{IsAsk, IsResumed, Why, WhyToEditor, answers, asks, passes, recalls, refuses, calls, rejects, resumes, spreads, turns_away, welcomes, progresses}
 use Rattle.group_facts.proofs.Asks.{registering_made, is_question, listed, response_asks_none, resumed_here, resumed_off, taken}
 use Rattle.group_facts.proofs.AskSeats.{MidSeat, asks_more, did_all, took_all}
 use Rattle.group_facts.proofs.AskingRows.{still_runs}
@@ -56,7 +56,7 @@ module _ (settings : Settings) (before : List Event) (e : ℕ) (at : (desk_of e 
   heard_runs : (phase : Phase) (initialize body : List ℕ) (m : Message) → requests (codes "shutdown") m ≡ false → phase ≡ Running → (desk_hears phase initialize body m).phase ≡ Running
   heard_runs phase initialize body m other at = ap (λ p. (desk_hears p initialize body m).phase) at ∙ ap (λ b. if b then Down else Running) other
 
-  took_runs : (cause : Cause) → fits_behind before cause ≡ true → Editors before → shuts cause e ≡ false → (desk_of e (with_cause before cause)).phase ≡ Running
+  pub took_runs : (cause : Cause) → fits_behind before cause ≡ true → Editors before → shuts cause e ≡ false → (desk_of e (with_cause before cause)).phase ≡ Running
   took_runs (FromEditor n body) fits absent stays = ap (λ (d : Desk). d.phase) (desk_more e before (heard (FromEditor n body))) ∙ go (nat_eq n e) stays
     where
       go : (b : Bool) → (b && requests (codes "shutdown") (message_of body)) ≡ false → (if b then desk_hears (desk_of e before).phase (desk_of e before).initialize body (message_of body) else desk_of e before).phase ≡ Running
@@ -78,7 +78,7 @@ module _ (settings : Settings) (before : List Event) (e : ℕ) (at : (desk_of e 
   took_runs (Drained n k) fits absent stays = ap (λ (d : Desk). d.phase) (desk_more e before (heard (Drained n k))) ∙ at
   took_runs (Tick t) fits absent stays = ap (λ (d : Desk). d.phase) (desk_more e before (heard (Tick t))) ∙ at
 
-close_runs : (events : List Event) (n e : ℕ) → nat_eq n e ≡ false → (desk_of e events).phase ≡ Running → (desk_of e (events ++ said (CloseEditor n) ∷ [])).phase ≡ Running
+pub close_runs : (events : List Event) (n e : ℕ) → nat_eq n e ≡ false → (desk_of e events).phase ≡ Running → (desk_of e (events ++ said (CloseEditor n) ∷ [])).phase ≡ Running
 close_runs events n e other at = ap (λ (d : Desk). d.phase) (desk_more e events (said (CloseEditor n)) ∙ ap (λ b. if b then record { phase = phase_closed (desk_of e events).phase; initialize = (desk_of e events).initialize } else desk_of e events) other) ∙ at
 
 put_all : (P : Ask → Type 0) (o : Option Asker) (e n : ℕ) → ((a : Asker) → o ≡ Some a → P (record { id = a.id; bytes = a.bytes; editor = e; number = n })) → AllByRecursion P (put o e n)
@@ -189,7 +189,7 @@ module _ (settings : Settings) (range : InRange settings) (before : List Event) 
   told_seated : (events : List Event) (e : ℕ) (body : List ℕ) → WhyToEditor settings before cause events e body → (s : ℕ) → AllByRecursion (Seat s) (asks_of settings s events) → AllByRecursion (Seat s) (asks_of settings s (events ++ said (ToEditor e body) ∷ []))
   told_seated events e body (asks k) s h = asked_more events e body k s h
   told_seated events e body (resumes k) s h = resumed_more events e body k s h
-  told_seated events e body (registers k) s h = asks_more settings (Seat s) s events (said (ToEditor e body)) _ (ap (λ (x : Asking). x.asks) (registering_made settings events e body before cause k s)) h
+  told_seated events e body (calls k) s h = asks_more settings (Seat s) s events (said (ToEditor e body)) _ (ap (λ (x : Asking). x.asks) (registering_made settings events e body before cause k s)) h
   told_seated events e body (rejects k) s h = did_all settings (Seat s) s events (ToEditor e body) (ap is_question k.says) h
   told_seated events e body (refuses k) s h = did_all settings (Seat s) s events (ToEditor e body) (ap is_question k.says) h
   told_seated events e body (answers k) s h = did_all settings (Seat s) s events (ToEditor e body) (ap is_question k.says) h

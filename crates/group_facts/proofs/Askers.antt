@@ -32,7 +32,7 @@ use Rattle.group_facts.specs.Facts.{AllForwarded, IsAlone, IsAsker, IsForwarded}
 use Rattle.group_facts.proofs.Forwards.{forwarding_more, more_requests, notified_all, zip_all}
 use Rattle.group_facts.proofs.Levels.{each_start}
 use Rattle.group_facts.proofs.Numbers.{forwarding_other, forwarding_sent, response_forwards}
-use Rattle.group_facts.specs.Why.{IsForward, WhyToEditor, WhyToServer, begins, greets, forwarded, notes, tells, shuts, cancels, registers, rejects, resumes, refuses, answers, turns_away, welcomes, passes, responds, exits, asks, recalls, resolves, spreads, cancels_work, progresses}
+use Rattle.group_facts.specs.Why.{IsForward, WhyToEditor, WhyToServer, begins, greets, forwarded, notes, tells, shuts, cancels, calls, rejects, resumes, refuses, answers, turns_away, welcomes, passes, responds, exits, asks, recalls, resolves, spreads, cancels_work, progresses}
 
 -- An editor that got its result stays one that did
 
@@ -211,7 +211,7 @@ module _ (settings : Settings) (before : List Event) (cause : Cause) (events : L
   asked_told (passes k) h = all_alone k.id k.answers k.alone h
   asked_told (asks k) h = unanswered (request (integer (decimal (next_ask n events))) k.method k.params) k.says refl h
   asked_told (resumes k) h = unanswered (request (integer (decimal (next_ask n events))) k.method k.params) k.says refl h
-  asked_told (registers k) h = unanswered (request (integer (decimal (next_ask n events))) k.method k.params) k.says refl h
+  asked_told (calls k) h = unanswered (request (integer (decimal (next_ask n events))) k.method k.params) k.says refl h
   asked_told (spreads k) h = unanswered (notification k.method k.params) k.says refl h
   asked_told (recalls k) h = unanswered (notification (codes "$/cancelRequest") (Some k.params)) k.says refl h
   asked_told (progresses k) h = unanswered (notification k.method k.params) k.says refl h

@@ -1,5 +1,5 @@
 -- S6, S7, S9 to S12, S14 and what goes to each editor: why a ready start's requests and notifications are answered and go on; E19: why an editor's response does.
-use Rattle.std.proofs.Common.{◌≡◌, ℕ, ◌^◌, ◌<◌, Bool, true, false, ◌&&◌, ◌||◌, not, cond, List, [], ◌∷◌, ◌++◌, append-nil, filter, find, codes, decimal, nat_eq, if◌then◌else◌, Option, Some, None, is_some, refl, sym, ◌∙◌, ap, subst, ltb-true, arith}
+use Rattle.std.proofs.Common.{◌≡◌, ℕ, ◌^◌, ◌<◌, Bool, true, false, ◌&&◌, ◌||◌, not, cond, List, [], ◌∷◌, ◌++◌, append-nil, append_assoc, filter, find, codes, decimal, map, nat_eq, if◌then◌else◌, Option, Some, None, is_some, refl, sym, ◌∙◌, ap, subst, ltb-true, arith}
 use Rattle.std.specs.List.{AllByRecursion, last_or, list_any, range_with_len}
 use Rattle.std.specs.Option.{option_and_then, option_map, option_map_or}
 use Rattle.std.proofs.lemmas.Bool.{and_parts}
@@ -12,7 +12,7 @@ use Rattle.mux_history.specs.declared.out.Out.{Out}
 use Rattle.mux_history.specs.declared.out.Out.TheVariants.{ToEditor, ToServer}
 use Rattle.lsp_method.specs.Class.{class_of, goes_nowhere, is_focused, is_refresh, own_notification, own_request, server_request}
 use Rattle.lsp_method.specs.declared.variants.Class.{Class}
-use Rattle.lsp_method.specs.declared.variants.Class.TheVariants.{Broadcast, Cancel, Folders, Focused, Lowest, Refresh, Register, Unregister, Progress}
+use Rattle.lsp_method.specs.declared.variants.Class.TheVariants.{Broadcast, Cancel, Create, Folders, Focused, Lowest, Refresh, Register, Unregister, Progress}
 use Rattle.lsp_method.specs.declared.variants.Origin.TheVariants.{Server}
 use Rattle.rpc_message.specs.Message.{Message, request, notification, result, error, not_json, not_message, Id, id_bytes, id_of, integer, integer_if, message_of}
 use Rattle.rpc_message.specs.ValueTexts.{IsIdText}
@@ -23,9 +23,9 @@ use Rattle.rpc_message.proofs.Ids.{error_with_id, request_id_bytes, request_with
 use Rattle.event_model.specs.declared.phase.Phase.{Phase}
 use Rattle.event_model.specs.declared.phase.Phase.TheVariants.{Absent, New, Waiting, Answered, Running, Down, Closed, Gone}
 use Rattle.event_model.specs.declared.stage.Stage.TheVariants.{Ready}
-use Rattle.event_model.specs.Event.{Event, behind, did, heard, said, with_cause}
+use Rattle.event_model.specs.Event.{Event, behind, did, heard, requests, said, with_cause}
 use Rattle.event_model.specs.Members.{named_of}
-use Rattle.event_model.specs.Phases.{Desk, desk_of, editors_of, is_running, phase_told}
+use Rattle.event_model.specs.Phases.{Desk, desk_hears, desk_of, editors_of, is_running, phase_told}
 use Rattle.event_model.specs.Requests.{answered_id, is_open, with_request}
 use Rattle.event_model.specs.Row.{Row, choose, each, nothing, on, outs, send}
 use Rattle.event_model.specs.Settings.{Settings}
@@ -50,16 +50,20 @@ use Rattle.group_rows.specs.Forwarded.{Forwarded, forwarding_of, names}
 use Rattle.group_rows.specs.registrations.specs.declared.registration.Registration.{Registration}
 use Rattle.group_rows.specs.registrations.specs.Items.{again}
 use Rattle.group_rows.specs.Leaves.{cancel_text}
-use Rattle.group_rows.specs.Tokens.{is_mark, is_told, listens, marked_text, own_token, partial_mark, progress_row, work_mark}
+use Rattle.group_rows.specs.Tokens.{is_mark, is_told, listens, marked_text, own_token, partial_mark, work_mark}
 use Rattle.group_rows.proofs.TokenTexts.{HasTokens, IsTokenText, marked_says, tokens_kept}
-use Rattle.group_rows.specs.Live.{is_registering, live_of, register_text, unregister_text}
+use Rattle.group_rows.specs.Created.{Taking, Token, accepts, created_of, created_text, has_accepted, is_answered, is_creating, is_progress, named_token, names_create, names_progress, token_called}
+use Rattle.group_rows.specs.CreatedRows.{create_row, create_text, created_row, taking_row, progress_row, takers, tell, tell_takers}
+use Rattle.group_rows.proofs.CreatedKept.{AreTellings, found_one}
+use Rattle.group_rows.proofs.CreatedTexts.{create_says, create_tree, created_token_text}
+use Rattle.group_rows.specs.Live.{live_of, register_text, unregister_text}
 use Rattle.group_rows.specs.LiveRows.{accept, call, decline, has_some, register_row, registering, unregister_any, unregister_row}
 use Rattle.group_rows.proofs.LiveTexts.{again_written, live_written, register_says, registered_written, unregister_says}
 use Rattle.group_rows.proofs.Versions.{AllMeant, current_flat}
 use Rattle.group_rows.proofs.Cancels.{cancel_says, params_tree}
 use Rattle.group_facts.specs.Built.{built_asking}
 use Rattle.group_facts.specs.Facts.{Asks, IsAsked, IsWritten, Written, asked_by}
-use Rattle.group_facts.specs.Why.{IsChange, IsRecall, IsRegistering, Registering, Resolution, Why, asks, denied, displaces, enrolled, enrols, granted, handed_back, listed, moves, recalls, registers, released, releases, resolves, spreads, unapplied, unenrolled, unreleased, IsProgress, progresses}
+use Rattle.group_facts.specs.Why.{IsChange, IsRecall, IsCall, Calling, Resolution, Why, asks, denied, displaces, enrolled, enrols, created, creates, uncreated, IsNotified, IsTaken, of_held, of_request, of_token, is_call, granted, handed_back, listed, moves, recalls, calls, released, releases, resolves, spreads, unapplied, unenrolled, unreleased, IsProgress, progresses}
 use Rattle.group_facts.proofs.Asks.{asked_by_more, asked_of_more, asking_more}
 use Rattle.group_facts.proofs.Forwards.{get_all, zip_all}
 use Rattle.group_facts.proofs.Nulls.{null_said}
@@ -205,6 +209,26 @@ named_response (notification method ps) n h = never (sym h)
 named_response not_json n h = never (sym h)
 named_response not_message n h = never (sym h)
 
+-- what accepts is no request
+accepting_on : (m : Message) → accepts m ≡ true → requests (codes "shutdown") m ≡ false
+accepting_on (result id r) h = refl
+accepting_on (error id r) h = never (sym h)
+accepting_on (request id method ps) h = never (sym h)
+accepting_on (notification method ps) h = never (sym h)
+accepting_on not_json h = never (sym h)
+accepting_on not_message h = never (sym h)
+
+progress_is : (c : Class) → names_progress c ≡ true → c ≡ Progress
+progress_is Progress h = refl
+progress_is _ h = never (sym h)
+
+progress_class : (method : List ℕ) → is_progress method ≡ true → class_of method Server true ≡ Progress
+progress_class method h = progress_is (class_of method Server true) h
+
+map_last : {A B : Type 0} (f : A → B) (xs : List A) (x : A) → map f (xs ++ x ∷ []) ≡ map f xs ++ f x ∷ []
+map_last f [] x = refl
+map_last f (y ∷ xs) x = ap (λ ys. f y ∷ ys) (map_last f xs x)
+
 -- a response under another id
 handed_says : (body : List ℕ) (id : Id) (bytes : List ℕ) → IsIdText id bytes → (m : Message) → message_of body ≡ m → is_response m ≡ true → (is_response (message_of (with_id_text body bytes)) ≡ true) × (answered_id (message_of (with_id_text body bytes)) ≡ Some id)
 handed_says body id bytes text (result k r) says h = let is = result_with_id body bytes k (Some id) r says (id_as_response id bytes text) in (ap is_response is, ap answered_id is)
@@ -214,7 +238,7 @@ handed_says body id bytes text (notification method ps) says h = never (sym h)
 handed_says body id bytes text not_json says h = never (sym h)
 handed_says body id bytes text not_message says h = never (sym h)
 
-module _ (settings : Settings) (before : List Event) (all : Asks settings before) (e : ℕ) (body : List ℕ) where
+module _ (settings : Settings) (before : List Event) (all : Asks settings before) (told : (s : ℕ) → AllByRecursion (λ (c : Taking). AreTellings c.held) (created_of settings s before).takings) (e : ℕ) (body : List ℕ) where
   abbrev heard_now : List Event
   heard_now = with_cause before (FromEditor e body)
 
@@ -242,8 +266,38 @@ module _ (settings : Settings) (before : List Event) (all : Asks settings before
         says : (is_response (message_of (with_id_text body a.bytes)) ≡ true) × (answered_id (message_of (with_id_text body a.bytes)) ≡ Some a.id)
         says = handed_says body a.id a.bytes k.text (message_of body) refl (named_response (message_of body) a.number named)
 
+    -- what was held for it, one behind the other
+    module _ (c : Taking) (taken : IsTaken settings before (FromEditor e body) e s c) where
+      outs_why : (earlier later : List (List ℕ)) → c.held ≡ earlier ++ later → AreTellings later → (events : List Event) → events ≡ behind heard_now (map (λ b. ToEditor e (marked_text (created_text s c.token) b)) earlier) → (desk_of e events).phase ≡ Running
+          → Because (Why settings before (FromEditor e body)) events (each (tell s c.token e) later)
+      outs_why earlier [] order tellings events place runs = by_nothing
+      outs_why earlier (b ∷ later) order tellings events place runs =
+          let made : (new : Option Json) × (message_of (marked_text (created_text s c.token) b) ≡ notification (tellings.0).method new) = marked_says (created_text s c.token) b (tellings.0).method (tellings.0).params (created_token_text s c.token) (tellings.0).says in
+          by_then
+          (by_send (progresses (record { told = of_held s c earlier b later taken order place refl; method = (tellings.0).method; params = made.0; class = progress_class (tellings.0).method (tellings.0).class; hears = ap listens runs; says = made.1 })))
+          (outs_why (earlier ++ b ∷ []) later (order ∙ sym (append_assoc earlier (b ∷ []) later)) tellings.1 (events ++ said (ToEditor e (marked_text (created_text s c.token) b)) ∷ [])
+          (ap (λ z. z ++ said (ToEditor e (marked_text (created_text s c.token) b)) ∷ []) place ∙ sym (places_last earlier b)) (still_runs events e (marked_text (created_text s c.token) b) e runs))
+        where
+          places_last : (earlier : List (List ℕ)) (b : List ℕ) → behind heard_now (map (λ b. ToEditor e (marked_text (created_text s c.token) b)) (earlier ++ b ∷ []))
+              ≡ behind heard_now (map (λ b. ToEditor e (marked_text (created_text s c.token) b)) earlier) ++ said (ToEditor e (marked_text (created_text s c.token) b)) ∷ []
+          places_last earlier b = ap (behind heard_now) (map_last (λ b. ToEditor e (marked_text (created_text s c.token) b)) earlier b) ∙ behind_both heard_now (map (λ b. ToEditor e (marked_text (created_text s c.token) b)) earlier) (ToEditor e (marked_text (created_text s c.token) b) ∷ [])
+
+    taken_why : (c : Taking) → is_ready (life_of s before).stage ≡ true → is_running (desk_of e before).phase ≡ true → find (is_answered e (answered_id (message_of body))) (created_of settings s before).takings ≡ Some c → accepts (message_of body) ≡ true → Mine (each (tell s c.token e) c.held)
+    taken_why c ready runs found agrees = outs_why c
+        (record { answer = body; from = refl; ran = running_is settings before (desk_of e before).phase runs; ready = ready_is (life_of s before).stage ready; found = found; accepted = agrees })
+        [] c.held refl (found_one (λ (d : Taking). AreTellings d.held) (is_answered e (answered_id (message_of body))) c (created_of settings s before).takings (told s) found) heard_now (sym (append-nil heard_now)) runs_now
+      where
+        runs_now : (desk_of e heard_now).phase ≡ Running
+        runs_now = ap (λ (d : Desk). d.phase) (desk_more e before (heard (FromEditor e body)))
+            ∙ ap (λ b. (if b then desk_hears (desk_of e before).phase (desk_of e before).initialize body (message_of body) else desk_of e before).phase) (same_number e)
+            ∙ ap (λ p. (desk_hears p (desk_of e before).initialize body (message_of body)).phase) (running_is settings before (desk_of e before).phase runs)
+            ∙ ap (λ b. if b then Down else Running) (accepting_on (message_of body) agrees)
+
+    taking_why : is_ready (life_of s before).stage ≡ true → Mine (taking_row settings before e (message_of body) s)
+    taking_why ready = by_choose (λ runs. by_on (λ none. by_nothing) (λ c found. by_choose (λ agrees. taken_why c ready runs found agrees) (λ no. by_nothing))) (λ idle. by_nothing)
+
     at_start : Mine (response_at settings before e body (message_of body) s)
-    at_start = by_choose (λ ready. by_on (λ none. by_nothing) (λ a found. handed a ready found)) (λ no. by_nothing)
+    at_start = by_choose (λ ready. by_on (λ none. taking_why ready) (λ a found. handed a ready found)) (λ no. by_nothing)
 
   by_group : (g : ℕ) → Mine (on (start_of g before) nothing (response_at settings before e body (message_of body)))
   by_group g = by_on (λ none. by_nothing) (λ s start. at_start s)
@@ -256,13 +310,17 @@ module _ (settings : Settings) (before : List Event) (all : Asks settings before
 
 -- S6 and S7: the methods of the daemon's own requests
 
-pub registers_all : is_registering (codes "client/registerCapability") ≡ true
+pub registers_all : is_call (codes "client/registerCapability") ≡ true
 unfolding server_request
 registers_all = refl
 
-pub unregisters_all : is_registering (codes "client/unregisterCapability") ≡ true
+pub unregisters_all : is_call (codes "client/unregisterCapability") ≡ true
 unfolding server_request
 unregisters_all = refl
+
+pub creates_all : is_call (codes "window/workDoneProgress/create") ≡ true
+unfolding server_request
+creates_all = refl
 
 -- S13: a token that an open request has
 
@@ -336,34 +394,45 @@ module _ (settings : Settings) (before : List Event) (s : ℕ) (body : List ℕ)
       (broadcast_why method params says class es (events ++ said (ToEditor e body) ∷ []) (all_still settings before events e body es run.1))
 
   -- S13
-  progress_why : (method : List ℕ) (params : Option Json) → message_of body ≡ notification method params → class_of method Server true ≡ Progress → Because R now (progress_row s before body params)
-  progress_why method params says class = by_on (λ none. by_nothing) (λ f found. by_on (λ none. by_nothing) (λ text own. by_send (progresses (told f found text own))))
-    where
-      told : (f : Forwarded) → find (is_told before (named_of (codes "token") params)) (forwarding_of s before).open_requests ≡ Some f → (text : List ℕ) → own_token (named_of (codes "token") params) f ≡ Some text
-          → IsProgress before (FromServer s body) now f.editor (marked_text text body)
-      told f found text own =
-          let tokens : HasTokens f = found_is HasTokens (is_told before (named_of (codes "token") params)) f (forwarding_of s before).open_requests (tokens_kept s before) found in
-          let test : is_told before (named_of (codes "token") params) f ≡ true = found_test (is_told before (named_of (codes "token") params)) f (forwarding_of s before).open_requests found in
-          let made : (new : Option Json) × (message_of (marked_text text body) ≡ notification method new) = marked_says text body method params (own_written (named_of (codes "token") params) f tokens text own) says in
-          record {
-            start = s;
-            asked = body;
-            method = method;
-            given = params;
-            request = f;
-            token = text;
-            params = made.0;
-            from = refl;
-            ready = stage;
-            asks = says;
-            class = class;
-            found = found;
-            own = own;
-            editor = refl;
-            hears = ap (λ (d : Desk). listens d.phase) (desk_more f.editor before (heard (FromServer s body))) ∙ (and_parts (is_some (own_token (named_of (codes "token") params) f)) (listens (desk_of f.editor before).phase) test).1;
-            bytes = refl;
-            says = made.1;
-          }
+  module _ (method : List ℕ) (params : Option Json) (says : message_of body ≡ notification method params) (class : class_of method Server true ≡ Progress) where
+    notified : IsNotified before (FromServer s body) s body params
+    notified = record { method = method; from = refl; ready = stage; asks = says; class = class }
+
+    requested : (f : Forwarded) → find (is_told before (named_of (codes "token") params)) (forwarding_of s before).open_requests ≡ Some f → (text : List ℕ) → own_token (named_of (codes "token") params) f ≡ Some text
+        → IsProgress settings before (FromServer s body) now f.editor (marked_text text body)
+    requested f found text own =
+        let tokens : HasTokens f = found_is HasTokens (is_told before (named_of (codes "token") params)) f (forwarding_of s before).open_requests (tokens_kept s before) found in
+        let test : is_told before (named_of (codes "token") params) f ≡ true = found_test (is_told before (named_of (codes "token") params)) f (forwarding_of s before).open_requests found in
+        let made : (new : Option Json) × (message_of (marked_text text body) ≡ notification method new) = marked_says text body method params (own_written (named_of (codes "token") params) f tokens text own) says in
+        record {
+          told = of_request s body params f text notified found own refl refl;
+          method = method;
+          params = made.0;
+          class = class;
+          hears = ap (λ (d : Desk). listens d.phase) (desk_more f.editor before (heard (FromServer s body))) ∙ (and_parts (is_some (own_token (named_of (codes "token") params) f)) (listens (desk_of f.editor before).phase) test).1;
+          says = made.1;
+        }
+
+    takers_why : (t : Token) → token_called (named_token params) (created_of settings s before) ≡ Some t → (es : List ℕ) (events : List Event) → AllByRecursion (λ e. has_accepted e t.number (created_of settings s before) ≡ true) es → AllRun settings before events es
+        → Because R events (each (λ e. tell s t.number e body) es)
+    takers_why t found [] events accepted run = by_nothing
+    takers_why t found (e ∷ es) events accepted run =
+        let text : List ℕ = marked_text (created_text s t.number) body in
+        let made : (new : Option Json) × (message_of text ≡ notification method new) = marked_says (created_text s t.number) body method params (created_token_text s t.number) says in
+        by_then
+        (by_send (progresses (record { told = of_token s body params t notified found accepted.0 refl; method = method; params = made.0; class = class; hears = ap listens run.0; says = made.1 })))
+        (takers_why t found es (events ++ said (ToEditor e text) ∷ []) accepted.1 (all_still settings before events e text es run.1))
+
+    created_why : (t : Token) → token_called (named_token params) (created_of settings s before) ≡ Some t → Because R now (tell_takers settings before s body t)
+    created_why t found = by_on (λ none. by_nothing) (λ g home. takers_why t found (takers settings before g s t) now
+        (all_filtered (λ e. Unit {0}) (λ e. has_accepted e t.number (created_of settings s before) ≡ true) (λ e. has_accepted e t.number (created_of settings s before)) (λ e t k. t) (running_in settings g before) (all_units settings before (running_in settings g before)))
+        (all_filtered (λ e. (desk_of e now).phase ≡ Running) (λ e. (desk_of e now).phase ≡ Running) (λ e. has_accepted e t.number (created_of settings s before)) (λ e t k. k) (running_in settings g before) (run_now g)))
+
+    token_why : Because R now (created_row settings s before body params)
+    token_why = by_on (λ none. by_nothing) (λ t found. created_why t found)
+
+    progress_why : Because R now (progress_row settings s before body params)
+    progress_why = by_on (λ none. token_why) (λ f found. by_on (λ none. by_nothing) (λ text own. by_send (progresses (requested f found text own))))
 
   module _ (all : Asks settings before) where
     recall_why : (method : List ℕ) (params : Option Json) → message_of body ≡ notification method params → class_of method Server true ≡ Cancel → Because R now (cancelled_row settings s before params)
@@ -406,8 +475,8 @@ module _ (settings : Settings) (before : List Event) (s : ℕ) (body : List ℕ)
     ask_says : (e : ℕ) (events : List Event) → has_number e events ≡ true → message_of (with_id_text body (decimal (next_ask e events))) ≡ request (integer (decimal (next_ask e events))) method params
     ask_says e events room = request_with_id body (decimal (next_ask e events)) id (integer (decimal (next_ask e events))) method params says (decimal_law (next_ask e events) (ltb-true (next_ask e events) (2 ^ 64) room))
 
-    asked_why : is_edit method ≡ false → (is_patient method ≡ true → has_running settings before s ≡ true) → (e : ℕ) (events : List Event) → IsIn settings before g e → AtWork events → (is_single method ≡ true → events ≡ now) → (desk_of e events).phase ≡ Running → Because R events (ask body e)
-    asked_why plain attended e events seat asker first running = by_look (by_choose
+    asked_why : is_creating method ≡ false → is_edit method ≡ false → (is_patient method ≡ true → has_running settings before s ≡ true) → (e : ℕ) (events : List Event) → IsIn settings before g e → AtWork events → (is_single method ≡ true → events ≡ now) → (desk_of e events).phase ≡ Running → Because R events (ask body e)
+    asked_why apart plain attended e events seat asker first running = by_look (by_choose
         (λ room. by_send (asks (record {
           start = s;
           asked = body;
@@ -417,6 +486,7 @@ module _ (settings : Settings) (before : List Event) (s : ℕ) (body : List ℕ)
           params = params;
           source = record { from = refl; ready = stage; running = running };
           asks = says;
+          plain = apart;
           group = g;
           kept = at_home;
           home = seat.home;
@@ -440,10 +510,10 @@ module _ (settings : Settings) (before : List Event) (s : ℕ) (body : List ℕ)
         go true = f (with_id_text body (decimal (next_ask e events))) h
         go false = subst P (sym (append-nil events)) h
 
-    all_asked : is_edit method ≡ false → is_patient method ≡ false → (es : List ℕ) (events : List Event) → AllByRecursion (IsIn settings before g) es → is_single method ≡ false → AtWork events → AllRun settings before events es → Because R events (each (ask body) es)
-    all_asked plain hurried [] events seats many asker run = by_nothing
-    all_asked plain hurried (e ∷ es) events seats many asker run = by_then (asked_why plain (λ patient. never (sym patient ∙ hurried)) e events seats.0 asker (λ single. never (sym single ∙ many)) run.0)
-        (all_asked plain hurried es (behind events (outs (ask body e) events)) seats.1 many
+    all_asked : is_creating method ≡ false → is_edit method ≡ false → is_patient method ≡ false → (es : List ℕ) (events : List Event) → AllByRecursion (IsIn settings before g) es → is_single method ≡ false → AtWork events → AllRun settings before events es → Because R events (each (ask body) es)
+    all_asked apart plain hurried [] events seats many asker run = by_nothing
+    all_asked apart plain hurried (e ∷ es) events seats many asker run = by_then (asked_why apart plain (λ patient. never (sym patient ∙ hurried)) e events seats.0 asker (λ single. never (sym single ∙ many)) run.0)
+        (all_asked apart plain hurried es (behind events (outs (ask body e) events)) seats.1 many
         (behind_ask AtWork e events (λ text h. work_behind events e text h) asker)
         (behind_ask (λ z. AllRun settings before z es) e events (λ text h. all_still settings before events e text es h) run.1))
 
@@ -459,13 +529,17 @@ module _ (settings : Settings) (before : List Event) (s : ℕ) (body : List ℕ)
     unhurried : (c : Class) → class_of method Server false ≡ c → may_wait c ≡ false → is_patient method ≡ false
     unhurried c class off = ap may_wait class ∙ off
 
+    -- nor creates another one a token
+    uncreating : (c : Class) → class_of method Server false ≡ c → names_create c ≡ false → is_creating method ≡ false
+    uncreating c class off = ap names_create class ∙ off
+
     waits_now : is_open id (asked_by s now) ≡ true
     waits_now = ap (is_open id) (asked_by_more s before (heard (FromServer s body)) ∙ ap (λ b. if b then with_request (message_of body) (asked_by s before) else asked_by s before) (same_number s) ∙ ap (λ m. with_request m (asked_by s before)) says) ∙ open_last id (asked_by s before)
 
     refresh_why : class_of method Server false ≡ Refresh → Because R now (asking_row settings before g s body method Refresh)
     refresh_why class = by_then
         (by_send (resolves (record { id = id; resolution = granted body method params refl says class refl; ready = still_ready; stays = rests; response = ap is_response said_null; answers = ap answered_id said_null; waits = waits_now })))
-        (all_asked (other_method Refresh class refl) (unhurried Refresh class refl) (running_in settings g before) (now ++ said (ToServer s answer) ∷ []) (all_in settings before g) (ap goes_to_one class) (work_answered now s answer work_now)
+        (all_asked (uncreating Refresh class refl) (other_method Refresh class refl) (unhurried Refresh class refl) (running_in settings g before) (now ++ said (ToServer s answer) ∷ []) (all_in settings before g) (ap goes_to_one class) (work_answered now s answer work_now)
         (all_of (λ e. (desk_of e now).phase ≡ Running) (λ e. (desk_of e (now ++ said (ToServer s answer) ∷ [])).phase ≡ Running) (λ e at. ap (λ (d : Desk). d.phase) (desk_more e now (said (ToServer s answer))) ∙ at) (running_in settings g before) (run_now g)))
       where
         answer : List ℕ
@@ -525,15 +599,15 @@ module _ (settings : Settings) (before : List Event) (s : ℕ) (body : List ℕ)
 
       -- one of the daemon's own requests
       record Calls (text : ℕ → List ℕ) : Type 0 where
-        told : (e : ℕ) → IsIn settings before g e → (n : ℕ) → Registering settings before (FromServer s body) e s n (text n)
+        told : (e : ℕ) → IsIn settings before g e → (n : ℕ) → Calling settings before (FromServer s body) e s n (text n)
         name : List ℕ
-        named : is_registering name ≡ true
+        named : is_call name ≡ true
         writes : (n : ℕ) → n < 2 ^ 128 → (ps : Json) × (message_of (text n) ≡ request (integer (decimal n)) name (Some ps))
 
       call_why : (text : ℕ → List ℕ) → Calls text → (e : ℕ) (es : List ℕ) (events : List Event) → IsIn settings before g e → Turning (e ∷ es) events → Because R events (call text e)
-      call_why text k e es events seat h = by_look (by_choose (λ room. by_send (registers (made room))) (λ none. by_nothing))
+      call_why text k e es events seat h = by_look (by_choose (λ room. by_send (calls (made room))) (λ none. by_nothing))
         where
-          made : has_number e events ≡ true → IsRegistering settings before (FromServer s body) events e (text (next_ask e events))
+          made : has_number e events ≡ true → IsCall settings before (FromServer s body) events e (text (next_ask e events))
           made room =
               let small : next_ask e events < 2 ^ 64 = ltb-true (next_ask e events) (2 ^ 64) room in
               let is = k.writes (next_ask e events) (omega (arith, small)) in
@@ -590,6 +664,14 @@ module _ (settings : Settings) (before : List Event) (s : ℕ) (body : List ℕ)
         (record { told = λ e seat n. releases body items (changed Unregister class refl e seat) found refl; name = codes "client/unregisterCapability"; named = unregisters_all; writes = unregister_says (again items (live_of settings s before)) (again_written items (live_of settings s before) (live_written settings s before)) })
         (running_in settings g before) (behind now (outs (accept s body) now)) (all_in settings before g) turning_now))
 
+    -- S8
+    create_why : class_of method Server false ≡ Create → Because R now (create_row settings before g s body)
+    create_why class = by_on (λ none. refused (uncreated body method params refl says class none refl))
+        (λ t found. by_then (answered_null (created body method params t refl says class found refl))
+        (all_called Create class refl (create_text s t.number)
+        (record { told = λ e seat n. creates body t (changed Create class refl e seat) found refl; name = codes "window/workDoneProgress/create"; named = creates_all; writes = λ n small. (create_tree s t.number, create_says s t.number n small) })
+        (running_in settings g before) (behind now (outs (accept s body) now)) (all_in settings before g) turning_now))
+
     -- of those that run one has this
     abbrev Here : ℕ → Type 0
     Here e = ((desk_of e now).phase ≡ Running) × IsIn settings before g e
@@ -624,6 +706,7 @@ module _ (settings : Settings) (before : List Event) (s : ℕ) (body : List ℕ)
               params = made.0;
               source = record { from = refl; ready = stage; running = k.0 };
               asks = says;
+              plain = uncreating Focused class refl;
               group = g;
               kept = at_home;
               home = (k.1).home;
@@ -643,11 +726,12 @@ module _ (settings : Settings) (before : List Event) (s : ℕ) (body : List ℕ)
     asking_why Focused class built = by_on
         (λ none. let is = refusal_says body id method params request_failed says in
         by_send (resolves (record { id = id; resolution = denied body method params refl says class refl; ready = still_ready; stays = rests; response = ap is_response is; answers = ap answered_id is; waits = waits_now })))
-        (λ e found. let k : Here e = focus_is Here (running_in settings g before) (forwarding_of s before).open_requests e all_here found in by_choose (λ edit. edit_why class e edit k) (λ plain. asked_why plain (λ patient. never (sym patient ∙ unhurried Focused class refl)) e now k.1 work_now (λ single. refl) k.0))
-    asking_why Lowest class built = by_on (λ none. by_nothing) (λ e found. let k : Here e = first_is Here (running_in settings g before) e all_here found in asked_why (other_method Lowest class refl) (λ patient. ap (λ o. option_map_or (λ h. is_some (first_in (running_in settings h before))) o false) at_home ∙ ap is_some found) e now k.1 work_now (λ single. refl) k.0)
+        (λ e found. let k : Here e = focus_is Here (running_in settings g before) (forwarding_of s before).open_requests e all_here found in by_choose (λ edit. edit_why class e edit k) (λ plain. asked_why (uncreating Focused class refl) plain (λ patient. never (sym patient ∙ unhurried Focused class refl)) e now k.1 work_now (λ single. refl) k.0))
+    asking_why Lowest class built = by_on (λ none. by_nothing) (λ e found. let k : Here e = first_is Here (running_in settings g before) e all_here found in asked_why (uncreating Lowest class refl) (other_method Lowest class refl) (λ patient. ap (λ o. option_map_or (λ h. is_some (first_in (running_in settings h before))) o false) at_home ∙ ap is_some found) e now k.1 work_now (λ single. refl) k.0)
     asking_why Folders class built = folders_why class
     asking_why Register class built = register_why class
     asking_why Unregister class built = unregister_why class
+    asking_why Create class built = create_why class
     asking_why _ class built = by_nothing
 
   pub question_why : AllMeant before → Written settings before → (id : Id) (method : List ℕ) (params : Option Json) → message_of body ≡ request id method params

@@ -24,13 +24,14 @@ use Rattle.group_words.specs.Houses.{home_of}
 use Rattle.group_words.proofs.Frames.{past_more}
 use Rattle.group_rows.specs.Asks.{Ask, Asker, Asking, Parked, asked_next, asker_of, asking_next, asking_of, asks_of, has_running, idle_asking, is_own_work, is_patient, is_seated, is_single, is_taken, is_under, may_wait, next_ask, no_asking, parked_of, parks, put, serves, unparked, waits_under}
 use Rattle.group_rows.specs.Forwarded.{names}
-use Rattle.group_rows.specs.Live.{changes_live, is_registering}
+use Rattle.group_rows.specs.Live.{changes_live}
 use Rattle.lsp_method.specs.Class.{class_of}
 use Rattle.lsp_method.specs.declared.variants.Class.{Class}
-use Rattle.lsp_method.specs.declared.variants.Class.TheVariants.{Register, Unregister}
+use Rattle.lsp_method.specs.declared.variants.Class.TheVariants.{Create, Register, Unregister}
 use Rattle.lsp_method.specs.declared.variants.Origin.TheVariants.{Server}
 use Rattle.group_facts.specs.Facts.{AllApart, AllDiffer, AreAsks, Asks, IsAsked, IsParked, asked_by, asked_of, editor_behind, server_behind}
-use Rattle.group_facts.specs.Why.{IsAsk, IsRegistering, IsResumed, WhyToEditor, answers, asks, passes, recalls, refuses, registers, rejects, resumes, spreads, turns_away, welcomes, progresses}
+use Rattle.group_rows.specs.Created.{names_create}
+use Rattle.group_facts.specs.Why.{IsAsk, IsCall, is_call, IsResumed, WhyToEditor, answers, asks, passes, recalls, refuses, calls, rejects, resumes, spreads, turns_away, welcomes, progresses}
 
 -- One event more
 
@@ -354,14 +355,15 @@ serves_one (Some n) s t h other = go (nat_eq t n) refl
     go false e = refl
     go true e = never (sym (ap (nat_eq s) (number_same t n e) ∙ h) ∙ other)
 
--- a request about registrations waits for no editor
-changing_hurried : (c : Class) → changes_live c ≡ true → may_wait c ≡ false
+-- the daemon's own request waits for no editor
+changing_hurried : (c : Class) → (changes_live c || names_create c) ≡ true → may_wait c ≡ false
 changing_hurried Register h = refl
 changing_hurried Unregister h = refl
+changing_hurried Create h = refl
 changing_hurried _ h = never (sym h)
 
-pub registering_hurried : (method : List ℕ) → is_registering method ≡ true → is_patient method ≡ false
-registering_hurried method h = changing_hurried (class_of method Server false) h
+pub call_hurried : (method : List ℕ) → is_call method ≡ true → is_patient method ≡ false
+call_hurried method h = changing_hurried (class_of method Server false) h
 
 module _ (settings : Settings) (events : List Event) (e : ℕ) (body : List ℕ) where
   abbrev told : List Event
@@ -529,14 +531,14 @@ module _ (settings : Settings) (events : List Event) (e : ℕ) (body : List ℕ)
             stay settings s events event (h s) (told_one s) (told_waits s) (ap (λ (x : Asking). x.asks) same) (ap (λ (x : Asking). x.parked) same)
 
   -- the daemon's own request
-  module _ (before : List Event) (cause : Cause) (k : IsRegistering settings before cause events e body) where
+  module _ (before : List Event) (cause : Cause) (k : IsCall settings before cause events e body) where
     and_off : (a : Bool) → (a && false) ≡ false
     and_off true = refl
     and_off false = refl
 
     pub registering_made : (s : ℕ) → made s ≡ asking_of settings s events
     registering_made s = made_by s (integer (decimal number)) k.method k.params None k.says (k.idle s)
-        ∙ ap (λ b. asked_next (is_own_work e (asking_of settings s events).runs && (b && serves settings events s e)) e number (asking_of settings s events) None) (registering_hurried k.method k.named)
+        ∙ ap (λ b. asked_next (is_own_work e (asking_of settings s events).runs && (b && serves settings events s e)) e number (asking_of settings s events) None) (call_hurried k.method k.named)
         ∙ ap (λ c. asked_next c e number (asking_of settings s events) None) (and_off (is_own_work e (asking_of settings s events).runs))
 
     registering : Asks settings events → Asks settings told
@@ -551,7 +553,7 @@ module _ (settings : Settings) (events : List Event) (e : ℕ) (body : List ℕ)
   asks_told before cause (passes k) h = no_question (message_of body) refl (response_asks_none (message_of body) k.response) h
   asks_told before cause (asks k) h = question before cause k h
   asks_told before cause (resumes k) h = resumed before cause k h
-  asks_told before cause (registers k) h = registering before cause k h
+  asks_told before cause (calls k) h = registering before cause k h
   asks_told before cause (spreads k) h = no_question (notification k.method k.params) k.says refl h
   asks_told before cause (recalls k) h = no_question (notification (codes "$/cancelRequest") (Some k.params)) k.says refl h
   asks_told before cause (progresses k) h = no_question (notification k.method k.params) k.says refl h

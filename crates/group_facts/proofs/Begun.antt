@@ -16,7 +16,7 @@ use Rattle.rpc_message.specs.Texts.{error_text, initialized_text, ok_text, reque
 use Rattle.json_text.specs.Json.{Json}
 use Rattle.lsp_method.specs.Class.{class_of}
 use Rattle.lsp_method.specs.declared.variants.Class.{Class}
-use Rattle.lsp_method.specs.declared.variants.Class.TheVariants.{Broadcast, Cancel, Focused, Folders, Lowest, Refresh, Register, Unregister, Progress}
+use Rattle.lsp_method.specs.declared.variants.Class.TheVariants.{Broadcast, Cancel, Create, Focused, Folders, Lowest, Refresh, Register, Unregister, Progress}
 use Rattle.lsp_method.specs.declared.variants.Origin.TheVariants.{Server}
 use Rattle.event_model.specs.declared.phase.Phase.{Phase}
 use Rattle.event_model.specs.declared.phase.Phase.TheVariants.{New, Waiting, Answered, Running, Down}
@@ -53,7 +53,9 @@ use Rattle.group_rows.specs.Leaves.{cancel, cancel_text, cancels, closings, leav
 use Rattle.group_rows.specs.AskRows.{ask, ask_edit, asking_row, broadcast, current_version, edited, notified_row, response_at, response_row, run_at, run_row}
 use Rattle.group_rows.specs.Asks.{Ask, Parked, asks_of, is_with, next_ask, parked_of, running_in}
 use Rattle.group_rows.specs.Answers.{answer_row, hand_on}
-use Rattle.group_rows.specs.Tokens.{tell_progress, work_at, work_row}
+use Rattle.group_rows.specs.Created.{Token, created_of, created_text}
+use Rattle.group_rows.specs.CreatedRows.{create_text, created_row, created_work, offer, takers, taking_row, tell, tell_takers, work_at, work_row}
+use Rattle.group_rows.specs.Tokens.{marked_text, tell_progress}
 use Rattle.group_rows.specs.Rows.{answer_error, begin_in, begun_row, closing_row, document_at, document_bodies, document_row, down_row, early_row, exit_row, first_result, from_server, gone_row, lspmux_row, message_row, named_row, notice_at, notice_row, open_row, outs_of, ready_row, replay_bodies, request_at, request_row, result_in, row_of, served_request, served_row, started, sync_bodies, taken_row, waiting_in, welcome, hasty_row, close_all, refusal, refused_row}
 use Rattle.group_rows.specs.Texts.{encoding_of, texts_of}
 use Rattle.group_rows.specs.Ticks.{due_of, overdue_of, tick_row}
@@ -114,9 +116,16 @@ module _ (R : List Event → Out → Type 0) (sends : (events : List Event) (s :
   refused_by s (a ∷ asks) events = by_then (by_send (sends events s (error_text a.bytes request_failed))) (refused_by s asks (behind events (outs (refuse s a) events)))
 
   -- and of the answer that an editor gives (E19)
-  module _ (settings : Settings) (before : List Event) (e : ℕ) (body : List ℕ) (m : Message) (events : List Event) where
+  module _ (tells : (events : List Event) (e : ℕ) (body : List ℕ) → R events (ToEditor e body)) (settings : Settings) (before : List Event) (e : ℕ) (body : List ℕ) (m : Message) (events : List Event) where
+    told_out : (s k : ℕ) (bodies : List (List ℕ)) (places : List Event) → Because R places (each (tell s k e) bodies)
+    told_out s k [] places = by_nothing
+    told_out s k (b ∷ bodies) places = by_then (by_send (tells places e (marked_text (created_text s k) b))) (told_out s k bodies (behind places (outs (tell s k e b) places)))
+
+    taken_at : (s : ℕ) → Because R events (taking_row settings before e m s)
+    taken_at s = by_choose (λ runs. by_on (λ none. by_nothing) (λ c found. by_choose (λ agrees. told_out s c.token c.held events) (λ no. by_nothing))) (λ idle. by_nothing)
+
     handed_at : (s : ℕ) → Because R events (response_at settings before e body m s)
-    handed_at s = by_choose (λ ready. by_on (λ none. by_nothing) (λ a found. by_send (sends events s (with_id_text body a.bytes)))) (λ off. by_nothing)
+    handed_at s = by_choose (λ ready. by_on (λ none. taken_at s) (λ (a : Ask) found. by_send (sends events s (with_id_text body a.bytes)))) (λ off. by_nothing)
 
     handed_in : (g : ℕ) → Because R events (on (start_of g before) nothing (response_at settings before e body m))
     handed_in g = by_on (λ none. by_nothing) (λ s start. handed_at s)
@@ -190,10 +199,13 @@ module _ (settings : Settings) (before : List Event) where
   quiet_cancelling : (e : ℕ) (body : List ℕ) (params : Option Json) (events : List Event) → Quiet events (cancelling_row settings before e body params)
   quiet_cancelling e body params events = by_on (λ none. by_nothing) (λ g home. quiet_cancels e body params events g)
 
-  quiet_worked : (e : ℕ) (body : List ℕ) (params : Option Json) (events : List Event) (s : ℕ) → Quiet events (work_at before e body params s)
-  quiet_worked e body params events s = by_choose (λ ready. by_on (λ none. by_nothing) (λ f found. by_send tt)) (λ off. by_nothing)
+  quiet_token : (e : ℕ) (body : List ℕ) (params : Option Json) (events : List Event) (s : ℕ) → Quiet events (created_work settings before e body params s)
+  quiet_token e body params events s = by_on (λ none. by_nothing) (λ t found. by_choose (λ accepted. by_send tt) (λ no. by_nothing))
 
-  quiet_works : (e : ℕ) (body : List ℕ) (params : Option Json) (events : List Event) (g : ℕ) → Quiet events (on (start_of g before) nothing (λ s. work_at before e body params s))
+  quiet_worked : (e : ℕ) (body : List ℕ) (params : Option Json) (events : List Event) (s : ℕ) → Quiet events (work_at settings before e body params s)
+  quiet_worked e body params events s = by_choose (λ ready. by_on (λ none. quiet_token e body params events s) (λ f found. by_send tt)) (λ off. by_nothing)
+
+  quiet_works : (e : ℕ) (body : List ℕ) (params : Option Json) (events : List Event) (g : ℕ) → Quiet events (on (start_of g before) nothing (work_at settings before e body params))
   quiet_works e body params events g = by_on (λ none. by_nothing) (λ s start. quiet_worked e body params events s)
 
   quiet_work : (e : ℕ) (body : List ℕ) (params : Option Json) (events : List Event) → Quiet events (work_row settings before e body params)
@@ -242,7 +254,7 @@ module _ (settings : Settings) (before : List Event) where
   quiet_asked e body method events = by_choose (λ misplaced. by_send tt) (λ placed. by_choose (λ down. by_then (by_send tt) (quiet_leave e _)) (λ on. quiet_request e body events))
 
   quiet_handed : (e : ℕ) (body : List ℕ) (m : Message) (events : List Event) → Quiet events (response_row settings before e body m)
-  quiet_handed e body m events = handed_by (λ places out. NoSpawn out) (λ places s b. tt) settings before e body m events
+  quiet_handed e body m events = handed_by (λ places out. NoSpawn out) (λ places s b. tt) (λ places n b. tt) settings before e body m events
 
   quiet_served : (e : ℕ) (body : List ℕ) (m : Message) (events : List Event) → Quiet events (served_row settings before e body m)
   quiet_served e body (request id method params) events = quiet_asked e body method events
@@ -272,8 +284,21 @@ module _ (settings : Settings) (before : List Event) where
   quiet_registering gone items (e ∷ es) events =
       by_then (by_then (quiet_any (has_some gone) (unregister_text gone) e events) (quiet_call (register_text items) e (behind events (outs (unregister_any gone e) events)))) (quiet_registering gone items es (behind events (outs (registering gone items e) events)))
 
+  quiet_offers : (s e : ℕ) (ts : List Token) (events : List Event) → Quiet events (each (offer s e) ts)
+  quiet_offers s e [] events = by_nothing
+  quiet_offers s e (t ∷ ts) events = by_then (quiet_call (create_text s t.number) e events) (quiet_offers s e ts (behind events (outs (offer s e t) events)))
+
+  quiet_created : (s : ℕ) (t : Token) (es : List ℕ) (events : List Event) → Quiet events (each (λ e. offer s e t) es)
+  quiet_created s t [] events = by_nothing
+  quiet_created s t (e ∷ es) events = by_then (quiet_call (create_text s t.number) e events) (quiet_created s t es (behind events (outs (offer s e t) events)))
+
+  quiet_takers : (s k : ℕ) (body : List ℕ) (es : List ℕ) (events : List Event) → Quiet events (each (λ e. tell s k e body) es)
+  quiet_takers s k body [] events = by_nothing
+  quiet_takers s k body (e ∷ es) events = by_then (by_send tt) (quiet_takers s k body es (behind events (outs (tell s k e body) events)))
+
   quiet_run_at : (e s : ℕ) (events : List Event) → Quiet events (run_at settings before e s)
-  quiet_run_at e s events = by_choose (λ ready. by_then (quiet_any (has_some (live_of settings s before)) (register_text (live_of settings s before)) e events) (quiet_parked e (parked_of settings s before) (behind events (outs (restore settings before e s) events)))) (λ off. by_nothing)
+  quiet_run_at e s events = by_choose (λ ready. by_then (quiet_any (has_some (live_of settings s before)) (register_text (live_of settings s before)) e events)
+      (by_then (quiet_offers s e (created_of settings s before).tokens (behind events (outs (restore settings before e s) events))) (quiet_parked e (parked_of settings s before) _))) (λ off. by_nothing)
 
   quiet_run_in : (e g : ℕ) (events : List Event) → Quiet events (on (start_of g before) nothing (run_at settings before e))
   quiet_run_in e g events = by_on (λ none. by_nothing) (λ s start. quiet_run_at e s events)
@@ -364,15 +389,22 @@ module _ (settings : Settings) (before : List Event) where
       (λ items found. by_then (by_send tt) (quiet_registering (again items (live_of settings s before)) items (running_in settings g before) (behind events (outs (accept s body) events))))
   quiet_asking g s body method Unregister events = by_on (λ none. by_send tt)
       (λ items found. by_then (by_send tt) (quiet_calls (unregister_text (again items (live_of settings s before))) (running_in settings g before) (behind events (outs (accept s body) events))))
+  quiet_asking g s body method Create events = by_on (λ none. by_send tt) (λ t found. by_then (by_send tt) (quiet_created s t (running_in settings g before) (behind events (outs (accept s body) events))))
   quiet_asking g s body method _ events = by_nothing
 
   quiet_tell : (body : List ℕ) (token : Option Json) (f : Forwarded) (events : List Event) → Quiet events (tell_progress body token f)
   quiet_tell body token f events = by_on (λ none. by_nothing) (λ text own. by_send tt)
 
+  quiet_all : (s : ℕ) (body : List ℕ) (t : Token) (events : List Event) → Quiet events (tell_takers settings before s body t)
+  quiet_all s body t events = by_on (λ none. by_nothing) (λ g home. quiet_takers s t.number body (takers settings before g s t) events)
+
+  quiet_tokens : (s : ℕ) (body : List ℕ) (params : Option Json) (events : List Event) → Quiet events (created_row settings s before body params)
+  quiet_tokens s body params events = by_on (λ none. by_nothing) (λ t found. quiet_all s body t events)
+
   quiet_notified : (s : ℕ) (body : List ℕ) (params : Option Json) (c : Class) (events : List Event) → Quiet events (notified_row settings s before body params c)
   quiet_notified s body params Cancel events = by_on (λ none. by_nothing) (λ a found. by_choose (λ runs. by_send tt) (λ no. by_nothing))
   quiet_notified s body params Broadcast events = by_on (λ none. by_nothing) (λ g home. quiet_spread body (running_in settings g before) events)
-  quiet_notified s body params Progress events = by_on (λ none. by_nothing) (λ f found. quiet_tell body (named_of (codes "token") params) f events)
+  quiet_notified s body params Progress events = by_on (λ none. quiet_tokens s body params events) (λ f found. quiet_tell body (named_of (codes "token") params) f events)
   quiet_notified s body params _ events = by_nothing
 
   quiet_ready : (s : ℕ) (body : List ℕ) (m : Message) (events : List Event) → Quiet events (ready_row settings s before body m)

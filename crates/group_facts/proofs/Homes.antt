@@ -16,12 +16,15 @@ module _ (settings : Settings) (before : List Event) (e : ℕ) (old : is_new (de
   unplaced : (m : Message) → places (desk_of e before).phase m ≡ false
   unplaced m = ap (λ b. b && requests (codes "initialize") m) old
 
-  pub took_home : (cause : Cause) → shuts cause e ≡ false → home_of settings e (with_cause before cause) ≡ home_of settings e before
-  took_home (FromEditor n body) stays = go (nat_eq n e) refl
+  pub heard_home : (n : ℕ) (body : List ℕ) → home_of settings e (with_cause before (FromEditor n body)) ≡ home_of settings e before
+  heard_home n body = go (nat_eq n e) refl
     where
       go : (b : Bool) → nat_eq n e ≡ b → home_of settings e (with_cause before (FromEditor n body)) ≡ home_of settings e before
       go true same = let off : places (desk_of n before).phase (message_of body) ≡ false = ap (λ k. places (desk_of k before).phase (message_of body)) (number_same n e same) ∙ unplaced (message_of body) in home_more settings e before (heard (FromEditor n body)) ∙ rw (same, off) refl
       go false other = home_more settings e before (heard (FromEditor n body)) ∙ rw other refl
+
+  pub took_home : (cause : Cause) → shuts cause e ≡ false → home_of settings e (with_cause before cause) ≡ home_of settings e before
+  took_home (FromEditor n body) stays = heard_home n body
   took_home (EditorGone n why) stays = home_stays settings e before (heard (EditorGone n why)) stays
   took_home (Joined n) stays = home_stays settings e before (heard (Joined n)) refl
   took_home (Started n) stays = home_stays settings e before (heard (Started n)) refl

@@ -66,3 +66,5 @@ pub mod AskEntries
 pub mod AskLeft
 pub mod Listens
 pub mod WorkRow
+pub mod Marks
+pub mod Takings

@@ -13,7 +13,7 @@ use Rattle.mux_history.specs.declared.out.Out.TheVariants.{ToEditor, ToServer, S
 use Rattle.rpc_message.specs.Message.{Message, request, notification, result, error, not_json, not_message, Id, integer, message_of}
 use Rattle.rpc_message.specs.ValueTexts.{IsIdText}
 use Rattle.event_model.specs.Event.{Event, behind, said, with_cause}
-use Rattle.event_model.specs.Phases.{Desk, desk_of, has_id, is_malformed, is_there, makes_running}
+use Rattle.event_model.specs.Phases.{Desk, desk_of, has_id, is_malformed, is_running, is_there, makes_running}
 use Rattle.event_model.specs.Requests.{is_open}
 use Rattle.event_model.specs.Row.{Row, outs}
 use Rattle.event_model.specs.Settings.{Settings}
@@ -28,7 +28,7 @@ use Rattle.group_rows.specs.Forwarded.{Forwarded, Forwarding}
 use Rattle.group_facts.specs.Facts.{IsAlone, IsWaiting, is_early}
 use Rattle.group_facts.specs.Lively.{lives_at}
 use Rattle.group_rows.specs.Tokens.{forwarded_text}
-use Rattle.group_facts.specs.Why.{IsBehindSync, IsBeside, IsQuestion, Turn, Why, WhyToEditor, WhyToServer, answers, asks, asks_something, begins, cancels, exits, forwarded, greeted, greets, is_uncancelled, notes, passes, recalls, refuses, registers, rejects, resolves, responds, resumes, shuts, spreads, stays, tells, turns_away, versions_at, welcomes, cancels_work, progresses}
+use Rattle.group_facts.specs.Why.{IsBehindSync, IsBeside, IsQuestion, Telling, Turn, Why, WhyToEditor, WhyToServer, answers, asks, asks_something, begins, cancels, exits, forwarded, greeted, greets, is_uncancelled, notes, of_held, of_request, of_token, passes, recalls, refuses, calls, rejects, resolves, responds, resumes, shuts, spreads, stays, tells, turns_away, versions_at, welcomes, cancels_work, progresses}
 use Rattle.group_facts.proofs.Same.{IsBody, Same, same_behind, same_held, same_questions}
 use Rattle.group_facts.proofs.Still.{Goes, Still, goes_body}
 
@@ -47,7 +47,7 @@ running_fine (error id r) h = refl
 running_fine not_json h = never (sym h)
 running_fine not_message h = never (sym h)
 
-module _ (settings : Settings) (before : List Event) (e : ℕ) (body : List ℕ) (runs : makes_running (message_of body) ≡ true) (questions : List Out) (asked : AllByRecursion (IsQuestion e) questions) where
+module _ (settings : Settings) (before : List Event) (e : ℕ) (body : List ℕ) (runs : makes_running (message_of body) ≡ true) (idle : is_running (desk_of e before).phase ≡ false) (questions : List Out) (asked : AllByRecursion (IsQuestion e) questions) where
   abbrev cause : Cause
   cause = FromEditor e body
 
@@ -108,6 +108,7 @@ module _ (settings : Settings) (before : List Event) (e : ℕ) (body : List ℕ)
       sender = k.sender;
       asked = k.asked;
       from = k.from;
+      free = k.free;
       synced = sync_moved s (k.sender).editor k.asked k.from k.synced;
       bytes = k.bytes ∙ ap (λ (f : Forwarding). forwarded_text f.next k.asked) (sym (S.forwarding s));
       id = k.id;
@@ -163,7 +164,7 @@ module _ (settings : Settings) (before : List Event) (e : ℕ) (body : List ℕ)
       editor = k.editor;
       asked = k.asked;
       given = k.given;
-      request = k.request;
+      text = k.text;
       params = k.params;
       from = k.from;
       served = k.served;
@@ -230,8 +231,16 @@ module _ (settings : Settings) (before : List Event) (e : ℕ) (body : List ℕ)
     editor_moved n b goes (asks k) = none_from k.start k.asked (k.source).from
     editor_moved n b goes (spreads k) = none_from k.start b (k.source).from
     editor_moved n b goes (recalls k) = none_from k.start k.asked (k.source).from
-    editor_moved n b goes (progresses k) = none_from k.start k.asked k.from
-    editor_moved n b goes (registers k) = no_question b (integer (decimal (next_ask n x))) k.method k.params goes k.says
+    editor_moved n b goes (progresses k) = by_told k.told
+      where
+        same_editor : (text : List ℕ) → FromEditor e body ≡ FromEditor n text → e ≡ n
+        same_editor text from = cc
+
+        by_told : Telling settings before cause x n b → WhyToEditor settings before cause y n b
+        by_told (of_request s text given f token told found own editor bytes) = none_from s text told.from
+        by_told (of_token s text given token told found accepted bytes) = none_from s text told.from
+        by_told (of_held s taking earlier held later taken order place bytes) = never (sym (ap is_running (ap (λ i. (desk_of i before).phase) (same_editor taken.answer taken.from) ∙ taken.ran)) ∙ idle)
+    editor_moved n b goes (calls k) = no_question b (integer (decimal (next_ask n x))) k.method k.params goes k.says
     editor_moved n b goes (resumes k) = no_question b (integer (decimal (next_ask n x))) k.method k.params goes k.says
 
     out_moved : (out : Out) → Goes out → Why settings before cause x out → Why settings before cause y out

@@ -12,15 +12,15 @@ use Rattle.mux_history.specs.declared.cause.Cause.TheVariants.{FromEditor}
 use Rattle.mux_history.specs.declared.out.Out.{Out}
 use Rattle.mux_history.specs.declared.out.Out.TheVariants.{ToEditor, ToServer, Spawn, CloseEditor, EndServer}
 use Rattle.rpc_message.specs.Message.{Message, request, notification, result, error, not_json, not_message, Id, id_bytes, integer, message_of}
-use Rattle.rpc_message.specs.Texts.{Code, error_text, error_tree, invalid_params, invalid_request, ok_text, request_failed}
+use Rattle.rpc_message.specs.Texts.{with_id_text, Code, error_text, error_tree, invalid_params, invalid_request, ok_text, request_failed}
 use Rattle.rpc_message.proofs.Ids.{request_id_bytes}
 use Rattle.event_model.specs.declared.phase.Phase.{Phase}
 use Rattle.event_model.specs.declared.phase.Phase.TheVariants.{Absent, New, Waiting, Answered, Running, Down, Closed, Gone}
 use Rattle.event_model.specs.Event.{Event, behind, heard, requests, said, with_cause}
 use Rattle.event_model.specs.Members.{params_of}
-use Rattle.event_model.specs.Phases.{Desk, desk_hears, desk_of, has_id, is_begun, is_linked, is_new, is_there, makes_running, phase_told}
+use Rattle.event_model.specs.Phases.{is_running, Desk, desk_hears, desk_of, has_id, is_begun, is_linked, is_new, is_there, makes_running, phase_told}
 use Rattle.event_model.specs.Requests.{answered_id, with_request, is_open, is_own, open_of, without}
-use Rattle.event_model.specs.Row.{Row, choose, nothing, on, outs, send, ◌⨾◌}
+use Rattle.event_model.specs.Row.{each, Row, choose, nothing, on, outs, send, ◌⨾◌}
 use Rattle.event_model.specs.Settings.{Settings}
 use Rattle.event_model.specs.Spawns.{start_of}
 use Rattle.event_model.proofs.Frames.{never}
@@ -41,20 +41,26 @@ use Rattle.group_words.specs.Houses.{home_of, house_of, is_doubled, is_first_ope
 use Rattle.group_words.specs.Placing.{home_by}
 use Rattle.group_words.specs.Rows.{initialize_row}
 use Rattle.group_words.proofs.Frames.{home_more}
-use Rattle.group_rows.specs.AskRows.{response_row, run_row}
+use Rattle.group_rows.specs.AskRows.{hand_back, response_at, response_row, run_row}
 use Rattle.group_rows.specs.Cancelling.{cancelling_at, cancelling_row}
 use Rattle.group_rows.specs.Forwarded.{Forwarding, forwarding_of, numbered, token_in}
 use Rattle.group_rows.specs.Leaves.{leave_row}
-use Rattle.group_rows.specs.Tokens.{forwarded_text, reserves, work_at, work_row}
+use Rattle.group_rows.specs.Created.{Taking, accepts, created_of, created_text, is_answered as is_settled}
+use Rattle.group_rows.specs.CreatedRows.{created_work, hand_out, taking_row, tell, work_at, work_row}
+use Rattle.group_rows.specs.Tokens.{forwarded_text, marked_text, reserves}
 use Rattle.group_rows.specs.Rows.{answer_error, asks_lspmux, begun_row, can_ask, closing_row, document_at, document_bodies, document_row, early_code, early_row, exit_row, forward, from_editor, is_misplaced, lspmux_row, message_row, named_row, names_lspmux, notice_at, notice_row, open_row, outs_of, request_at, request_row, served_request, served_row, shutdown_row, status_row, sync_bodies, sync_row, taken_row, told_row, wrong_code}
 use Rattle.group_rows.specs.Status.{items_of, status_text}
 use Rattle.group_rows.proofs.Statuses.{told_tree}
 use Rattle.group_rows.specs.Texts.{encoding_of, texts_of}
+use Rattle.group_rows.specs.Asks.{Ask, is_seated, asks_of}
+use Rattle.event_model.specs.Stages.{is_ready, life_of}
+use Rattle.std.specs.Prelude.{find}
+use Rattle.group_facts.proofs.AskingRows.{running_is, still_runs}
 use Rattle.group_facts.specs.Facts.{turned_away}
 use Rattle.group_facts.specs.Why.{IsForward, IsQuestion}
 use Rattle.group_facts.specs.Settled.{is_answered}
 use Rattle.group_facts.proofs.Apart.{alone_by}
-use Rattle.group_facts.proofs.Begun.{NoSpawn, all_outs, bodies_by, handed_by, leave_by, quiet_bodies, start_did, start_took, starts_stay}
+use Rattle.group_facts.proofs.Begun.{NoSpawn, all_outs, bodies_by, leave_by, quiet_bodies, start_did, start_took, starts_stay}
 use Rattle.group_facts.proofs.Facts.{Facts}
 use Rattle.group_facts.proofs.Forwards.{more_requests}
 use Rattle.group_facts.proofs.Numbers.{forwarding_sent}
@@ -66,7 +72,7 @@ use Rattle.group_facts.proofs.Same.{IsBody, same_behind, same_questions, sym_sam
 use Rattle.group_facts.proofs.Still.{Goes, Still, goes_body, still_served}
 use Rattle.group_facts.proofs.Sent.{IsOf, OneOf, SentAt, one_last, sent_did, sent_heard}
 use Rattle.group_facts.proofs.PutOut.{home_did, homes_stay}
-use Rattle.group_facts.proofs.OpenByPhase.{OpenDesk, OpenIf, if_asked, if_hears, if_null, if_other, reply_told, without_last}
+use Rattle.group_facts.proofs.OpenByPhase.{if_passed, OpenDesk, OpenIf, if_asked, if_hears, if_null, if_other, reply_told, without_last}
 use Rattle.group_facts.proofs.SharedRows.{off_first}
 use Rattle.group_facts.proofs.Waiting.{new_is, turned_outs}
 use Rattle.group_facts.proofs.OpenByOut.{OpenAt, S, open_at, open_closed, open_moved, open_sent, open_still, or_later, told}
@@ -193,7 +199,7 @@ module _ (settings : Settings) (before : List Event) (n : ℕ) (body : List ℕ)
         no_first : (desk_of n before).phase ≡ New → requests (codes "initialize") (message_of body) ≡ false
         no_first new = never (sym (ap is_early new) ∙ late)
 
-        module _ (g s : ℕ) (home : home_of settings n before ≡ Some g) (start : start_of g before ≡ Some s) (can : can_ask settings s before ≡ true) where
+        module _ (g s : ℕ) (home : home_of settings n before ≡ Some g) (start : start_of g before ≡ Some s) (can : can_ask settings s before ≡ true) (free : reserves (params_of body) ≡ false) where
           abbrev sync : List Out
           sync = outs (sync_row settings before g s n) now
 
@@ -219,12 +225,12 @@ module _ (settings : Settings) (before : List Event) (n : ℕ) (body : List ℕ)
           quiet_sync = all_outs NoSpawn now sync (quiet_bodies s _ now).why
 
           forward_is : IsForward settings before (FromEditor n body) synced s text
-          forward_is = is_forward settings before n body id method params says there (alone_by before (facts.steady).asked n id fresh) range (facts.base).opened late other g s start can
+          forward_is = is_forward settings before n body id method params says there (alone_by before (facts.steady).asked n id fresh) range (facts.base).opened late other g s start can free
 
           list_now : (forwarding_of s gone).open_requests ≡ (forwarding_of s synced).open_requests ++ numbered (Some (record { editor = n; id = id_bytes body; work = token_in (codes "workDoneToken") body; partial = token_in (codes "partialResultToken") body })) (forwarding_of s synced).next
           list_now = ap (λ (x : Forwarding). x.open_requests) (forwarding_sent synced s text (request (integer (decimal (forwarding_of s synced).next)) forward_is.method forward_is.params) forward_is.says
               ∙ ap (λ c. if c then forwarding_of s synced else more_requests (forwarding_of s synced)) forward_is.other)
-              ∙ ap (λ o. (forwarding_of s synced).open_requests ++ numbered o (forwarding_of s synced).next) (synced_sender settings before n body id method params says there (alone_by before (facts.steady).asked n id fresh) range (facts.base).opened late other g s start can)
+              ∙ ap (λ o. (forwarding_of s synced).open_requests ++ numbered o (forwarding_of s synced).next) (synced_sender settings before n body id method params says there (alone_by before (facts.steady).asked n id fresh) range (facts.base).opened late other g s start can free)
 
           sent_now : SentAt settings gone n id
           sent_now = record {
@@ -261,24 +267,24 @@ module _ (settings : Settings) (before : List Event) (n : ℕ) (body : List ℕ)
               go i (inr same) = inl (subst (SentAt settings gone n) (sym same) sent_now)
 
         -- E10
-        by_can : (g s : ℕ) → home_of settings n before ≡ Some g → start_of g before ≡ Some s → (b : Bool) → can_ask settings s before ≡ b → Rests (outs (choose b (sync_row settings before g s n ⨾ forward s body) (answer_error n body request_failed)) now)
-        by_can g s home start true can = forwarded_rests g s home start can
-        by_can g s home start false can = refused no_first request_failed
+        by_can : (g s : ℕ) → reserves (params_of body) ≡ false → home_of settings n before ≡ Some g → start_of g before ≡ Some s → (b : Bool) → can_ask settings s before ≡ b → Rests (outs (choose b (sync_row settings before g s n ⨾ forward s body) (answer_error n body request_failed)) now)
+        by_can g s free home start true can = forwarded_rests g s home start can free
+        by_can g s free home start false can = refused no_first request_failed
 
-        by_start : (g : ℕ) → home_of settings n before ≡ Some g → (o : Option ℕ) → start_of g before ≡ o → Rests (outs (on o (answer_error n body request_failed) (request_at settings before n body g)) now)
-        by_start g home None start = refused no_first request_failed
-        by_start g home (Some s) start = by_can g s home start (can_ask settings s before) refl
+        by_start : (g : ℕ) → reserves (params_of body) ≡ false → home_of settings n before ≡ Some g → (o : Option ℕ) → start_of g before ≡ o → Rests (outs (on o (answer_error n body request_failed) (request_at settings before n body g)) now)
+        by_start g free home None start = refused no_first request_failed
+        by_start g free home (Some s) start = by_can g s free home start (can_ask settings s before) refl
 
-        by_home : (o : Option ℕ) → home_of settings n before ≡ o → Rests (outs (on o (answer_error n body request_failed) (λ g. on (start_of g before) (answer_error n body request_failed) (request_at settings before n body g))) now)
-        by_home None home = refused no_first request_failed
-        by_home (Some g) home = by_start g home (start_of g before) refl
+        by_home : reserves (params_of body) ≡ false → (o : Option ℕ) → home_of settings n before ≡ o → Rests (outs (on o (answer_error n body request_failed) (λ g. on (start_of g before) (answer_error n body request_failed) (request_at settings before n body g))) now)
+        by_home free None home = refused no_first request_failed
+        by_home free (Some g) home = by_start g free home (start_of g before) refl
 
-        by_token : (b : Bool) → Rests (outs (choose b (answer_error n body invalid_params) (on (home_of settings n before) (answer_error n body request_failed) (λ g. on (start_of g before) (answer_error n body request_failed) (request_at settings before n body g)))) now)
-        by_token true = refused no_first invalid_params
-        by_token false = by_home (home_of settings n before) refl
+        by_token : (b : Bool) → reserves (params_of body) ≡ b → Rests (outs (choose b (answer_error n body invalid_params) (on (home_of settings n before) (answer_error n body request_failed) (λ g. on (start_of g before) (answer_error n body request_failed) (request_at settings before n body g)))) now)
+        by_token true reserved = refused no_first invalid_params
+        by_token false free = by_home free (home_of settings n before) refl
 
         request_rests : Rests (outs (request_row settings before n body) now)
-        request_rests = by_token (reserves (params_of body))
+        request_rests = by_token (reserves (params_of body)) refl
 
       -- E9: `shutdown` is answered, and the editor leaves
       abbrev done : List ℕ
@@ -350,25 +356,71 @@ module _ (settings : Settings) (before : List Event) (n : ℕ) (body : List ℕ)
     by_single m phase h g = ap (λ b. outs (choose b (closing_row settings before n) (told_row settings before n body m phase)) now) (single phase m h)
         ∙ ap (λ b. outs (choose b (lspmux_row settings before n body m) (taken_row settings before n body m phase)) now) (unasked phase m g)
 
-    -- it goes to a start at most
-    handed : (m : Message) → AllByRecursion ToStart (outs (response_row settings before n body m) now)
-    handed m = all_outs ToStart now (outs (response_row settings before n body m) now) (handed_by (λ places out. ToStart out) (λ places s b. tt) settings before n body m now).why
+    -- it goes to a start, or gives the editor what was held for it
+    tell_rests : (events : List Event) (text : List ℕ) → (desk_of n events).phase ≡ Running → OpenAt settings n Nobody events → OpenAt settings n Nobody (events ++ said (ToEditor n text) ∷ [])
+    tell_rests events text runs rest = open_told Nobody events text (message_of text) refl
+        (if_passed (S settings n Nobody (events ++ said (ToEditor n text) ∷ [])) (desk_of n events).phase (desk_of n events).initialize (open_of n events) (message_of text) (ap is_early runs)
+        (open_still settings n Nobody events (events ++ said (ToEditor n text) ∷ []) (λ id. sent_did settings n id events (ToEditor n text) tt) rest))
 
-    result_handed : (id : Option Id) (r : Json) (phase : Phase) → (phase ≡ Answered → ⊥) → AllByRecursion ToStart (outs (taken_row settings before n body (result id r) phase) now)
-    result_handed id r Answered other = absurd (other refl)
-    result_handed id r Running other = handed (result id r)
-    result_handed id r New other = tt
-    result_handed id r rest other = tt
+    tells_rest : (s k : ℕ) (bodies : List (List ℕ)) (events : List Event) → (desk_of n events).phase ≡ Running → OpenAt settings n Nobody events → OpenAt settings n Nobody (behind events (outs (each (tell s k n) bodies) events))
+    tells_rest s k [] events runs rest = subst (OpenAt settings n Nobody) (sym (append-nil events)) rest
+    tells_rest s k (b ∷ bodies) events runs rest =
+        let text : List ℕ = marked_text (created_text s k) b in
+        let next : List Event = events ++ said (ToEditor n text) ∷ [] in
+        subst (OpenAt settings n Nobody) (sym (behind_both events (ToEditor n text ∷ []) (outs (each (tell s k n) bodies) next)))
+        (tells_rest s k bodies next (still_runs events n text n runs) (tell_rests events text runs rest))
 
-    error_handed : (id : Option Id) (x : Json) (phase : Phase) → (phase ≡ Answered → ⊥) → AllByRecursion ToStart (outs (taken_row settings before n body (error id x) phase) now)
-    error_handed id x Answered other = absurd (other refl)
-    error_handed id x Running other = handed (error id x)
-    error_handed id x New other = tt
-    error_handed id x rest other = tt
+    module _ (m : Message) (rest : OpenAt settings n Nobody now) (stays : is_running (desk_of n before).phase ≡ true → here.phase ≡ Running) where
+      accepted_rests : (s : ℕ) (c : Taking) → is_running (desk_of n before).phase ≡ true → (b : Bool) → Rests (outs (choose b (each (tell s c.token n) c.held) nothing) now)
+      accepted_rests s c runs true = tells_rest s c.token c.held now (stays runs) rest
+      accepted_rests s c runs false = rests_here rest
 
-    response_rests : (m : Message) → message_of body ≡ m → with_request m ids ≡ ids → requests (codes "initialize") m ≡ false → (phase : Phase) → outs (message_row settings before n body m phase) now ≡ outs (taken_row settings before n body m phase) now
-        → AllByRecursion ToStart (outs (taken_row settings before n body m phase) now) → Rests (outs (message_row settings before n body m phase) now)
-    response_rests m says same none phase single starts = open_bodies settings n Nobody now (outs (message_row settings before n body m phase) now) (subst (AllByRecursion ToStart) (sym single) starts) (no_request m says same none)
+      taken_rests : (s : ℕ) → is_running (desk_of n before).phase ≡ true → (o : Option Taking) → Rests (outs (on o nothing (hand_out s n m)) now)
+      taken_rests s runs None = rests_here rest
+      taken_rests s runs (Some c) = accepted_rests s c runs (accepts m)
+
+      taking_rests : (s : ℕ) (b : Bool) → is_running (desk_of n before).phase ≡ b → Rests (outs (choose b (on (find (is_settled n (answered_id m)) (created_of settings s before).takings) nothing (hand_out s n m)) nothing) now)
+      taking_rests s true runs = taken_rests s runs (find (is_settled n (answered_id m)) (created_of settings s before).takings)
+      taking_rests s false idle = rests_here rest
+
+      answer_rests : (s : ℕ) (o : Option Ask) → Rests (outs (on o (taking_row settings before n m s) (hand_back s body)) now)
+      answer_rests s None = taking_rests s (is_running (desk_of n before).phase) refl
+      answer_rests s (Some a) = open_sent settings n Nobody now s (with_id_text body a.bytes) rest
+
+      start_rests : (s : ℕ) (b : Bool) → Rests (outs (choose b (on (find (is_seated n (answered_id m)) (asks_of settings s before)) (taking_row settings before n m s) (hand_back s body)) nothing) now)
+      start_rests s true = answer_rests s (find (is_seated n (answered_id m)) (asks_of settings s before))
+      start_rests s false = rests_here rest
+
+      group_rests : (o : Option ℕ) → Rests (outs (on o nothing (response_at settings before n body m)) now)
+      group_rests None = rests_here rest
+      group_rests (Some s) = start_rests s (is_ready (life_of s before).stage)
+
+      home_rests : (o : Option ℕ) → Rests (outs (on o nothing (λ g. on (start_of g before) nothing (response_at settings before n body m))) now)
+      home_rests None = rests_here rest
+      home_rests (Some g) = group_rests (start_of g before)
+
+    handed_rests : (m : Message) → message_of body ≡ m → with_request m ids ≡ ids → requests (codes "initialize") m ≡ false → requests (codes "shutdown") m ≡ false → Rests (outs (response_row settings before n body m) now)
+    handed_rests m says same none unshut_yet = home_rests m (no_request m says same none) stays (home_of settings n before)
+      where
+        stays : is_running (desk_of n before).phase ≡ true → here.phase ≡ Running
+        stays runs = ap (λ (d : Desk). d.phase) (desk_taken settings before n body) ∙ ap (λ p. (desk_hears p (desk_of n before).initialize body (message_of body)).phase) (running_is settings before (desk_of n before).phase runs)
+            ∙ ap (λ b. if b then Down else Running) (ap (requests (codes "shutdown")) says ∙ unshut_yet)
+
+    result_handed : (id : Option Id) (r : Json) → message_of body ≡ result id r → (phase : Phase) → (phase ≡ Answered → ⊥) → Rests (outs (taken_row settings before n body (result id r) phase) now)
+    result_handed id r says Answered other = absurd (other refl)
+    result_handed id r says Running other = handed_rests (result id r) says refl refl refl
+    result_handed id r says New other = rests_here (no_request (result id r) says refl refl)
+    result_handed id r says rest other = rests_here (no_request (result id r) says refl refl)
+
+    error_handed : (id : Option Id) (x : Json) → message_of body ≡ error id x → (phase : Phase) → (phase ≡ Answered → ⊥) → Rests (outs (taken_row settings before n body (error id x) phase) now)
+    error_handed id x says Answered other = absurd (other refl)
+    error_handed id x says Running other = handed_rests (error id x) says refl refl refl
+    error_handed id x says New other = rests_here (no_request (error id x) says refl refl)
+    error_handed id x says rest other = rests_here (no_request (error id x) says refl refl)
+
+    response_rests : (m : Message) (phase : Phase) → outs (message_row settings before n body m phase) now ≡ outs (taken_row settings before n body m phase) now
+        → Rests (outs (taken_row settings before n body m phase) now) → Rests (outs (message_row settings before n body m phase) now)
+    response_rests m phase single rest = subst (λ xs. Rests xs) (sym single) rest
 
     -- Notifications
 
@@ -411,10 +463,13 @@ module _ (settings : Settings) (before : List Event) (n : ℕ) (body : List ℕ)
     work_rests : (method : List ℕ) (params : Option Json) → message_of body ≡ notification method params → Rests (outs (work_row settings before n body params) now)
     work_rests method params says = open_bodies settings n Nobody now (outs (work_row settings before n body params) now) (all_outs ToStart now _ bodies.why) (no_request (notification method params) says refl refl)
       where
-        told_at : (s : ℕ) → Because (λ places out. ToStart out) now (work_at before n body params s)
-        told_at s = by_choose (λ ready. by_on (λ none. by_nothing) (λ k is. by_send tt)) (λ off. by_nothing)
+        told_token : (s : ℕ) → Because (λ places out. ToStart out) now (created_work settings before n body params s)
+        told_token s = by_on (λ none. by_nothing) (λ t found. by_choose (λ accepted. by_send tt) (λ no. by_nothing))
 
-        told_group : (g : ℕ) → Because (λ places out. ToStart out) now (on (start_of g before) nothing (λ s. work_at before n body params s))
+        told_at : (s : ℕ) → Because (λ places out. ToStart out) now (work_at settings before n body params s)
+        told_at s = by_choose (λ ready. by_on (λ none. told_token s) (λ k is. by_send tt)) (λ off. by_nothing)
+
+        told_group : (g : ℕ) → Because (λ places out. ToStart out) now (on (start_of g before) nothing (work_at settings before n body params))
         told_group g = by_on (λ none. by_nothing) (λ s start. told_at s)
 
         bodies : Because (λ places out. ToStart out) now (work_row settings before n body params)
@@ -477,7 +532,7 @@ module _ (settings : Settings) (before : List Event) (n : ℕ) (body : List ℕ)
               questions = run_questions settings before n body at running (stays_there settings before n body at running (ap (is_doubled before n) says ∙ single)) (facts.steady).asks
 
               still : Still settings served
-              still = still_served settings before n body m says runs
+              still = still_served settings before n body (ap is_running at) m says runs
 
       asked_rests : (id : Id) (method : List ℕ) (params : Option Json) → message_of body ≡ request id method params → (phase : Phase) → (desk_of n before).phase ≡ phase → places phase (request id method params) ≡ false
           → Rests (outs (message_row settings before n body (request id method params) phase) now)
@@ -532,16 +587,16 @@ module _ (settings : Settings) (before : List Event) (n : ℕ) (body : List ℕ)
       answered_rests (notification method params) says at off = begun_rests (notification method params) says at refl (served_rests method params says)
       answered_rests not_json says at off = malformed_rests not_json Answered says refl refl
       answered_rests not_message says at off = malformed_rests not_message Answered says refl refl
-      answered_rests (result id r) says at off = begun_rests (result id r) says at refl (open_bodies settings n Nobody now (outs (response_row settings before n body (result id r)) now) (handed (result id r)) (no_request (result id r) says refl refl))
-      answered_rests (error id x) says at off = begun_rests (error id x) says at refl (open_bodies settings n Nobody now (outs (response_row settings before n body (error id x)) now) (handed (error id x)) (no_request (error id x) says refl refl))
+      answered_rests (result id r) says at off = begun_rests (result id r) says at refl (handed_rests (result id r) says refl refl refl)
+      answered_rests (error id x) says at off = begun_rests (error id x) says at refl (handed_rests (error id x) says refl refl refl)
 
       other_rests : (m : Message) → message_of body ≡ m → (phase : Phase) → (desk_of n before).phase ≡ phase → (phase ≡ Answered → ⊥) → places phase m ≡ false → Rests (outs (from_editor settings before n body m phase) now)
       other_rests (request id method params) says phase at other off = asked_rests id method params says phase at off
       other_rests (notification method params) says phase at other off = notified_rests method params says phase other
       other_rests not_json says phase at other off = malformed_rests not_json phase says refl refl
       other_rests not_message says phase at other off = malformed_rests not_message phase says refl refl
-      other_rests (result id r) says phase at other off = response_rests (result id r) says refl refl phase (by_single (result id r) phase refl refl) (result_handed id r phase other)
-      other_rests (error id x) says phase at other off = response_rests (error id x) says refl refl phase (by_single (error id x) phase refl refl) (error_handed id x phase other)
+      other_rests (result id r) says phase at other off = response_rests (result id r) phase (by_single (result id r) phase refl refl) (result_handed id r says phase other)
+      other_rests (error id x) says phase at other off = response_rests (error id x) phase (by_single (error id x) phase refl refl) (error_handed id x says phase other)
 
       own_rests : (m : Message) → message_of body ≡ m → (phase : Phase) → (desk_of n before).phase ≡ phase → places phase m ≡ false → Rests (outs (from_editor settings before n body m phase) now)
       own_rests m says Answered at off = answered_rests m says at off

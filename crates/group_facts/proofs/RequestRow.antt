@@ -14,6 +14,7 @@ use Rattle.rpc_message.proofs.Ids.{request_id_bytes}
 use Rattle.event_model.specs.declared.phase.Phase.{Phase}
 use Rattle.event_model.specs.declared.phase.Phase.TheVariants.{Absent, New, Waiting, Answered, Running, Down, Closed, Gone}
 use Rattle.event_model.specs.Event.{Event, heard, requests, same_id, behind, with_cause}
+use Rattle.event_model.specs.Members.{params_of}
 use Rattle.event_model.specs.Phases.{Desk, desk_of, desk_hears, has_id, is_there, makes_running}
 use Rattle.event_model.specs.Requests.{is_open, is_own, open_of, with_request}
 use Rattle.event_model.specs.Row.{on, outs, ◌⨾◌}
@@ -32,7 +33,7 @@ use Rattle.mux_facts.proofs.Why.{is_early}
 use Rattle.mux_facts.proofs.Words.{id_same, same_number}
 use Rattle.group_words.specs.Houses.{server_asked}
 use Rattle.group_rows.specs.Forwarded.{Forwarding, forwarding_of, sender_of, token_in}
-use Rattle.group_rows.specs.Tokens.{forwarded_text}
+use Rattle.group_rows.specs.Tokens.{forwarded_text, reserves}
 use Rattle.group_rows.proofs.TokenTexts.{forwarded_says}
 use Rattle.group_rows.specs.Rows.{answer_error, can_ask, forward, named_row, open_row, request_at, request_row, status_row, sync_row}
 use Rattle.group_rows.specs.Status.{items_of, status_text}
@@ -201,7 +202,7 @@ module _ (settings : Settings) (before : List Event) (e : ℕ) (body : List ℕ)
       fails : Because R asked (answer_error e body request_failed)
       fails = late_refused request_failed late
 
-      module _ (g s : ℕ) (start : start_of g before ≡ Some s) (can : can_ask settings s before ≡ true) where
+      module _ (g s : ℕ) (start : start_of g before ≡ Some s) (can : can_ask settings s before ≡ true) (free : reserves (params_of body) ≡ false) where
         parts : (is_ready (life_of s before).stage ≡ true) × (nat_lt (forwarding_of s before).next settings.limits.requests ≡ true)
         parts = and_parts (is_ready (life_of s before).stage) (nat_lt (forwarding_of s before).next settings.limits.requests) can
 
@@ -211,6 +212,7 @@ module _ (settings : Settings) (before : List Event) (e : ℕ) (body : List ℕ)
           sender = record { editor = e; id = id_bytes body; work = token_in (codes "workDoneToken") body; partial = token_in (codes "partialResultToken") body };
           asked = body;
           from = refl;
+          free = free;
           synced = told;
           bytes = refl;
           id = id;
@@ -252,12 +254,12 @@ module _ (settings : Settings) (before : List Event) (e : ℕ) (body : List ℕ)
         asks : Because R asked (sync_row settings before g s e ⨾ forward s body)
         asks = by_then (sync_why settings range before opened e body g s parts.0) (by_look (by_send (forwarded is_forward)))
 
-      at_start : (g s : ℕ) → start_of g before ≡ Some s → Because R asked (request_at settings before e body g s)
-      at_start g s start = by_choose (λ can. asks g s start can) (λ cannot. fails)
+      at_start : (g s : ℕ) → reserves (params_of body) ≡ false → start_of g before ≡ Some s → Because R asked (request_at settings before e body g s)
+      at_start g s free start = by_choose (λ can. asks g s start can free) (λ cannot. fails)
 
-      at_group : (g : ℕ) → Because R asked (on (start_of g before) (answer_error e body request_failed) (request_at settings before e body g))
-      at_group g = by_on (λ none. fails) (λ s start. at_start g s start)
+      at_group : (g : ℕ) → reserves (params_of body) ≡ false → Because R asked (on (start_of g before) (answer_error e body request_failed) (request_at settings before e body g))
+      at_group g free = by_on (λ none. fails) (λ s start. at_start g s free start)
 
       -- E10
       pub request_why : Because R asked (request_row settings before e body)
-      request_why = by_choose (λ reserved. late_refused invalid_params late) (λ free. by_on (λ none. fails) (λ g home. at_group g))
+      request_why = by_choose (λ reserved. late_refused invalid_params late) (λ free. by_on (λ none. fails) (λ g home. at_group g free))

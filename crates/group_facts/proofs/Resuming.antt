@@ -1,5 +1,5 @@
 -- L2: why an editor that begins to run is asked what waits at its group's start.
-use Rattle.std.proofs.Common.{◌≡◌, ℕ, ◌^◌, ◌<◌, Bool, true, false, ◌&&◌, ◌||◌, List, [], ◌∷◌, ◌++◌, append-nil, codes, decimal, nat_eq, if◌then◌else◌, Some, None, ◌⊎◌, inl, inr, refl, sym, ◌∙◌, ap, ap₂, subst, ltb-true, arith}
+use Rattle.std.proofs.Common.{append_assoc, ◌≡◌, ℕ, ◌^◌, ◌<◌, Bool, true, false, ◌&&◌, ◌||◌, List, [], ◌∷◌, ◌++◌, append-nil, codes, decimal, nat_eq, if◌then◌else◌, Some, None, ◌⊎◌, inl, inr, refl, sym, ◌∙◌, ap, ap₂, subst, ltb-true, arith}
 use Rattle.std.specs.List.{AllByRecursion}
 use Rattle.std.specs.Option.{option_and_then, option_map_or}
 use Rattle.mux_history.specs.declared.cause.Cause.TheVariants.{FromEditor}
@@ -19,12 +19,16 @@ use Rattle.event_model.specs.Spawns.{start_of}
 use Rattle.event_model.specs.Stages.{life_of}
 use Rattle.event_model.proofs.Frames.{never}
 use Rattle.mux_facts.proofs.DocumentRow.{ready_is}
+use Rattle.mux_facts.proofs.Keeps.{behind_both}
 use Rattle.mux_facts.proofs.Folds.{desk_more}
 use Rattle.mux_facts.proofs.Reasons.{Because, Reasons, by_choose, by_look, by_nothing, by_on, by_send, by_then}
 use Rattle.mux_facts.proofs.Words.{same_number}
 use Rattle.group_words.specs.Houses.{groups_of, home_of, is_doubled, placed_for}
 use Rattle.group_words.proofs.Frames.{home_stays}
 use Rattle.group_rows.specs.AskRows.{ask, run_at, run_row}
+use Rattle.group_rows.specs.Created.{Token, created_of}
+use Rattle.group_rows.specs.CreatedRows.{create_text, offer, offer_all}
+use Rattle.group_rows.proofs.CreatedTexts.{create_says, create_tree}
 use Rattle.group_rows.specs.Asks.{Asking, Parked, asking_of, has_number, next_ask, parked_of, serves}
 use Rattle.group_rows.specs.registrations.specs.declared.registration.Registration.{Registration}
 use Rattle.group_rows.specs.Live.{live_of, register_text}
@@ -32,9 +36,9 @@ use Rattle.group_rows.specs.LiveRows.{call, has_some, restore}
 use Rattle.group_rows.proofs.LiveTexts.{live_written, register_says}
 use Rattle.json_text.specs.Json.{Json}
 use Rattle.group_facts.specs.Facts.{Asks, IsParked, is_too_many, leaves, turned_away}
-use Rattle.group_facts.specs.Why.{IsQuestion, IsRegistering, IsResumed, Why, asks_something, registers, restores, resumes}
+use Rattle.group_facts.specs.Why.{IsQuestion, IsCall, IsResumed, Why, asks_something, calls, restores, resumes, revives}
 use Rattle.group_facts.proofs.Asks.{asking_more, registering_made, resumed_here}
-use Rattle.group_facts.proofs.AskingRows.{registers_all, still_runs, work_told}
+use Rattle.group_facts.proofs.AskingRows.{creates_all, registers_all, still_runs, work_told}
 use Rattle.group_facts.proofs.Begun.{start_did, start_took}
 use Rattle.group_facts.proofs.Homes.{took_home}
 use Rattle.group_facts.proofs.Still.{unended, unshut}
@@ -147,7 +151,7 @@ module _ (settings : Settings) (before : List Event) (e : ℕ) (body : List ℕ)
       all_says : (params : Json) × (message_of all_text ≡ request (integer (decimal (next_ask e events))) (codes "client/registerCapability") (Some params))
       all_says = register_says live (live_written settings s before) (next_ask e events) (let small : next_ask e events < 2 ^ 64 = ltb-true (next_ask e events) (2 ^ 64) room in omega (arith, small))
 
-      abbrev restored : IsRegistering settings before (FromEditor e body) events e all_text
+      abbrev restored : IsCall settings before (FromEditor e body) events e all_text
       restored = record {
         start = s;
         told = restores (record { text = body; from = refl; began = began; waited = waited; group = g; home = home; last = last }) refl;
@@ -174,7 +178,7 @@ module _ (settings : Settings) (before : List Event) (e : ℕ) (body : List ℕ)
           }
 
     call_why : (events : List Event) (ps : List Parked) → Resumes events ps → Because R events (call (register_text live) e)
-    call_why events ps k = by_look (by_choose (λ room. by_send (registers (restored events ps k room), (refl, ap asks_something (all_says events ps k room).1))) (λ none. by_nothing))
+    call_why events ps k = by_look (by_choose (λ room. by_send (calls (restored events ps k room), (refl, ap asks_something (all_says events ps k room).1))) (λ none. by_nothing))
 
     restore_why : (events : List Event) (ps : List Parked) → Resumes events ps → Because R events (restore settings before e s)
     restore_why events ps k = by_choose (λ some. call_why events ps k) (λ none. by_nothing)
@@ -192,6 +196,62 @@ module _ (settings : Settings) (before : List Event) (e : ℕ) (body : List ℕ)
         go : (b : Bool) → Goes_on (behind events (outs (choose b (call (register_text live) e) nothing) events)) ps
         go true = call_next events ps k
         go false = inl (subst (λ z. Resumes z ps) (sym (append-nil events)) k)
+
+    -- the tokens that live, in the order of creation
+    module _ (t : Token) (earlier later : List Token) (order : (created_of settings s before).tokens ≡ earlier ++ t ∷ later) (events : List Event) (ps : List Parked) (k : Resumes events ps) (room : has_number e events ≡ true) where
+      abbrev offer_text : List ℕ
+      offer_text = create_text s t.number (next_ask e events)
+
+      offer_says : message_of offer_text ≡ request (integer (decimal (next_ask e events))) (codes "window/workDoneProgress/create") (Some (create_tree s t.number))
+      offer_says = create_says s t.number (next_ask e events) (let small : next_ask e events < 2 ^ 64 = ltb-true (next_ask e events) (2 ^ 64) room in omega (arith, small))
+
+      abbrev offered : IsCall settings before (FromEditor e body) events e offer_text
+      offered = record {
+        start = s;
+        told = revives t earlier later (record { text = body; from = refl; began = began; waited = waited; group = g; home = home; last = last }) order refl;
+        ready = ready;
+        running = k.running;
+        idle = k.idle;
+        room = room;
+        method = codes "window/workDoneProgress/create";
+        params = Some (create_tree s t.number);
+        named = creates_all;
+        says = offer_says;
+      }
+
+      offered_next : Resumes (events ++ said (ToEditor e offer_text) ∷ []) ps
+      offered_next =
+          let same : (n : ℕ) → asking_of settings n (events ++ said (ToEditor e offer_text) ∷ []) ≡ asking_of settings n events = λ n. asking_more settings n events (said (ToEditor e offer_text)) ∙ registering_made settings events e offer_text before (FromEditor e body) offered n in
+          record {
+            own = λ n. ap (λ (x : Asking). x.runs) (same n) ∙ k.own n;
+            idle = λ n. ap (λ (x : Asking). x.asker) (same n) ∙ k.idle n;
+            at_home = home_stays settings e events (said (ToEditor e offer_text)) refl ∙ k.at_home;
+            start = start_did g events (ToEditor e offer_text) tt ∙ k.start;
+            running = still_runs events e offer_text e k.running;
+            waits = ap (λ (x : Asking). x.parked) (same s) ∙ k.waits;
+          }
+
+    offer_why : (t : Token) (earlier later : List Token) → (created_of settings s before).tokens ≡ earlier ++ t ∷ later → (events : List Event) (ps : List Parked) → Goes_on events ps → Because R events (offer s e t)
+    offer_why t earlier later order events ps (inl k) = by_look (by_choose (λ room. by_send (calls (offered t earlier later order events ps k room), (refl, ap asks_something (offer_says t earlier later order events ps k room)))) (λ none. by_nothing))
+    offer_why t earlier later order events ps (inr full) = by_look (by_choose (λ room. never (sym room ∙ full)) (λ none. by_nothing))
+
+    offer_next : (t : Token) (earlier later : List Token) → (created_of settings s before).tokens ≡ earlier ++ t ∷ later → (events : List Event) (ps : List Parked) → Goes_on events ps → Goes_on (behind events (outs (offer s e t) events)) ps
+    offer_next t earlier later order events ps k = go (has_number e events) refl k
+      where
+        go : (b : Bool) → has_number e events ≡ b → Goes_on events ps → Goes_on (behind events (outs (choose b (send (ToEditor e (create_text s t.number (next_ask e events)))) nothing) events)) ps
+        go true room (inl k) = inl (offered_next t earlier later order events ps k room)
+        go true room (inr full) = never (sym room ∙ full)
+        go false full k = inr (subst (λ z. has_number e z ≡ false) (sym (append-nil events)) full)
+
+    offers_why : (earlier ts : List Token) → (created_of settings s before).tokens ≡ earlier ++ ts → (events : List Event) (ps : List Parked) → Goes_on events ps → Because R events (each (offer s e) ts)
+    offers_why earlier [] order events ps k = by_nothing
+    offers_why earlier (t ∷ ts) order events ps k = by_then (offer_why t earlier ts order events ps k)
+        (offers_why (earlier ++ t ∷ []) ts (order ∙ sym (append_assoc earlier (t ∷ []) ts)) (behind events (outs (offer s e t) events)) ps (offer_next t earlier ts order events ps k))
+
+    offers_next : (earlier ts : List Token) → (created_of settings s before).tokens ≡ earlier ++ ts → (events : List Event) (ps : List Parked) → Goes_on events ps → Goes_on (behind events (outs (each (offer s e) ts) events)) ps
+    offers_next earlier [] order events ps k = subst (λ z. Goes_on z ps) (sym (append-nil events)) k
+    offers_next earlier (t ∷ ts) order events ps k = subst (λ z. Goes_on z ps) (sym (behind_both events (outs (offer s e t) events) (outs (each (offer s e) ts) (behind events (outs (offer s e t) events)))))
+        (offers_next (earlier ++ t ∷ []) ts (order ∙ sym (append_assoc earlier (t ∷ []) ts)) (behind events (outs (offer s e t) events)) ps (offer_next t earlier ts order events ps k))
 
     one_why : (p : Parked) → IsParked s before p → (events : List Event) (rest : List Parked) → Goes_on events (p ∷ rest) → Because R events (ask p.body e)
     one_why p q events rest (inl k) = by_look (by_choose (λ room. by_send (resumes (resumed p q events rest k room), (refl, ap asks_something (says p q events rest k room)))) (λ none. by_nothing))
@@ -225,8 +285,11 @@ module _ (settings : Settings) (before : List Event) (e : ℕ) (body : List ℕ)
 
   run_there : Asks settings before → (g s : ℕ) → home_of settings e before ≡ Some g → start_of g before ≡ Some s → Because R base (run_at settings before e s)
   run_there all g s home last = by_choose (λ is. let ready = ready_is (life_of s before).stage is in
+      let mid : List Event = behind base (outs (restore settings before e s) base) in
+      let told : Goes_on g s home last ready mid (parked_of settings s before) = restore_next g s home last ready base (parked_of settings s before) (begins g s home last ready) in
       by_then (restore_why g s home last ready base (parked_of settings s before) (begins g s home last ready))
-      (all_why g s home last ready (parked_of settings s before) (all s).parked (behind base (outs (restore settings before e s) base)) (restore_next g s home last ready base (parked_of settings s before) (begins g s home last ready)))) (λ off. by_nothing)
+      (by_then (offers_why g s home last ready [] (created_of settings s before).tokens refl mid (parked_of settings s before) told)
+      (all_why g s home last ready (parked_of settings s before) (all s).parked (behind mid (outs (offer_all settings before e s) mid)) (offers_next g s home last ready [] (created_of settings s before).tokens refl mid (parked_of settings s before) told)))) (λ off. by_nothing)
 
   run_in : Asks settings before → (g : ℕ) → home_of settings e before ≡ Some g → Because R base (on (start_of g before) nothing (run_at settings before e))
   run_in all g home = by_on (λ none. by_nothing) (λ s last. run_there all g s home last)

@@ -34,6 +34,7 @@ use Rattle.group_facts.proofs.Lively.{lively_rests, no_lively}
 use Rattle.group_facts.proofs.OwnEntry.{Nobody}
 use Rattle.group_facts.proofs.Seated.{AllPlaced, placed_rests, seat}
 use Rattle.group_facts.proofs.Sent.{SentAt, sent_is}
+use Rattle.group_facts.proofs.Takings.{AllTaken, Uncreated, none_taken, none_uncreated, taken_rests, uncreated_rests}
 use Rattle.group_facts.proofs.OpenByPhase.{IsOne, OpenIf, if_answered}
 use Rattle.group_facts.proofs.OpenByOut.{S}
 
@@ -60,6 +61,8 @@ module _ (settings : Settings) (range : InRange settings) where
     placed : AllPlaced settings events
     one : OneStart events
     seats : AllSeats settings events
+    uncreated : Uncreated settings events
+    taken : AllTaken settings events
 
   -- what each event keeps, an entry keeps
   entry_all : (I : List Event → Type 0) → ((events : List Event) (out : Out) → I events → I (events ++ said out ∷ [])) → (events : List Event) (outs : List Out) → I events → I (behind events outs)
@@ -76,6 +79,8 @@ module _ (settings : Settings) (range : InRange settings) where
     placed = placed_rests settings before h.placed cause built ((h.facts).steady).editors;
     one = one_rests settings before cause h.begun built h.one;
     seats = seats_rest settings range before h.facts h.one h.seats h.begun cause built fits (lively_rests settings range before h.facts h.begun h.lively cause fits built);
+    uncreated = uncreated_rests settings range before h.facts h.one h.seats h.begun cause built fits h.uncreated h.taken;
+    taken = taken_rests settings range before h.facts h.one h.seats h.begun cause built fits h.uncreated h.taken (lively_rests settings range before h.facts h.begun h.lively cause fits built);
   }
 
   no_rests : Rests []
@@ -88,6 +93,8 @@ module _ (settings : Settings) (range : InRange settings) where
     placed = λ e needs. absurd (cc);
     one = one_none;
     seats = no_seats settings;
+    uncreated = none_uncreated settings;
+    taken = none_taken settings;
   }
 
   rests_more : (before : List Entry) (entry : Entry) → IsTrue (fits_behind (events_of before) entry.cause) → IsTrue (built_behind settings (events_of before) entry.cause) → entry.outs ≡ outs_of settings (events_of before) entry.cause → Rests (events_of before) → Rests (events_of (before ++ entry ∷ []))
@@ -119,6 +126,8 @@ module _ (settings : Settings) (range : InRange settings) where
     sent = λ e id served still. sent_on events e id h.opens served still;
     asks = h.seats;
     seated = λ e needs. seat settings events e h.begun (h.placed e needs);
+    uncreated = h.uncreated;
+    takings = h.taken;
   }
 
   pub settled_holds : (history : List Entry) → Legal settings history → Settled settings (events_of history)

@@ -8,7 +8,7 @@ use Rattle.document_model.specs.Sayings.{Saying, saying_by}
 use Rattle.rpc_message.specs.Message.{Message, request, notification, result, error, not_json, not_message, Id, message_of}
 use Rattle.rpc_message.specs.Texts.{Code, invalid_params, invalid_request, request_failed}
 use Rattle.event_model.specs.Event.{Event, behind, notifies, requests}
-use Rattle.event_model.specs.Phases.{is_malformed, is_multiplexer_request, makes_running}
+use Rattle.event_model.specs.Phases.{desk_of, is_malformed, is_multiplexer_request, is_running, makes_running}
 use Rattle.event_model.specs.Row.{Row, nothing, send, after, choose, outs, on}
 use Rattle.event_model.specs.Settings.{Settings}
 use Rattle.event_model.specs.Spawns.{start_of}
@@ -21,7 +21,8 @@ use Rattle.mux_facts.proofs.Lists.{all_join, all_of}
 use Rattle.group_rows.specs.AskRows.{response_at, response_row}
 use Rattle.group_rows.specs.Cancelling.{cancelling_at, cancelling_row}
 use Rattle.group_rows.specs.Forwarded.{Forwarding}
-use Rattle.group_rows.specs.Tokens.{forwarded_text, work_at, work_row}
+use Rattle.group_rows.specs.CreatedRows.{created_work, work_at, work_row}
+use Rattle.group_rows.specs.Tokens.{forwarded_text}
 use Rattle.group_rows.specs.Rows.{answer_error, document_at, document_bodies, document_row, forward, notice_at, notice_row, request_at, request_row, served_row, sync_bodies, wrong_code}
 use Rattle.group_rows.specs.Texts.{encoding_of, texts_of}
 use Rattle.group_facts.specs.Why.{asks_something}
@@ -109,10 +110,13 @@ module _ (settings : Settings) (before : List Event) (e : ℕ) (body : List ℕ)
   still_cancel : (params : Option Json) → Still settings (cancelling_row settings before e body params)
   still_cancel params = still_on (λ none. still_nothing) (λ g at. cancel_in params g)
 
-  work_there : (params : Option Json) (s : ℕ) → Still settings (work_at before e body params s)
-  work_there params s = still_choose (λ ready. still_on (λ none. still_nothing) (λ f at. still_send tt)) (λ off. still_nothing)
+  token_there : (params : Option Json) (s : ℕ) → Still settings (created_work settings before e body params s)
+  token_there params s = still_on (λ none. still_nothing) (λ t at. still_choose (λ accepted. still_send tt) (λ no. still_nothing))
 
-  work_in : (params : Option Json) (g : ℕ) → Still settings (on (start_of g before) nothing (λ s. work_at before e body params s))
+  work_there : (params : Option Json) (s : ℕ) → Still settings (work_at settings before e body params s)
+  work_there params s = still_choose (λ ready. still_on (λ none. token_there params s) (λ f at. still_send tt)) (λ off. still_nothing)
+
+  work_in : (params : Option Json) (g : ℕ) → Still settings (on (start_of g before) nothing (work_at settings before e body params))
   work_in params g = still_on (λ none. still_nothing) (λ s at. work_there params s)
 
   still_work : (params : Option Json) → Still settings (work_row settings before e body params)
@@ -127,14 +131,16 @@ module _ (settings : Settings) (before : List Event) (e : ℕ) (body : List ℕ)
   still_document : (what : Saying) → Still settings (document_row settings before e body what)
   still_document what = still_on (λ none. still_nothing) (λ g at. document_in what g)
 
-  response_there : (m : Message) (s : ℕ) → Still settings (response_at settings before e body m s)
-  response_there m s = still_choose (λ ready. still_on (λ none. still_nothing) (λ a at. still_send tt)) (λ off. still_nothing)
+  -- one that doesn't run yet was asked to take nothing
+  module _ (idle : is_running (desk_of e before).phase ≡ false) where
+    response_there : (m : Message) (s : ℕ) → Still settings (response_at settings before e body m s)
+    response_there m s = still_choose (λ ready. still_on (λ none. still_choose (λ runs. never (sym runs ∙ idle)) (λ no. still_nothing)) (λ a at. still_send tt)) (λ off. still_nothing)
 
-  response_in : (m : Message) (g : ℕ) → Still settings (on (start_of g before) nothing (response_at settings before e body m))
-  response_in m g = still_on (λ none. still_nothing) (λ s at. response_there m s)
+    response_in : (m : Message) (g : ℕ) → Still settings (on (start_of g before) nothing (response_at settings before e body m))
+    response_in m g = still_on (λ none. still_nothing) (λ s at. response_there m s)
 
-  still_response : (m : Message) → Still settings (response_row settings before e body m)
-  still_response m = still_on (λ none. still_nothing) (λ g at. response_in m g)
+    still_response : (m : Message) → Still settings (response_row settings before e body m)
+    still_response m = still_on (λ none. still_nothing) (λ g at. response_in m g)
 
   -- what makes an editor run is neither `shutdown` nor `exit`
   pub unshut : (m : Message) → makes_running m ≡ true → requests (codes "shutdown") m ≡ false
@@ -154,12 +160,12 @@ module _ (settings : Settings) (before : List Event) (e : ℕ) (body : List ℕ)
       go false true k = never (sym k)
       go false false k = refl
 
-  pub still_served : (m : Message) → message_of body ≡ m → makes_running m ≡ true → Still settings (served_row settings before e body m)
-  still_served (request id method params) says runs = still_choose (λ misplaced. still_error id method params says (wrong_code method invalid_request))
+  pub still_served : is_running (desk_of e before).phase ≡ false → (m : Message) → message_of body ≡ m → makes_running m ≡ true → Still settings (served_row settings before e body m)
+  still_served idle (request id method params) says runs = still_choose (λ misplaced. still_error id method params says (wrong_code method invalid_request))
       (λ placed. still_choose (λ shuts. never (sym shuts ∙ unshut (request id method params) runs)) (λ on. still_request id method params says))
-  still_served (notification method params) says runs = still_choose (λ ends. never (sym ends ∙ unended (notification method params) runs))
+  still_served idle (notification method params) says runs = still_choose (λ ends. never (sym ends ∙ unended (notification method params) runs))
       (λ on. still_choose (λ going. still_notice) (λ off. still_choose (λ cancels. still_cancel params) (λ off. still_choose (λ works. still_work params) (λ other. still_document (saying_by method params)))))
-  still_served (result id r) says runs = still_response (result id r)
-  still_served (error id x) says runs = still_response (error id x)
-  still_served not_json says runs = still_response not_json
-  still_served not_message says runs = still_response not_message
+  still_served idle (result id r) says runs = still_response idle (result id r)
+  still_served idle (error id x) says runs = still_response idle (error id x)
+  still_served idle not_json says runs = still_response idle not_json
+  still_served idle not_message says runs = still_response idle not_message

@@ -10,7 +10,7 @@ use Rattle.rpc_message.specs.Texts.{error_tree, invalid_request}
 use Rattle.event_model.specs.declared.phase.Phase.{Phase}
 use Rattle.event_model.specs.declared.phase.Phase.TheVariants.{Absent, New, Waiting, Answered, Running, Down, Closed, Gone}
 use Rattle.event_model.specs.Event.{Event, behind, notifies, requests, with_cause}
-use Rattle.event_model.specs.Phases.{desk_of, is_begun, is_malformed, is_served, is_there, makes_running}
+use Rattle.event_model.specs.Phases.{is_running, desk_of, is_begun, is_malformed, is_served, is_there, makes_running}
 use Rattle.event_model.specs.Requests.{is_open, open_of}
 use Rattle.event_model.specs.Row.{Row, choose, nothing, outs, ◌⨾◌}
 use Rattle.event_model.specs.Settings.{Settings}
@@ -38,6 +38,7 @@ use Rattle.group_facts.proofs.CancelRow.{cancelling_why}
 use Rattle.group_facts.proofs.DocumentRow.{document_why}
 use Rattle.group_facts.proofs.Facts.{Facts}
 use Rattle.group_facts.proofs.Multiplexer.{lspmux_apart}
+use Rattle.group_rows.proofs.CreatedKept.{held_told}
 use Rattle.group_facts.proofs.Moved.{row_moved}
 use Rattle.group_facts.proofs.NoticeRow.{notice_why}
 use Rattle.group_facts.proofs.PartingRows.{closing_why, gone_why, or_second, shutdown_why}
@@ -92,10 +93,10 @@ module _ (settings : Settings) (range : InRange settings) (before : List Event) 
   served_why : (m : Message) → message_of body ≡ m → is_served (desk_of e before).phase ≡ true → is_early (desk_of e before).phase ≡ false → is_there (desk_of e before).phase ≡ true → is_doubled before e m ≡ false → Mine (served_row settings before e body m)
   served_why (request id method params) says served late there single = asked_why id method params says late there (alone_by before (facts.steady).asked e id single)
   served_why (notification method params) says served late there single = noticed_why method params says served there
-  served_why (result id r) says served late there single = response_why settings before (facts.steady).asks e body (result id r) says
-  served_why (error id x) says served late there single = response_why settings before (facts.steady).asks e body (error id x) says
-  served_why not_json says served late there single = response_why settings before (facts.steady).asks e body not_json says
-  served_why not_message says served late there single = response_why settings before (facts.steady).asks e body not_message says
+  served_why (result id r) says served late there single = response_why settings before (facts.steady).asks (λ s. held_told settings s before (facts.base).meant) e body (result id r) says
+  served_why (error id x) says served late there single = response_why settings before (facts.steady).asks (λ s. held_told settings s before (facts.base).meant) e body (error id x) says
+  served_why not_json says served late there single = response_why settings before (facts.steady).asks (λ s. held_told settings s before (facts.base).meant) e body not_json says
+  served_why not_message says served late there single = response_why settings before (facts.steady).asks (λ s. held_told settings s before (facts.base).meant) e body not_message says
 
   -- behind `shutdown`
   down_why : (m : Message) → message_of body ≡ m → (desk_of e before).phase ≡ Down → is_doubled before e m ≡ false → Mine (down_row settings before e body m)
@@ -182,7 +183,7 @@ module _ (settings : Settings) (range : InRange settings) (before : List Event) 
       begun_why : (b : Bool) → makes_running (message_of body) ≡ b → Mine (choose (makes_running (message_of body)) (run_row settings before e) nothing ⨾ served_row settings before e body (message_of body))
       begun_why true runs = by_then (subst (λ c. Mine (choose c (run_row settings before e) nothing)) (sym runs) (by_choose (λ yes. run_why settings before e body at runs (stays runs) (facts.steady).asks) (λ no. by_nothing)))
           (subst (λ c. Because (R settings before e body) (behind (asked settings before e body) (outs (choose c (run_row settings before e) nothing) (asked settings before e body))) (served_row settings before e body (message_of body))) (sym runs)
-          (row_moved settings before e body runs (outs (run_row settings before e) (asked settings before e body)) (run_questions settings before e body at runs (stays runs) (facts.steady).asks) (served_row settings before e body (message_of body)) (still_served settings before e body (message_of body) refl runs) here))
+          (row_moved settings before e body runs (ap is_running at) (outs (run_row settings before e) (asked settings before e body)) (run_questions settings before e body at runs (stays runs) (facts.steady).asks) (served_row settings before e body (message_of body)) (still_served settings before e body (ap is_running at) (message_of body) refl runs) here))
       begun_why false stops = by_then (by_choose (λ yes. never (sym yes ∙ stops)) (λ no. by_nothing))
           (subst (λ c. Because (R settings before e body) (behind (asked settings before e body) (outs (choose c (run_row settings before e) nothing) (asked settings before e body))) (served_row settings before e body (message_of body))) (sym stops)
           (subst (λ z. Because (R settings before e body) z (served_row settings before e body (message_of body))) (sym (append-nil (asked settings before e body))) here))

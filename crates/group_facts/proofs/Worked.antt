@@ -22,6 +22,7 @@ use Rattle.mux_model.specs.Fits.{fits_behind}
 use Rattle.mux_facts.proofs.Keeps.{events_more}
 use Rattle.group_words.specs.Example.{with_groups}
 use Rattle.group_rows.specs.AsksExample.{asked_leaves, two_asked}
+use Rattle.group_rows.specs.CreatedExample.{asked_later, created_again, one_token_thrice, takers_leave, taken_by_one}
 use Rattle.group_rows.specs.LiveExample.{registers}
 use Rattle.group_rows.specs.TokensExample.{marking, progressing, working}
 use Rattle.group_rows.specs.Example.{all_outs, both_ask, closing, switching, two_editors, two_groups}
@@ -126,9 +127,29 @@ work_is_legal : Legal (with_groups 8) (played (with_groups 8) (two_editors ++ (m
 unfolding computes url_on_literals message_of named no_name_twice is_integer member_bytes with_id_text id_edits escape_byte digits own_request own_notification goes_nowhere editor_request editor_notification is_focused is_refresh server_notification server_request chars
 work_is_legal = legal (with_groups 8) (two_editors ++ (marking ++ working)) refl
 
-a_token_is_not_built : taken_from (with_groups 8) [] (two_editors ++ FromServer 0 (codes "{\"jsonrpc\":\"2.0\",\"id\":7,\"method\":\"window/workDoneProgress/create\"}") ∷ []) ≡ false
+taken_by_one_is_legal : Legal (with_groups 8) (played (with_groups 8) (two_editors ++ taken_by_one))
 unfolding computes url_on_literals message_of named no_name_twice is_integer member_bytes with_id_text id_edits escape_byte digits own_request own_notification goes_nowhere editor_request editor_notification is_focused is_refresh server_notification server_request chars
-a_token_is_not_built = refl
+taken_by_one_is_legal = legal (with_groups 8) (two_editors ++ taken_by_one) refl
+
+created_again_is_legal : Legal (with_groups 8) (played (with_groups 8) (two_editors ++ created_again))
+unfolding computes url_on_literals message_of named no_name_twice is_integer member_bytes with_id_text id_edits escape_byte digits own_request own_notification goes_nowhere editor_request editor_notification is_focused is_refresh server_notification server_request chars
+created_again_is_legal = legal (with_groups 8) (two_editors ++ created_again) refl
+
+asked_later_is_legal : Legal (with_groups 8) (played (with_groups 8) (two_editors ++ asked_later))
+unfolding computes url_on_literals message_of named no_name_twice is_integer member_bytes with_id_text id_edits escape_byte digits own_request own_notification goes_nowhere editor_request editor_notification is_focused is_refresh server_notification server_request chars
+asked_later_is_legal = legal (with_groups 8) (two_editors ++ asked_later) refl
+
+one_token_thrice_is_legal : Legal (with_groups 8) (played (with_groups 8) (two_editors ++ one_token_thrice))
+unfolding computes url_on_literals message_of named no_name_twice is_integer member_bytes with_id_text id_edits escape_byte digits own_request own_notification goes_nowhere editor_request editor_notification is_focused is_refresh server_notification server_request chars
+one_token_thrice_is_legal = legal (with_groups 8) (two_editors ++ one_token_thrice) refl
+
+takers_leave_is_legal : Legal (with_groups 8) (played (with_groups 8) (two_editors ++ takers_leave))
+unfolding computes url_on_literals message_of named no_name_twice is_integer member_bytes with_id_text id_edits escape_byte digits own_request own_notification goes_nowhere editor_request editor_notification is_focused is_refresh server_notification server_request chars
+takers_leave_is_legal = legal (with_groups 8) (two_editors ++ takers_leave) refl
+
+diagnostics_are_not_built : taken_from (with_groups 8) [] (two_editors ++ FromServer 0 (codes "{\"jsonrpc\":\"2.0\",\"method\":\"textDocument/publishDiagnostics\"}") ∷ []) ≡ false
+unfolding computes url_on_literals message_of named no_name_twice is_integer member_bytes with_id_text id_edits escape_byte digits own_request own_notification goes_nowhere editor_request editor_notification is_focused is_refresh server_notification server_request chars
+diagnostics_are_not_built = refl
 
 an_edit_is_built : taken_from (with_groups 8) [] (two_editors ++ FromServer 0 (codes "{\"jsonrpc\":\"2.0\",\"id\":7,\"method\":\"workspace/applyEdit\"}") ∷ []) ≡ true
 unfolding computes url_on_literals message_of named no_name_twice is_integer member_bytes with_id_text id_edits escape_byte digits own_request own_notification goes_nowhere editor_request editor_notification is_focused is_refresh server_notification server_request chars

@@ -1,6 +1,6 @@
 -- Which causes meet only rows of the table over several editors and groups that are built, until all are.
--- Not built of an editor: `lspmux/stop` (E6). Tokens are built of open requests alone, not of what a start creates (S8).
--- Not built of a start while it is ready: the classes of S8 and S15. Nor the end of a program whose group lives.
+-- Not built of an editor: `lspmux/stop` (E6).
+-- Not built of a start while it is ready: the class of S15. Nor the end of a program whose group lives.
 -- Of S2, what is read back must be what was meant: editors are shown all of the result.
 use Rattle.std.specs.Prelude.{ℕ, Bool, true, false, not, ◌&&◌, ◌||◌, List, bytes_eq}
 use Rattle.std.specs.Prelude.{Some}
@@ -10,7 +10,7 @@ use Rattle.mux_history.specs.declared.cause.Cause.TheVariants.{Joined, FromEdito
 use Rattle.mux_history.specs.declared.entry.Entry.{Entry}
 use Rattle.lsp_method.specs.Class.{class_of}
 use Rattle.lsp_method.specs.declared.variants.Class.{Class}
-use Rattle.lsp_method.specs.declared.variants.Class.TheVariants.{Broadcast, Cancel, Focused, Folders, Initialize, Lowest, Other, Progress, Refresh, Register, Shutdown, Unregister, Wrong}
+use Rattle.lsp_method.specs.declared.variants.Class.TheVariants.{Broadcast, Cancel, Create, Focused, Folders, Initialize, Lowest, Other, Progress, Refresh, Register, Shutdown, Unregister, Wrong}
 use Rattle.lsp_method.specs.declared.variants.Origin.TheVariants.{Editor, Server}
 use Rattle.rpc_message.specs.Message.{Id, Message, request, notification, result, message_of, result_bytes}
 use Rattle.event_model.specs.declared.phase.Phase.{Phase}
@@ -57,8 +57,9 @@ abbrev pub built_early : List ℕ → Message → Bool
 built_early body (result id r) = not (is_first_result (result id r)) || is_shown_whole body
 built_early body other = true
 
--- S6, S7 and S9 to S12
+-- S6 to S12
 abbrev pub built_asking : Class → Bool
+built_asking Create = true
 built_asking Refresh = true
 built_asking Folders = true
 built_asking Focused = true

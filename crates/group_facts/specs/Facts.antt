@@ -45,6 +45,7 @@ NoEditors events = (e : ℕ) → editors_of events ≤ e → (desk_of e events).
 -- the message of a body is what the body says
 abbrev pub IsMeant : Event → Type 0
 IsMeant (took (FromEditor e body) m) = m ≡ message_of body
+IsMeant (took (FromServer s body) m) = m ≡ message_of body
 IsMeant (did (ToServer s body) m) = m ≡ message_of body
 IsMeant other = Unit {0}
 

@@ -1,5 +1,5 @@
 -- What else holds of every legal history: of the groups, and of which requests are open.
-use Rattle.std.specs.Prelude.{◌≡◌, ◌↔◌, ℕ, ◌≤◌, Bool, true, false, List, [], ◌∷◌, length, IsUtf8}
+use Rattle.std.specs.Prelude.{◌≡◌, ◌↔◌, ℕ, ◌^◌, ◌≤◌, Bool, true, false, List, [], ◌∷◌, length, IsUtf8}
 use Rattle.std.specs.Prelude.{None, Some, slice_get}
 use Rattle.std.specs.List.{AllByRecursion}
 use Rattle.rpc_message.specs.Message.{Id, message_of}
@@ -10,12 +10,13 @@ use Rattle.event_model.specs.Event.{Event}
 use Rattle.event_model.specs.Phases.{desk_of, has_id, needs_server}
 use Rattle.event_model.specs.Requests.{is_open, open_of}
 use Rattle.event_model.specs.Settings.{Settings}
-use Rattle.event_model.specs.Spawns.{group_of, start_of}
+use Rattle.event_model.specs.Spawns.{group_of, start_of, starts_of}
 use Rattle.event_model.specs.Stages.{life_of}
 use Rattle.event_model.specs.declared.stage.Stage.TheVariants.{Ready}
 use Rattle.group_words.specs.declared.kept.Kept.{Kept}
 use Rattle.group_words.specs.Houses.{groups_of, home_of}
 use Rattle.group_rows.specs.Asks.{Ask, asks_of}
+use Rattle.group_rows.specs.Created.{Taking, created_of, no_created}
 use Rattle.group_rows.specs.Forwarded.{Forwarded, forwarding_of}
 use Rattle.group_facts.specs.Lively.{Lively}
 
@@ -55,17 +56,24 @@ is_answered Running = true
 is_answered Down = true
 is_answered _ = false
 
--- the editor that a start asked runs, in the group whose last start it is, and that start is ready
-pub record HasSeat (settings : Settings) (events : List Event) (s : ℕ) (a : Ask) : Type 0 where
-  pub running : (desk_of a.editor events).phase ≡ Running
-  pub home : home_of settings a.editor events ≡ group_of s events
+-- the editor runs, in the group whose last start s is, and that start is ready
+pub record RunsAt (settings : Settings) (events : List Event) (s e : ℕ) : Type 0 where
+  pub running : (desk_of e events).phase ≡ Running
+  pub home : home_of settings e events ≡ group_of s events
   pub group : ℕ
   pub kept : group_of s events ≡ Some group
   pub last : start_of group events ≡ Some s
   pub ready : (life_of s events).stage ≡ Ready
 
+-- so does one that a start asked, and one that it asked to take a token
+abbrev pub HasSeat : Settings → List Event → ℕ → Ask → Type 0
+HasSeat settings events s a = RunsAt settings events s a.editor
+
+abbrev pub HasTaken : Settings → List Event → ℕ → Taking → Type 0
+HasTaken settings events s c = RunsAt settings events s c.editor
+
 -- each group has a start, an editor's group lives until the editor leaves it, each open request of an editor that got its result was sent on, an editor that was asked runs, and one that
--- needs a server is in a group that has a start
+-- needs a server is in a group that has a start; a start that wasn't spawned created no token, and an editor that was asked to take one runs, as long as numerals tell starts apart
 pub record Settled (settings : Settings) (events : List Event) : Type 0 where
   pub spelt : AllByRecursion (λ (x : Kept). AreUtf8 x.key.folders) (groups_of settings events)
   pub begun : (g : ℕ) → (start_of g events ≡ None) ↔ (length (groups_of settings events) ≤ g)
@@ -75,3 +83,5 @@ pub record Settled (settings : Settings) (events : List Event) : Type 0 where
   pub sent : (e : ℕ) (id : Id) → is_answered (desk_of e events).phase ≡ true → is_open id (open_of e events) ≡ true → IsSent settings events e id
   pub asks : (s : ℕ) → AllByRecursion (HasSeat settings events s) (asks_of settings s events)
   pub seated : (e : ℕ) → needs_server (desk_of e events).phase ≡ true → IsSeated settings events e
+  pub uncreated : (s : ℕ) → starts_of events ≤ s → created_of settings s events ≡ no_created
+  pub takings : starts_of events ≤ 2 ^ 64 → (s : ℕ) → AllByRecursion (HasTaken settings events s) (created_of settings s events).takings

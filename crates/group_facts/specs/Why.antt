@@ -1,5 +1,5 @@
 -- Why each out of the routing table over several editors and groups is sent, with what is known at its place: `before` are the events before the entry, `events` those before the out.
-use Rattle.std.specs.Prelude.{◌≡◌, ℕ, ◌<◌, Bool, true, false, not, ◌&&◌, List, [], ◌∷◌, ◌++◌, find, if◌then◌else◌, length, map, nat_eq, nat_lt, codes, decimal}
+use Rattle.std.specs.Prelude.{◌≡◌, ℕ, ◌<◌, Bool, true, false, not, ◌&&◌, ◌||◌, List, [], ◌∷◌, ◌++◌, find, if◌then◌else◌, length, map, nat_eq, nat_lt, codes, decimal}
 use Rattle.std.specs.Prelude.{Option, Some, None, slice_get}
 use Rattle.std.specs.List.{AllByRecursion, list_any}
 use Rattle.std.specs.Option.{option_and_then, option_map}
@@ -9,7 +9,7 @@ use Rattle.mux_history.specs.declared.cause.Cause.{Cause}
 use Rattle.mux_history.specs.declared.cause.Cause.TheVariants.{Started, FromServer, FromEditor}
 use Rattle.lsp_method.specs.Class.{class_of}
 use Rattle.lsp_method.specs.declared.variants.Class.{Class}
-use Rattle.lsp_method.specs.declared.variants.Class.TheVariants.{Broadcast, Cancel, Focused, Folders, Progress, Refresh, Register, Unregister}
+use Rattle.lsp_method.specs.declared.variants.Class.TheVariants.{Broadcast, Cancel, Create, Focused, Folders, Progress, Refresh, Register, Unregister}
 use Rattle.lsp_method.specs.declared.variants.Origin.TheVariants.{Editor, Server}
 use Rattle.mux_history.specs.declared.entry.Entry.{Entry}
 use Rattle.mux_history.specs.declared.out.Out.{Out}
@@ -21,7 +21,7 @@ use Rattle.event_model.specs.declared.phase.Phase.TheVariants.{Answered, Running
 use Rattle.event_model.specs.declared.stage.Stage.{Stage}
 use Rattle.event_model.specs.declared.stage.Stage.TheVariants.{Spawning, Initializing, Ready, Stopping}
 use Rattle.event_model.specs.Event.{Event, behind, events_of, heard, requests, said, with_cause, same_id}
-use Rattle.event_model.specs.Members.{named_of}
+use Rattle.event_model.specs.Members.{named_of, params_of}
 use Rattle.event_model.specs.Parts.{server_part}
 use Rattle.event_model.specs.Phases.{desk_of, has_id, is_there, is_malformed, is_served}
 use Rattle.event_model.specs.Requests.{next_number, answered_id, open_of, is_open, is_own}
@@ -43,13 +43,15 @@ use Rattle.group_rows.specs.Answers.{own_version}
 use Rattle.group_rows.specs.AskRows.{current_version, is_edit}
 use Rattle.group_rows.specs.Asks.{Ask, Parked, asker_of, asking_of, asks_of, has_number, has_running, is_patient, is_seated, is_single, is_taken, is_under, next_ask, parked_of, serves}
 use Rattle.group_rows.specs.Cancelling.{number_named, numbered_text}
+use Rattle.group_rows.specs.Created.{Taking, Token, accepts, created_of, created_text, created_token, has_accepted, is_answered, is_creating, named_token, token_called, token_marked}
+use Rattle.group_rows.specs.CreatedRows.{create_text}
 use Rattle.group_rows.specs.Ends.{answers_shutdown}
 use Rattle.group_rows.specs.Forwarded.{Forwarded, Sender, answered_by, forwarding_of}
 use Rattle.group_rows.specs.Leaves.{cancel_text}
 use Rattle.group_rows.specs.Live.{is_registering, live_of, register_text, taken_back, unregister_text}
 use Rattle.group_rows.specs.Rows.{sync_bodies}
 use Rattle.group_rows.specs.Texts.{texts_of}
-use Rattle.group_rows.specs.Tokens.{forwarded_text, is_told, is_worked, listens, mark_text, marked_text, own_token, work_mark}
+use Rattle.group_rows.specs.Tokens.{forwarded_text, is_told, is_worked, listens, mark_text, marked_text, own_token, reserves, work_mark}
 use Rattle.group_facts.specs.Built.{is_left}
 use Rattle.group_facts.specs.Facts.{IsAlone, IsWaiting, asked_by, asked_of, ends_link, is_early, leaves, turned_away}
 use Rattle.group_facts.specs.Lively.{IsDying}
@@ -112,11 +114,12 @@ pub record IsBehindSync (settings : Settings) (before : List Event) (events : Li
   pub asks : AllByRecursion (IsQuestion e) questions
   pub place : events ≡ behind (with_cause before (FromEditor e asked)) (questions ++ map (λ text. ToServer s text) (sync_bodies settings.limits.versions (λ u. held_at s u before) e (texts_of settings group before).opens))
 
--- the request of an editor, which is at work, goes under the next number to s, which is ready
+-- the request of an editor, which is at work, goes under the next number to s, which is ready; none of its tokens begins as the daemon's do (E10)
 pub record IsForward (settings : Settings) (before : List Event) (cause : Cause) (events : List Event) (s : ℕ) (body : List ℕ) : Type 0 where
   pub sender : Sender
   pub asked : List ℕ
   pub from : cause ≡ FromEditor sender.editor asked
+  pub free : reserves (params_of asked) ≡ false
   pub synced : IsBehindSync settings before events s sender.editor asked
   pub bytes : body ≡ forwarded_text (forwarding_of s events).next asked
   pub id : Id
@@ -197,20 +200,25 @@ pub record IsCancel (before : List Event) (cause : Cause) (events : List Event) 
   pub text : CancelText before cause s number body
   pub says : message_of body ≡ notification (codes "$/cancelRequest") (Some params)
 
--- an editor that is served cancels the work of an open request of its own, which it names by its token: its message goes on with the daemon's token to s, which is ready (LSP 3.17, Work Done Progress)
-pub record IsWorkCancel (before : List Event) (cause : Cause) (events : List Event) (s : ℕ) (body : List ℕ) : Type 0 where
+-- what an editor names by a token: an open request of its own, of which the start knows the daemon's token, or a token that it accepted, of which the start gets its own bytes
+pub data WorkMeant (settings : Settings) (before : List Event) (s editor : ℕ) (given : Option Json) (text : List ℕ) : Type 0 where
+  of_request : (request : Forwarded) → find (is_worked editor (named_of (codes "token") given)) (forwarding_of s before).open_requests ≡ Some request → text ≡ mark_text (work_mark request.number) → WorkMeant settings before s editor given text
+  of_token : (token : Token) → token_marked s given (created_of settings s before) ≡ Some token → has_accepted editor token.number (created_of settings s before) ≡ true → text ≡ token.text → WorkMeant settings before s editor given text
+
+-- an editor that is served cancels work, which it names by its token: its message goes on with the start's to s, which is ready (LSP 3.17, Work Done Progress)
+pub record IsWorkCancel (settings : Settings) (before : List Event) (cause : Cause) (events : List Event) (s : ℕ) (body : List ℕ) : Type 0 where
   pub editor : ℕ
   pub asked : List ℕ
   pub given : Option Json
-  pub request : Forwarded
+  pub text : List ℕ
   pub params : Option Json
   pub from : cause ≡ FromEditor editor asked
   pub served : is_served (desk_of editor before).phase ≡ true
   pub notified : message_of asked ≡ notification (codes "window/workDoneProgress/cancel") given
-  pub meant : find (is_worked editor (named_of (codes "token") given)) (forwarding_of s before).open_requests ≡ Some request
+  pub meant : WorkMeant settings before s editor given text
   pub ready : (life_of s events).stage ≡ Ready
   pub stays : moves before cause s ≡ false
-  pub bytes : body ≡ marked_text (mark_text (work_mark request.number)) asked
+  pub bytes : body ≡ marked_text text asked
   pub says : message_of body ≡ notification (codes "window/workDoneProgress/cancel") params
 
 -- a request of s, which gave no result yet, is answered at once
@@ -222,7 +230,7 @@ pub record IsReply (before : List Event) (cause : Cause) (events : List Event) (
   pub stays : moves before cause s ≡ false
   pub response : is_response (message_of body) ≡ true
 
--- what answers it: the response of the editor that was asked (E19), a refusal since that editor left (L1), null since each editor is asked (S9), the folders of the group (S10), a refusal since none runs (S11), that an edit wasn't applied, since a version in it stands for no text that the editor in focus has (V3), null since its items are registered (S6) or taken back (S7), or a refusal of them
+-- what answers it: the response of the editor that was asked (E19), a refusal since that editor left (L1), null since each editor is asked (S9), the folders of the group (S10), a refusal since none runs (S11), that an edit wasn't applied, since a version in it stands for no text that the editor in focus has (V3), null since its items are registered (S6) or taken back (S7), or a refusal of them, null since it creates a token (S8), or a refusal of that
 pub data Resolution (settings : Settings) (before : List Event) (cause : Cause) (s : ℕ) (id : Id) (body : List ℕ) : Type 0 where
   handed_back : (e : ℕ) (answer : List ℕ) (a : Ask) → cause ≡ FromEditor e answer → find (is_seated e (answered_id (message_of answer))) (asks_of settings s before) ≡ Some a → a.id ≡ id → body ≡ with_id_text answer a.bytes → Resolution settings before cause s id body
   refused_for : (a : Ask) → list_any (is_under (Some id)) (asks_of settings s before) ≡ true → a.id ≡ id → body ≡ error_text a.bytes request_failed → Resolution settings before cause s id body
@@ -233,6 +241,8 @@ pub data Resolution (settings : Settings) (before : List Event) (cause : Cause) 
   unenrolled : (asked method : List ℕ) (params : Option Json) → cause ≡ FromServer s asked → message_of asked ≡ request id method params → class_of method Server false ≡ Register → registered asked ≡ None → body ≡ error_text (id_bytes asked) invalid_params → Resolution settings before cause s id body
   released : (asked method : List ℕ) (params : Option Json) (items : List Registration) → cause ≡ FromServer s asked → message_of asked ≡ request id method params → class_of method Server false ≡ Unregister → taken_back asked (live_of settings s before) ≡ Some items → body ≡ ok_text (id_bytes asked) (codes "null") → Resolution settings before cause s id body
   unreleased : (asked method : List ℕ) (params : Option Json) → cause ≡ FromServer s asked → message_of asked ≡ request id method params → class_of method Server false ≡ Unregister → taken_back asked (live_of settings s before) ≡ None → body ≡ error_text (id_bytes asked) invalid_params → Resolution settings before cause s id body
+  created : (asked method : List ℕ) (params : Option Json) (token : Token) → cause ≡ FromServer s asked → message_of asked ≡ request id method params → class_of method Server false ≡ Create → created_token asked (created_of settings s before) ≡ Some token → body ≡ ok_text (id_bytes asked) (codes "null") → Resolution settings before cause s id body
+  uncreated : (asked method : List ℕ) (params : Option Json) → cause ≡ FromServer s asked → message_of asked ≡ request id method params → class_of method Server false ≡ Create → created_token asked (created_of settings s before) ≡ None → body ≡ error_text (id_bytes asked) invalid_params → Resolution settings before cause s id body
   unapplied : (asked method number : List ℕ) (params : Option Json) (e : ℕ) → cause ≡ FromServer s asked → message_of asked ≡ request id method params → is_edit method ≡ true → asked_text (current_version settings before s e) asked number ≡ None → body ≡ ok_text (id_bytes asked) not_applied → Resolution settings before cause s id body
 
 -- an open request of s, which is ready, is answered
@@ -263,7 +273,7 @@ pub data WhyToServer (settings : Settings) (before : List Event) (cause : Cause)
   tells : IsTelling before cause events s body → WhyToServer settings before cause events s body
   shuts : IsShutting settings before cause events s body → WhyToServer settings before cause events s body
   cancels : IsCancel before cause events s body → WhyToServer settings before cause events s body
-  cancels_work : IsWorkCancel before cause events s body → WhyToServer settings before cause events s body
+  cancels_work : IsWorkCancel settings before cause events s body → WhyToServer settings before cause events s body
   responds : IsReply before cause events s body → WhyToServer settings before cause events s body
   resolves : IsResolving settings before cause events s body → WhyToServer settings before cause events s body
   exits : IsExit before cause events s body → WhyToServer settings before cause events s body
@@ -349,7 +359,7 @@ pub record IsFromStart (settings : Settings) (before : List Event) (cause : Caus
 abbrev pub asked_as : Settings → List Event → ℕ → ℕ → List ℕ → List ℕ → List ℕ → Option (List ℕ)
 asked_as settings before s e method asked number = if is_edit method then asked_text (current_version settings before s e) asked number else Some (with_id_text asked number)
 
--- a request of the start, under the editor's next number (S9, S11, S12); of two asks of the start none has the same id
+-- a request of the start that creates no token, under the editor's next number (S9, S11, S12); of two asks of the start none has the same id
 pub record IsAsk (settings : Settings) (before : List Event) (cause : Cause) (events : List Event) (e : ℕ) (body : List ℕ) : Type 0 where
   pub start : ℕ
   pub asked : List ℕ
@@ -359,6 +369,7 @@ pub record IsAsk (settings : Settings) (before : List Event) (cause : Cause) (ev
   pub params : Option Json
   pub source : IsFromStart settings before cause events e start asked
   pub asks : message_of asked ≡ request id method given
+  pub plain : is_creating method ≡ false
   pub group : ℕ
   pub kept : group_of start before ≡ Some group
   pub home : home_of settings e before ≡ Some group
@@ -399,7 +410,7 @@ pub record IsResumed (settings : Settings) (before : List Event) (cause : Cause)
   pub bytes : body ≡ with_id_text first.body (decimal (next_ask e events))
   pub says : message_of body ≡ request (integer (decimal (next_ask e events))) method params
 
--- registrations are changed by this request of s, to whose group e belongs, which runs
+-- registrations are changed, or a token is created, by this request of s, to whose group e belongs, which runs
 pub record IsChange (settings : Settings) (before : List Event) (cause : Cause) (e s : ℕ) (asked : List ℕ) (class : Class) : Type 0 where
   pub from : cause ≡ FromServer s asked
   pub id : Id
@@ -423,24 +434,30 @@ pub record IsRestoring (settings : Settings) (before : List Event) (cause : Caus
   pub home : home_of settings e before ≡ Some group
   pub last : start_of group before ≡ Some s
 
--- what is taken back since its ids come again, and what is registered (S6), what is taken back (S7), and all that is live (L2)
-pub data Registering (settings : Settings) (before : List Event) (cause : Cause) (e s n : ℕ) (body : List ℕ) : Type 0 where
-  displaces : (asked : List ℕ) (items : List Registration) → IsChange settings before cause e s asked Register → registered asked ≡ Some items → body ≡ unregister_text (again items (live_of settings s before)) n → Registering settings before cause e s n body
-  enrols : (asked : List ℕ) (items : List Registration) → IsChange settings before cause e s asked Register → registered asked ≡ Some items → body ≡ register_text items n → Registering settings before cause e s n body
-  releases : (asked : List ℕ) (items : List Registration) → IsChange settings before cause e s asked Unregister → taken_back asked (live_of settings s before) ≡ Some items → body ≡ unregister_text (again items (live_of settings s before)) n → Registering settings before cause e s n body
-  restores : IsRestoring settings before cause e s → body ≡ register_text (live_of settings s before) n → Registering settings before cause e s n body
+-- what is taken back since its ids come again, and what is registered (S6), what is taken back (S7), and all that is live (L2); a token that the start creates (S8), and each that lives, in the order of creation (L2)
+pub data Calling (settings : Settings) (before : List Event) (cause : Cause) (e s n : ℕ) (body : List ℕ) : Type 0 where
+  displaces : (asked : List ℕ) (items : List Registration) → IsChange settings before cause e s asked Register → registered asked ≡ Some items → body ≡ unregister_text (again items (live_of settings s before)) n → Calling settings before cause e s n body
+  enrols : (asked : List ℕ) (items : List Registration) → IsChange settings before cause e s asked Register → registered asked ≡ Some items → body ≡ register_text items n → Calling settings before cause e s n body
+  releases : (asked : List ℕ) (items : List Registration) → IsChange settings before cause e s asked Unregister → taken_back asked (live_of settings s before) ≡ Some items → body ≡ unregister_text (again items (live_of settings s before)) n → Calling settings before cause e s n body
+  restores : IsRestoring settings before cause e s → body ≡ register_text (live_of settings s before) n → Calling settings before cause e s n body
+  creates : (asked : List ℕ) (token : Token) → IsChange settings before cause e s asked Create → created_token asked (created_of settings s before) ≡ Some token → body ≡ create_text s token.number n → Calling settings before cause e s n body
+  revives : (token : Token) (earlier later : List Token) → IsRestoring settings before cause e s → (created_of settings s before).tokens ≡ earlier ++ token ∷ later → body ≡ create_text s token.number n → Calling settings before cause e s n body
 
--- the daemon's own request about registrations at a ready start, to an editor that runs, under its next number
-pub record IsRegistering (settings : Settings) (before : List Event) (cause : Cause) (events : List Event) (e : ℕ) (body : List ℕ) : Type 0 where
+-- the daemon's own request is about registrations, or that the editor take a token
+abbrev pub is_call : List ℕ → Bool
+is_call method = is_registering method || is_creating method
+
+-- such a request at a ready start, to an editor that runs, under its next number
+pub record IsCall (settings : Settings) (before : List Event) (cause : Cause) (events : List Event) (e : ℕ) (body : List ℕ) : Type 0 where
   pub start : ℕ
-  pub told : Registering settings before cause e start (next_ask e events) body
+  pub told : Calling settings before cause e start (next_ask e events) body
   pub ready : (life_of start before).stage ≡ Ready
   pub running : (desk_of e events).phase ≡ Running
   pub idle : (s : ℕ) → (asking_of settings s events).asker ≡ None
   pub room : has_number e events ≡ true
   pub method : List ℕ
   pub params : Option Json
-  pub named : is_registering method ≡ true
+  pub named : is_call method ≡ true
   pub says : message_of body ≡ request (integer (decimal (next_ask e events))) method params
 
 -- a notification of the start without a row of its own, as it came
@@ -472,24 +489,39 @@ pub record IsRecall (settings : Settings) (before : List Event) (cause : Cause) 
   pub id : id_of value ≡ Some (integer (decimal ask.number))
   pub says : message_of body ≡ notification (codes "$/cancelRequest") (Some params)
 
--- what the start tells of an open request of the editor, which runs or is down, with the editor's own token (S13)
-pub record IsProgress (before : List Event) (cause : Cause) (events : List Event) (e : ℕ) (body : List ℕ) : Type 0 where
-  pub start : ℕ
-  pub asked : List ℕ
+-- a notification of the start, which is ready
+pub record IsNotified (before : List Event) (cause : Cause) (s : ℕ) (asked : List ℕ) (given : Option Json) : Type 0 where
   pub method : List ℕ
-  pub given : Option Json
-  pub request : Forwarded
-  pub token : List ℕ
-  pub params : Option Json
-  pub from : cause ≡ FromServer start asked
-  pub ready : (life_of start before).stage ≡ Ready
+  pub from : cause ≡ FromServer s asked
+  pub ready : (life_of s before).stage ≡ Ready
   pub asks : message_of asked ≡ notification method given
   pub class : class_of method Server true ≡ Progress
-  pub found : find (is_told before (named_of (codes "token") given)) (forwarding_of start before).open_requests ≡ Some request
-  pub own : own_token (named_of (codes "token") given) request ≡ Some token
-  pub editor : request.editor ≡ e
+
+-- a response of the editor, which runs, to a create of the start
+pub record IsTaken (settings : Settings) (before : List Event) (cause : Cause) (e s : ℕ) (taking : Taking) : Type 0 where
+  pub answer : List ℕ
+  pub from : cause ≡ FromEditor e answer
+  pub ran : (desk_of e before).phase ≡ Running
+  pub ready : (life_of s before).stage ≡ Ready
+  pub found : find (is_answered e (answered_id (message_of answer))) (created_of settings s before).takings ≡ Some taking
+  pub accepted : accepts (message_of answer) ≡ true
+
+-- what is told: of an open request of the editor, with the editor's own token, and of a token that it accepted, with the daemon's (S13); and what was held of a token that it accepts, behind what was held before it (E19)
+pub data Telling (settings : Settings) (before : List Event) (cause : Cause) (events : List Event) (e : ℕ) (body : List ℕ) : Type 0 where
+  of_request : (s : ℕ) (asked : List ℕ) (given : Option Json) (request : Forwarded) (token : List ℕ) → IsNotified before cause s asked given → find (is_told before (named_of (codes "token") given)) (forwarding_of s before).open_requests ≡ Some request
+      → own_token (named_of (codes "token") given) request ≡ Some token → request.editor ≡ e → body ≡ marked_text token asked → Telling settings before cause events e body
+  of_token : (s : ℕ) (asked : List ℕ) (given : Option Json) (token : Token) → IsNotified before cause s asked given → token_called (named_token given) (created_of settings s before) ≡ Some token
+      → has_accepted e token.number (created_of settings s before) ≡ true → body ≡ marked_text (created_text s token.number) asked → Telling settings before cause events e body
+  of_held : (s : ℕ) (taking : Taking) (earlier : List (List ℕ)) (held : List ℕ) (later : List (List ℕ)) → IsTaken settings before cause e s taking → taking.held ≡ earlier ++ held ∷ later
+      → events ≡ behind (with_cause before cause) (map (λ other. ToEditor e (marked_text (created_text s taking.token) other)) earlier) → body ≡ marked_text (created_text s taking.token) held → Telling settings before cause events e body
+
+-- progress is told to an editor that runs or is down
+pub record IsProgress (settings : Settings) (before : List Event) (cause : Cause) (events : List Event) (e : ℕ) (body : List ℕ) : Type 0 where
+  pub told : Telling settings before cause events e body
+  pub method : List ℕ
+  pub params : Option Json
+  pub class : class_of method Server true ≡ Progress
   pub hears : listens (desk_of e events).phase ≡ true
-  pub bytes : body ≡ marked_text token asked
   pub says : message_of body ≡ notification method params
 
 pub data WhyToEditor (settings : Settings) (before : List Event) (cause : Cause) (events : List Event) (e : ℕ) (body : List ℕ) : Type 0 where
@@ -501,10 +533,10 @@ pub data WhyToEditor (settings : Settings) (before : List Event) (cause : Cause)
   passes : IsPassing settings before cause events e body → WhyToEditor settings before cause events e body
   asks : IsAsk settings before cause events e body → WhyToEditor settings before cause events e body
   resumes : IsResumed settings before cause events e body → WhyToEditor settings before cause events e body
-  registers : IsRegistering settings before cause events e body → WhyToEditor settings before cause events e body
+  calls : IsCall settings before cause events e body → WhyToEditor settings before cause events e body
   spreads : IsSpread settings before cause events e body → WhyToEditor settings before cause events e body
   recalls : IsRecall settings before cause events e body → WhyToEditor settings before cause events e body
-  progresses : IsProgress before cause events e body → WhyToEditor settings before cause events e body
+  progresses : IsProgress settings before cause events e body → WhyToEditor settings before cause events e body
 
 -- its program is to begin, or gave no result yet
 abbrev pub is_starting : Stage → Bool

@@ -16,3 +16,6 @@ pub mod WorkedLive
 pub mod LiveTexts
 pub mod TokenTexts
 pub mod WorkedTokens
+pub mod WorkedCreated
+pub mod CreatedTexts
+pub mod CreatedKept

@@ -58,7 +58,7 @@ pub record IsTokenText (bytes : List ℕ) : Type 0 where
 
 -- The daemon's own tokens are such texts
 
-plain_digit : (d : ℕ) → (is_digit d || (d == 45)) ≡ true → (is_plain d && nat_lt d 128) ≡ true
+pub plain_digit : (d : ℕ) → (is_digit d || (d == 45)) ≡ true → (is_plain d && nat_lt d 128) ≡ true
 plain_digit d h = grind (arith, nat_tests)
 
 digits_simple : (ds : List ℕ) → is_integer ds ≡ true → all_simple ds ≡ true

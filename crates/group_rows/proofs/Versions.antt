@@ -7,7 +7,7 @@ use Rattle.json_text.specs.Bare.{nowhere}
 use Rattle.json_text.specs.Json.{Json, word, number}
 use Rattle.json_text.specs.Number.{IsNumber}
 use Rattle.mux_history.specs.declared.cause.Cause.{Cause}
-use Rattle.mux_history.specs.declared.cause.Cause.TheVariants.{FromEditor, EditorGone}
+use Rattle.mux_history.specs.declared.cause.Cause.TheVariants.{FromEditor, EditorGone, FromServer}
 use Rattle.mux_history.specs.declared.out.Out.{Out}
 use Rattle.mux_history.specs.declared.out.Out.TheVariants.{CloseEditor, ToServer}
 use Rattle.position_codec.specs.declared.Encoding.{Encoding}
@@ -37,6 +37,7 @@ use Rattle.group_rows.proofs.Integers.{IsSaidNumber, said_number}
 -- the events are of causes and outs: the message of a body is what the body says
 abbrev pub IsMeant : Event → Type 0
 IsMeant (took (FromEditor e body) m) = m ≡ message_of body
+IsMeant (took (FromServer s body) m) = m ≡ message_of body
 IsMeant (did (ToServer s body) m) = m ≡ message_of body
 IsMeant other = Unit {0}
 
@@ -45,6 +46,7 @@ AllMeant events = AllByRecursion IsMeant events
 
 pub meant_heard : (cause : Cause) → IsMeant (heard cause)
 meant_heard (FromEditor e body) = refl
+meant_heard (FromServer s body) = refl
 meant_heard other = tt
 
 pub meant_said : (out : Out) → IsMeant (said out)

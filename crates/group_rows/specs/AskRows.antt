@@ -1,4 +1,4 @@
--- S6, S7, S9 to S12, S14 and L2: what a ready start asks of editors and tells them, and E19: what it gets of their answers.
+-- S6 to S12, S14 and L2: what a ready start asks of editors and tells them, and E19: what it gets of their answers.
 use Rattle.std.specs.Prelude.{ℕ, Bool, false, List, bytes_eq, filter, find, codes, decimal, nat_eq}
 use Rattle.std.specs.Prelude.{Option, Some, None, slice_get}
 use Rattle.std.specs.List.{last_or, list_any}
@@ -7,7 +7,7 @@ use Rattle.json_text.specs.Json.{Json}
 use Rattle.mux_history.specs.declared.out.Out.TheVariants.{ToEditor, ToServer}
 use Rattle.lsp_method.specs.Class.{class_of}
 use Rattle.lsp_method.specs.declared.variants.Class.{Class}
-use Rattle.lsp_method.specs.declared.variants.Class.TheVariants.{Broadcast, Cancel, Focused, Folders, Lowest, Progress, Refresh, Register, Unregister}
+use Rattle.lsp_method.specs.declared.variants.Class.TheVariants.{Broadcast, Cancel, Create, Focused, Folders, Lowest, Progress, Refresh, Register, Unregister}
 use Rattle.lsp_method.specs.declared.variants.Origin.TheVariants.{Server}
 use Rattle.rpc_message.specs.Message.{Id, Message, id_bytes, id_of}
 use Rattle.rpc_message.specs.Texts.{error_text, ok_text, request_failed, with_id_text}
@@ -26,10 +26,10 @@ use Rattle.group_words.specs.Houses.{groups_of, home_of}
 use Rattle.group_words.specs.Rows.{folders_text}
 use Rattle.group_rows.specs.Answers.{agreed_version, stamp_at}
 use Rattle.group_rows.specs.Asks.{Ask, Parked, asking_of, asks_of, first_in, has_number, is_seated, is_taken, is_under, next_ask, parked_of, running_in}
+use Rattle.group_rows.specs.CreatedRows.{create_row, offer_all, progress_row, taking_row}
 use Rattle.group_rows.specs.Forwarded.{Forwarded, forwarding_of}
 use Rattle.group_rows.specs.Leaves.{cancel_text}
 use Rattle.group_rows.specs.LiveRows.{register_row, restore, unregister_row}
-use Rattle.group_rows.specs.Tokens.{progress_row}
 
 -- the editor is asked what the start asks, under the editor's next number, while one is left
 abbrev pub ask : List ℕ → ℕ → Row
@@ -90,11 +90,12 @@ asking_row settings before g s body method Focused = focused_row settings before
 asking_row settings before g s body method Lowest = lowest_row settings before g body
 asking_row settings before g s body method Register = register_row settings before g s body
 asking_row settings before g s body method Unregister = unregister_row settings before g s body
+asking_row settings before g s body method Create = create_row settings before g s body
 asking_row settings before g s body method _ = nothing
 
--- L2: an editor begins to run: it is told of what is registered at its group's start, and then what waited there is asked of it
+-- L2: an editor begins to run: it is told of what is registered at its group's start, asked to take the tokens that live there, and then asked what waited there
 abbrev pub run_at : Settings → List Event → ℕ → ℕ → Row
-run_at settings before e s = choose (is_ready (life_of s before).stage) (restore settings before e s ⨾ each (λ (p : Parked). ask p.body e) (parked_of settings s before)) nothing
+run_at settings before e s = choose (is_ready (life_of s before).stage) (restore settings before e s ⨾ (offer_all settings before e s ⨾ each (λ (p : Parked). ask p.body e) (parked_of settings s before))) nothing
 
 abbrev pub run_row : Settings → List Event → ℕ → Row
 run_row settings before e = on (home_of settings e before) nothing (λ g. on (start_of g before) nothing (run_at settings before e))
@@ -120,16 +121,16 @@ broadcast_row settings before s body = on (group_of s before) nothing (λ g. eac
 
 abbrev pub notified_row : Settings → ℕ → List Event → List ℕ → Option Json → Class → Row
 notified_row settings s before body params Cancel = cancelled_row settings s before params
-notified_row settings s before body params Progress = progress_row s before body params
+notified_row settings s before body params Progress = progress_row settings s before body params
 notified_row settings s before body params Broadcast = broadcast_row settings before s body
 notified_row settings s before body params _ = nothing
 
--- E19: a response under the number of an open ask goes to the start under the start's own id
+-- E19: a response under the number of an open ask goes to the start under the start's own id; one under another number may say whether the editor takes a token
 abbrev pub hand_back : ℕ → List ℕ → Ask → Row
 hand_back s body a = send (ToServer s (with_id_text body a.bytes))
 
 abbrev pub response_at : Settings → List Event → ℕ → List ℕ → Message → ℕ → Row
-response_at settings before e body m s = choose (is_ready (life_of s before).stage) (on (find (is_seated e (answered_id m)) (asks_of settings s before)) nothing (hand_back s body)) nothing
+response_at settings before e body m s = choose (is_ready (life_of s before).stage) (on (find (is_seated e (answered_id m)) (asks_of settings s before)) (taking_row settings before e m s) (hand_back s body)) nothing
 
 abbrev pub response_row : Settings → List Event → ℕ → List ℕ → Message → Row
 response_row settings before e body m = on (home_of settings e before) nothing (λ g. on (start_of g before) nothing (response_at settings before e body m))

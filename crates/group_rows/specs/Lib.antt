@@ -19,6 +19,9 @@ pub mod LiveRows
 pub mod LiveTexts
 pub mod Tokens
 pub mod TokensExample
+pub mod Created
+pub mod CreatedExample
+pub mod CreatedRows
 pub use Rattle.group_words
 pub use Rattle.registrations.specs.mux_members
 pub use Rattle.registrations.specs.mux_model

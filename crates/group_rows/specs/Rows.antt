@@ -1,5 +1,5 @@
--- The routing table over several editors and groups, in part: J1, J2, E2 to E5, E7 to E10, E11, E12 to E17, E19, S1, S2 with X4, S3, S4, S5 with V1 and V2, S6, S7, S9 to S12 with V3, S13 of requests' tokens, S14, L2 of registrations and of what waits until an editor runs, X1 to X3 of groups that live no more, and X5 to X7.
-use Rattle.std.specs.Prelude.{ℕ, Bool, true, false, ◌&&◌, ◌||◌, List, [], ◌∷◌, ◌++◌, filter, flat_map, codes, nat_eq, nat_lt, decimal, bytes_eq, if◌then◌else◌}
+-- The routing table over several editors and groups, in part: J1, J2, E2 to E5, E7 to E10, E11, E12 to E17, E19, S1, S2 with X4, S3, S4, S5 with V1 and V2, S6 to S12 with V3, S13, S14, L2 of registrations, of tokens and of what waits until an editor runs, X1 to X3 of groups that live no more, and X5 to X7.
+use Rattle.std.specs.Prelude.{ℕ, Bool, true, false, ◌&&◌, ◌||◌, List, [], ◌∷◌, ◌++◌, filter, flat_map, codes, nat_eq, nat_lt, bytes_eq, if◌then◌else◌}
 use Rattle.std.specs.Prelude.{Option, Some, None, slice_get}
 use Rattle.std.specs.List.{list_any}
 use Rattle.std.specs.Option.{option_map_or}
@@ -39,13 +39,14 @@ use Rattle.group_words.specs.Rows.{initialize_of, initialize_row, shown_of}
 use Rattle.group_rows.specs.Answers.{answer_row}
 use Rattle.group_rows.specs.AskRows.{notified_row, question_row, response_row, run_row}
 use Rattle.group_rows.specs.Cancelling.{cancelling_row}
+use Rattle.group_rows.specs.CreatedRows.{work_row}
 use Rattle.group_rows.specs.Ends.{answers_shutdown, exit_server}
 use Rattle.group_rows.specs.Forwarded.{forwarding_of}
 use Rattle.group_rows.specs.Leaves.{leave_row}
 use Rattle.group_rows.specs.Status.{items_of, status_text}
 use Rattle.group_rows.specs.Texts.{encoding_of, texts_of}
 use Rattle.group_rows.specs.Ticks.{tick_row}
-use Rattle.group_rows.specs.Tokens.{forwarded_text, reserves, work_row}
+use Rattle.group_rows.specs.Tokens.{forwarded_text, reserves}
 
 abbrev pub answer_error : ℕ → List ℕ → Code → Row
 answer_error e body code = send (ToEditor e (error_text (id_bytes body) code))
@@ -162,7 +163,7 @@ abbrev pub down_row : Settings → List Event → ℕ → List ℕ → Message �
 down_row settings before e body (request id method params) = answer_error e body (wrong_code method invalid_request)
 down_row settings before e body other = exit_row settings before e other
 
--- L2: by a message that makes it run an editor is first told of what is registered, and asked what waits
+-- L2: by a message that makes it run an editor is first told of what is registered, and asked to take tokens and what waits
 abbrev pub begun_row : Settings → List Event → ℕ → List ℕ → Message → Row
 begun_row settings before e body m = choose (makes_running m) (run_row settings before e) nothing ⨾ served_row settings before e body m
 

@@ -1,5 +1,5 @@
 -- Tokens for progress of editors' requests: what a start gets in their place, and what an editor is told of them (LSP 3.17, Work Done Progress and Partial Result Progress).
-use Rattle.std.specs.Prelude.{ℕ, ◌+◌, ◌*◌, Bool, true, false, ◌&&◌, ◌||◌, List, [], ◌++◌, codes, decimal, find, is_some, bytes_eq, take, if◌then◌else◌}
+use Rattle.std.specs.Prelude.{ℕ, ◌+◌, ◌*◌, Bool, true, false, ◌&&◌, ◌||◌, List, [], ◌++◌, codes, decimal, is_some, bytes_eq, take, if◌then◌else◌}
 use Rattle.std.specs.Prelude.{Option, Some, None}
 use Rattle.std.specs.Option.{option_and_then, option_map_or}
 use Rattle.json_text.specs.Json.{Json, string}
@@ -13,13 +13,9 @@ use Rattle.event_model.specs.declared.phase.Phase.TheVariants.{Running, Down}
 use Rattle.event_model.specs.Event.{Event}
 use Rattle.event_model.specs.Members.{is_token, named_of, params_of, string_of}
 use Rattle.event_model.specs.Phases.{desk_of}
-use Rattle.event_model.specs.Row.{Row, nothing, send, choose, on}
-use Rattle.event_model.specs.Settings.{Settings}
-use Rattle.event_model.specs.Spawns.{start_of}
-use Rattle.event_model.specs.Stages.{life_of, is_ready}
-use Rattle.group_words.specs.Houses.{home_of}
+use Rattle.event_model.specs.Row.{Row, nothing, send, on}
 use Rattle.group_rows.specs.Cancelling.{id_meant}
-use Rattle.group_rows.specs.Forwarded.{Forwarded, forwarding_of, is_of}
+use Rattle.group_rows.specs.Forwarded.{Forwarded, is_of}
 
 -- the characters of the daemon's own token of a number, and its text
 abbrev pub mark : ℕ → List ℕ
@@ -91,9 +87,6 @@ is_told before token f = is_some (own_token token f) && listens (desk_of f.edito
 abbrev pub tell_progress : List ℕ → Option Json → Forwarded → Row
 tell_progress body token f = on (own_token token f) nothing (λ text. send (ToEditor f.editor (marked_text text body)))
 
-abbrev pub progress_row : ℕ → List Event → List ℕ → Option Json → Row
-progress_row s before body params = on (find (is_told before (named_of (codes "token") params)) (forwarding_of s before).open_requests) nothing (tell_progress body (named_of (codes "token") params))
-
 -- E11: an editor cancels the work of an open request of its own, by its token, which goes on as the daemon's (LSP 3.17, Work Done Progress, Cancelling)
 abbrev pub is_token_of : Option Json → Option (List ℕ) → Bool
 is_token_of token None = false
@@ -102,9 +95,5 @@ is_token_of token (Some bytes) = option_map_or (λ id. option_map_or (same_id id
 abbrev pub is_worked : ℕ → Option Json → Forwarded → Bool
 is_worked e token f = is_of e f && is_token_of token f.work
 
-abbrev pub work_at : List Event → ℕ → List ℕ → Option Json → ℕ → Row
-work_at before e body params s = choose (is_ready (life_of s before).stage)
-    (on (find (is_worked e (named_of (codes "token") params)) (forwarding_of s before).open_requests) nothing (λ (f : Forwarded). send (ToServer s (marked_text (mark_text (work_mark f.number)) body)))) nothing
-
-abbrev pub work_row : Settings → List Event → ℕ → List ℕ → Option Json → Row
-work_row settings before e body params = on (home_of settings e before) nothing (λ g. on (start_of g before) nothing (λ s. work_at before e body params s))
+abbrev pub cancel_work : ℕ → List ℕ → Forwarded → Row
+cancel_work s body f = send (ToServer s (marked_text (mark_text (work_mark f.number)) body))

@@ -1,5 +1,5 @@
 -- What is registered at an editor behind its message by which it begins to run (L2).
-use Rattle.std.proofs.Common.{◌≡◌, ℕ, ◌^◌, Bool, true, false, not, ◌&&◌, ◌||◌, List, [], ◌∷◌, ◌++◌, append-nil, append_assoc, bytes_eq, codes, decimal, map, if◌then◌else◌, Option, Some, None, ◌⊎◌, inl, inr, refl, sym, ◌∙◌, ap, subst, subst₂, ltb-true}
+use Rattle.std.proofs.Common.{arith, ◌<◌, ◌≡◌, ℕ, ◌^◌, Bool, true, false, not, ◌&&◌, ◌||◌, List, [], ◌∷◌, ◌++◌, append-nil, append_assoc, bytes_eq, codes, decimal, map, if◌then◌else◌, Option, Some, None, ◌⊎◌, inl, inr, refl, sym, ◌∙◌, ap, subst, subst₂, ltb-true}
 use Rattle.std.specs.List.{AllByRecursion}
 use Rattle.mux_history.specs.declared.cause.Cause.TheVariants.{FromEditor}
 use Rattle.mux_history.specs.declared.out.Out.{Out}
@@ -39,15 +39,18 @@ use Rattle.group_facts.specs.Built.{built_behind}
 use Rattle.group_facts.specs.Facts.{IsParked, is_unready, is_up, shuts}
 use Rattle.group_facts.specs.Settled.{Settled, is_answered as answered_phase}
 use Rattle.group_facts.specs.Why.{asks_something}
-use Rattle.group_facts.proofs.Asks.{registering_hurried}
+use Rattle.group_facts.proofs.Asks.{call_hurried}
 use Rattle.group_facts.proofs.Begun.{all_outs, leave_by}
 use Rattle.group_facts.proofs.Facts.{Facts}
 use Rattle.group_facts.proofs.Lively.{up_of}
 use Rattle.group_facts.proofs.Still.{Goes, still_served, unshut}
 use Rattle.group_sessions.proofs.Changes.{Some_hold, none_gone, small, still_some}
-use Rattle.group_sessions.proofs.Enrolled.{Adds, Same, is_about, may_add, register_adds, same_all}
+use Rattle.group_sessions.proofs.Enrolled.{create_apart, Adds, Same, is_about, may_add, register_adds, same_all}
 use Rattle.group_sessions.proofs.Registered.{At, at_free, at_plain, at_told, at_took, ids}
 use Rattle.group_sessions.proofs.Tied.{All, IsTied, Place, all_back, has_run, live_here, place, runs_on}
+use Rattle.group_rows.specs.Created.{created_of, Token, is_creating}
+use Rattle.group_rows.specs.CreatedRows.{offer_all, offer, create_text}
+use Rattle.group_rows.proofs.CreatedTexts.{create_says}
 
 asks_about : (m : Message) → asks_something m ≡ false → is_about m ≡ false
 asks_about (request id method ps) h = never h
@@ -173,7 +176,7 @@ module _ (settings : Settings) (range : InRange settings) (before : List Event) 
         ∙ ap (λ b. outs (choose b (run_row settings before e) nothing ⨾ served) now) runs) ∙ behind_both now (outs (run_row settings before e) now) (outs served there)
 
     serves : (xs : List (List ℕ)) → At e xs there → At e xs later
-    serves xs h = subst (At e xs) (sym later_is) (going e xs (outs served there) there ((still_served settings before e body (message_of body) refl runs).goes there) h)
+    serves xs h = subst (At e xs) (sym later_is) (going e xs (outs served there) there ((still_served settings before e body (ap is_running was) (message_of body) refl runs).goes there) h)
 
     unrun : outs (run_row settings before e) now ≡ [] → At e [] later
     unrun none = serves [] (subst (λ zs. At e [] (behind now zs)) (sym none) (subst (At e []) (sym (append-nil now)) at_now))
@@ -209,7 +212,7 @@ module _ (settings : Settings) (range : InRange settings) (before : List Event) 
             where
               off : (b : Bool) → is_registering (known.0).method ≡ b → b ≡ false
               off false h = refl
-              off true h = never (sym (known.0).patient ∙ registering_hurried (known.0).method h)
+              off true h = never (sym (known.0).patient ∙ call_hurried (known.0).method (ap (λ b. b || is_creating (known.0).method) h))
 
           one : (xs : List (List ℕ)) (z : List Event) → At e xs z → At e xs (behind z (outs (ask p.body e) z))
           one xs z h = go (has_number e z) refl
@@ -218,19 +221,38 @@ module _ (settings : Settings) (range : InRange settings) (before : List Event) 
               go true room = at_plain e e xs z (with_id_text p.body (decimal (next_ask e z))) (λ same. plain z room) h
               go false none = subst (At e xs) (sym (append-nil z)) h
 
+      -- an editor that is asked to take tokens is told of no registration
+      offered : (ts : List Token) (events : List Event) → Held events → Held (behind events (outs (each (offer s e) ts) events))
+      offered [] events h = subst Held (sym (append-nil events)) h
+      offered (t ∷ ts) events h = subst Held (sym (behind_both events (outs (offer s e t) events) (outs (each (offer s e) ts) (behind events (outs (offer s e t) events)))))
+          (offered ts (behind events (outs (offer s e t) events)) (still_some e live (live_written settings s before) (offer s e t) one live events h))
+        where
+          plain : (z : List Event) → has_number e z ≡ true → is_about (message_of (create_text s t.number (next_ask e z))) ≡ false
+          plain z room = let low : next_ask e z < 2 ^ 64 = ltb-true (next_ask e z) (2 ^ 64) room in ap is_about (create_says s t.number (next_ask e z) (omega (arith, low))) ∙ create_apart
+
+          one : (xs : List (List ℕ)) (z : List Event) → At e xs z → At e xs (behind z (outs (offer s e t) z))
+          one xs z h = go (has_number e z) refl
+            where
+              go : (b : Bool) → has_number e z ≡ b → At e xs (behind z (outs (choose b (send (ToEditor e (create_text s t.number (next_ask e z)))) nothing) z))
+              go true room = at_plain e e xs z (create_text s t.number (next_ask e z)) (λ same. plain z room) h
+              go false none = subst (At e xs) (sym (append-nil z)) h
+
       run_is : outs (run_row settings before e) now ≡ outs (run_at settings before e s) now
       run_is = ap (λ o. outs (on o nothing (λ g. on (start_of g before) nothing (run_at settings before e))) now) home ∙ ap (λ o. outs (on o nothing (run_at settings before e)) now) start
 
-      run_holds : (b : Bool) → is_ready (life_of s before).stage ≡ b → Held (behind now (outs (choose b (restore settings before e s ⨾ each (λ (p : Parked). ask p.body e) (parked_of settings s before)) nothing) now))
+      run_holds : (b : Bool) → is_ready (life_of s before).stage ≡ b → Held (behind now (outs (choose b (restore settings before e s ⨾ (offer_all settings before e s ⨾ each (λ (p : Parked). ask p.body e) (parked_of settings s before))) nothing) now))
       run_holds true ready = let mid : List Event = behind now (outs (restore settings before e s) now) in
-          subst Held (sym (behind_both now (outs (restore settings before e s) now) (outs (each (λ (p : Parked). ask p.body e) (parked_of settings s before)) mid))) (asked (parked_of settings s before) ((facts.steady).asks s).parked mid restored)
+          let late : List Event = behind mid (outs (offer_all settings before e s) mid) in
+          subst Held (sym (behind_both now (outs (restore settings before e s) now) (outs (offer_all settings before e s ⨾ each (λ (p : Parked). ask p.body e) (parked_of settings s before)) mid)))
+          (subst Held (sym (behind_both mid (outs (offer_all settings before e s) mid) (outs (each (λ (p : Parked). ask p.body e) (parked_of settings s before)) late)))
+          (asked (parked_of settings s before) ((facts.steady).asks s).parked late (offered (created_of settings s before).tokens mid restored)))
       run_holds false off = record { xs = []; holds = record { at = subst (At e []) (sym (append-nil now)) at_now; same = inl (subst (Same []) (sym empty) (λ x. refl)) } }
         where
           empty : live ≡ []
           empty = all.unready s (up_unready (life_of s before).stage (up_of settings before settled.lively e g s (ap answered_phase was) home start) off)
 
       outcome : Outcome
-      outcome = finish (still_some e live (live_written settings s before) served (λ xs z h. going e xs (outs served z) z ((still_served settings before e body (message_of body) refl runs).goes z) h) live there
+      outcome = finish (still_some e live (live_written settings s before) served (λ xs z h. going e xs (outs served z) z ((still_served settings before e body (ap is_running was) (message_of body) refl runs).goes z) h) live there
           (subst (λ zs. Held (behind now zs)) (sym run_is) (run_holds (is_ready (life_of s before).stage) refl)))
         where
           finish : Held (behind there (outs served there)) → Outcome

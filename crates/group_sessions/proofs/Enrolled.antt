@@ -2,6 +2,7 @@
 use Rattle.std.proofs.Common.{◌≡◌, ℕ, ◌^◌, ◌<◌, Bool, true, false, not, ◌&&◌, ◌||◌, cond, List, [], ◌∷◌, ◌++◌, bytes_eq, codes, filter, if◌then◌else◌, map, append-nil, refl, sym, ◌∙◌, ap, ap₂}
 use Rattle.std.specs.List.{list_all, list_any}
 use Rattle.std.proofs.lemmas.Slice.Eq.{bytes_eq-Decides}
+use Rattle.lsp_method.specs.Class.{server_request}
 use Rattle.rpc_message.specs.Message.{Message, request, notification, result, error, not_json, not_message, message_of}
 use Rattle.event_model.specs.Members.{listed, named_of}
 use Rattle.event_model.proofs.Frames.{never}
@@ -11,7 +12,6 @@ use Rattle.registrations.specs.Names.{is_named}
 use Rattle.group_rows.specs.Live.{is_registering, register_text, unregister_text}
 use Rattle.group_rows.specs.LiveTexts.{AreWritten}
 use Rattle.group_rows.proofs.LiveTexts.{register_tells, unregister_tells}
-use Rattle.group_facts.proofs.AskingRows.{registers_all, unregisters_all}
 use Rattle.session_laws.specs.ClientRules.{after_told, has_id, ids_in, may_register, registered_in, unregistered_in}
 use Rattle.session_laws.proofs.Client7Law.{all_pass, has_joined, has_passed}
 
@@ -115,10 +115,22 @@ abbrev pub is_about : Message → Bool
 is_about (request id method params) = is_registering method
 is_about other = false
 
+register_is : is_registering (codes "client/registerCapability") ≡ true
+unfolding server_request
+register_is = refl
+
+unregister_is : is_registering (codes "client/unregisterCapability") ≡ true
+unfolding server_request
+unregister_is = refl
+
+pub create_apart : is_registering (codes "window/workDoneProgress/create") ≡ false
+unfolding server_request
+create_apart = refl
+
 pub leaves_other : (m : Message) → is_about m ≡ false → Leaves m
 leaves_other (request id method params) h = record {
-  comes = ap (λ b. if b then ids_in (listed (named_of (codes "registrations") params)) else []) (not_named (codes "client/registerCapability") method registers_all h);
-  goes = ap (λ b. if b then ids_in (listed (named_of (codes "unregisterations") params)) else []) (not_named (codes "client/unregisterCapability") method unregisters_all h);
+  comes = ap (λ b. if b then ids_in (listed (named_of (codes "registrations") params)) else []) (not_named (codes "client/registerCapability") method register_is h);
+  goes = ap (λ b. if b then ids_in (listed (named_of (codes "unregisterations") params)) else []) (not_named (codes "client/unregisterCapability") method unregister_is h);
 }
 leaves_other (notification method params) h = record { comes = refl; goes = refl }
 leaves_other (result id r) h = record { comes = refl; goes = refl }

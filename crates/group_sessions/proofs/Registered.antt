@@ -1,5 +1,5 @@
 -- Entries that leave what is registered at an editor as it is.
-use Rattle.std.proofs.Common.{◌≡◌, ℕ, Bool, true, false, ◌&&◌, cond, List, [], ◌∷◌, ◌++◌, nat_eq, refl, sym, ◌∙◌, ap, subst}
+use Rattle.std.proofs.Common.{ltb-true, arith, ◌<◌, ◌^◌, ◌||◌, ◌≡◌, ℕ, Bool, true, false, ◌&&◌, cond, List, [], ◌∷◌, ◌++◌, nat_eq, refl, sym, ◌∙◌, ap, subst}
 use Rattle.mux_history.specs.declared.cause.Cause.{Cause}
 use Rattle.mux_history.specs.declared.cause.Cause.TheVariants.{Joined, FromServer}
 use Rattle.mux_history.specs.declared.out.Out.{Out}
@@ -28,11 +28,14 @@ use Rattle.session_laws.proofs.Client7Law.{free_7}
 use Rattle.group_rows.specs.Live.{changes_live, is_registering}
 use Rattle.group_rows.specs.Rows.{outs_of}
 use Rattle.group_facts.specs.Built.{built_behind}
-use Rattle.group_facts.specs.Why.{IsAsk, IsChange, IsResumed, Registering, Why, WhyToEditor, answers, asks, displaces, enrols, passes, recalls, refuses, registers, rejects, releases, restores, resumes, spreads, turns_away, welcomes, progresses}
-use Rattle.group_facts.proofs.Asks.{registering_hurried}
+use Rattle.group_facts.specs.Why.{progresses, IsAsk, IsChange, IsResumed, Calling, Why, WhyToEditor, answers, asks, displaces, enrols, passes, recalls, refuses, calls, rejects, releases, restores, creates, revives, resumes, spreads, turns_away, welcomes}
+use Rattle.group_facts.proofs.Asks.{call_hurried}
 use Rattle.group_facts.proofs.Facts.{Facts}
 use Rattle.group_facts.proofs.Table.{reasons}
-use Rattle.group_sessions.proofs.Enrolled.{Leaves, is_about, leaves_other, left, may_leave}
+use Rattle.group_sessions.proofs.Enrolled.{create_apart, Leaves, is_about, leaves_other, left, may_leave}
+use Rattle.group_rows.specs.Created.{is_creating}
+use Rattle.group_rows.specs.Asks.{next_ask}
+use Rattle.group_rows.proofs.CreatedTexts.{create_says}
 
 abbrev pub ids : ℕ → List Event → List (List ℕ)
 ids e events = registered_of (editor_part e events)
@@ -119,17 +122,19 @@ module _ (settings : Settings) (before : List Event) (cause : Cause) (same : is_
     resumed_plain k = ap is_about k.says ∙ go (is_registering k.method) refl
       where
         go : (b : Bool) → is_registering k.method ≡ b → b ≡ false
-        go true named = never (sym k.patient ∙ registering_hurried k.method named)
+        go true named = never (sym k.patient ∙ call_hurried k.method (ap (λ b. b || is_creating k.method) named))
         go false off = refl
 
     no_change : (s : ℕ) (asked : List ℕ) (c : Class) → (life_of s before).stage ≡ Ready → changes_live c ≡ true → IsChange settings before cause n s asked c → is_about (message_of body) ≡ false
     no_change s asked c ready kind k = never (sym (ap (is_change before) k.from ∙ ap (λ b. b && is_about (message_of asked)) (ap is_ready ready) ∙ ap is_about k.asks ∙ ap changes_live k.kind ∙ kind) ∙ same)
 
-    registers_plain : (s m : ℕ) → (life_of s before).stage ≡ Ready → Registering settings before cause n s m body → is_about (message_of body) ≡ false
-    registers_plain s m ready (displaces asked items k found is) = no_change s asked Register ready refl k
-    registers_plain s m ready (enrols asked items k found is) = no_change s asked Register ready refl k
-    registers_plain s m ready (releases asked items k found is) = no_change s asked Unregister ready refl k
-    registers_plain s m ready (restores k is) = never (sym (ap (λ p. is_answered p && is_running (desk_of n (with_cause before cause)).phase) k.waited ∙ ap is_running k.began) ∙ runs)
+    registers_plain : (s m : ℕ) → m < 2 ^ 128 → (life_of s before).stage ≡ Ready → Calling settings before cause n s m body → is_about (message_of body) ≡ false
+    registers_plain s m small ready (displaces asked items k found is) = no_change s asked Register ready refl k
+    registers_plain s m small ready (enrols asked items k found is) = no_change s asked Register ready refl k
+    registers_plain s m small ready (releases asked items k found is) = no_change s asked Unregister ready refl k
+    registers_plain s m small ready (restores k is) = never (sym (ap (λ p. is_answered p && is_running (desk_of n (with_cause before cause)).phase) k.waited ∙ ap is_running k.began) ∙ runs)
+    registers_plain s m small ready (creates asked token k found is) = ap is_about (ap message_of is ∙ create_says s token.number m small) ∙ create_apart
+    registers_plain s m small ready (revives token earlier later k order is) = ap is_about (ap message_of is ∙ create_says s token.number m small) ∙ create_apart
 
     plain : WhyToEditor settings before cause events n body → is_about (message_of body) ≡ false
     plain (rejects k) = ap is_about k.says
@@ -140,7 +145,7 @@ module _ (settings : Settings) (before : List Event) (cause : Cause) (same : is_
     plain (passes k) = response_plain (message_of body) k.response
     plain (asks k) = asked_plain k
     plain (resumes k) = resumed_plain k
-    plain (registers k) = registers_plain k.start _ k.ready k.told
+    plain (calls k) = registers_plain k.start (next_ask n events) (let small : next_ask n events < 2 ^ 64 = ltb-true (next_ask n events) (2 ^ 64) k.room in omega (arith, small)) k.ready k.told
     plain (spreads k) = ap is_about k.says
     plain (recalls k) = ap is_about k.says
     plain (progresses k) = ap is_about k.says

@@ -282,7 +282,7 @@ module _ (settings : Settings) (range : InRange settings) (before : List Event) 
       by_cause (Tick t) is = told (Tick t) is (ap (λ (d : Desk). d.phase) (desk_more e before (heard (Tick t))))
 
   -- one that hasn't run, hadn't
-  unrun : (e : ℕ) → has_not (desk_of e now).phase ≡ true → has_not (desk_of e before).phase ≡ true
+  pub unrun : (e : ℕ) → has_not (desk_of e now).phase ≡ true → has_not (desk_of e before).phase ≡ true
   unrun e h = by_cause cause refl
     where
       told : (c : Cause) → cause ≡ c → (desk_of e (with_cause before c)).phase ≡ (desk_of e before).phase → has_not (desk_of e before).phase ≡ true

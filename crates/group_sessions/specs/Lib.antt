@@ -4,3 +4,4 @@ pub use Rattle.session_laws
 pub use Rattle.group_facts
 pub use Rattle.group_rows
 pub use Rattle.session_laws
+pub mod Due

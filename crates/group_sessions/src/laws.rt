@@ -7,8 +7,9 @@ ghost use Rattle.event_model.specs.Settings.{Settings};
 ghost use Rattle.event_model.specs.Spawns.{starts_of};
 ghost use Rattle.mux_facts.specs.Ranges.{InRange};
 ghost use Rattle.group_facts.specs.Legal.{Legal};
-ghost use Rattle.session_laws.specs.ClientRules.{KeepsClient1, KeepsClient2, KeepsClient3, KeepsClient4, KeepsClient5, KeepsClient7};
-ghost use Rattle.session_laws.specs.ServerRules.{KeepsServer1, KeepsServer2, KeepsServer3, KeepsServer4, KeepsServer5, KeepsServer6, KeepsServer8};
+ghost use Rattle.group_sessions.specs.Due.{KeepsDue};
+ghost use Rattle.session_laws.specs.ClientRules.{KeepsClient1, KeepsClient2, KeepsClient3, KeepsClient4, KeepsClient5, KeepsClient6, KeepsClient7};
+ghost use Rattle.session_laws.specs.ServerRules.{KeepsServer1, KeepsServer2, KeepsServer3, KeepsServer4, KeepsServer5, KeepsServer6, KeepsServer7, KeepsServer8};
 
 /// A law: nothing goes to an editor whose link ended, or was to be ended (LSP 3.17, Base Protocol).
 pub fn client_1()
@@ -35,6 +36,12 @@ pub fn client_4()
 /// A law: a cancel to an editor names a request that was sent to it and that it hasn't answered (LSP 3.17, Cancellation Support).
 pub fn client_5()
     ensures { (settings : Settings) → InRange settings → (history : List Entry) → Legal settings history → KeepsClient5 history }
+{}
+
+/// A law: progress that an editor is told has the token of an open request of it, or one that it was asked to create and answered
+/// with a result, and of which no end was told since (LSP 3.17, Progress Support and Work Done Progress).
+pub fn client_6()
+    ensures { (settings : Settings) → InRange settings → (history : List Entry) → Legal settings history → KeepsClient6 history }
 {}
 
 /// A law: an editor is told to register what isn't registered there, and to take back what is, by the ids of the items (LSP 3.17,
@@ -78,10 +85,22 @@ pub fn server_6()
     ensures { (settings : Settings) → InRange settings → (history : List Entry) → Legal settings history → KeepsServer6 history }
 {}
 
+/// A law: a cancel of work to a server names the token of a request that it has to answer, as it was sent, or one that it created and
+/// that hasn't ended (LSP 3.17, Work Done Progress).
+pub fn server_7()
+    ensures { (settings : Settings) → InRange settings → (history : List Entry) → Legal settings history → KeepsServer7 history }
+{}
+
 /// A law: behind `shutdown` a server gets `exit` alone, once it responded to `shutdown`; behind `exit` it gets nothing, and no `exit` without
 /// `shutdown` (LSP 3.17, Shutdown Request and Exit Notification).
 pub fn server_8()
     ensures { (settings : Settings) → InRange settings → (history : List Entry) → Legal settings history → KeepsServer8 history }
+{}
+
+/// A law: of each token that a start created an editor was sent what it is due: the start's messages since it accepted the token, and before
+/// them what was held until then (LSP 3.17, Work Done Progress, Server Initiated Progress).
+pub fn progress_due()
+    ensures { (settings : Settings) → InRange settings → (history : List Entry) → Legal settings history → KeepsDue settings history }
 {}
 
 /// A law: no start is spawned twice, whatever group it is for. It is no rule of a session; that each lane of a server

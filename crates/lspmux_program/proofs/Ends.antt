@@ -18,7 +18,7 @@ use Rattle.drive_text.specs.Outs.{outs_text}
 use Rattle.mux_hub.specs.group_facts.specs.OwnTexts.{OwnTexts}
 use Rattle.mux_hub.specs.group_facts.proofs.OwnVersions.{own_versions_hold}
 use Rattle.mux_hub.specs.group_facts.proofs.Switching.{switches_hold}
-use Rattle.mux_hub.proofs.Sessions.{sessions_kept}
+use Rattle.mux_hub.proofs.Sessions.{due_law, sessions_kept}
 use Rattle.lspmux_program.specs.Program.{status_of, fault_line, status_line, refused_line, Ran, Drove, JournalTells, words_line, IsUnrefused, Undisturbed}
 use Rattle.lspmux_program.specs.Reports.{Wrote, Reported, said, unsaid}
 use Rattle.lspmux_program.specs.Runs.{built_in, Refused, Outcome, drive_of, IsRunOfRead, PassesFirst, TakesFirst, WroteFront}
@@ -77,6 +77,7 @@ drove_done told journal input left w v failed r = record {
   history = r.history;
   legal = r.legal;
   sessions = sessions_kept built_in (record { requests = lit< tt; versions = lit< tt }) r.history r.legal;
+  due = due_law built_in (record { requests = lit< tt; versions = lit< tt }) r.history r.legal;
   switches = switches_hold built_in (record { requests = lit< tt; versions = lit< tt }) r.history r.legal;
   versions = own_versions_hold built_in (record { requests = lit< tt; versions = lit< tt }) r.history r.legal;
   own = r.own;
@@ -116,6 +117,7 @@ silent told journal input left w v u failed s status r m six seven nine l e = re
   history = r.history;
   legal = r.legal;
   sessions = sessions_kept built_in (record { requests = lit< tt; versions = lit< tt }) r.history r.legal;
+  due = due_law built_in (record { requests = lit< tt; versions = lit< tt }) r.history r.legal;
   switches = switches_hold built_in (record { requests = lit< tt; versions = lit< tt }) r.history r.legal;
   versions = own_versions_hold built_in (record { requests = lit< tt; versions = lit< tt }) r.history r.legal;
   own = r.own;
@@ -153,6 +155,7 @@ spoken told journal input left w v u failed s status r m o f six seven nine = re
   history = r.history;
   legal = r.legal;
   sessions = sessions_kept built_in (record { requests = lit< tt; versions = lit< tt }) r.history r.legal;
+  due = due_law built_in (record { requests = lit< tt; versions = lit< tt }) r.history r.legal;
   switches = switches_hold built_in (record { requests = lit< tt; versions = lit< tt }) r.history r.legal;
   versions = own_versions_hold built_in (record { requests = lit< tt; versions = lit< tt }) r.history r.legal;
   own = r.own;
@@ -178,6 +181,7 @@ refused_at told journal input left w v u failed k refusal r f = record {
   history = r.history;
   legal = r.legal;
   sessions = sessions_kept built_in (record { requests = lit< tt; versions = lit< tt }) r.history r.legal;
+  due = due_law built_in (record { requests = lit< tt; versions = lit< tt }) r.history r.legal;
   switches = switches_hold built_in (record { requests = lit< tt; versions = lit< tt }) r.history r.legal;
   versions = own_versions_hold built_in (record { requests = lit< tt; versions = lit< tt }) r.history r.legal;
   own = r.own;
@@ -217,6 +221,7 @@ drove_words told journal input left w v failed t f = record {
   history = [];
   legal = tt;
   sessions = sessions_kept built_in (record { requests = lit< tt; versions = lit< tt }) [] tt;
+  due = due_law built_in (record { requests = lit< tt; versions = lit< tt }) [] tt;
   switches = switches_hold built_in (record { requests = lit< tt; versions = lit< tt }) [] tt;
   versions = own_versions_hold built_in (record { requests = lit< tt; versions = lit< tt }) [] tt;
   own = tt;

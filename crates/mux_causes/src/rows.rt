@@ -109,7 +109,7 @@ fn built_telling(message: &Message) -> bool
     is_told(told_class(message))
 }
 
-// S6, S7 and S9 to S12: whether requests of this class are built.
+// S6 to S12: whether requests of this class are built.
 fn is_asked_of_editors(class: Class) -> bool
     ensures { result ≡ built_asking class }
 {
@@ -121,6 +121,7 @@ fn is_asked_of_editors(class: Class) -> bool
             | Class::Lowest
             | Class::Register
             | Class::Unregister
+            | Class::Create
     )
 }
 

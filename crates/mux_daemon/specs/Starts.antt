@@ -48,7 +48,7 @@ how s x = went s.editors s.servers s.deeds x
 abbrev pub WentBy : List Item → Type 0
 WentBy by = ((w : Why) × (w ≢ why.WriteFault) × (by ≡ item.Posted (posted.Ended w) ∷ [])) ⊎ (by ≡ item.Side side.Broke ∷ [])
 
--- the history has of a start that it came up, then its bodies, which are the contents of the first frames of the bytes read, and perhaps that it went; and the bodies are all of them where it went since the source ended, a read failed or a fault stands in the bytes, unless the session was ordered to be closed
+-- the history has of a start that it came up, then its bodies, which are the contents of the first frames of the bytes read, and perhaps that it went; and the bodies are all of them where it went since a read failed or a fault stands in the bytes, or, of a whole session that wasn't ordered to be closed, since the source ended
 pub record StartRead (limit : ℕ) (history : List Entry) (by : List Item) (start : ℕ) (run : Run) : Type 0 where
   pub bodies : List (List ℕ)
   pub gone : List Cause

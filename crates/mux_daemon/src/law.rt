@@ -18,9 +18,9 @@ pub fn port_law<P: Port>()
 
 /// Where no start is spawned twice, as is so of what `serve_core` served, the starts that were tried in a served berth's lane have
 /// its first turns, in their order. Each failed; or it came up, its bodies are the first frames that were read of its program, and
-/// what was written are the frames of the bodies to it; they are all of them where the start went by the end that was posted of its
-/// source, and wasn't ordered to end before. A write that failed by what the lane said did so in the turn of its start, whose sink's
-/// count rose.
+/// what was written are the frames of the bodies to it. Its bodies are all frames that were read where it went by a failed read or a
+/// fault in the bytes, or, of a whole session that wasn't ordered to be closed, by the end of its source. A write that failed by what
+/// the lane said did so in the turn of its start, whose sink's count rose.
 pub fn berth_law<B: Berth>()
     ensures { BerthLaw B.runs B.left B.faults }
 {

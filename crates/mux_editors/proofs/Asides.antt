@@ -107,6 +107,14 @@ malformed_silent (notification method ps) h = refl
 malformed_silent (result id r) h = absurd (cc)
 malformed_silent (error id r) h = absurd (cc)
 
+pub malformed_shuts : (m : Message) → is_malformed m ≡ true → requests (codes "shutdown") m ≡ false
+malformed_shuts not_json h = refl
+malformed_shuts not_message h = refl
+malformed_shuts (request id method ps) h = absurd (cc)
+malformed_shuts (notification method ps) h = refl
+malformed_shuts (result id r) h = refl
+malformed_shuts (error id r) h = refl
+
 -- `exit` leaves each editor where it is
 pub exit_stays : (p : Phase) (i body : List ℕ) (m : Message) → notifies (codes "exit") m ≡ true → (desk_hears p i body m).phase ≡ p
 exit_stays New i body (notification method ps) h = refl
@@ -148,16 +156,16 @@ exit_answers (error id r) h = absurd (cc)
 exit_answers not_json h = refl
 exit_answers not_message h = refl
 
+pub exit_shuts : (m : Message) → notifies (codes "exit") m ≡ true → requests (codes "shutdown") m ≡ false
+exit_shuts (notification method ps) h = refl
+exit_shuts (request id method ps) h = absurd (cc)
+exit_shuts (result id r) h = absurd (cc)
+exit_shuts (error id r) h = absurd (cc)
+exit_shuts not_json h = absurd (cc)
+exit_shuts not_message h = absurd (cc)
+
 pub exit_keeps : (before : List Event) (e : ℕ) (m : Message) → notifies (codes "exit") m ≡ true → changes_documents before e m ≡ false
-exit_keeps before e m h = ap (λ b. is_served (desk_of e before).phase && b) (ap₂ (λ a x. a || speaks x) (no_request m h) (exit_silent m h)) ∙ and_off (is_served (desk_of e before).phase)
-  where
-    no_request : (m : Message) → notifies (codes "exit") m ≡ true → requests (codes "shutdown") m ≡ false
-    no_request (notification method ps) h = refl
-    no_request (request id method ps) h = absurd (cc)
-    no_request (result id r) h = absurd (cc)
-    no_request (error id r) h = absurd (cc)
-    no_request not_json h = absurd (cc)
-    no_request not_message h = absurd (cc)
+exit_keeps before e m h = ap (λ b. is_served (desk_of e before).phase && b) (ap₂ (λ a x. a || speaks x) (exit_shuts m h) (exit_silent m h)) ∙ and_off (is_served (desk_of e before).phase)
 
 -- before the answer to its `initialize`
 pub early_stays : (p : Phase) (i body : List ℕ) (m : Message) → is_early p ≡ true → places p m ≡ false → (desk_hears p i body m).phase ≡ p
@@ -170,7 +178,7 @@ early_stays Down i body m h k = absurd (cc)
 early_stays Closed i body m h k = absurd (cc)
 early_stays Gone i body m h k = absurd (cc)
 
-early_unserved : (p : Phase) → is_early p ≡ true → is_served p ≡ false
+pub early_unserved : (p : Phase) → is_early p ≡ true → is_served p ≡ false
 early_unserved Answered h = absurd (cc)
 early_unserved Running h = absurd (cc)
 early_unserved New h = refl

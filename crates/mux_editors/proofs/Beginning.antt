@@ -1,22 +1,24 @@
 -- L2: what an editor is told and asked where it begins to run.
 use Rattle.std.proofs.Common.{◌≡◌, ℕ, true, List, [], ◌∷◌, ◌++◌, map, zero, suc, length, refl, ap, sym, subst, ◌∙◌}
-use Rattle.std.specs.Prelude.{Some, slice_get}
+use Rattle.std.specs.Prelude.{None, Some, slice_get}
 use Rattle.std.specs.List.{AllByRecursion}
 use Rattle.mux_history.specs.declared.cause.Cause.TheVariants.{FromEditor}
 use Rattle.mux_history.specs.declared.out.Out.{Out}
 use Rattle.rpc_message.specs.Message.{message_of}
 use Rattle.event_model.specs.declared.stage.Stage.TheVariants.{Ready}
 use Rattle.event_model.specs.Does.{Alike, Does}
-use Rattle.event_model.specs.Event.{Event, behind, with_cause}
+use Rattle.event_model.specs.Event.{Event, behind, heard, with_cause}
 use Rattle.event_model.specs.Phases.{desk_of, is_running, is_served, makes_running}
 use Rattle.event_model.specs.Row.{Row, after, each, nothing, outs}
 use Rattle.event_model.specs.Settings.{Settings}
 use Rattle.event_model.specs.Stages.{Life, is_ready, life_of}
 use Rattle.event_model.proofs.Places.{same_item}
-use Rattle.event_model.proofs.Turns.{alike_then, does_alike, does_nothing, does_then}
+use Rattle.event_model.proofs.Turns.{alike_then, behind_more, does_alike, does_nothing, does_then}
 use Rattle.mux_turns.specs.group_facts.specs.Why.{IsQuestion}
 use Rattle.group_rows.specs.AskRows.{ask}
-use Rattle.group_rows.specs.Asks.{Asking, Parked, asks_of, parked_of}
+use Rattle.group_rows.specs.Asks.{Asking, Parked, asking_of, asks_of, parked_of}
+use Rattle.group_rows.specs.Created.{Created, created_of}
+use Rattle.group_rows.specs.CreatedRows.{offer, offer_all}
 use Rattle.group_rows.specs.Live.{live_of, register_text}
 use Rattle.group_rows.specs.LiveRows.{has_some, register_any}
 use Rattle.group_rows.proofs.LiveTexts.{live_written}
@@ -31,11 +33,16 @@ use Rattle.mux_tables.specs.Stands.{IsWorking, MayWait, Stands, number_in, of_li
 use Rattle.mux_tables.proofs.DocumentOwed.{all_does}
 use Rattle.mux_tables.proofs.Waiting.{ready_parked}
 use Rattle.mux_turns.specs.Calls.{IsCall}
-use Rattle.mux_turns.proofs.Called.{Quiet, any_quiet, quiet_behind, register_call, runs_on}
+use Rattle.mux_tables.specs.mux_tokens.proofs.Standing.{created_more}
+use Rattle.mux_turns.specs.Creates.{AreSmall}
+use Rattle.mux_turns.proofs.Called.{Quiet, any_quiet, quiet_behind, quiet_then, register_call, rests_on, runs_on}
+use Rattle.mux_turns.proofs.Offering.{small_behind}
+use Rattle.mux_turns.proofs.Offers.{any_created, offers_quiet}
 use Rattle.mux_turns.proofs.Departing.{behind_first}
 use Rattle.mux_turns.proofs.Matched.{whole_entry}
-use Rattle.mux_editors.specs.Running.{Begun, may_begin, running_row}
-use Rattle.mux_editors.proofs.Runs.{asks_all, begins_row, ready_run, restores_all, runs_now, works_now}
+use Rattle.mux_editors.specs.Running.{AreUnasked, Begun, CanBegin, may_begin, running_row}
+use Rattle.mux_editors.proofs.Runs.{asks_all, begins_row, offers_all, ready_run, restores_all, runs_now, works_now}
+use Rattle.mux_editors.proofs.Takings.{away_spoken}
 
 module _ (settings : Settings) (t u : Tables) (owed : Owed) (before : List Event) (e : ℕ) (body : List ℕ) (xs ys : List Out) (first : xs ≡ []) where
   abbrev base : List Event
@@ -79,51 +86,93 @@ module _ (settings : Settings) (t u : Tables) (owed : Owed) (before : List Event
     pub live_here : live_of settings s now ≡ live
     live_here = ap (live_of settings s) (sym here)
 
+    abbrev offering : Row
+    offering = offer_all settings before e s
+
     abbrev asking : Row
     asking = each (λ (p : Parked). ask p.body e) (parked_of settings s base)
 
-    row_is : Alike (running_row settings before e (message_of body)) (after (register_any live e) asking)
+    row_is : Alike (running_row settings before e (message_of body)) (after (register_any live e) (after offering asking))
     row_is = alike_then (begins_row settings before e body served runs begins) (ready_run settings before e body served runs x.life.group s home (st.lasts.each g x at).start stage)
 
     waiting : AllByRecursion MayWait (parked_of settings s base)
     waiting = (ready_parked x.life.stage (asks_of settings s base) (parked_of settings s base) x.parked ready ((st.lasts.each g x at).parts of_parked)).bodies
 
-    -- behind what it is told of registrations
-    module _ (zs : List Out) (told : zs ≡ xs ++ outs (register_any (live_of settings s now) e) now) where
-      abbrev mid : List Event
-      mid = behind base zs
+    module _ (can : CanBegin settings before e body) where
+      away : AreUnasked e (created_of settings s before).takings
+      away = can.unasked begins s
 
-      quiet : Quiet settings now mid
-      quiet = quiet_behind settings (register_any (live_of settings s now) e) base xs zs told
-          (any_quiet settings (register_text (live_of settings s now)) (subst (λ rs. IsCall (register_text rs)) (sym live_here) called) (has_some (live_of settings s now)) e now)
+      -- the message itself answers nothing of what it was asked to take
+      created_here : created_of settings s now ≡ created_of settings s before
+      created_here = ap (created_of settings s) (sym here) ∙ (created_more settings s before (heard (FromEditor e body)) ∙ away_spoken e (message_of body) (created_of settings s before) away)
 
-      pub runs_mid : is_running (desk_of e mid).phase ≡ true
-      runs_mid = runs_on settings now mid quiet e runs_here
+      -- behind what it is told of registrations
+      module _ (zs : List Out) (told : zs ≡ xs ++ outs (register_any (live_of settings s now) e) now) where
+        abbrev mid : List Event
+        mid = behind base zs
 
-      pub home_mid : home_of settings e mid ≡ Some x.life.group
-      home_mid = quiet.homes e ∙ home_here
+        called_here : IsCall (register_text (live_of settings s now))
+        called_here = subst (λ rs. IsCall (register_text rs)) (sym live_here) called
 
-      pub works_mid : (n : ℕ) → IsWorking settings e n mid
-      works_mid n =
-          let same = quiet.asking n (works_here n).asker in
-          record { asker = ap (λ (a : Asking). a.asker) same ∙ (works_here n).asker; runs = ap (λ (a : Asking). a.runs) same ∙ (works_here n).runs }
+        quiet : Quiet settings now mid
+        quiet = quiet_behind settings (register_any (live_of settings s now) e) base xs zs told
+            (any_quiet settings (register_text (live_of settings s now)) called_here (has_some (live_of settings s now)) e now)
 
-      parked_mid : parked_of settings s mid ≡ parked_of settings s base
-      parked_mid = ap (λ (a : Asking). a.parked) (quiet.asking s (works_here s).asker) ∙ ap (parked_of settings s) (sym here)
+        pub runs_mid : is_running (desk_of e mid).phase ≡ true
+        runs_mid = runs_on settings now mid quiet e runs_here
 
-      pub all_begun : (w : Tables) → Does (λ k events. AllStand settings k events) (register_any (live_of settings s now) e) base (t, owed) xs (w, owed) zs
-          → Does (λ t events. Stands settings t events) (each (λ (p : Parked). ask p.body e) (parked_of settings s mid)) base w zs u ys → (DocumentsStand settings owed w mid → DocumentsStand settings owed u (behind base ys)) → Begun settings before e body owed u ys
-      all_begun w d one docs =
-          let first_part = subst (λ rs. Does (λ k events. AllStand settings k events) (register_any rs e) base (t, owed) xs (w, owed) zs) live_here d in
-          let second_part = subst (λ ps. Does (λ t events. Stands settings t events) (each (λ (p : Parked). ask p.body e) ps) base w zs u ys) parked_mid one in
-          let done = whole_entry (λ k events. AllStand settings k events) (running_row settings before e (message_of body)) base (t, owed) (u, owed) xs ys first (st, ds)
-          (does_alike (λ _. row_is) (does_then first_part (all_does settings w u owed owed base zs ys second_part (λ _ k. docs k)))) in
-          let told_first = outs (register_any live e) (behind base []) in
-          record {
-            done = done;
-            asks = subst (AllByRecursion (IsQuestion e)) (sym (done.outs ∙ row_is.sends (behind base [])))
-                (all_join (IsQuestion e) told_first (outs asking (behind (behind base []) told_first)) (restores_all e live called (behind base [])) (asks_all e (parked_of settings s base) waiting (behind (behind base []) told_first)));
-          }
+        pub rests_mid : (n : ℕ) → (asking_of settings n mid).asker ≡ None
+        rests_mid = rests_on settings now mid quiet (λ n. (works_here n).asker)
+
+        created_mid : created_of settings s mid ≡ created_of settings s before
+        created_mid = ap (λ ys. created_of settings s (behind base ys)) told ∙ (ap (created_of settings s) (behind_more base xs (outs (register_any (live_of settings s now) e) now))
+            ∙ (any_created settings s (register_text (live_of settings s now)) called_here (has_some (live_of settings s now)) e now ∙ created_here))
+
+        pub unasked_mid : AreUnasked e (created_of settings s mid).takings
+        unasked_mid = subst (λ (c : Created). AreUnasked e c.takings) (sym created_mid) away
+
+        pub small_mid : AreSmall settings mid
+        small_mid = small_behind settings base zs can.small
+
+        -- and behind what it is asked to take
+        module _ (vs : List Out) (offered : vs ≡ zs ++ outs (each (offer s e) (created_of settings s mid).tokens) mid) where
+          abbrev late : List Event
+          late = behind base vs
+
+          quiet_late : Quiet settings now late
+          quiet_late = quiet_then settings now mid late quiet (quiet_behind settings (each (offer s e) (created_of settings s mid).tokens) base zs vs offered (offers_quiet settings s e (created_of settings s mid).tokens mid))
+
+          pub runs_late : is_running (desk_of e late).phase ≡ true
+          runs_late = runs_on settings now late quiet_late e runs_here
+
+          pub home_late : home_of settings e late ≡ Some x.life.group
+          home_late = quiet_late.homes e ∙ home_here
+
+          pub works_late : (n : ℕ) → IsWorking settings e n late
+          works_late n =
+              let same = quiet_late.asking n (works_here n).asker in
+              record { asker = ap (λ (a : Asking). a.asker) same ∙ (works_here n).asker; runs = ap (λ (a : Asking). a.runs) same ∙ (works_here n).runs }
+
+          parked_late : parked_of settings s late ≡ parked_of settings s base
+          parked_late = ap (λ (a : Asking). a.parked) (quiet_late.asking s (works_here s).asker) ∙ ap (parked_of settings s) (sym here)
+
+          pub all_begun : (w v : Tables) → Does (λ k events. AllStand settings k events) (register_any (live_of settings s now) e) base (t, owed) xs (w, owed) zs
+              → Does (λ k events. AllStand settings k events) (each (offer s e) (created_of settings s mid).tokens) base (w, owed) zs (v, owed) vs
+              → Does (λ t events. Stands settings t events) (each (λ (p : Parked). ask p.body e) (parked_of settings s late)) base v vs u ys → (DocumentsStand settings owed v late → DocumentsStand settings owed u (behind base ys)) → Begun settings before e body owed u ys
+          all_begun w v d o one docs =
+              let first_part = subst (λ rs. Does (λ k events. AllStand settings k events) (register_any rs e) base (t, owed) xs (w, owed) zs) live_here d in
+              let second_part = subst (λ (c : Created). Does (λ k events. AllStand settings k events) (each (offer s e) c.tokens) base (w, owed) zs (v, owed) vs) created_mid o in
+              let third_part = subst (λ ps. Does (λ t events. Stands settings t events) (each (λ (p : Parked). ask p.body e) ps) base v vs u ys) parked_late one in
+              let done = whole_entry (λ k events. AllStand settings k events) (running_row settings before e (message_of body)) base (t, owed) (u, owed) xs ys first (st, ds)
+              (does_alike (λ _. row_is) (does_then first_part (does_then second_part (all_does settings v u owed owed base vs ys third_part (λ _ k. docs k))))) in
+              let told_first = outs (register_any live e) (behind base []) in
+              let told_next = outs offering (behind (behind base []) told_first) in
+              record {
+                done = done;
+                asks = subst (AllByRecursion (IsQuestion e)) (sym (done.outs ∙ row_is.sends (behind base [])))
+                    (all_join (IsQuestion e) told_first (outs (after offering asking) (behind (behind base []) told_first)) (restores_all e live called (behind base []))
+                    (all_join (IsQuestion e) told_next (outs asking (behind (behind (behind base []) told_first) told_next)) (offers_all s e (created_of settings s before).tokens (behind (behind base []) told_first)) (asks_all e (parked_of settings s base) waiting (behind (behind (behind base []) told_first) told_next))));
+              }
 
 -- The last starts, but for what they asked
 

@@ -26,6 +26,7 @@ use Rattle.event_model.specs.Stages.{is_ready, life_of}
 use Rattle.event_model.proofs.Turns.{does_nothing}
 use Rattle.group_rows.specs.AskRows.{hand_back, response_at, response_row}
 use Rattle.group_rows.specs.Asks.{Ask, Asking, Parked, asking_of, asks_of, is_seated, is_under, parked_of, waits_under}
+use Rattle.group_rows.specs.CreatedRows.{taking_row}
 use Rattle.group_rows.specs.Forwarded.{moves_ids}
 use Rattle.group_rows.specs.Texts.{is_synced}
 use Rattle.mux_turns.specs.mux_facts.specs.Allowed.{is_response}
@@ -125,6 +126,14 @@ reply_stops before e (notification method ps) k = absurd (cc)
 reply_stops before e not_json k = absurd (cc)
 reply_stops before e not_message k = absurd (cc)
 
+pub reply_unshut : (m : Message) → is_response m ≡ true → requests (codes "shutdown") m ≡ false
+reply_unshut (result id r) k = refl
+reply_unshut (error id x) k = refl
+reply_unshut (request id method ps) k = absurd (cc)
+reply_unshut (notification method ps) k = absurd (cc)
+reply_unshut not_json k = absurd (cc)
+reply_unshut not_message k = absurd (cc)
+
 off : (b : Bool) → (b && false) ≡ false
 off true = refl
 off false = refl
@@ -146,7 +155,7 @@ module _ (settings : Settings) (before : List Event) (e g s : ℕ) (body : List 
   pub unready_reply : is_ready (life_of s before).stage ≡ false → Alike (response_row settings before e body (message_of body)) nothing
   unready_reply h = is_second row_at h
 
-  pub ready_reply : is_ready (life_of s before).stage ≡ true → Alike (response_row settings before e body (message_of body)) (on (find (is_seated e (answered_id (message_of body))) (asks_of settings s before)) nothing (hand_back s body))
+  pub ready_reply : is_ready (life_of s before).stage ≡ true → Alike (response_row settings before e body (message_of body)) (on (find (is_seated e (answered_id (message_of body))) (asks_of settings s before)) (taking_row settings before e (message_of body) s) (hand_back s body))
   ready_reply h = is_first row_at h
 
   -- where nothing is kept of the start, which ended

@@ -83,6 +83,10 @@ hears_stays Down i body id params method h = refl
 hears_stays Closed i body id params method h = refl
 hears_stays Gone i body id params method h = refl
 
+-- nor is it `shutdown`
+pub own_shuts : (m : Message) → asks_lspmux m ≡ true → requests (codes "shutdown") m ≡ false
+own_shuts m asks = let k = lspmux_is m asks in ap (requests (codes "shutdown")) k.is ∙ by_names (λ w. bytes_eq (codes "shutdown") w ≡ false) k.method refl refl k.own
+
 module _ (before : List Event) (e : ℕ) (body : List ℕ) (asks : asks_lspmux (message_of body) ≡ true) where
   abbrev k : IsLspmux (message_of body)
   k = lspmux_is (message_of body) asks

@@ -1,5 +1,5 @@
 -- A message by which an editor that is served runs (L2): what it leaves as it was, and what it may begin.
-use Rattle.std.proofs.Common.{◌≡◌, ℕ, ◌^◌, Bool, true, false, not, ◌&&◌, ◌||◌, List, [], ◌∷◌, ◌++◌, map, bytes_eq, codes, decimal, nat_eq, if◌then◌else◌, refl, ap, ap₂, sym, subst, ◌∙◌, append-nil, append_assoc, ltb-true}
+use Rattle.std.proofs.Common.{◌≡◌, ℕ, ◌^◌, Bool, true, false, not, ◌&&◌, ◌||◌, List, [], ◌∷◌, ◌++◌, map, bytes_eq, codes, decimal, nat_eq, if◌then◌else◌, refl, ap, ap₂, sym, subst, ◌∙◌, append-nil, append_assoc, ◌<◌, arith, ltb-true}
 use Rattle.std.specs.Prelude.{Option, Some, None}
 use Rattle.std.specs.List.{AllByRecursion}
 use Rattle.std.specs.Option.{option_and_then}
@@ -30,7 +30,10 @@ use Rattle.mux_turns.specs.group_facts.proofs.Homes.{took_home}
 use Rattle.mux_turns.specs.group_facts.proofs.Still.{unshut}
 use Rattle.group_rows.specs.AskRows.{ask, run_at, run_row}
 use Rattle.group_rows.specs.Asks.{Ask, Asking, Parked, asked_next, asking_next, asking_of, has_number, is_own_work, is_patient, is_under, next_ask, parked_of, serves, unparked, waits_under}
+use Rattle.group_rows.specs.Created.{Token}
+use Rattle.group_rows.specs.CreatedRows.{create_text, offer, offer_all}
 use Rattle.group_rows.specs.Live.{live_of, register_text}
+use Rattle.group_rows.proofs.CreatedTexts.{create_says}
 use Rattle.group_rows.specs.LiveRows.{call, has_some, register_any, restore}
 use Rattle.group_rows.specs.Texts.{worker_behind, worker_of}
 use Rattle.group_words.specs.Houses.{home_of, is_doubled, stops}
@@ -70,6 +73,15 @@ module _ (m : Message) (runs : makes_running m ≡ true) where
       go false false true d k = never (sym k)
       go false false false true k = never (sym k)
       go false false false false k = refl
+
+  pub no_shutdown : requests (codes "shutdown") m ≡ false
+  no_shutdown = go (is_malformed m) (notifies (codes "exit") m) (requests (codes "shutdown") m) (is_multiplexer_request m) runs
+    where
+      go : (a b c d : Bool) → not (a || (b || (c || d))) ≡ true → c ≡ false
+      go true b c d k = never (sym k)
+      go false true c d k = never (sym k)
+      go false false true d k = never (sym k)
+      go false false false d k = refl
 
   unstopped : requests (codes "lspmux/stop") m ≡ false
   unstopped = go (requests (codes "lspmux/open") m) (requests (codes "lspmux/status") m) (requests (codes "lspmux/stop") m) unasked
@@ -130,8 +142,8 @@ module _ (settings : Settings) (before : List Event) (e : ℕ) (body : List ℕ)
     row_at : run_row settings before e ≡ run_at settings before e s
     row_at = some_start (home_of settings e before) (λ g. start_of g before) nothing (λ g. run_at settings before e) g s (sym home_now ∙ home) (sym (start_now g) ∙ start)
 
-    pub ready_run : is_ready (life_of s base).stage ≡ true → Alike (run_row settings before e) (after (restore settings base e s) (each (λ (p : Parked). ask p.body e) (parked_of settings s base)))
-    ready_run h = alike_then (is_first row_at (sym (stage_now s) ∙ h)) (alike (ap₂ (λ rs ps. after (register_any rs e) (each (λ (p : Parked). ask p.body e) ps)) (sym (live_now s)) (sym (parked_now s))))
+    pub ready_run : is_ready (life_of s base).stage ≡ true → Alike (run_row settings before e) (after (restore settings base e s) (after (offer_all settings before e s) (each (λ (p : Parked). ask p.body e) (parked_of settings s base))))
+    ready_run h = alike_then (is_first row_at (sym (stage_now s) ∙ h)) (alike (ap₂ (λ rs ps. after (register_any rs e) (after (offer_all settings before e s) (each (λ (p : Parked). ask p.body e) ps))) (sym (live_now s)) (sym (parked_now s))))
 
   pub unready_run : ((s : ℕ) → start_for settings e base ≡ Some s → is_ready (life_of s base).stage ≡ false) → Alike (run_row settings before e) nothing
   unready_run h = ended_start (home_of settings e before) (λ g. start_of g before) nothing (λ g. run_at settings before e)
@@ -221,6 +233,16 @@ restores_all e rs k events = any (has_some rs)
     any : (b : Bool) → AllByRecursion (IsQuestion e) (outs (choose b (call (register_text rs) e) nothing) events)
     any true = one (has_number e events) refl
     any false = tt
+
+pub offers_all : (s e : ℕ) (us : List Token) (events : List Event) → AllByRecursion (IsQuestion e) (outs (each (offer s e) us) events)
+offers_all s e [] events = tt
+offers_all s e (u ∷ us) events = let xs = outs (offer s e u) events in all_join (IsQuestion e) xs (outs (each (offer s e) us) (behind events xs)) (one (has_number e events) refl) (offers_all s e us (behind events xs))
+  where
+    one : (b : Bool) → has_number e events ≡ b → AllByRecursion (IsQuestion e) (outs (choose b (send (ToEditor e (create_text s u.number (next_ask e events)))) nothing) events)
+    one true room =
+        let low : next_ask e events < 2 ^ 64 = ltb-true (next_ask e events) (2 ^ 64) room in
+        ((refl, ap asks_something (create_says s u.number (next_ask e events) (omega (arith, low)))), tt)
+    one false full = tt
 
 -- Behind what is asked
 

@@ -20,6 +20,7 @@ ghost use Rattle.mux_tables.specs.Stands.{Stands, forwarded_of, number_in};
 ghost use Rattle.rpc_message.specs.Message.{Id, message_of, notification};
 ghost use Rattle.rpc_message.specs.Parsed.{IsRead};
 ghost use Rattle.rpc_message.specs.ValueTexts.{IsIdText};
+ghost use Rattle.mux_turns.specs.group_facts.specs.Settled.{Settled};
 
 use crate::running::hear_running;
 use itoa::Buffer;
@@ -140,7 +141,7 @@ pub fn take_cancel(
     ensures versions { tables.new.versions ≡ tables.old.versions }
     ensures does { (settings : Settings) (before : List Event) (body : List ℕ) (params : Option Json) → IsRead message.now body
         → message_of body ≡ notification (codes "$/cancelRequest") params → is_served (desk_of e before).phase ≡ true
-        → outs.old ≡ [] → Known settings before → Stands settings tables.old before → DocumentsStand settings nothing_owed tables.old before
+        → outs.old ≡ [] → Known settings before → Settled settings before → Stands settings tables.old before → DocumentsStand settings nothing_owed tables.old before
         → OnOk result (Done (λ k events. AllStand settings k events) (running_row settings before e (message_of body) ⨾ cancelling_row settings before e body params)
         (with_cause before (FromEditor e body)) [] (tables.new, nothing_owed) outs.new) }
 {

@@ -15,6 +15,7 @@ ghost use Rattle.mux_tables.specs.Documents.{AllStand, DocumentsStand, nothing_o
 ghost use Rattle.mux_tables.specs.Stands.{Stands};
 ghost use Rattle.rpc_message.specs.Message.{Id, message_of, request};
 ghost use Rattle.rpc_message.specs.Parsed.{IsRead};
+ghost use Rattle.mux_turns.specs.group_facts.specs.Settled.{Settled};
 
 use crate::parting::end_link;
 use crate::quiet::phase_of;
@@ -62,7 +63,7 @@ pub fn take_doubled(
     ensures does { (settings : Settings) (before : List Event) (body method : List ℕ) (id : Id) (params : Option Json) → IsRead message.now body
         → message_of body ≡ request id method params → is_standard (class_of method Editor false) ≡ true
         → doubles (desk_of e before).phase id (open_of e before) ≡ true → outs.old ≡ []
-        → Stands settings tables.old before → DocumentsStand settings nothing_owed tables.old before
+        → Settled settings before → Stands settings tables.old before → DocumentsStand settings nothing_owed tables.old before
         → OnOk result (Done (λ k events. AllStand settings k events) (closing_row settings before e)
         (with_cause before (FromEditor e body)) [] (tables.new, nothing_owed) outs.new) }
 {

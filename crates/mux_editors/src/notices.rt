@@ -16,6 +16,7 @@ ghost use Rattle.mux_tables.specs.Documents.{AllStand, DocumentsStand, nothing_o
 ghost use Rattle.mux_tables.specs.Stands.{Stands};
 ghost use Rattle.rpc_message.specs.Message.{message_of, notification};
 ghost use Rattle.rpc_message.specs.Parsed.{IsRead};
+ghost use Rattle.mux_turns.specs.group_facts.specs.Settled.{Settled};
 
 use crate::running::{begin, may_begin};
 use event_model::Phase;
@@ -39,7 +40,7 @@ pub fn take_notice(
     ensures versions { tables.new.versions ≡ tables.old.versions }
     ensures does { (settings : Settings) (before : List Event) (body method : List ℕ) (params : Option Json) (g s : ℕ) → IsRead message.now body
         → message_of body ≡ notification method params → bytes_eq (codes "exit") method ≡ false → is_served (desk_of e before).phase ≡ true
-        → home_of settings e before ≡ Some g → start_of g before ≡ Some s → outs.old ≡ [] → Stands settings tables.old before
+        → home_of settings e before ≡ Some g → start_of g before ≡ Some s → outs.old ≡ [] → Settled settings before → Stands settings tables.old before
         → DocumentsStand settings nothing_owed tables.old before
         → OnOk result (Done (λ k events. AllStand settings k events)
         (running_row settings before e (message_of body) ⨾ document_row settings before e body (saying_by method params))

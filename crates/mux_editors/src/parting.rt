@@ -15,6 +15,8 @@ ghost use Rattle.mux_tables.specs.Stands.{AnswersNone, Stands};
 ghost use Rattle.rpc_message.specs.Message.{Id, message_of, request};
 ghost use Rattle.rpc_message.specs.Parsed.{IsRead};
 ghost use Rattle.rpc_message.specs.Texts.{invalid_request};
+ghost use Rattle.mux_turns.specs.group_facts.specs.Settled.{Settled};
+ghost use Rattle.mux_tables.specs.mux_tokens.specs.Stands.{TakesNone};
 
 use crate::quiet::phase_of;
 use event_model::Phase;
@@ -61,7 +63,7 @@ pub fn end_link(
     requires joined { phase ≢ Absent }
     ensures requests { tables.new.requests ≡ tables.old.requests }
     ensures versions { tables.new.versions ≡ tables.old.versions }
-    ensures does { (settings : Settings) (before : List Event) (body : List ℕ) → AnswersNone settings e (message_of body) before
+    ensures does { (settings : Settings) (before : List Event) (body : List ℕ) → AnswersNone settings e (message_of body) before → TakesNone settings e (message_of body) before
         → places (desk_of e before).phase (message_of body) ≡ false
         → stops before e (message_of body) ≡ false → is_first_open settings.servers before e (message_of body) ≡ false
         → changes_documents before e (message_of body) ≡ false
@@ -131,7 +133,7 @@ pub fn take_down(
     ensures versions { tables.new.versions ≡ tables.old.versions }
     ensures does { (settings : Settings) (before : List Event) (body method : List ℕ) (id : Id) (params : Option Json) → IsRead message.now body
         → message_of body ≡ request id method params → (desk_of e before).phase ≡ Down → stops before e (message_of body) ≡ false → outs.old ≡ []
-        → Stands settings tables.old before → DocumentsStand settings nothing_owed tables.old before
+        → Settled settings before → Stands settings tables.old before → DocumentsStand settings nothing_owed tables.old before
         → OnOk result (Done (λ k events. AllStand settings k events) (answer_error e body (wrong_code method invalid_request))
         (with_cause before (FromEditor e body)) [] (tables.new, nothing_owed) outs.new) }
 {

@@ -20,6 +20,8 @@ ghost use Rattle.rpc_message.specs.Message.{Id, message_of, request};
 ghost use Rattle.rpc_message.specs.Parsed.{IsRead};
 ghost use Rattle.rpc_message.specs.Sorts.{Refuses, sort_of};
 ghost use Rattle.rpc_message.specs.Texts.{invalid_request};
+ghost use Rattle.mux_turns.specs.group_facts.specs.Settled.{Settled};
+ghost use Rattle.mux_tables.specs.mux_tokens.specs.Stands.{TakesNone};
 
 use crate::running::hear_running;
 use event_model::Phase;
@@ -82,7 +84,7 @@ pub fn take_early(
         → message_of body ≡ request id method params → is_early (desk_of e before).phase ≡ true
         → places (desk_of e before).phase (message_of body) ≡ false → stops before e (message_of body) ≡ false
         → asks_lspmux (message_of body) ≡ false → outs.old ≡ []
-        → Stands settings tables.old before → DocumentsStand settings nothing_owed tables.old before
+        → Settled settings before → Stands settings tables.old before → DocumentsStand settings nothing_owed tables.old before
         → OnOk result (Done (λ k events. AllStand settings k events) (answer_error e body (early_code method))
         (with_cause before (FromEditor e body)) [] (tables.new, nothing_owed) outs.new) }
 {
@@ -106,7 +108,7 @@ pub fn take_wrong(
     ensures versions { tables.new.versions ≡ tables.old.versions }
     ensures does { (settings : Settings) (before : List Event) (body method : List ℕ) (id : Id) (params : Option Json) → IsRead message.now body
         → message_of body ≡ request id method params → is_misplaced method ≡ true → is_served (desk_of e before).phase ≡ true
-        → outs.old ≡ [] → Stands settings tables.old before → DocumentsStand settings nothing_owed tables.old before
+        → outs.old ≡ [] → Settled settings before → Stands settings tables.old before → DocumentsStand settings nothing_owed tables.old before
         → OnOk result (Done (λ k events. AllStand settings k events) (running_row settings before e (message_of body) ⨾ answer_error e body (wrong_code method invalid_request))
         (with_cause before (FromEditor e body)) [] (tables.new, nothing_owed) outs.new) }
 {
@@ -121,7 +123,7 @@ pub fn take_closed(tables: &mut Tables, e: u64)
     ensures requests { tables.new.requests ≡ tables.old.requests }
     ensures versions { tables.new.versions ≡ tables.old.versions }
     ensures does { (settings : Settings) (before : List Event) (body : List ℕ) → (desk_of e before).phase ≡ Closed
-        → AnswersNone settings e (message_of body) before → Stands settings tables.old before → DocumentsStand settings nothing_owed tables.old before
+        → AnswersNone settings e (message_of body) before → Settled settings before → Stands settings tables.old before → DocumentsStand settings nothing_owed tables.old before
         → Done (λ k events. AllStand settings k events) nothing (with_cause before (FromEditor e body)) [] (tables.new, nothing_owed) [] }
 {
     let phase = phase_of(tables, e);
@@ -149,6 +151,7 @@ pub fn take_quiet(tables: &mut Tables, e: u64, message: &Message)
     ensures versions { tables.new.versions ≡ tables.old.versions }
     ensures does { (settings : Settings) (before : List Event) (body : List ℕ) → IsRead message.now body → (sort_of (message_of body) ≡ Some Request → ⊥)
         → changes_documents before e (message_of body) ≡ false → AnswersNone settings e (message_of body) before
+        → TakesNone settings e (message_of body) before
         → Stands settings tables.old before → DocumentsStand settings nothing_owed tables.old before
         → Done (λ k events. AllStand settings k events) nothing (with_cause before (FromEditor e body)) [] (tables.new, nothing_owed) [] }
 {

@@ -4,7 +4,7 @@ use Rattle.std.specs.Prelude.{Some}
 use Rattle.std.specs.List.{AllByRecursion}
 use Rattle.lsp_method.specs.Class.{class_of}
 use Rattle.lsp_method.specs.declared.variants.Class.{Class}
-use Rattle.lsp_method.specs.declared.variants.Class.TheVariants.{Broadcast, Cancel, Focused, Folders, Lowest, Progress, Refresh, Register, Unregister}
+use Rattle.lsp_method.specs.declared.variants.Class.TheVariants.{Broadcast, Cancel, Create, Focused, Folders, Lowest, Progress, Refresh, Register, Unregister}
 use Rattle.lsp_method.specs.declared.variants.Origin.TheVariants.{Server}
 use Rattle.rpc_message.specs.declared.sort.Sort.TheVariants as sort
 use Rattle.rpc_message.specs.Message.{Message, message_of, request}
@@ -29,14 +29,15 @@ use Rattle.group_rows.specs.Rows as rows
 use Rattle.mux_starts.specs.mux_tables.specs.Stands.{is_request}
 
 -- classes that aren't built
-pub unbuilt_class : {A : Type 0} (c : Class) → (c ≡ Refresh → ⊥) → (c ≡ Folders → ⊥) → (c ≡ Focused → ⊥) → (c ≡ Lowest → ⊥) → (c ≡ Register → ⊥) → (c ≡ Unregister → ⊥) → built_asking c ≡ true → A
-unbuilt_class Refresh r d f l g u h = absurd (r refl)
-unbuilt_class Folders r d f l g u h = absurd (d refl)
-unbuilt_class Focused r d f l g u h = absurd (f refl)
-unbuilt_class Lowest r d f l g u h = absurd (l refl)
-unbuilt_class Register r d f l g u h = absurd (g refl)
-unbuilt_class Unregister r d f l g u h = absurd (u refl)
-unbuilt_class other r d f l g u h = never (sym h)
+pub unbuilt_class : {A : Type 0} (c : Class) → (c ≡ Refresh → ⊥) → (c ≡ Folders → ⊥) → (c ≡ Focused → ⊥) → (c ≡ Lowest → ⊥) → (c ≡ Register → ⊥) → (c ≡ Unregister → ⊥) → (c ≡ Create → ⊥) → built_asking c ≡ true → A
+unbuilt_class Refresh r d f l g u n h = absurd (r refl)
+unbuilt_class Folders r d f l g u n h = absurd (d refl)
+unbuilt_class Focused r d f l g u n h = absurd (f refl)
+unbuilt_class Lowest r d f l g u n h = absurd (l refl)
+unbuilt_class Register r d f l g u n h = absurd (g refl)
+unbuilt_class Unregister r d f l g u n h = absurd (u refl)
+unbuilt_class Create r d f l g u n h = absurd (n refl)
+unbuilt_class other r d f l g u n h = never (sym h)
 
 pub broadcasts : (c : Class) → (c ≡ Cancel → ⊥) → (c ≡ Progress → ⊥) → built_telling c ≡ true → c ≡ Broadcast
 broadcasts Cancel other more h = absurd (other refl)

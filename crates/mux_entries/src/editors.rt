@@ -89,7 +89,7 @@ fn from_aside(
     ensures does { (settings : Settings) (before : List Event) (body : List ℕ) → IsRead message.now body
         → (sort_of (message_of body) ≡ Some Request → ⊥) → is_served (desk_of e before).phase ≡ false
         → AnswersNone settings e (message_of body) before → outs.old ≡ []
-        → Stands settings tables.old before → DocumentsStand settings nothing_owed tables.old before
+        → Settled settings before → Stands settings tables.old before → DocumentsStand settings nothing_owed tables.old before
         → OnOk result (Done (λ k events. AllStand settings k events) (exit_row settings before e (message_of body))
         (with_cause before (FromEditor e body)) [] (tables.new, nothing_owed) outs.new) }
 {
@@ -116,7 +116,7 @@ fn from_early(
     ensures does { (settings : Settings) (before : List Event) (body : List ℕ) → IsRead message.now body → is_early (desk_of e before).phase ≡ true
         → places (desk_of e before).phase (message_of body) ≡ false → stops before e (message_of body) ≡ false
         → asks_lspmux (message_of body) ≡ false → AnswersNone settings e (message_of body) before → outs.old ≡ []
-        → Stands settings tables.old before → DocumentsStand settings nothing_owed tables.old before
+        → Settled settings before → Stands settings tables.old before → DocumentsStand settings nothing_owed tables.old before
         → OnOk result (Done (λ k events. AllStand settings k events) (early_row settings before e body (message_of body))
         (with_cause before (FromEditor e body)) [] (tables.new, nothing_owed) outs.new) }
 {
@@ -145,7 +145,7 @@ fn from_down(
     ensures same_versions { tables.new.versions ≡ tables.old.versions }
     ensures does { (settings : Settings) (before : List Event) (body : List ℕ) → IsRead message.now body → (desk_of e before).phase ≡ Down
         → stops before e (message_of body) ≡ false → AnswersNone settings e (message_of body) before → outs.old ≡ []
-        → Stands settings tables.old before → DocumentsStand settings nothing_owed tables.old before
+        → Settled settings before → Stands settings tables.old before → DocumentsStand settings nothing_owed tables.old before
         → OnOk result (Done (λ k events. AllStand settings k events) (down_row settings before e body (message_of body))
         (with_cause before (FromEditor e body)) [] (tables.new, nothing_owed) outs.new) }
 {
@@ -208,7 +208,7 @@ fn from_asking(
     ensures does { (settings : Settings) (before : List Event) (body method : List ℕ) (id : Id) (params : Option Json) → IsRead message.now body
         → message_of body ≡ request id method params → is_standard (class_of method Editor false) ≡ true
         → is_served (desk_of e before).phase ≡ true → outs.old ≡ []
-        → Stands settings tables.old before → DocumentsStand settings nothing_owed tables.old before
+        → Settled settings before → Stands settings tables.old before → DocumentsStand settings nothing_owed tables.old before
         → OnOk result (Done (λ k events. AllStand settings k events) (running_row settings before e (message_of body) ⨾ served_request settings before e body method)
         (with_cause before (FromEditor e body)) [] (tables.new, nothing_owed) outs.new) }
 {
@@ -384,7 +384,7 @@ fn from_doubled(
     ensures does { (settings : Settings) (before : List Event) (body : List ℕ) → IsRead message.now body
         → outs.old ≡ [] → built_behind settings before (FromEditor e body) ≡ true
         → (is_begun (desk_of e before).phase && is_doubled before e (message_of body)) ≡ true
-        → Stands settings tables.old before → DocumentsStand settings nothing_owed tables.old before
+        → Settled settings before → Stands settings tables.old before → DocumentsStand settings nothing_owed tables.old before
         → OnOk result (Done (λ k events. AllStand settings k events) (row_of settings before (FromEditor e body))
         (with_cause before (FromEditor e body)) [] (tables.new, nothing_owed) outs.new) }
 {

@@ -2,7 +2,7 @@
 ghost use Rattle.std.specs.Prelude.{◌≡◌, ◌<◌, ◌≤◌, ℕ, List, [], map, Option, Some, false, true, length, OnOk, slice_get};
 ghost use Rattle.event_model.specs.declared.stage.Stage.TheVariants.{Initializing, Ready};
 ghost use Rattle.event_model.specs.Does.{Alike, Done};
-ghost use Rattle.event_model.specs.Event.{Event, with_cause};
+ghost use Rattle.event_model.specs.Event.{Event, heard, with_cause};
 ghost use Rattle.event_model.specs.Requests.{answered_id};
 ghost use Rattle.event_model.specs.Row.{nothing};
 ghost use Rattle.event_model.specs.Settings.{Settings};
@@ -25,6 +25,7 @@ ghost use Rattle.mux_starts.specs.mux_tables.specs.Stands.{NamesAt, Stands, is_r
 ghost use Rattle.rpc_message.specs.Message.{Id, message_of, notification, request};
 ghost use Rattle.rpc_message.specs.Parsed.{IsRead};
 ghost use Rattle.rpc_message.specs.Sorts.{Refuses};
+ghost use Rattle.mux_starts.specs.mux_tables.specs.mux_tokens.specs.Stands.{CreatedStay};
 
 use event_model::Stage;
 use lsp_method::Class;
@@ -33,9 +34,10 @@ use mux_history::Outs;
 use mux_starts::mux_members::{asked_class, is_first_result, told_class};
 use mux_starts::mux_tables::Tables;
 use mux_starts::{
-    answered_number, is_first_error, stage_at, take_answer, take_broadcast, take_ending,
-    take_focused, take_folders, take_hasty, take_lowest, take_progress, take_recall, take_refresh,
-    take_refused, take_register, take_repeated, take_result, take_stopping, take_unregister,
+    answered_number, is_first_error, stage_at, take_answer, take_broadcast, take_create,
+    take_ending, take_focused, take_folders, take_hasty, take_lowest, take_progress, take_recall,
+    take_refresh, take_refused, take_register, take_repeated, take_result, take_stopping,
+    take_unregister,
 };
 use rpc_message::{Malformed, Message, Sort};
 use std::alloc::Global;
@@ -46,6 +48,7 @@ fn hear_quietly(tables: &mut Tables, g: usize, n: Option<u32>)
     ensures same_limit { tables.new.requests ≡ tables.old.requests }
     ensures same_versions { tables.new.versions ≡ tables.old.versions }
     ensures does { (settings : Settings) (before : List Event) (body : List ℕ) (s : ℕ) → is_request (message_of body) ≡ false
+        → CreatedStay settings s before (heard (FromServer s body))
         → is_first_result (message_of body) ≡ false
         → is_first_error (message_of body) ≡ false → NamesAt (answered_id (message_of body)) n
         → Alike (row_of settings before (FromServer s body)) nothing
@@ -138,7 +141,7 @@ fn take_first(
     }
 }
 
-// S6, S7 and S9 to S12: a request comes from a start that is ready, under the id of no open ask; other classes aren't built.
+// S6 to S12: a request comes from a start that is ready, under the id of no open ask; other classes aren't built.
 fn take_class(
     tables: &mut Tables,
     alloc: Global,
@@ -181,6 +184,10 @@ fn take_class(
         }
         Class::Unregister => {
             take_unregister(tables, alloc, outs, g, message)?;
+            Ok(())
+        }
+        Class::Create => {
+            take_create(tables, alloc, outs, g, message)?;
             Ok(())
         }
         _ => Ok(()),

@@ -8,6 +8,8 @@ mod cancels;
 #[cfg(test)]
 mod cores;
 #[cfg(test)]
+mod created;
+#[cfg(test)]
 mod languages;
 #[cfg(test)]
 mod play;

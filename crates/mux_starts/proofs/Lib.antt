@@ -9,6 +9,9 @@ pub mod Ticking
 pub mod Parking
 pub mod Progressing
 pub mod Singles
+pub mod Creating
+pub mod Offered
+pub mod Uncreated
 pub mod Refreshing
 pub mod Recalls
 pub mod Registering

@@ -1,4 +1,5 @@
 pub mod Answers
+pub mod Creates
 pub mod Openings
 pub mod Progress
 pub mod Refusing

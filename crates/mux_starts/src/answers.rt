@@ -3,7 +3,7 @@ ghost use Rattle.std.specs.Prelude.{◌≡◌, ◌<◌, ℕ, List, [], false, Op
 ghost use Rattle.event_model.specs.declared.phase.Phase.TheVariants.{Waiting};
 ghost use Rattle.event_model.specs.declared.stage.Stage.TheVariants.{Ready};
 ghost use Rattle.event_model.specs.Does.{Alike, Does, Done};
-ghost use Rattle.event_model.specs.Event.{Event, behind, with_cause};
+ghost use Rattle.event_model.specs.Event.{Event, behind, heard, with_cause};
 ghost use Rattle.event_model.specs.Phases.{desk_of};
 ghost use Rattle.event_model.specs.Requests.{answered_id};
 ghost use Rattle.event_model.specs.Settings.{Settings};
@@ -16,6 +16,7 @@ ghost use Rattle.mux_starts.specs.Replies.{reply_row};
 ghost use Rattle.mux_tables.specs.declared.tables.Start.{Start};
 ghost use Rattle.mux_tables.specs.Documents.{AllStand, DocumentsStand, Owed, nothing_owed};
 ghost use Rattle.mux_tables.specs.Notes.{IsNoted};
+ghost use Rattle.mux_tables.specs.mux_tokens.specs.Stands.{CreatedStay};
 ghost use Rattle.mux_tables.specs.Stands.{NamesAt, Stands, forwarded_as, is_request, number_in};
 ghost use Rattle.response_route.specs.Answers.{answer_text};
 ghost use Rattle.rpc_message.specs.Message.{message_of};
@@ -159,7 +160,8 @@ pub fn take_answer(
     requires { g < length tables.old.lasts.items }
     ensures requests { tables.new.requests ≡ tables.old.requests }
     ensures versions { tables.new.versions ≡ tables.old.versions }
-    ensures does { (settings : Settings) (before : List Event) (body : List ℕ) (s : ℕ) (x : Start) → IsRead message.now body → is_request (message_of body) ≡ false → outs.old ≡ []
+    ensures does { (settings : Settings) (before : List Event) (body : List ℕ) (s : ℕ) (x : Start) → IsRead message.now body → is_request (message_of body) ≡ false
+        → CreatedStay settings s before (heard (FromServer s body)) → outs.old ≡ []
         → slice_get tables.old.lasts.items g ≡ Some x → x.life.stage ≡ Ready → slice_get (map number_in tables.old.lasts.items) g ≡ Some s
         → ((f : Forwarded) → find (answered_by (answered_id (message_of body))) (forwarding_of s before).open_requests ≡ Some f → IsAsked before f)
         → Meant before → Stands settings tables.old before → DocumentsStand settings nothing_owed tables.old before

@@ -10,6 +10,7 @@ ghost use Rattle.mux_turns.specs.group_facts.specs.Facts.{Meant};
 ghost use Rattle.group_rows.specs.Answers.{agreed_version, stamp_at};
 ghost use Rattle.group_rows.specs.AskRows.{ask_edit, edited, is_edit};
 ghost use Rattle.group_rows.specs.Asks.{asking_of, is_patient, is_single, is_taken};
+ghost use Rattle.group_rows.specs.Created.{is_creating};
 ghost use Rattle.json_text.specs.Json.{Json};
 ghost use Rattle.mux_history.specs.declared.cause.Cause.TheVariants.{FromServer};
 ghost use Rattle.mux_history.specs.declared.out.Out.TheVariants.{ToServer};
@@ -103,7 +104,7 @@ fn send_edit(
     ensures requests { tables.new.requests ≡ tables.old.requests }
     ensures versions { tables.new.versions ≡ tables.old.versions }
     ensures does { (settings : Settings) (base : List Event) (body method : List ℕ) (id : Id) (params : Option Json) (s : ℕ) (x : Start)
-        → IsRead message.now body → message_of body ≡ request id method params
+        → IsRead message.now body → message_of body ≡ request id method params → is_creating method ≡ false
         → slice_get tables.old.lasts.items g ≡ Some x → x.life.stage ≡ Ready → slice_get (map number_in tables.old.lasts.items) g ≡ Some s
         → is_running (desk_of e (behind base outs.old)).phase ≡ true → IsAtWork settings s id (id_bytes body) (behind base outs.old)
         → ((w : List ℕ) → text ≡ Some w → (given : Option Json) × IsNextAsk e (behind base outs.old) method given w)
@@ -137,7 +138,7 @@ fn ask_edit(
     ensures requests { tables.new.requests ≡ tables.old.requests }
     ensures versions { tables.new.versions ≡ tables.old.versions }
     ensures does { (settings : Settings) (before base : List Event) (body method : List ℕ) (id : Id) (params : Option Json) (s : ℕ) (x : Start)
-        → IsRead message.now body → message_of body ≡ request id method params
+        → IsRead message.now body → message_of body ≡ request id method params → is_creating method ≡ false
         → slice_get tables.old.lasts.items g ≡ Some x → x.life.stage ≡ Ready → slice_get (map number_in tables.old.lasts.items) g ≡ Some s
         → is_running (desk_of e (behind base outs.old)).phase ≡ true → IsAtWork settings s id (id_bytes body) (behind base outs.old)
         → Meant before → ((u : List ℕ) → stamp_of u now.now ≡ stamp_at agreed_version settings s e before u)

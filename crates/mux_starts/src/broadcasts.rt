@@ -1,10 +1,11 @@
 //! What a start tells all editors: a notification without a row of its own.
-ghost use Rattle.std.specs.Prelude.{◌≡◌, ◌<◌, ℕ, List, [], Option, Some, length, map, OnOk, slice_get};
+ghost use Rattle.std.specs.Prelude.{◌≡◌, ◌<◌, ℕ, List, [], false, Option, Some, length, map, OnOk, slice_get};
 ghost use Rattle.event_model.specs.declared.stage.Stage.TheVariants.{Ready};
 ghost use Rattle.event_model.specs.Does.{Does, Done};
 ghost use Rattle.event_model.specs.Event.{Event, behind, with_cause};
 ghost use Rattle.event_model.specs.Row.{each};
 ghost use Rattle.event_model.specs.Settings.{Settings};
+ghost use Rattle.group_rows.specs.Created.{is_progress};
 ghost use Rattle.group_rows.specs.AskRows.{broadcast, broadcast_row};
 ghost use Rattle.json_text.specs.Json.{Json};
 ghost use Rattle.mux_history.specs.declared.cause.Cause.TheVariants.{FromServer};
@@ -20,8 +21,8 @@ use mux_tables::Tables;
 use rpc_message::Message;
 use std::alloc::Global;
 
-// A notification goes to these editors, in this order.
-fn spread(
+/// A notification goes to these editors, in this order.
+pub fn spread(
     tables: &Tables,
     alloc: Global,
     outs: &mut Outs,
@@ -53,7 +54,7 @@ pub fn take_broadcast(
     ensures requests { tables.new.requests ≡ tables.old.requests }
     ensures versions { tables.new.versions ≡ tables.old.versions }
     ensures does { (settings : Settings) (before : List Event) (body method : List ℕ) (params : Option Json) (s : ℕ) (x : Start)
-        → IsRead message.now body → message_of body ≡ notification method params → outs.old ≡ []
+        → IsRead message.now body → message_of body ≡ notification method params → is_progress method ≡ false → outs.old ≡ []
         → slice_get tables.old.lasts.items g ≡ Some x → x.life.stage ≡ Ready → slice_get (map number_in tables.old.lasts.items) g ≡ Some s
         → Stands settings tables.old before → DocumentsStand settings nothing_owed tables.old before
         → OnOk result (Done (λ k events. AllStand settings k events) (broadcast_row settings before s body)

@@ -8,6 +8,7 @@ ghost use Rattle.mux_turns.specs.group_facts.specs.Facts.{Known};
 ghost use Rattle.mux_turns.specs.group_facts.specs.Settled.{AreUtf8, Settled};
 ghost use Rattle.group_rows.specs.AskRows.{folders_row};
 ghost use Rattle.group_rows.specs.Asks.{asking_of, is_patient, is_taken};
+ghost use Rattle.group_rows.specs.Created.{is_creating};
 ghost use Rattle.group_rows.specs.Live.{is_registering};
 ghost use Rattle.group_words.specs.declared.kept.Kept.{Kept};
 ghost use Rattle.group_words.specs.Houses.{groups_of};
@@ -71,7 +72,8 @@ pub fn take_folders(
     ensures versions { tables.new.versions ≡ tables.old.versions }
     ensures does { (settings : Settings) (before : List Event) (body method : List ℕ) (id : Id) (params : Option Json) (s : ℕ) (x : Start)
         → IsRead message.now body → message_of body ≡ request id method params
-        → is_patient method ≡ false → is_registering method ≡ false → is_taken (Some id) (asking_of settings s before) ≡ false → outs.old ≡ []
+        → is_patient method ≡ false → is_registering method ≡ false → is_creating method ≡ false
+        → is_taken (Some id) (asking_of settings s before) ≡ false → outs.old ≡ []
         → slice_get tables.old.lasts.items g ≡ Some x → x.life.stage ≡ Ready → slice_get (map number_in tables.old.lasts.items) g ≡ Some s
         → Known settings before → Settled settings before
         → Stands settings tables.old before → DocumentsStand settings nothing_owed tables.old before

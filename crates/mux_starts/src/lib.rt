@@ -4,6 +4,7 @@
 mod answers;
 mod applied;
 mod broadcasts;
+mod creates;
 mod ends;
 mod folders;
 mod hasty;
@@ -19,6 +20,7 @@ mod ticks;
 
 pub use answers::take_answer;
 pub use broadcasts::take_broadcast;
+pub use creates::{Due, take_create};
 pub use ends::{take_ending, take_left, take_stopping};
 pub use folders::take_folders;
 pub use hasty::{is_first_error, take_hasty};

@@ -1,5 +1,5 @@
 //! S14: a start cancels what it asked of one editor.
-ghost use Rattle.std.specs.Prelude.{◌≡◌, ◌<◌, ◌^◌, ℕ, List, [], Option, Some, OnOk, find, length, map, option_map, slice_get};
+ghost use Rattle.std.specs.Prelude.{◌≡◌, ◌<◌, ◌^◌, ℕ, List, [], false, Option, Some, OnOk, find, length, map, option_map, slice_get};
 ghost use Rattle.std.specs.List.{AllByRecursion};
 ghost use Rattle.event_model.specs.declared.phase.Phase.TheVariants.{Running};
 ghost use Rattle.event_model.specs.declared.stage.Stage.TheVariants.{Ready};
@@ -8,6 +8,7 @@ ghost use Rattle.event_model.specs.Event.{Event, with_cause};
 ghost use Rattle.event_model.specs.Phases.{desk_of};
 ghost use Rattle.event_model.specs.Row.{send};
 ghost use Rattle.event_model.specs.Settings.{Settings};
+ghost use Rattle.group_rows.specs.Created.{is_progress};
 ghost use Rattle.group_rows.specs.AskRows.{cancelled_row};
 ghost use Rattle.group_rows.specs.Asks.{Ask, asks_of, is_under};
 ghost use Rattle.group_rows.specs.Cancelling.{named_id};
@@ -67,7 +68,7 @@ pub fn take_recall(
     ensures requests { tables.new.requests ≡ tables.old.requests }
     ensures versions { tables.new.versions ≡ tables.old.versions }
     ensures does { (settings : Settings) (before : List Event) (body method : List ℕ) (params : Option Json) (s : ℕ) (x : Start)
-        → IsRead message.now body → message_of body ≡ notification method params
+        → IsRead message.now body → message_of body ≡ notification method params → is_progress method ≡ false
         → AllByRecursion (λ (a : Ask). (desk_of a.editor before).phase ≡ Running) (asks_of settings s before) → outs.old ≡ []
         → slice_get tables.old.lasts.items g ≡ Some x → x.life.stage ≡ Ready → slice_get (map number_in tables.old.lasts.items) g ≡ Some s
         → Stands settings tables.old before → DocumentsStand settings nothing_owed tables.old before

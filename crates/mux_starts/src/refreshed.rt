@@ -9,6 +9,7 @@ ghost use Rattle.event_model.specs.Row.{each};
 ghost use Rattle.event_model.specs.Settings.{Settings};
 ghost use Rattle.group_rows.specs.AskRows.{ask, refresh_row};
 ghost use Rattle.group_rows.specs.Asks.{asking_of, is_single, is_taken};
+ghost use Rattle.group_rows.specs.Created.{is_creating};
 ghost use Rattle.group_rows.specs.Live.{is_registering};
 ghost use Rattle.json_text.specs.Json.{Json};
 ghost use Rattle.mux_history.specs.declared.cause.Cause.TheVariants.{FromServer};
@@ -36,7 +37,7 @@ fn ask_all(
     ensures requests { tables.new.requests ≡ tables.old.requests }
     ensures versions { tables.new.versions ≡ tables.old.versions }
     ensures does { (settings : Settings) (base : List Event) (body method : List ℕ) (id : Id) (params : Option Json) → IsRead message.now body
-        → message_of body ≡ request id method params
+        → message_of body ≡ request id method params → is_creating method ≡ false
         → AllByRecursion (λ e. is_running (desk_of e (behind base outs.old)).phase ≡ true) numbers.now
         → ((s : ℕ) → IsAtRest settings s (behind base outs.old))
         → OnOk result (Does (λ k events. AllStand settings k events) (each (ask body) numbers.now) base (tables.old, nothing_owed) outs.old (tables.new, nothing_owed) outs.new) }
@@ -61,7 +62,7 @@ pub fn take_refresh(
     ensures versions { tables.new.versions ≡ tables.old.versions }
     ensures does { (settings : Settings) (before : List Event) (body method : List ℕ) (id : Id) (params : Option Json) (s : ℕ) (x : Start)
         → IsRead message.now body → message_of body ≡ request id method params → is_single method ≡ false
-        → is_registering method ≡ false → is_taken (Some id) (asking_of settings s before) ≡ false → outs.old ≡ []
+        → is_registering method ≡ false → is_creating method ≡ false → is_taken (Some id) (asking_of settings s before) ≡ false → outs.old ≡ []
         → slice_get tables.old.lasts.items g ≡ Some x → x.life.stage ≡ Ready → slice_get (map number_in tables.old.lasts.items) g ≡ Some s
         → Stands settings tables.old before → DocumentsStand settings nothing_owed tables.old before
         → OnOk result (Done (λ k events. AllStand settings k events) (refresh_row settings before x.life.group s body)

@@ -31,8 +31,8 @@ use mux_turns::{call_registered, call_unregistered, call_unregistered_any};
 use rpc_message::{ErrorCode, Message, error_answer, ok_reply};
 use std::alloc::Global;
 
-// The request of the group's last start is granted.
-fn accept(
+/// The request of the group's last start is granted.
+pub fn accept(
     tables: &Tables,
     alloc: Global,
     outs: &mut Outs,
@@ -52,8 +52,8 @@ fn accept(
     Ok(())
 }
 
-// It is refused (LSP 3.17, InvalidParams).
-fn decline(
+/// It is refused (LSP 3.17, InvalidParams).
+pub fn decline(
     tables: &Tables,
     alloc: Global,
     outs: &mut Outs,

@@ -68,8 +68,8 @@ module _ (events : List Event) (ev : Event) where
 abbrev pub StopsMove : Tables → Tables → List Event → Event → Type 0
 StopsMove t u events ev = stopping_of events ≡ t.origins.stopping.items → stopping_of (events ++ ev ∷ []) ≡ u.origins.stopping.items
 
-pub stops_kept : (t u : Tables) (events : List Event) (ev : Event) → u.origins ≡ t.origins → spawns ev ≡ false → ((n : ℕ) → is_stopping (life_behind n (life_of n events) ev).stage ≡ stops_at n events) → StopsMove t u events ev
-stops_kept t u events ev os k same h = stopping_more events ev k same ∙ h ∙ ap (λ v. v.stopping.items) (sym os)
+pub stops_kept : (t u : Tables) (events : List Event) (ev : Event) → u.origins.stopping ≡ t.origins.stopping → spawns ev ≡ false → ((n : ℕ) → is_stopping (life_behind n (life_of n events) ev).stage ≡ stops_at n events) → StopsMove t u events ev
+stops_kept t u events ev os k same h = stopping_more events ev k same ∙ h ∙ ap (λ v. v.items) (sym os)
 
 -- a start begins, gives its first result, or is told something else than `shutdown`
 pub same_either : (b : Bool) (x y : Life) → is_stopping x.stage ≡ is_stopping y.stage → is_stopping (if b then x else y).stage ≡ is_stopping y.stage
@@ -93,7 +93,7 @@ told_same Ready m h = ap (λ b. is_stopping (if b then Stopping else Ready)) h
 told_same other m h = refl
 
 pub told_stops : (t u : Tables) (events : List Event) (s : ℕ) (body : List ℕ) → u.origins ≡ t.origins → requests (codes "shutdown") (message_of body) ≡ false → StopsMove t u events (said (ToServer s body))
-told_stops t u events s body os quiet = stops_kept t u events (said (ToServer s body)) os refl
+told_stops t u events s body os quiet = stops_kept t u events (said (ToServer s body)) (ap (λ v. v.stopping) os) refl
     (λ n. same_either (nat_eq s n) (record { stage = stage_told (life_of n events).stage (message_of body); started = (life_of n events).started }) (life_of n events) (told_same (life_of n events).stage (message_of body) quiet))
 
 -- A start is sent `shutdown`

@@ -2,6 +2,7 @@
 use Rattle.std.proofs.Common.{◌≡◌, ℕ, ◌<◌, ◌≤◌, ◌^◌, [], refl, sym, arith}
 use Rattle.std.specs.Prelude.{Option, Some, None}
 use Rattle.event_model.specs.Settings.{Settings}
+use Rattle.mux_tokens.proofs.Standing.{created_begins}
 use Rattle.mux_tables.specs.declared.tables.Tables.{Tables}
 use Rattle.mux_tables.specs.Stands.{Part, of_life, of_ids, of_shown, of_stop, of_asks, of_parked, of_live, PartStands, blank, GroupsStand, LastsStand, Stands}
 
@@ -29,9 +30,9 @@ no_lasts settings limit h = record {
 no_groups : (settings : Settings) (limit idle : ℕ) → settings.limits.groups ≡ limit → settings.limits.idle ≡ idle → GroupsStand settings (record { limit = limit; idle = idle; groups = [] }) []
 no_groups settings limit idle g i = record { groups = refl; limit = g; idle = i }
 
-pub begins : (settings : Settings) (t : Tables) (groups idle : ℕ) → 2 ≤ t.requests → t.requests < 2 ^ 32 → t.editors ≡ [] → t.groups ≡ record { limit = groups; idle = idle; groups = [] } → t.time ≡ 0 → t.lasts.items ≡ [] → t.origins.groups.items ≡ [] → t.origins.stopping.items ≡ []
+pub begins : (settings : Settings) (t : Tables) (groups idle : ℕ) → 2 ≤ t.requests → t.requests < 2 ^ 32 → t.editors ≡ [] → t.groups ≡ record { limit = groups; idle = idle; groups = [] } → t.time ≡ 0 → t.lasts.items ≡ [] → t.origins.groups.items ≡ [] → t.origins.stopping.items ≡ [] → t.origins.created ≡ []
     → settings.limits.groups ≡ groups → settings.limits.idle ≡ idle → settings.limits.requests ≡ t.requests → Stands settings t []
-begins settings t groups idle h below es gs now ls os sk limit wait last = record {
+begins settings t groups idle h below es gs now ls os sk cr limit wait last = record {
   house = record {
     editors = rw es (record { count = refl; phase = λ e. refl; home = λ e. refl; names = λ e. record { own = λ g w h. absurd (none_some h); unplaced = λ n. refl }; meant = λ e w. refl; asked = λ e there. refl });
     groups = rw gs (no_groups settings groups idle limit wait);
@@ -39,6 +40,7 @@ begins settings t groups idle h below es gs now ls os sk limit wait last = recor
   };
   origins = rw os (record { count = refl; group = λ s. refl });
   stopping = sym sk;
+  created = rw cr (created_begins settings);
   lasts = rw ls (no_lasts settings t.requests h);
   requests = last;
   range = below;

@@ -21,6 +21,7 @@ use Rattle.group_words.specs.Houses.{Meant, meant_behind, time_behind, time_of, 
 use Rattle.group_words.specs.Rows.{result_behind, result_of}
 use Rattle.group_words.proofs.Frames.{touches_groups, names_home, groups_stay, home_stays, past_more}
 use Rattle.id_rewrite.specs.Tables.{Table}
+use Rattle.mux_tokens.proofs.Stays.{passes_by}
 use Rattle.mux_tables.specs.declared.tables.Start.{Start}
 use Rattle.group_laws.specs.group_rows.specs.Asks.{Asking, asked_behind, asker_of, asking_next, asking_of, idle_asking, next_ask, parks}
 use Rattle.group_laws.specs.group_rows.specs.Forwarded.{Forwarding, forwarding_behind, forwarding_of, forwards, moves_ids, numbered}
@@ -62,6 +63,17 @@ spawns other = false
 abbrev pub ticks : Event → Bool
 ticks (took (Tick t) m) = true
 ticks other = false
+
+-- what speaks of no editor and not of this start leaves what it created
+pub passes_quiet : (s : ℕ) (ev : Event) → names_editor ev ≡ false → names_start s ev ≡ false → passes_by s ev ≡ true
+passes_quiet s (took (FromEditor n body) m) e h = never e
+passes_quiet s (took (EditorGone n why) m) e h = never e
+passes_quiet s (took (StartFailed n) m) e h = ap not h
+passes_quiet s (took (FromServer n body) m) e h = ap not h
+passes_quiet s (took (ServerGone n) m) e h = ap not h
+passes_quiet s (did (ToEditor n body) m) e h = never e
+passes_quiet s (did (CloseEditor n) m) e h = never e
+passes_quiet s other e h = refl
 
 -- the words of editors
 pub editors_alone : (n : ℕ) (ev : Event) → names_editor ev ≡ false → editors_behind n ev ≡ n

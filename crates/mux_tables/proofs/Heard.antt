@@ -35,6 +35,12 @@ use Rattle.mux_tables.proofs.Ends.{tick_heard}
 use Rattle.mux_tables.proofs.Exits.{stop_groups}
 use Rattle.mux_tables.proofs.Frames.{desk_apart, itself, groups_stand, meant_apart}
 use Rattle.mux_tables.proofs.Leaves.{gone_by}
+use Rattle.std.specs.Map.{keys_of}
+use Rattle.std.specs.List.Sorted.{IsStrictlySortedBy}
+use Rattle.std.specs.Ordering.{nat_cmp}
+use Rattle.mux_tokens.specs.Rows.{left_each}
+use Rattle.mux_tokens.specs.Stands.{TakesNone}
+use Rattle.mux_tables.proofs.TokenMoves.{OriginsMove, origins_left, origins_stay, request_takes}
 use Rattle.mux_tables.proofs.Moves.{house_moves, quiet_moves}
 use Rattle.mux_tables.proofs.Named.{Goes, goes_heard, goes_so, goes_then, meant_by, named_by, named_new}
 use Rattle.mux_tables.proofs.Phased.{heard_plain, heard_same, phased}
@@ -101,7 +107,7 @@ joined_editors settings t u events e last is s = record {
 
 pub joined_moves : (settings : Settings) (t u : Tables) (events : List Event) (e : ℕ) → e ≡ length t.editors → u.editors ≡ t.editors ++ joined ∷ [] → u.groups ≡ t.groups → u.time ≡ t.time → u.lasts ≡ t.lasts → u.origins ≡ t.origins → u.requests ≡ t.requests
     → Stands settings t events → Stands settings u (events ++ took (Joined e) not_message ∷ [])
-joined_moves settings t u events e last is gs now ls os r s = house_moves settings t u events (took (Joined e) not_message) (λ n. refl) (λ n. record { asks = refl; parked = refl }) refl (ap (λ v. v.items) ls) os r (λ h. record {
+joined_moves settings t u events e last is gs now ls os r s = house_moves settings t u events (took (Joined e) not_message) (λ n. refl) (λ n. record { asks = refl; parked = refl }) refl (ap (λ v. v.items) ls) (origins_stay settings t.origins u.origins events (took (Joined e) not_message) os (λ m. refl)) r (λ h. record {
   editors = joined_editors settings t.editors u.editors events e last is h.editors;
   groups = subst (λ g. GroupsStand settings g (events ++ took (Joined e) not_message ∷ [])) (sym gs) (groups_stand settings t.groups events (took (Joined e) not_message) refl h.groups);
   now = one_more time_behind _ _ events (took (Joined e) not_message) h.now ∙ sym now;
@@ -145,7 +151,7 @@ module _ (settings : Settings) (t : List Session) (events : List Event) (e : ℕ
 
 -- a message that places nobody, and stops nothing
 module _ (settings : Settings) (t u : Tables) (events : List Event) (e : ℕ) (body : List ℕ) (y : Session) (l : e < length t.editors) (is : u.editors ≡ with_session t.editors e y)
-    (now : u.time ≡ t.time) (ls : u.lasts ≡ t.lasts) (os : u.origins ≡ t.origins) (r : u.requests ≡ t.requests)
+    (now : u.time ≡ t.time) (ls : u.lasts ≡ t.lasts) (os : OriginsMove settings t.origins u.origins events (took (FromEditor e body) (message_of body))) (r : u.requests ≡ t.requests)
     (stays : places (desk_of e events).phase (message_of body) ≡ false) (step : (desk_of e (events ++ heard (FromEditor e body) ∷ [])).phase ≡ y.phase)
     (group : y.group ≡ (session_of t.editors e).group) (id : y.id ≡ (session_of t.editors e).id) (count : y.asks ≡ (session_of t.editors e).asks)
     (means : (desk_of e (events ++ heard (FromEditor e body) ∷ [])).phase ≡ New → meant_in (Some y) ≡ meant_of settings.servers e (events ++ heard (FromEditor e body) ∷ [])) where
@@ -215,6 +221,9 @@ asks_silent name rest h = never (sym h)
 pub stop_silent : (settings : Settings) (events : List Event) (e : ℕ) (m : Message) → stops events e m ≡ true → AnswersNone settings e m events
 stop_silent settings events e m h = answers_none settings e m events (asks_silent (codes "lspmux/stop") m (and_parts (requests (codes "lspmux/stop") m) _ h).0)
 
+pub stop_takes : (settings : Settings) (events : List Event) (e : ℕ) (m : Message) → stops events e m ≡ true → TakesNone settings e m events
+stop_takes settings events e m h = request_takes settings e (codes "lspmux/stop") m events refl (and_parts (requests (codes "lspmux/stop") m) _ h).0
+
 -- one that stops all is no `lspmux/open`
 stops_asks : (events : List Event) (e : ℕ) (servers : List Server) (m : Message) → stops events e m ≡ true → is_first_open servers events e m ≡ false
 stops_asks events e servers m h = ap (λ b. is_new (desk_of e events).phase && (b && not (meant_of servers e events).opened)) (unnamed m (and_parts (requests (codes "lspmux/stop") m) _ h).0) ∙ and_off (is_new (desk_of e events).phase)
@@ -225,7 +234,7 @@ stops_asks events e servers m h = ap (λ b. is_new (desk_of e events).phase && (
 
 -- the same, as the code sets the phase
 module _ (settings : Settings) (t u : Tables) (events : List Event) (e : ℕ) (body : List ℕ) (p : Phase) (l : e < length t.editors) (set : u.editors ≡ with_session t.editors e (phased t.editors e p))
-    (now : u.time ≡ t.time) (ls : u.lasts ≡ t.lasts) (os : u.origins ≡ t.origins) (r : u.requests ≡ t.requests)
+    (now : u.time ≡ t.time) (ls : u.lasts ≡ t.lasts) (os : OriginsMove settings t.origins u.origins events (took (FromEditor e body) (message_of body))) (r : u.requests ≡ t.requests)
     (stays : places (desk_of e events).phase (message_of body) ≡ false) (step : (desk_of e (events ++ heard (FromEditor e body) ∷ [])).phase ≡ p) where
   abbrev put : Session
   put = record (session_of t.editors e) { phase = p }
@@ -280,7 +289,7 @@ module _ (settings : Settings) (t u : Tables) (events : List Event) (e : ℕ) (b
 
   pub open_moves : u.groups ≡ t.groups → Stands settings t events → Stands settings u (events ++ heard (FromEditor e body) ∷ [])
   open_moves gs s = heard_moves settings t u events e body (record seen { opened = true; server = o }) l
-      (set ∙ ap (λ p. with_session t.editors e (if is_gone p then seen else record seen { opened = true; server = o })) (stands_new s.house.editors)) now ls os r
+      (set ∙ ap (λ p. with_session t.editors e (if is_gone p then seen else record seen { opened = true; server = o })) (stands_new s.house.editors)) now ls (origins_stay settings t.origins u.origins events (heard (FromEditor e body)) os (request_takes settings e (codes "lspmux/open") (message_of body) events refl asks)) r
       (ap (λ b. is_new (desk_of e events).phase && b) (no_first (message_of body) asks) ∙ and_off (is_new (desk_of e events).phase))
       (now_new ∙ sym (stands_new s.house.editors))
       refl refl refl (λ w. meant_first settings t.editors events e body l o is first) (answers_none settings e (message_of body) events (asks_silent (codes "lspmux/open") (message_of body) asks))
@@ -293,11 +302,11 @@ drained_moves settings t events e k s = quiet_moves settings t events (heard (Dr
 -- X5
 pub gone_heard : (settings : Settings) (t u : Tables) (events : List Event) (e : ℕ) (why : Why) (mid : List Session) (p : Phase) (home : Option ℕ) (was : Bool) → e < length t.editors
     → p ≡ (session_of t.editors e).phase → home ≡ (session_of t.editors e).group → was ≡ is_begun p
-    → mid ≡ with_session t.editors e gone → u.editors ≡ mid → u.time ≡ t.time → u.lasts ≡ t.lasts → u.origins ≡ t.origins → u.requests ≡ t.requests
+    → mid ≡ with_session t.editors e gone → u.editors ≡ mid → u.time ≡ t.time → u.lasts ≡ t.lasts → u.origins.groups ≡ t.origins.groups → u.origins.stopping ≡ t.origins.stopping → u.origins.created ≡ left_each e (keys_of t.origins.created) t.origins.created → IsStrictlySortedBy nat_cmp (keys_of t.origins.created) → u.requests ≡ t.requests
     → u.groups ≡ with_groups (emptied home was (stays_in mid) t.time t.groups.groups) t.groups
     → Stands settings t events → Stands settings u (events ++ took (EditorGone e why) not_message ∷ [])
-gone_heard settings t u events e why mid p home was l phases homes begun set es now ls os r gs =
-    house_moves settings t u events (took (EditorGone e why) not_message) (λ n. refl) (λ n. record { asks = refl; parked = refl }) refl (ap (λ v. v.items) ls) os r
+gone_heard settings t u events e why mid p home was l phases homes begun set es now ls og sk cr sorted r gs =
+    house_moves settings t u events (took (EditorGone e why) not_message) (λ n. refl) (λ n. record { asks = refl; parked = refl }) refl (ap (λ v. v.items) ls) (origins_left settings t.origins u.origins events (took (EditorGone e why) not_message) e og sk cr sorted (λ s. refl)) r
     (gone_by settings events e why not_message t u mid p home was l phases homes begun set es now gs)
 
 -- E7
@@ -307,10 +316,10 @@ pub initialized_moves : (settings : Settings) (before : List Event) (e : ℕ) (b
     → (p ≡ placed_for settings before e body (groups_of settings before)) × Stands settings u (before ++ took (FromEditor e body) (message_of body) ∷ [])
 initialized_moves settings before e body t u mid x p key given id first at new own k d chosen placed busy sits now ls os r s =
     let h = initialize_heard settings before e body (message_of body) t u mid x p key given id first at new own k d chosen placed busy sits now s.house in
-    (h.0, house_moves settings t u before (took (FromEditor e body) (message_of body)) (λ n. refl) (λ n. none_answered settings e n body (message_of body) before (answers_none settings e (message_of body) before (asks_silent (codes "initialize") (message_of body) first) n)) refl (ap (λ v. v.items) ls) os r (λ _. h.1) s)
+    (h.0, house_moves settings t u before (took (FromEditor e body) (message_of body)) (λ n. refl) (λ n. none_answered settings e n body (message_of body) before (answers_none settings e (message_of body) before (asks_silent (codes "initialize") (message_of body) first) n)) refl (ap (λ v. v.items) ls) (origins_stay settings t.origins u.origins before (took (FromEditor e body) (message_of body)) os (request_takes settings e (codes "initialize") (message_of body) before refl first)) r (λ _. h.1) s)
 
 -- X7
 pub ticked_moves : (settings : Settings) (t u : Tables) (events : List Event) (now later : ℕ) (ns : List ℕ) → later ≡ max t.time now → u.editors ≡ t.editors → u.time ≡ later → ns ≡ all_from 0 (is_due t.groups.idle later) t.groups.groups
     → u.groups ≡ with_groups (ends ns t.groups.groups) t.groups → u.lasts ≡ t.lasts → u.origins ≡ t.origins → u.requests ≡ t.requests → Stands settings t events → Stands settings u (events ++ took (Tick now) not_message ∷ [])
 ticked_moves settings t u events now later ns l es k n gs ls os r =
-    house_moves settings t u events (took (Tick now) not_message) (λ n. refl) (λ n. record { asks = refl; parked = refl }) refl (ap (λ v. v.items) ls) os r (tick_heard settings events now later not_message t u ns l es k n gs)
+    house_moves settings t u events (took (Tick now) not_message) (λ n. refl) (λ n. record { asks = refl; parked = refl }) refl (ap (λ v. v.items) ls) (origins_stay settings t.origins u.origins events (took (Tick now) not_message) os (λ m. refl)) r (tick_heard settings events now later not_message t u ns l es k n gs)

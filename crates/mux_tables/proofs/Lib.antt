@@ -3,6 +3,7 @@ pub mod Refusing
 pub mod Putting
 pub mod Searched
 pub mod Apart
+pub mod TokenMoves
 pub mod Asking
 pub mod Counted
 pub mod Awaited
@@ -55,6 +56,7 @@ pub mod Waiting
 pub mod Parking
 pub mod Registering
 pub mod Registered
+pub mod Creating
 pub mod Resuming
 pub mod DocumentResumed
 pub mod Working

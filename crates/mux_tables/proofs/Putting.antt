@@ -46,6 +46,9 @@ use Rattle.mux_tables.proofs.DocumentMoves.{documents_all, documents_last, rest_
 use Rattle.mux_tables.proofs.DocumentSaid.{documents_said}
 use Rattle.mux_tables.proofs.Frames.{part_quiet}
 use Rattle.mux_tables.proofs.Lasts.{asked_last, same_place}
+use Rattle.group_laws.specs.group_rows.specs.Created.{created_of, is_creating}
+use Rattle.mux_tokens.proofs.Stays.{called_stays}
+use Rattle.mux_tables.proofs.TokenMoves.{origins_stay}
 use Rattle.mux_tables.proofs.Moves.{house_and_lasts, house_moves}
 use Rattle.mux_tables.proofs.Noting.{left_stays}
 use Rattle.mux_tables.proofs.Refusing.{ready_asks, rest_same, same_does, same_stands}
@@ -150,10 +153,11 @@ module _ (settings : Settings) (t u : Tables) (base : List Event) (xs : List Out
       (does_true {Stands = λ t events. Stands settings t events} (subst (λ w. Does (λ t events. Stands settings t events) (send (ToEditor e w)) base t xs u ys) same (does_send settings (ToEditor e text) base t u xs ys said_so (go k.0 small)))))
 
   -- S9: nothing is kept of it
-  pub question_does : (ys : List Out) (n : ℕ) (text method : List ℕ) (id : Id) (ps : Option Json) → ((s : ℕ) → IsAtRest settings s now) → message_of body ≡ request id method ps → Some n ≡ sessions.next_ask (session_of t.editors e) → text ≡ with_id_text body (decimal n)
+  pub question_does : (ys : List Out) (n : ℕ) (text method : List ℕ) (id : Id) (ps : Option Json) → ((s : ℕ) → IsAtRest settings s now) → message_of body ≡ request id method ps → is_creating method ≡ false → Some n ≡ sessions.next_ask (session_of t.editors e) → text ≡ with_id_text body (decimal n)
       → u.lasts ≡ t.lasts → ys ≡ xs ++ ToEditor e text ∷ [] → Does (λ t events. Stands settings t events) (ask body e) base t xs u ys
-  question_does ys n text method id ps idle says is writes ls said_so = asked_does ys n text is writes said_so (λ next small.
-      house_moves settings t u now (said (ToEditor e text)) (λ m. refl) (λ m. idle_stay settings m e now text (idle m)) refl (ap (λ v. v.items) ls) os r
+  question_does ys n text method id ps idle says creates is writes ls said_so = asked_does ys n text is writes said_so (λ next small.
+      house_moves settings t u now (said (ToEditor e text)) (λ m. refl) (λ m. idle_stay settings m e now text (idle m)) refl (ap (λ v. v.items) ls)
+      (origins_stay settings t.origins u.origins now (said (ToEditor e text)) os (λ m. called_stays settings m e now (created_of settings m now) text method (message_of text) (integer (decimal n)) ps (text_says body text method id ps n small says writes) creates)) r
       (λ h. told_house settings now e text t u (asked_so settings t.editors now e l runs h.editors u.editors text n is (ap is_request (text_says body text method id ps n small says writes)) set) gs time h))
 
 -- What is kept of it
@@ -205,7 +209,7 @@ module _ (settings : Settings) (t u : Tables) (base : List Event) (xs : List Out
   module _ (n : ℕ) (kept : List route.Ask)
       (set : u.editors ≡ with_session t.editors e (unless_gone sessions.asked (session_of t.editors e))) (gs : u.groups ≡ t.groups) (time : u.time ≡ t.time) (os : u.origins ≡ t.origins) (r : u.requests ≡ t.requests)
       (at : slice_get t.lasts.items g ≡ Some z) (ready : z.life.stage ≡ Ready) (lasts : u.lasts.items ≡ slice_set t.lasts.items g (record z { asks = kept })) (puts : kept ≡ z.asks ++ asks.asked e n bytes ∷ [])
-      (work : IsAtWork settings z.life.start id bytes (behind base xs)) where
+      (work : IsAtWork settings z.life.start id bytes (behind base xs)) (creates : is_creating method ≡ false) where
     abbrev ev : Event
     ev = said (ToEditor e text)
 
@@ -260,7 +264,7 @@ module _ (settings : Settings) (t u : Tables) (base : List Event) (xs : List Out
       part of_live h = part_quiet of_live settings t.requests z before ev refl h
 
       moves : Some n ≡ sessions.next_ask (session_of t.editors e) → Stands settings t before → Stands settings u (before ++ ev ∷ [])
-      moves is st = house_and_lasts settings t u before ev (λ m. refl) refl os r
+      moves is st = house_and_lasts settings t u before ev (λ m. refl) refl (origins_stay settings t.origins u.origins before ev os (λ m. called_stays settings m e before (created_of settings m before) text method (message_of text) (integer (decimal n)) ps says_it creates)) r
           (λ origins ls. asked_last settings t.requests t.origins.groups.items t.lasts.items u.lasts.items before ev g z (record z { asks = kept }) (λ m. refl) (λ m away. idle_stay settings m e before text (work.others m away)) refl at lasts refl origins
           (λ s. record { start = one_more (start_behind z.life.group) _ _ before ev s.start; home = one_more (group_behind z.life.start) _ _ before ev s.home; own = s.own; parts = λ p. part p (s.parts p) }) ls)
           (λ h. told_house settings before e text t u (asked_so settings t.editors before e l runs h.editors u.editors text n is (ap is_request says_it) set) gs time h) st

@@ -74,7 +74,7 @@ module _ (settings : Settings) (t u : Tables) (base : List Event) (xs ys : List 
   here = behind base xs
 
   pub handed_does : (Stands settings t here → (kept ≡ map kept_ask (filter (λ a. not (is_under (Some id) a)) (asks_of settings z.life.start here))) × AllByRecursion (λ (p : Parked). waits_under (Some id) p ≡ false) (parked_of settings z.life.start here)) → Does (λ t events. Stands settings t events) (send (ToServer z.life.start text)) base t xs u ys
-  handed_does keeps = sent_does settings t u xs ys base g z.life.start z.life.start z y text (number_there t.lasts.items g z at) (slice_get_within t.lasts.items g z at) (read_back t.lasts.items g z at) set refl refl es gs now (ap (λ v. v.groups) os) r refl said_so
+  handed_does keeps = sent_does settings t u xs ys base g z.life.start z.life.start z y text (number_there t.lasts.items g z at) (slice_get_within t.lasts.items g z at) (read_back t.lasts.items g z at) set refl refl es gs now (ap (λ v. v.groups) os) (ap (λ v. v.created) os) r refl said_so
       (λ st. told_stops t u here z.life.start text os runs) (λ st p h. part (keeps st).0 (keeps st).1 p h)
     where
       stands : kept ≡ map kept_ask (filter (λ a. not (is_under (Some id) a)) (asks_of settings z.life.start here)) → AsksStand here (asks_of settings z.life.start here) z.asks → AsksStand (here ++ ev ∷ []) (asks_of settings z.life.start (here ++ ev ∷ [])) kept
@@ -109,6 +109,7 @@ same_stands settings t u events ls es gs now os r s = record {
   house = record { editors = rw es s.house.editors; groups = rw gs s.house.groups; now = rw now s.house.now };
   origins = rw os s.origins;
   stopping = rw os s.stopping;
+  created = rw os s.created;
   lasts = rw (ls, r) s.lasts;
   requests = s.requests ∙ sym r;
   range = rw r s.range;

@@ -34,6 +34,10 @@ use Rattle.mux_tables.specs.Puts.{IsNextAsk}
 use Rattle.mux_tables.specs.Stands.{AsksStay, LiveAt, NamesAt, Stands, is_early, is_request, number_in, of_life, of_live}
 use Rattle.mux_tables.proofs.Asking.{parked_by}
 use Rattle.mux_tables.proofs.Frames.{open_stay}
+use Rattle.group_laws.specs.group_rows.specs.Created.{created_next, created_of, is_creating, names_create}
+use Rattle.mux_tokens.specs.Stands.{CreatedStay}
+use Rattle.mux_tokens.proofs.Stays.{called_stays, other_request}
+use Rattle.mux_tables.proofs.TokenMoves.{heard_all, origins_stay}
 use Rattle.mux_tables.proofs.Moves.{house_moves}
 use Rattle.mux_tables.proofs.Parking.{impatient_stay}
 use Rattle.mux_tables.proofs.Putting.{asked_so, none_left}
@@ -52,7 +56,7 @@ impatient : (c d : Class) → c ≡ d → may_wait d ≡ false → may_wait c �
 impatient c d is h = ap may_wait is ∙ h
 
 module _ (settings : Settings) (t u : Tables) (events : List Event) (g s : ℕ) (z : Start) (body method : List ℕ) (id : Id) (params : Option Json) (kept : List Registration) (at : slice_get (map number_in t.lasts.items) g ≡ Some s) (within : g < length t.lasts.items) (read : z ≡ get_or t.lasts.items g z)
-    (ready : z.life.stage ≡ Ready) (says : message_of body ≡ request id method params) (quiet : is_patient method ≡ false) (untaken : is_taken (Some id) (asking_of settings s events) ≡ false)
+    (ready : z.life.stage ≡ Ready) (says : message_of body ≡ request id method params) (quiet : is_patient method ≡ false) (creates : is_creating method ≡ false) (untaken : is_taken (Some id) (asking_of settings s events) ≡ false)
     (keeps : z.live ≡ live_of settings z.life.start events → kept ≡ live_by (class_of method Server false) body (live_of settings z.life.start events))
     (set : u.lasts.items ≡ slice_set t.lasts.items g (record z { live = kept })) (es : u.editors ≡ t.editors) (gs : u.groups ≡ t.groups) (now : u.time ≡ t.time) (os : u.origins ≡ t.origins) (r : u.requests ≡ t.requests) where
   abbrev ev : Event
@@ -77,19 +81,22 @@ module _ (settings : Settings) (t u : Tables) (events : List Event) (g s : ℕ) 
   no_failure : (b : Bool) → (is_first_error (message_of body) && b) ≡ false
   no_failure b = ap (λ m. is_first_error m && b) says
 
+  stays : CreatedStay settings s events (took (FromServer s body) (message_of body))
+  stays = ap (λ m. created_next settings s events (created_of settings s events) (took (FromServer s body) m)) says ∙ other_request settings s s events (created_of settings s events) body id method params creates
+
   pub registered_moves : Stands settings t events → Stands settings u (events ++ took (FromServer s body) (message_of body) ∷ [])
   registered_moves st = server_moves settings t u events g s z body None z.life z.ids z.shown z.parked kept at within read (λ h. h) (later_shown z.life.start z.life.stage z.shown _ body (message_of body) (no_result (is_early z.life.stage)))
       (λ later asked h. h)
       (λ st h. parked_by settings t.requests z events ev (record { asks = open_stay settings z.life.start events ev refl; parked = impatient_stay settings z.life.start events body method (message_of body) id params says quiet }) h)
       (λ st h. registers st) refl refl (hears_answer z.life.stage (message_of body) (no_result (is_initializing z.life.stage))) (no_failure (is_initializing z.life.stage))
-      (subst (λ m. NamesAt (answered_id m) None) (sym says) (λ n small. refl)) refl refl refl (λ o. o) set es gs now os r st
+      (subst (λ m. NamesAt (answered_id m) None) (sym says) (λ n small. refl)) refl refl refl (λ o. o) set es gs now (origins_stay settings t.origins u.origins events (took (FromServer s body) (message_of body)) os (heard_all settings s events body (message_of body) stays)) r st
 
 -- S6
 pub register_by : (settings : Settings) (t u : Tables) (events : List Event) (g s : ℕ) (x z : Start) (body method : List ℕ) (id : Id) (params : Option Json) (kept items : List Registration) → slice_get t.lasts.items g ≡ Some x → slice_get (map number_in t.lasts.items) g ≡ Some s → g < length t.lasts.items → z ≡ get_or t.lasts.items g z
     → x.life.stage ≡ Ready → message_of body ≡ request id method params → class_of method Server false ≡ Register → is_taken (Some id) (asking_of settings s events) ≡ false → registered body ≡ Some items → kept ≡ others items z.live ++ items
     → u.lasts.items ≡ slice_set t.lasts.items g (record z { live = kept }) → u.editors ≡ t.editors → u.groups ≡ t.groups → u.time ≡ t.time → u.origins ≡ t.origins → u.requests ≡ t.requests → Stands settings t events → Stands settings u (events ++ took (FromServer s body) (message_of body) ∷ [])
 register_by settings t u events g s x z body method id params kept items is at within read ready says class untaken names left set es gs now os r st =
-    registered_moves settings t u events g s z body method id params kept at within read (ap (λ (w : Start). w.life.stage) (read_same t.lasts.items g z x within read is) ∙ ready) says (impatient (class_of method Server false) Register class refl) untaken
+    registered_moves settings t u events g s z body method id params kept at within read (ap (λ (w : Start). w.life.stage) (read_same t.lasts.items g z x within read is) ∙ ready) says (impatient (class_of method Server false) Register class refl) (ap names_create class) untaken
     (λ was. left ∙ ap (λ rs. others items rs ++ items) was ∙ sym (ap (λ c. live_by c body (live_of settings z.life.start events)) class ∙ ap (λ o. with_registered o (live_of settings z.life.start events)) names)) set es gs now os r st
 
 -- S7
@@ -102,7 +109,7 @@ pub unregister_by : (settings : Settings) (t u : Tables) (events : List Event) (
     → u.lasts.items ≡ slice_set t.lasts.items g (record z { live = kept }) → u.editors ≡ t.editors → u.groups ≡ t.groups → u.time ≡ t.time → u.origins ≡ t.origins → u.requests ≡ t.requests → Stands settings t events → Stands settings u (events ++ took (FromServer s body) (message_of body) ∷ [])
 unregister_by settings t u events g s x z body method id params kept items is at within read ready says class untaken names left set es gs now os r st =
     let live : List Registration = live_of settings z.life.start events in
-    registered_moves settings t u events g s z body method id params kept at within read (ap (λ (w : Start). w.life.stage) (read_same t.lasts.items g z x within read is) ∙ ready) says (impatient (class_of method Server false) Unregister class refl) untaken
+    registered_moves settings t u events g s z body method id params kept at within read (ap (λ (w : Start). w.life.stage) (read_same t.lasts.items g z x within read is) ∙ ready) says (impatient (class_of method Server false) Unregister class refl) (ap names_create class) untaken
     (λ was. left ∙ ap (λ rs. if are_live items rs then others items rs else rs) was
     ∙ sym (ap (λ c. live_by c body live) class ∙ (ap (λ o. without_these (option_and_then (if_live live) o) live) names ∙ taken_so live items (are_live items live)))) set es gs now os r st
 
@@ -119,7 +126,7 @@ called_idle settings s e events text method id ps says quiet none =
     go x true = refl
     go x false = refl
 
-called_stay : (settings : Settings) (s e : ℕ) (events : List Event) (text method : List ℕ) (id : Id) (ps : Option Json) → message_of text ≡ request id method ps → is_patient method ≡ false → (asking_of settings s events).asker ≡ None → AsksStay settings s events (said (ToEditor e text))
+pub called_stay : (settings : Settings) (s e : ℕ) (events : List Event) (text method : List ℕ) (id : Id) (ps : Option Json) → message_of text ≡ request id method ps → is_patient method ≡ false → (asking_of settings s events).asker ≡ None → AsksStay settings s events (said (ToEditor e text))
 called_stay settings s e events text method id ps says quiet none =
     let same = called_idle settings s e events text method id ps says quiet none in
     record { asks = ap (λ (x : Asking). x.asks) same; parked = ap (λ (x : Asking). x.parked) same }
@@ -129,9 +136,10 @@ module _ (settings : Settings) (t u : Tables) (base : List Event) (xs : List Out
   pub uncalled_does : {row : Row} (ys : List Out) → ◌≡◌ {A = Option ℕ} None (sessions.next_ask (session_of t.editors e)) → Does (λ t events. Stands settings t events) row base t xs u ys
   uncalled_does ys is = does_knowing {Stands = λ t events. Stands settings t events} (λ st. never (sym asks_next.left ∙ none_left settings t.editors (behind base xs) e l runs st.house.editors is))
 
-  pub call_does : (ys : List Out) (n : ℕ) → is_patient method ≡ false → ((s : ℕ) → (asking_of settings s (behind base xs)).asker ≡ None) → Some n ≡ sessions.next_ask (session_of t.editors e)
+  pub call_does : (ys : List Out) (n : ℕ) → is_patient method ≡ false → is_creating method ≡ false → ((s : ℕ) → (asking_of settings s (behind base xs)).asker ≡ None) → Some n ≡ sessions.next_ask (session_of t.editors e)
       → u.editors ≡ with_session t.editors e (unless_gone sessions.asked (session_of t.editors e)) → u.groups ≡ t.groups → u.time ≡ t.time → u.lasts ≡ t.lasts → u.origins ≡ t.origins → u.requests ≡ t.requests → ys ≡ xs ++ ToEditor e text ∷ []
       → Does (λ t events. Stands settings t events) (send (ToEditor e text)) base t xs u ys
-  call_does ys n quiet none is set gs time ls os r said_so = does_send settings (ToEditor e text) base t u xs ys said_so
-      (house_moves settings t u (behind base xs) (said (ToEditor e text)) (λ m. refl) (λ m. called_stay settings m e (behind base xs) text method _ ps asks_next.says quiet (none m)) refl (ap (λ v. v.items) ls) os r
+  call_does ys n quiet creates none is set gs time ls os r said_so = does_send settings (ToEditor e text) base t u xs ys said_so
+      (house_moves settings t u (behind base xs) (said (ToEditor e text)) (λ m. refl) (λ m. called_stay settings m e (behind base xs) text method _ ps asks_next.says quiet (none m)) refl (ap (λ v. v.items) ls)
+      (origins_stay settings t.origins u.origins (behind base xs) (said (ToEditor e text)) os (λ m. called_stays settings m e (behind base xs) (created_of settings m (behind base xs)) text method (message_of text) _ ps asks_next.says creates)) r
       (λ h. told_house settings (behind base xs) e text t u (asked_so settings t.editors (behind base xs) e l runs h.editors u.editors text n is (ap is_request asks_next.says) set) gs time h))

@@ -30,6 +30,7 @@ use Rattle.mux_tables.proofs.Asking.{asking_more, asks_later, none_answered, par
 use Rattle.mux_tables.proofs.Frames.{part_quiet}
 use Rattle.mux_tables.proofs.Heard.{set_house}
 use Rattle.mux_tables.proofs.Lasts.{asked_last}
+use Rattle.mux_tables.proofs.TokenMoves.{OriginsMove}
 use Rattle.mux_tables.proofs.Moves.{house_and_lasts}
 use Rattle.mux_tables.proofs.Phased.{phased}
 use Rattle.mux_tables.proofs.Refusing.{ready_asks}
@@ -131,7 +132,7 @@ answered_at Initializing e id n events qs kept left named is s = (ap (filter (λ
 answered_at other e id n events qs kept left named is s = tt
 
 module _ (settings : Settings) (t u : Tables) (events : List Event) (g e : ℕ) (body : List ℕ) (p : Phase) (n : Option ℕ) (z : Start) (left : List route.Ask) (l : e < length t.editors) (at : slice_get t.lasts.items g ≡ Some z) (set : u.editors ≡ with_session t.editors e (phased t.editors e p))
-    (ls : u.lasts.items ≡ slice_set t.lasts.items g (record z { asks = left })) (gs : u.groups ≡ t.groups) (now : u.time ≡ t.time) (os : u.origins ≡ t.origins) (r : u.requests ≡ t.requests) (named : NamesAsk (answered_id (message_of body)) n) (is : Left e n z.asks left) (one : AnswersOne settings z.life.start e (message_of body) events) where
+    (ls : u.lasts.items ≡ slice_set t.lasts.items g (record z { asks = left })) (gs : u.groups ≡ t.groups) (now : u.time ≡ t.time) (os : OriginsMove settings t.origins u.origins events (heard (FromEditor e body))) (r : u.requests ≡ t.requests) (named : NamesAsk (answered_id (message_of body)) n) (is : Left e n z.asks left) (one : AnswersOne settings z.life.start e (message_of body) events) where
   abbrev ev : Event
   ev = heard (FromEditor e body)
 
@@ -162,7 +163,7 @@ module _ (settings : Settings) (t u : Tables) (events : List Event) (g e : ℕ) 
 
 -- the same, as the code has it
 pub replied_by : (settings : Settings) (t u : Tables) (events : List Event) (g e : ℕ) (body : List ℕ) (p : Phase) (n : Option ℕ) (x z : Start) (left : List route.Ask) → e < length t.editors → slice_get t.lasts.items g ≡ Some x → z ≡ x → u.editors ≡ with_session t.editors e (phased t.editors e p)
-    → u.lasts.items ≡ slice_set t.lasts.items g (record z { asks = left }) → u.groups ≡ t.groups → u.time ≡ t.time → u.origins ≡ t.origins → u.requests ≡ t.requests → NamesAsk (answered_id (message_of body)) n → Left e n z.asks left → AnswersOne settings x.life.start e (message_of body) events
+    → u.lasts.items ≡ slice_set t.lasts.items g (record z { asks = left }) → u.groups ≡ t.groups → u.time ≡ t.time → OriginsMove settings t.origins u.origins events (heard (FromEditor e body)) → u.requests ≡ t.requests → NamesAsk (answered_id (message_of body)) n → Left e n z.asks left → AnswersOne settings x.life.start e (message_of body) events
     → places (desk_of e events).phase (message_of body) ≡ false → stops events e (message_of body) ≡ false → is_first_open settings.servers events e (message_of body) ≡ false → (desk_of e (events ++ heard (FromEditor e body) ∷ [])).phase ≡ p
     → Stands settings t events → Stands settings u (events ++ heard (FromEditor e body) ∷ [])
 replied_by settings t u events g e body p n x z left l at same set ls gs now os r named is one =

@@ -40,6 +40,9 @@ use Rattle.mux_tables.proofs.Counted.{asked_more, next_more}
 use Rattle.mux_tables.proofs.DocumentMoves.{set_same}
 use Rattle.mux_tables.proofs.Frames.{itself, part_quiet}
 use Rattle.mux_tables.proofs.Lasts.{asked_last}
+use Rattle.group_laws.specs.group_rows.specs.Created.{created_of}
+use Rattle.mux_tokens.proofs.Stays.{called_stays}
+use Rattle.mux_tables.proofs.TokenMoves.{origins_stay, patient_creates}
 use Rattle.mux_tables.proofs.Moves.{house_and_lasts}
 use Rattle.mux_tables.proofs.Putting.{asked_does, asked_so, below, one_left, put_stands, running_told, text_says, unasked_does}
 use Rattle.mux_tables.proofs.Refusing.{ready_asks, same_does, same_stands}
@@ -173,7 +176,7 @@ module _ (settings : Settings) (t u : Tables) (base : List Event) (xs : List Out
     part of_live h = part_quiet of_live settings t.requests z before ev refl h
 
     moves : Some n ≡ sessions.next_ask (session_of t.editors e) → Stands settings u (before ++ ev ∷ [])
-    moves is = house_and_lasts settings t u before ev (λ m. refl) refl os r
+    moves is = house_and_lasts settings t u before ev (λ m. refl) refl (origins_stay settings t.origins u.origins before ev os (λ m. called_stays settings m e before (created_of settings m before) text may.0 (message_of text) (integer (decimal n)) may.1 says_it (patient_creates may.0 may.3))) r
         (λ origins ls. asked_last settings t.requests t.origins.groups.items t.lasts.items u.lasts.items before ev g z (record z { asks = kept; parked = left }) (λ m. refl) others refl at lasts refl origins
         (λ s. record { start = one_more (start_behind z.life.group) _ _ before ev s.start; home = one_more (group_behind z.life.start) _ _ before ev s.home; own = s.own; parts = λ q. part q (s.parts q) }) ls)
         (λ h. told_house settings before e text t u (asked_so settings t.editors before e l faces.running h.editors u.editors text n is (ap is_request says_it) set) gs time h) st

@@ -27,6 +27,12 @@ use Rattle.mux_tables.specs.Stands.{AsksStay, CountStands, EditorsStand, GroupsS
 use Rattle.mux_tables.proofs.Counted.{asked_apart, asked_more, asked_quiet, counted_same, counted_set, next_more}
 use Rattle.mux_tables.proofs.Frames.{asks_stay, groups_stand}
 use Rattle.mux_tables.proofs.Leaves.{closed_by}
+use Rattle.std.specs.Map.{keys_of}
+use Rattle.std.specs.List.Sorted.{IsStrictlySortedBy}
+use Rattle.std.specs.Ordering.{nat_cmp}
+use Rattle.group_laws.specs.group_rows.specs.Created.{created_of}
+use Rattle.mux_tokens.specs.Rows.{left_each}
+use Rattle.mux_tables.proofs.TokenMoves.{origins_left, origins_stay, told_tokens}
 use Rattle.mux_tables.proofs.Moves.{house_moves}
 use Rattle.mux_tables.proofs.Named.{Goes, goes_so, goes_then, goes_told, meant_by, named_by}
 use Rattle.mux_tables.proofs.Phased.{closed_gone, phased, plain, told_plain, told_same}
@@ -134,18 +140,18 @@ idle_stay settings s e events body rest =
 
 pub told_does : (settings : Settings) (t : Tables) (xs ys : List Out) (base : List Event) (e : ℕ) (body : List ℕ) → Keeps e body (behind base xs) → ys ≡ xs ++ ToEditor e body ∷ [] → Does (λ t events. Stands settings t events) (send (ToEditor e body)) base t xs t ys
 told_does settings t xs ys base e body k is = does_send settings (ToEditor e body) base t t xs ys is
-    (house_moves settings t t (behind base xs) (said (ToEditor e body)) (λ n. refl) (λ s. asks_stay settings s (behind base xs) (said (ToEditor e body)) k.1) refl refl refl refl (λ h. told_house settings (behind base xs) e body t t (kept_editors settings (behind base xs) e body t.editors k h.editors) refl refl h))
+    (house_moves settings t t (behind base xs) (said (ToEditor e body)) (λ n. refl) (λ s. asks_stay settings s (behind base xs) (said (ToEditor e body)) k.1) refl refl (origins_stay settings t.origins t.origins (behind base xs) (said (ToEditor e body)) refl (λ s. told_tokens settings s e (behind base xs) (created_of settings s (behind base xs)) body (message_of body) k.1)) refl (λ h. told_house settings (behind base xs) e body t t (kept_editors settings (behind base xs) e body t.editors k h.editors) refl refl h))
 
 pub welcome_does : (settings : Settings) (t u : Tables) (xs ys : List Out) (base : List Event) (e : ℕ) (body : List ℕ) (p : Phase) → e < length t.editors → (desk_of e (behind base xs ++ said (ToEditor e body) ∷ [])).phase ≡ p → is_request (message_of body) ≡ false → u.editors ≡ with_session t.editors e (phased t.editors e p)
     → u.groups ≡ t.groups → u.time ≡ t.time → u.lasts ≡ t.lasts → u.origins ≡ t.origins → u.requests ≡ t.requests → ys ≡ xs ++ ToEditor e body ∷ [] → Does (λ t events. Stands settings t events) (send (ToEditor e body)) base t xs u ys
 welcome_does settings t u xs ys base e body p l k q es gs now ls os r is = does_send settings (ToEditor e body) base t u xs ys is
-    (house_moves settings t u (behind base xs) (said (ToEditor e body)) (λ n. refl) (λ s. asks_stay settings s (behind base xs) (said (ToEditor e body)) q) refl (ap (λ v. v.items) ls) os r
+    (house_moves settings t u (behind base xs) (said (ToEditor e body)) (λ n. refl) (λ s. asks_stay settings s (behind base xs) (said (ToEditor e body)) q) refl (ap (λ v. v.items) ls) (origins_stay settings t.origins u.origins (behind base xs) (said (ToEditor e body)) os (λ s. told_tokens settings s e (behind base xs) (created_of settings s (behind base xs)) body (message_of body) q)) r
     (λ h. told_house settings (behind base xs) e body t u (subst (λ z. EditorsStand settings z (behind base xs ++ said (ToEditor e body) ∷ [])) (sym (es ∙ told_plain settings t.editors (behind base xs) e p l h.editors body k)) (moved_editors settings (behind base xs) e body t.editors p l k q h.editors)) gs now h))
 
 pub close_does : (settings : Settings) (t u : Tables) (xs ys : List Out) (base : List Event) (e : ℕ) (mid : List Session) (before p : Phase) (home : Option ℕ) (was : Bool) → e < length t.editors
     → before ≡ (session_of t.editors e).phase → home ≡ (session_of t.editors e).group → p ≡ phase_closed before → was ≡ is_begun before
-    → mid ≡ with_session t.editors e (phased t.editors e p) → u.editors ≡ mid → u.time ≡ t.time → u.lasts ≡ t.lasts → u.origins ≡ t.origins → u.requests ≡ t.requests
+    → mid ≡ with_session t.editors e (phased t.editors e p) → u.editors ≡ mid → u.time ≡ t.time → u.lasts ≡ t.lasts → u.origins.groups ≡ t.origins.groups → u.origins.stopping ≡ t.origins.stopping → u.origins.created ≡ left_each e (keys_of t.origins.created) t.origins.created → IsStrictlySortedBy nat_cmp (keys_of t.origins.created) → u.requests ≡ t.requests
     → u.groups ≡ with_groups (emptied home was (stays_in mid) t.time t.groups.groups) t.groups → ys ≡ xs ++ CloseEditor e ∷ [] → Does (λ t events. Stands settings t events) (send (CloseEditor e)) base t xs u ys
-close_does settings t u xs ys base e mid before p home was l phases homes closes begun set es now ls os r gs is = does_send settings (CloseEditor e) base t u xs ys is
-    (house_moves settings t u (behind base xs) (said (CloseEditor e)) (λ n. refl) (λ n. record { asks = refl; parked = refl }) refl (ap (λ v. v.items) ls) os r
+close_does settings t u xs ys base e mid before p home was l phases homes closes begun set es now ls og sk cr sorted r gs is = does_send settings (CloseEditor e) base t u xs ys is
+    (house_moves settings t u (behind base xs) (said (CloseEditor e)) (λ n. refl) (λ n. record { asks = refl; parked = refl }) refl (ap (λ v. v.items) ls) (origins_left settings t.origins u.origins (behind base xs) (said (CloseEditor e)) e og sk cr sorted (λ s. refl)) r
     (closed_by settings (behind base xs) e not_message t u mid before p home was l phases homes closes begun (set ∙ plain t.editors e p (ap is_gone closes ∙ (closed_gone before ∙ ap is_gone phases))) es now gs))

@@ -1,5 +1,5 @@
 -- What the tables do when a cause about a start comes, as the code has it.
-use Rattle.std.proofs.Common.{◌≡◌, ℕ, ◌<◌, ◌^◌, Bool, true, false, ◌&&◌, List, [], ◌∷◌, ◌++◌, map, length, get_or, refl, ap, sym, subst, ◌∙◌, nat_eq}
+use Rattle.std.proofs.Common.{◌≡◌, ℕ, ◌<◌, ◌^◌, Bool, true, false, not, ◌&&◌, List, [], ◌∷◌, ◌++◌, map, length, get_or, refl, ap, sym, subst, ◌∙◌, nat_eq}
 use Rattle.std.specs.Prelude.{Option, Some, None, MatchOption, slice_get, slice_set, find, option_map}
 use Rattle.mux_history.specs.declared.cause.Cause.TheVariants.{FromServer, ServerGone, StartFailed, Started}
 use Rattle.rpc_message.specs.Message.{Message, request, notification, result, error, not_json, not_message, message_of, result_bytes}
@@ -33,6 +33,14 @@ use Rattle.mux_tables.proofs.Asking.{begun_asks, begun_parked, first_asks, first
 use Rattle.mux_tables.proofs.Exits.{lost_groups, refused_groups}
 use Rattle.mux_tables.proofs.Frames.{itself, groups_stand, names_editor, names_start, open_stay, part_quiet, result_quiet, spawns, stop_more, ticks}
 use Rattle.mux_tables.proofs.IdMoves.{answered_ids, ended_ids, failed_ids, unanswered_ids, found_seen}
+use Rattle.mux_tokens.specs.progress_route.specs.Tables.{less}
+use Rattle.mux_tokens.specs.Rows.{Rows}
+use Rattle.mux_tokens.specs.Stands.{CreatedStand}
+use Rattle.mux_tokens.proofs.Rows.{num_back}
+use Rattle.mux_tokens.proofs.Standing.{over_moves as ended_tokens}
+use Rattle.mux_tokens.proofs.Stays.{passes_by, passes_stay}
+use Rattle.group_laws.specs.group_rows.specs.Created.{Created, created_next, created_of, no_created}
+use Rattle.mux_tables.proofs.TokenMoves.{CreatedMove, OriginsMove, first_error_tokens, first_result_tokens, origins_stay, same_created}
 use Rattle.mux_tables.proofs.Registering.{begun_live, first_live, live_by_stay}
 use Rattle.mux_tables.proofs.Starts.{groups_kept, is_late, late_asks, late_live, late_parked, late_shown, no_stop, not_refused, part_ids, part_life, part_shown, read_back, read_here, start_at_place, start_moves, still_asks, still_ids, still_live, still_parked, still_shown, still_stop}
 use Rattle.mux_tables.proofs.Awaited.{StopsMove, hears_same, same_either, started_same, stopping_less, stops_kept}
@@ -81,8 +89,8 @@ started_moves settings t u events g s z life at within read is set es gs now os 
     let own : life.start ≡ z.life.start = ap (λ (l : Standing). l.start) is ∙ begun_start z.life.stage z.life in
     start_moves settings t u events (λ n. took (Started n) not_message) g s z y at within read set own (ap (λ (l : Standing). l.group) is ∙ begun_group z.life.stage z.life) es now (ap (λ v. v.groups) os) r (λ n. refl) (λ n. refl) (λ n. refl) (λ n m. refl)
     (λ n _ h. groups_kept settings t.groups u.groups events (took (Started n) not_message) gs (groups_stand settings t.groups events (took (Started n) not_message) refl) h)
-    (λ n _. stops_kept t u events (took (Started n) not_message) os refl
-    (λ m. same_either (nat_eq n m) (record { stage = stage_started (life_of m events).stage; started = true }) (life_of m events) (started_same (life_of m events).stage))) (part own)
+    (λ n _. stops_kept t u events (took (Started n) not_message) (ap (λ v. v.stopping) os) refl
+    (λ m. same_either (nat_eq n m) (record { stage = stage_started (life_of m events).stage; started = true }) (life_of m events) (started_same (life_of m events).stage))) (λ n _. same_created settings t u events (took (Started n) not_message) (ap (λ v. v.created) os) (λ m. refl)) (part own)
   where
     part : life.start ≡ z.life.start → (p : Part) → PartStands p settings t.requests z events → PartStands p settings t.requests (record z { life = life; started = true }) (events ++ took (Started z.life.start) not_message ∷ [])
     part own of_life h = part_life settings t.requests events (took (Started z.life.start) not_message) z (record z { life = life; started = true }) own
@@ -120,7 +128,7 @@ hears_answer other m h = refl
 stage_seen : (settings : Settings) (t : Tables) (events : List Event) (g n : ℕ) (z : Start) → Stands settings t events → slice_get t.lasts.items g ≡ Some z → n ≡ z.life.start → (life_of n events).stage ≡ z.life.stage
 stage_seen settings t events g n z st here e = ap (λ k. (life_of k events).stage) e ∙ ap (λ (l : Life). l.stage) ((st.lasts.each g z here).parts of_life)
 
-heard_stops : (t u : Tables) (events : List Event) (s : ℕ) (body : List ℕ) → u.origins ≡ t.origins → StopsMove t u events (took (FromServer s body) (message_of body))
+heard_stops : (t u : Tables) (events : List Event) (s : ℕ) (body : List ℕ) → u.origins.stopping ≡ t.origins.stopping → StopsMove t u events (took (FromServer s body) (message_of body))
 heard_stops t u events s body os = stops_kept t u events (took (FromServer s body) (message_of body)) os refl
     (λ m. same_either (nat_eq s m) (record { stage = stage_hears (life_of m events).stage (message_of body); started = (life_of m events).started }) (life_of m events) (hears_same (life_of m events).stage (message_of body)))
 
@@ -133,11 +141,11 @@ module _ (settings : Settings) (t u : Tables) (events : List Event) (g s : ℕ) 
     (registers : Stands settings t events → PartStands of_live settings t.requests z events → LiveAt life.stage (live_of settings z.life.start (events ++ took (FromServer z.life.start body) (message_of body) ∷ [])) live)
     (own : life.start ≡ z.life.start) (group : life.group ≡ z.life.group) (hears : stage_hears z.life.stage (message_of body) ≡ life.stage) (refuses : (is_first_error (message_of body) && is_initializing z.life.stage) ≡ false) (named : NamesAt (answered_id (message_of body)) n)
     (taken : MatchOption n (ids.requests ≡ z.ids.requests) (λ k. ids.requests ≡ without k z.ids.requests)) (next : ids.next ≡ z.ids.next) (limit : ids.limit ≡ z.ids.limit) (order : IsInOrder z.ids → IsInOrder ids)
-    (set : u.lasts.items ≡ slice_set t.lasts.items g (record z { life = life; ids = ids; shown = shown; parked = parked; live = live })) (es : u.editors ≡ t.editors) (gs : u.groups ≡ t.groups) (now : u.time ≡ t.time) (os : u.origins ≡ t.origins) (r : u.requests ≡ t.requests) where
+    (set : u.lasts.items ≡ slice_set t.lasts.items g (record z { life = life; ids = ids; shown = shown; parked = parked; live = live })) (es : u.editors ≡ t.editors) (gs : u.groups ≡ t.groups) (now : u.time ≡ t.time) (os : OriginsMove settings t.origins u.origins events (took (FromServer s body) (message_of body))) (r : u.requests ≡ t.requests) where
   pub server_moves : Stands settings t events → Stands settings u (events ++ took (FromServer s body) (message_of body) ∷ [])
-  server_moves st = start_moves settings t u events (λ k. took (FromServer k body) (message_of body)) g s z y at within read set own group es now (ap (λ v. v.groups) os) r (λ k. refl) (λ k. refl) (λ k. refl) (λ k m. refl)
+  server_moves st = start_moves settings t u events (λ k. took (FromServer k body) (message_of body)) g s z y at within read set own group es now os.groups r (λ k. refl) (λ k. refl) (λ k. refl) (λ k m. refl)
       (λ k e h. groups_kept settings t.groups u.groups events (took (FromServer k body) (message_of body)) gs (not_refused settings t.groups events k body (message_of body) (ap (λ a. is_first_error (message_of body) && is_initializing a) (stage_seen settings t events g k z st here (e ∙ sym (start_at_place t.lasts.items g s z here at))) ∙ refuses)) h)
-      (λ k e. heard_stops t u events k body os) (part st) st
+      (λ k e. heard_stops t u events k body os.stopping) (λ k e. subst (λ j. CreatedMove settings t u events (took (FromServer j body) (message_of body))) (sym e) os.created) (part st) st
     where
       y : Start
       y = record z { life = life; ids = ids; shown = shown; parked = parked; live = live }
@@ -181,7 +189,7 @@ later_begun true other h = refl
 pub answer_moves : (settings : Settings) (t u : Tables) (events : List Event) (g s : ℕ) (x z : Start) (body : List ℕ) (n : Option ℕ) (ids : Table) → slice_get t.lasts.items g ≡ Some x → slice_get (map number_in t.lasts.items) g ≡ Some s → g < length t.lasts.items → z ≡ get_or t.lasts.items g z
     → (is_first_result (message_of body) && is_early x.life.stage) ≡ false → (is_first_error (message_of body) && is_initializing x.life.stage) ≡ false → ParkedStay settings s events (took (FromServer s body) (message_of body)) → LiveStay settings s events (took (FromServer s body) (message_of body)) → NamesAt (answered_id (message_of body)) n
     → MatchOption n (ids.requests ≡ z.ids.requests) (λ k. ids.requests ≡ without k z.ids.requests) → ids.next ≡ z.ids.next → ids.limit ≡ z.ids.limit → (IsInOrder z.ids → IsInOrder ids)
-    → u.lasts.items ≡ slice_set t.lasts.items g (record z { ids = ids }) → u.editors ≡ t.editors → u.groups ≡ t.groups → u.time ≡ t.time → u.origins ≡ t.origins → u.requests ≡ t.requests
+    → u.lasts.items ≡ slice_set t.lasts.items g (record z { ids = ids }) → u.editors ≡ t.editors → u.groups ≡ t.groups → u.time ≡ t.time → OriginsMove settings t.origins u.origins events (took (FromServer s body) (message_of body)) → u.requests ≡ t.requests
     → Stands settings t events → Stands settings u (events ++ took (FromServer s body) (message_of body) ∷ [])
 answer_moves settings t u events g s x z body n ids is at within read no_result no_failure still stays named taken next limit order set es gs now os r =
     let same : x ≡ z = same_item (sym is ∙ read_here t.lasts.items g z within read) in
@@ -239,7 +247,7 @@ result_moves settings t u events g s z body n life ids shown at within read stag
     (λ st h. first_live z.life.stage life z.life (live_of settings z.life.start (events ++ took (FromServer z.life.start body) (message_of body) ∷ [])) z.live is stage
     (part_quiet of_live settings t.requests z events (took (FromServer z.life.start body) (message_of body)) (result_asks (message_of body) first) h))
     (ap (λ (l : Standing). l.start) is) (ap (λ (l : Standing). l.group) is)
-    (rw (stage, first) refl ∙ ap (λ (l : Standing). l.stage) (sym is)) (no_error (message_of body) first (is_initializing z.life.stage)) named taken next limit order set es gs now os r
+    (rw (stage, first) refl ∙ ap (λ (l : Standing). l.stage) (sym is)) (no_error (message_of body) first (is_initializing z.life.stage)) named taken next limit order set es gs now (origins_stay settings t.origins u.origins events (took (FromServer s body) (message_of body)) os (λ m. first_result_tokens settings m s events (created_of settings m events) body (message_of body) first)) r
 
 pub answer_found : (settings : Settings) (t : Tables) (events : List Event) (g s k : ℕ) (z : Start) (o : Option Pending) → slice_get (map number_in t.lasts.items) g ≡ Some s → g < length t.lasts.items → z ≡ get_or t.lasts.items g z → o ≡ pending_of k z.ids.requests
     → Stands settings t events → find (is_under k) (forwarding_of s events).open_requests ≡ option_map (forwarded_as k) o
@@ -259,7 +267,7 @@ pub refusal_moves : (settings : Settings) (t u : Tables) (events : List Event) (
 refusal_moves settings t u events g s z body n ids at within read stage refuses named taken next limit order set es gs now os r st =
     start_moves settings t u events (λ k. took (FromServer k body) (message_of body)) g s z y at within read set refl refl es now (ap (λ v. v.groups) os) r (λ k. refl) (λ k. refl) (λ k. refl) (λ k m. refl)
     (λ k e h. refused_groups settings events k z.life.group body (message_of body) t.groups u.groups refuses (ap is_initializing (stage_seen settings t events g k z st here (e ∙ sym is)) ∙ ap is_initializing stage) (subst (λ m. group_of m events ≡ Some z.life.group) (is ∙ sym e) (st.lasts.each g z here).home)
-    (ap (λ w. w.limit) gs) (ap (λ w. w.idle) gs) (ap (λ w. w.groups) gs) h) (λ k e. heard_stops t u events k body os) part st
+    (ap (λ w. w.limit) gs) (ap (λ w. w.idle) gs) (ap (λ w. w.groups) gs) h) (λ k e. heard_stops t u events k body (ap (λ v. v.stopping) os)) (λ k e. same_created settings t u events (took (FromServer k body) (message_of body)) (ap (λ v. v.created) os) (λ m. first_error_tokens settings m k events (created_of settings m events) body (message_of body) refuses)) part st
   where
     y : Start
     y = record z { ids = ids }
@@ -293,15 +301,20 @@ module _ (settings : Settings) (t u : Tables) (events : List Event) (g s : ℕ) 
     (one : (n m : ℕ) → names_start m (ev n) ≡ nat_eq n m) (editor : (n : ℕ) → names_editor (ev n) ≡ false) (time : (n : ℕ) → ticks (ev n) ≡ false) (spawn : (n : ℕ) → spawns (ev n) ≡ false)
     (loses : (n : ℕ) (h : House) → groups_next settings events h (ev n) ≡ groups_lose settings events n h)
     (over : (n : ℕ) (l : Life) → life_behind n l (ev n) ≡ record { stage = Ended; started = l.started })
-    (clears : (n : ℕ) (f : Forwarding) → IdsAt t.requests (forwarding_behind n f (ev n)) x.start.ids) where
+    (clears : (n : ℕ) (f : Forwarding) → IdsAt t.requests (forwarding_behind n f (ev n)) x.start.ids)
+    (drops : (n : ℕ) (w : Created) → created_next settings n events w (ev n) ≡ no_created) (passes : (n m : ℕ) → nat_eq n m ≡ false → passes_by m (ev n) ≡ true) where
   pub over_moves : Stands settings t events → Stands settings u (events ++ ev s ∷ [])
   over_moves st =
       let own : x.start.life.start ≡ z.life.start = ap (λ (l : Standing). l.start) x.life in
       start_moves settings t u events ev g s z x.start at within (read_back t.lasts.items g z here) x.lasts own (ap (λ (l : Standing). l.group) x.life) x.editors x.time x.origins x.requests editor time spawn one
       (λ n e h. lost_groups settings events (ev n) n z.life.group (loses n) (t.groups) u.groups t.editors (subst (λ m. group_of m events ≡ Some z.life.group) (start_at_place t.lasts.items g s z here at ∙ sym e) (st.lasts.each g z here).home) st.house.editors x.groups h)
       (λ n e h. stopping_less events (ev n) n (spawn n) (one n) (ap (λ (l : Life). is_stopping l.stage) (over n (life_of n events))) ∙ ap (unstopped n) h
-      ∙ ap (λ k. unstopped k t.origins.stopping.items) (e ∙ sym (start_at_place t.lasts.items g s z here at)) ∙ sym x.stopping) (part own) st
+      ∙ ap (λ k. unstopped k t.origins.stopping.items) (e ∙ sym (start_at_place t.lasts.items g s z here at)) ∙ sym x.stopping) (λ n e. tokens n (e ∙ sym (start_at_place t.lasts.items g s z here at))) (part own) st
     where
+      tokens : (n : ℕ) → n ≡ z.life.start → CreatedMove settings t u events (ev n)
+      tokens n own h = subst (λ (rows : Rows). CreatedStand settings rows (events ++ ev n ∷ [])) (sym (x.created ∙ ap (λ k. less k t.origins.created) (sym own)))
+          (ended_tokens settings t.origins.created events (ev n) n (drops n (created_of settings n events)) (λ m away. passes_stay settings m events (created_of settings m events) (ev n) (passes n m (num_back n m ∙ away))) h)
+
       part : x.start.life.start ≡ z.life.start → (p : Part) → PartStands p settings t.requests z events → PartStands p settings t.requests x.start (events ++ ev z.life.start ∷ [])
       part own of_life h = part_life settings t.requests events (ev z.life.start) z x.start own (over z.life.start (record { stage = z.life.stage; started = z.started })
           ∙ (ap (λ k. record { stage = k; started = z.started }) (ap (λ (l : Standing). l.stage) (sym x.life)) ∙ ap (λ b. record { stage = x.start.life.stage; started = b }) (sym x.started))) h
@@ -324,7 +337,7 @@ exit_heard settings t u events g s restarts e at within f =
     let z = item_at t.lasts.items g within in
     let x : Exits settings.limits.restarts t g z.0 u = subst (λ n. Exits n t g z.0 u) (sym e) (f z.0 z.1) in
     over_moves settings t u events g s z.0 (λ n. took (ServerGone n) not_message) at within z.1 x (λ n m. refl) (λ n. refl) (λ n. refl) (λ n. refl) (λ n h. refl) (λ n l. rw (itself n) refl)
-    (λ n h. gone_clears t.requests n h x.start.ids x.requests_gone x.next x.limit x.order)
+    (λ n h. gone_clears t.requests n h x.start.ids x.requests_gone x.next x.limit x.order) (λ n w. rw (itself n) refl) (λ n m h. ap not h)
 
 pub failure_heard : (settings : Settings) (t u : Tables) (events : List Event) (g s restarts : ℕ) → settings.limits.restarts ≡ restarts → slice_get (map number_in t.lasts.items) g ≡ Some s → g < length t.lasts.items → ((z : Start) → slice_get t.lasts.items g ≡ Some z → Exits restarts t g z u)
     → Stands settings t events → Stands settings u (events ++ took (StartFailed s) not_message ∷ [])
@@ -332,4 +345,4 @@ failure_heard settings t u events g s restarts e at within f =
     let z = item_at t.lasts.items g within in
     let x : Exits settings.limits.restarts t g z.0 u = subst (λ n. Exits n t g z.0 u) (sym e) (f z.0 z.1) in
     over_moves settings t u events g s z.0 (λ n. took (StartFailed n) not_message) at within z.1 x (λ n m. refl) (λ n. refl) (λ n. refl) (λ n. refl) (λ n h. refl) (λ n l. rw (itself n) refl)
-    (λ n h. failed_clears t.requests n h x.start.ids x.requests_gone x.next x.limit x.order)
+    (λ n h. failed_clears t.requests n h x.start.ids x.requests_gone x.next x.limit x.order) (λ n w. rw (itself n) refl) (λ n m h. ap not h)

@@ -29,6 +29,7 @@ use Rattle.group_laws.specs.group_rows.specs.Asks.{asks_of, parked_of}
 use Rattle.group_laws.specs.group_rows.specs.Live.{live_of}
 use Rattle.mux_tables.specs.Stands.{AsksAt, IsLost, IsNew, Lost, OriginsStand, Rise, IdsAt, IdsStand, Part, of_life, of_ids, of_shown, of_stop, of_asks, of_parked, of_live, LiveAt, ParkedAt, PartStands, ShownAt, blank, LastStands, LastsStand, Stands}
 use Rattle.mux_tables.proofs.Asking.{asks_more, parked_more}
+use Rattle.mux_tables.proofs.TokenMoves.{same_created}
 use Rattle.mux_tables.proofs.Frames.{groups_stand, itself, last_stands, life_alone, part_apart}
 use Rattle.mux_tables.proofs.Lasts.{Last, known, same_place}
 use Rattle.mux_tables.proofs.Moves.{house_stands}
@@ -131,7 +132,7 @@ module _ (settings : Settings) (limit : ℕ) (origins : List ℕ) (lasts after :
           inl (one_more (start_behind h) _ _ events ev refl ∙ subst (λ k. (if nat_eq g k then Some n else start_of h events) ≡ Some n) e (rw (itself g) refl))
       go m h (other d) w = kept m h d (compare g h) (s.old m h (before m h d w))
 
-module _ (settings : Settings) (t u : Tables) (events : List Event) (n g : ℕ) (y : Start) (last : n ≡ length t.origins.groups.items) (es : u.editors ≡ t.editors) (gs : u.groups ≡ t.groups) (now : u.time ≡ t.time) (os : u.origins.groups.items ≡ t.origins.groups.items ++ g ∷ []) (sk : u.origins.stopping ≡ t.origins.stopping) (r : u.requests ≡ t.requests) (new : IsFresh t.requests n g y) where
+module _ (settings : Settings) (t u : Tables) (events : List Event) (n g : ℕ) (y : Start) (last : n ≡ length t.origins.groups.items) (es : u.editors ≡ t.editors) (gs : u.groups ≡ t.groups) (now : u.time ≡ t.time) (os : u.origins.groups.items ≡ t.origins.groups.items ++ g ∷ []) (sk : u.origins.stopping ≡ t.origins.stopping) (cr : u.origins.created ≡ t.origins.created) (r : u.requests ≡ t.requests) (new : IsFresh t.requests n g y) where
   fresh_parts : Stands settings t events → (p : Part) → PartStands p settings t.requests (blank t.requests n) events
   fresh_parts s p = s.lasts.fresh n (subst (λ k. k ≤ n) (sym s.origins.count) (omega (arith, last))) p
 
@@ -140,6 +141,7 @@ module _ (settings : Settings) (t u : Tables) (events : List Event) (n g : ℕ) 
     house = house_stands settings t u events (did (Spawn n g) not_message) refl (groups_kept settings t.groups u.groups events (did (Spawn n g) not_message) gs (groups_stand settings t.groups events (did (Spawn n g) not_message) refl)) refl es now s.house;
     origins = spawned_origins t.origins.groups.items u.origins.groups.items events n g last os s.origins;
     stopping = stopping_spawned events n g not_message (s.origins.count ∙ sym last) (ap (λ (l : Life). is_stopping l.stage) (fresh_parts s of_life)) ∙ s.stopping ∙ ap (λ v. v.items) (sym sk);
+    created = same_created settings t u events (did (Spawn n g) not_message) cr (λ m. refl) s.created;
     lasts = subst (λ k. LastsStand settings k u.lasts.items (events ++ did (Spawn n g) not_message ∷ [])) (sym r) lasts;
     requests = s.requests ∙ sym r;
     range = rw r s.range;
@@ -190,12 +192,12 @@ spawn_does : (settings : Settings) (t u : Tables) (xs ys : List Out) (base : Lis
 spawn_does settings t u xs ys base n g last is go =
     does_look {Stands = λ t events. Stands settings t events} {f = λ events. send (Spawn (starts_of events) g)} (λ s. ap (λ k. send (Spawn k g)) (s.origins.count ∙ sym last)) (does_send settings (Spawn n g) base t u xs ys is go)
 
-pub found_gives : (settings : Settings) (t u : Tables) (xs ys : List Out) (base : List Event) (n g : ℕ) (y : Start) → n ≡ length t.origins.groups.items → IsNew g (behind base xs) → u.editors ≡ t.editors → u.groups ≡ t.groups → u.time ≡ t.time → u.origins.groups.items ≡ t.origins.groups.items ++ g ∷ [] → u.origins.stopping ≡ t.origins.stopping → u.lasts.items ≡ t.lasts.items ++ y ∷ [] → u.requests ≡ t.requests
+pub found_gives : (settings : Settings) (t u : Tables) (xs ys : List Out) (base : List Event) (n g : ℕ) (y : Start) → n ≡ length t.origins.groups.items → IsNew g (behind base xs) → u.editors ≡ t.editors → u.groups ≡ t.groups → u.time ≡ t.time → u.origins.groups.items ≡ t.origins.groups.items ++ g ∷ [] → u.origins.stopping ≡ t.origins.stopping → u.origins.created ≡ t.origins.created → u.lasts.items ≡ t.lasts.items ++ y ∷ [] → u.requests ≡ t.requests
     → y.life ≡ spawned n g → y.started ≡ false → y.ids.requests ≡ [] → y.ids.next ≡ 2 → y.ids.limit ≡ t.requests → IsInOrder y.ids → y.shown ≡ None → y.asks ≡ [] → y.parked ≡ [] → y.live ≡ [] → ys ≡ xs ++ Spawn n g ∷ [] → Does (λ t events. Stands settings t events) (spawn g) base t xs u ys
-found_gives settings t u xs ys base n g y last unfounded es gs now os sk ls r life started requests next ends order blank_shown blank_asks blank_parked blank_live is =
-    spawn_does settings t u xs ys base n g last is (found_moves settings t u (behind base xs) n g y last es gs now os sk r (life, started, requests, next, ends, order, blank_shown, blank_asks, blank_parked, blank_live) unfounded ls)
+found_gives settings t u xs ys base n g y last unfounded es gs now os sk cr ls r life started requests next ends order blank_shown blank_asks blank_parked blank_live is =
+    spawn_does settings t u xs ys base n g last is (found_moves settings t u (behind base xs) n g y last es gs now os sk cr r (life, started, requests, next, ends, order, blank_shown, blank_asks, blank_parked, blank_live) unfounded ls)
 
-pub respawn_gives : (settings : Settings) (t u : Tables) (xs ys : List Out) (base : List Event) (n g i : ℕ) (x y : Start) → n ≡ length t.origins.groups.items → slice_get t.lasts.items i ≡ Some x → x.life.group ≡ g → x.life.stage ≡ Ended → u.editors ≡ t.editors → u.groups ≡ t.groups → u.time ≡ t.time → u.origins.groups.items ≡ t.origins.groups.items ++ g ∷ [] → u.origins.stopping ≡ t.origins.stopping → u.lasts.items ≡ slice_set t.lasts.items i y → u.requests ≡ t.requests
+pub respawn_gives : (settings : Settings) (t u : Tables) (xs ys : List Out) (base : List Event) (n g i : ℕ) (x y : Start) → n ≡ length t.origins.groups.items → slice_get t.lasts.items i ≡ Some x → x.life.group ≡ g → x.life.stage ≡ Ended → u.editors ≡ t.editors → u.groups ≡ t.groups → u.time ≡ t.time → u.origins.groups.items ≡ t.origins.groups.items ++ g ∷ [] → u.origins.stopping ≡ t.origins.stopping → u.origins.created ≡ t.origins.created → u.lasts.items ≡ slice_set t.lasts.items i y → u.requests ≡ t.requests
     → y.life ≡ spawned n g → y.started ≡ false → y.ids.requests ≡ [] → y.ids.next ≡ 2 → y.ids.limit ≡ t.requests → IsInOrder y.ids → y.shown ≡ None → y.asks ≡ [] → y.parked ≡ [] → y.live ≡ [] → ys ≡ xs ++ Spawn n g ∷ [] → Does (λ t events. Stands settings t events) (spawn x.life.group) base t xs u ys
-respawn_gives settings t u xs ys base n g i x y last at mine ended es gs now os sk ls r life started requests next ends order blank_shown blank_asks blank_parked blank_live is =
-    subst (λ k. Does (λ t events. Stands settings t events) (spawn k) base t xs u ys) (sym mine) (spawn_does settings t u xs ys base n g last is (respawn_moves settings t u (behind base xs) n g y last es gs now os sk r (life, started, requests, next, ends, order, blank_shown, blank_asks, blank_parked, blank_live) i x at mine ended ls))
+respawn_gives settings t u xs ys base n g i x y last at mine ended es gs now os sk cr ls r life started requests next ends order blank_shown blank_asks blank_parked blank_live is =
+    subst (λ k. Does (λ t events. Stands settings t events) (spawn k) base t xs u ys) (sym mine) (spawn_does settings t u xs ys base n g last is (respawn_moves settings t u (behind base xs) n g y last es gs now os sk cr r (life, started, requests, next, ends, order, blank_shown, blank_asks, blank_parked, blank_live) i x at mine ended ls))

@@ -14,3 +14,4 @@ pub use Rattle.editor_session
 pub use Rattle.group_laws
 pub use Rattle.group_table
 pub use Rattle.id_rewrite
+pub use Rattle.mux_tokens

@@ -15,6 +15,7 @@ ghost use Rattle.event_model.specs.Spawns.{start_of};
 ghost use Rattle.json_text.specs.Json.{Json};
 ghost use Rattle.rpc_message.specs.Message.{id_bytes, message_of, notification};
 ghost use Rattle.rpc_message.specs.Parsed.{IsRead};
+ghost use Rattle.mux_tokens.specs.Stands.{TakesNone};
 ghost use Rattle.mux_tables.specs.Documents.{DocumentsStand, Leaves, Owed, changes_documents, nothing_owed, noticing, owes, to};
 ghost use Rattle.mux_tables.specs.Stands.{AnswersNone, Stands, start_for, stays_in};
 
@@ -55,7 +56,7 @@ impl Tables {
         ensures versions { self.new.versions ≡ self.old.versions }
         ensures lasts { self.new.lasts ≡ self.old.lasts }
         ensures stands { (settings : Settings) (events : List Event) (body : List ℕ) → Stands settings self.old events
-            → AnswersNone settings e (message_of body) events
+            → AnswersNone settings e (message_of body) events → TakesNone settings e (message_of body) events
             → places (desk_of e events).phase (message_of body) ≡ false → stops events e (message_of body) ≡ false
             → is_first_open settings.servers events e (message_of body) ≡ false
             → (desk_of e (events ++ heard (FromEditor e body) ∷ [])).phase ≡ phase → Stands settings self.new (events ++ heard (FromEditor e body) ∷ []) }
@@ -181,6 +182,7 @@ impl Tables {
         let home = self.editors.group(e);
         self.editors.leave(e);
         self.empty(home, phase.is_begun())?;
+        self.origins.created.forget_editor(e)?;
         let place = self.place_in(home);
         let owed = leave(alloc, &mut self.documents, place, e)?;
         Ok(owed)
@@ -205,6 +207,7 @@ impl Tables {
     {
         let home = self.editors.group(e);
         self.editors.set(e, Phase::Down);
+        self.origins.created.forget_editor(e)?;
         let place = self.place_in(home);
         let owed = leave(alloc, &mut self.documents, place, e)?;
         Ok(owed)
@@ -227,7 +230,7 @@ impl Tables {
         ensures versions { self.new.versions ≡ self.old.versions }
         ensures lasts { self.new.lasts ≡ self.old.lasts }
         ensures stands { (settings : Settings) (events : List Event) (body : List ℕ) → Stands settings self.old events
-            → AnswersNone settings e (message_of body) events
+            → AnswersNone settings e (message_of body) events → TakesNone settings e (message_of body) events
             → places (desk_of e events).phase (message_of body) ≡ false → stops events e (message_of body) ≡ false
             → is_first_open settings.servers events e (message_of body) ≡ false
             → (desk_of e (events ++ heard (FromEditor e body) ∷ [])).phase ≡ phase

@@ -3,6 +3,7 @@
 
 mod answers;
 mod asks;
+mod created;
 mod documents;
 mod hears;
 mod looks;
@@ -10,6 +11,7 @@ mod notes;
 mod places;
 mod puts;
 mod registers;
+mod replies;
 mod requests;
 mod resumes;
 mod says;
@@ -22,5 +24,7 @@ mod tokens;
 
 pub use ask_route;
 pub use id_rewrite;
+pub use mux_tokens;
+pub use replies::Reply;
 pub use tables::{Origins, Start, Tables};
 pub use tokens::Told;

@@ -1,5 +1,5 @@
 // Editors are asked what a start asks (S9, S11, S12), and what is looked up of it (S14).
-ghost use Rattle.std.specs.Prelude.{◌≡◌, ◌<◌, ◌||◌, ℕ, List, map, Option, Some, None, true, if◌then◌else◌, decimal, find, length, option_map, IfOk, IfSome, OnOk, slice_get};
+ghost use Rattle.std.specs.Prelude.{◌≡◌, ◌<◌, ◌||◌, ℕ, List, map, Option, Some, None, false, true, if◌then◌else◌, decimal, find, length, option_map, IfOk, IfSome, OnOk, slice_get};
 ghost use Rattle.std.specs.List.{Contains, list_any};
 ghost use Rattle.event_model.specs.declared.stage.Stage.TheVariants.{Ready};
 ghost use Rattle.event_model.specs.Does.{Does};
@@ -8,6 +8,7 @@ ghost use Rattle.event_model.specs.Phases.{desk_of, is_running};
 ghost use Rattle.event_model.specs.Row.{send};
 ghost use Rattle.event_model.specs.Settings.{Settings};
 ghost use Rattle.ask_route.specs.Tables.{is_under as is_kept_under};
+ghost use Rattle.group_laws.specs.group_rows.specs.Created.{is_creating};
 ghost use Rattle.group_laws.specs.group_rows.specs.AskRows.{ask, last_among};
 ghost use Rattle.group_laws.specs.group_rows.specs.Asks.{asking_of, asks_of, has_number, is_taken, is_under, next_ask};
 ghost use Rattle.group_laws.specs.group_rows.specs.Forwarded.{forwarding_of};
@@ -70,7 +71,7 @@ impl Tables {
         ensures lasts { self.new.lasts ≡ self.old.lasts }
         ensures count { OnOk result (length self.new.editors ≡ length self.old.editors) }
         ensures does { (settings : Settings) (base : List Event) (body method : List ℕ) (id : Id) (params : Option Json) → IsRead message.now body
-            → message_of body ≡ request id method params → is_running (desk_of e (behind base outs.old)).phase ≡ true
+            → message_of body ≡ request id method params → is_creating method ≡ false → is_running (desk_of e (behind base outs.old)).phase ≡ true
             → ((s : ℕ) → IsAtRest settings s (behind base outs.old))
             → OnOk result (Does (λ t events. Stands settings t events) (ask body e) base self.old outs.old self.new outs.new) }
         ensures documents { (settings : Settings) (owed : Owed) (base : List Event) → DocumentsStand settings owed self.old (behind base outs.old)
@@ -113,7 +114,7 @@ impl Tables {
         ensures starts { OnOk result (map number_in self.new.lasts.items ≡ map number_in self.old.lasts.items) }
         ensures stages { OnOk result (map stage_in self.new.lasts.items ≡ map stage_in self.old.lasts.items) }
         ensures does { (settings : Settings) (base : List Event) (body method : List ℕ) (id : Id) (params : Option Json) (x : Start)
-            → slice_get self.old.lasts.items g ≡ Some x → x.life.stage ≡ Ready → IsRead message.now body
+            → slice_get self.old.lasts.items g ≡ Some x → x.life.stage ≡ Ready → IsRead message.now body → is_creating method ≡ false
             → is_running (desk_of e (behind base outs.old)).phase ≡ true
             → IsNextAsk e (behind base outs.old) method params text → IsAtWork settings x.life.start id (id_bytes body) (behind base outs.old)
             → OnOk result (Does (λ t events. Stands settings t events) (send (ToEditor e text)) base self.old outs.old self.new outs.new) }
@@ -150,7 +151,7 @@ impl Tables {
         ensures stages { OnOk result (map stage_in self.new.lasts.items ≡ map stage_in self.old.lasts.items) }
         ensures does { (settings : Settings) (base : List Event) (body method : List ℕ) (id : Id) (params : Option Json) (x : Start)
             → slice_get self.old.lasts.items g ≡ Some x → x.life.stage ≡ Ready → IsRead message.now body
-            → message_of body ≡ request id method params → is_running (desk_of e (behind base outs.old)).phase ≡ true
+            → message_of body ≡ request id method params → is_creating method ≡ false → is_running (desk_of e (behind base outs.old)).phase ≡ true
             → IsAtWork settings x.life.start id (id_bytes body) (behind base outs.old)
             → OnOk result (Does (λ t events. Stands settings t events) (ask body e) base self.old outs.old self.new outs.new) }
         ensures documents { (settings : Settings) (owed : Owed) (base : List Event) → DocumentsStand settings owed self.old (behind base outs.old)

@@ -7,6 +7,7 @@ ghost use Rattle.event_model.specs.Phases.{desk_of, is_running};
 ghost use Rattle.event_model.specs.Row.{send};
 ghost use Rattle.event_model.specs.Settings.{Settings};
 ghost use Rattle.group_laws.specs.group_rows.specs.Asks.{asking_of, is_patient, is_taken};
+ghost use Rattle.group_laws.specs.group_rows.specs.Created.{is_creating};
 ghost use Rattle.group_laws.specs.group_rows.specs.Live.{live_of};
 ghost use Rattle.json_text.specs.Json.{Json};
 ghost use Rattle.lsp_method.specs.Class.{class_of};
@@ -110,7 +111,7 @@ impl Tables {
         ensures count { OnOk result (length self.new.editors ≡ length self.old.editors) }
         ensures does { (settings : Settings) (base : List Event) (method : List ℕ) (params : Option Json)
             → is_running (desk_of e (behind base outs.old)).phase ≡ true → IsNextAsk e (behind base outs.old) method params text
-            → is_patient method ≡ false → ((s : ℕ) → (asking_of settings s (behind base outs.old)).asker ≡ None)
+            → is_patient method ≡ false → is_creating method ≡ false → ((s : ℕ) → (asking_of settings s (behind base outs.old)).asker ≡ None)
             → OnOk result (Does (λ t events. Stands settings t events) (send (ToEditor e text)) base self.old outs.old self.new outs.new) }
         ensures documents { (settings : Settings) (owed : Owed) (base : List Event) → DocumentsStand settings owed self.old (behind base outs.old)
             → OnOk result (DocumentsStand settings owed self.new (behind base outs.new)) }

@@ -108,6 +108,7 @@ impl Tables {
         let home = self.editors.group(e);
         self.editors.set(e, closed(phase));
         self.empty(home, phase.is_begun())?;
+        self.origins.created.forget_editor(e)?;
         let place = self.place_in(home);
         let owed = leave(alloc, &mut self.documents, place, e)?;
         outs.push(Out::CloseEditor(e))?;

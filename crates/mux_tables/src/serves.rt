@@ -17,6 +17,7 @@ ghost use Rattle.mux_tables.specs.declared.tables.Start.{Start};
 ghost use Rattle.group_laws.specs.mux_model.specs.Documents.{encoding_by};
 ghost use Rattle.mux_tables.specs.Documents.{DocumentsStand, Owed, nothing_owed, owes, replaying, to};
 ghost use Rattle.group_laws.specs.group_rows.specs.Forwarded.{forwarding_of, is_under};
+ghost use Rattle.mux_tokens.specs.Stands.{CreatedStay};
 ghost use Rattle.mux_tables.specs.Stands.{Exits, LiveStay, NamesAt, ParkedStay, Stands, any_in, begun_at, forwarded_as, is_early, number_in, stage_in};
 
 use crate::documents::{ready, remove, unready};
@@ -163,6 +164,7 @@ impl Tables {
         last.parked = parked;
         last.live = live;
         end_stop(&mut self.origins.stopping, last.life.start());
+        self.origins.created.end_start(last.life.start());
         Ok(())
     }
 
@@ -239,6 +241,7 @@ impl Tables {
         last.parked = parked;
         last.live = live;
         end_stop(&mut self.origins.stopping, last.life.start());
+        self.origins.created.end_start(last.life.start());
     }
 
     // Nothing is kept any more of a group whose last start ended and has nothing to answer. The groups that were founded later move by one place.
@@ -297,6 +300,7 @@ impl Tables {
             → (is_first_result (message_of body) && is_early x.life.stage) ≡ false
             → (is_first_error (message_of body) && is_initializing x.life.stage) ≡ false
             → ParkedStay settings s events (heard (FromServer s body)) → LiveStay settings s events (heard (FromServer s body))
+            → CreatedStay settings s events (heard (FromServer s body))
             → NamesAt (answered_id (message_of body)) n
             → Stands settings self.old events → Stands settings self.new (events ++ heard (FromServer s body) ∷ []) }
         ensures documents { (settings : Settings) (owed : Owed) (events : List Event) (s : ℕ) (body : List ℕ) (x : Start)

@@ -11,6 +11,7 @@ use group_laws::registrations::Live;
 use group_table::Groups;
 use id_rewrite::IdTable;
 use message_body::{Body, Memory};
+use mux_tokens::Created;
 use restart_replay::Life;
 use std::alloc::Global;
 use text_pieces::PieceText;
@@ -37,6 +38,8 @@ pub struct Origins {
     pub groups: Vec<u64>,
     /// The starts, rising, that were sent `shutdown`, as long as the answer is awaited.
     pub stopping: Vec<u64>,
+    /// The tokens for progress that starts created, until a start's program ends.
+    pub created: Created,
 }
 
 /// The tables.
@@ -85,6 +88,7 @@ impl Tables {
             origins: Origins {
                 groups: Vec::new(alloc),
                 stopping: Vec::new(alloc),
+                created: Created::new(alloc),
             },
             documents: Vec::new(alloc),
             requests,

@@ -14,9 +14,11 @@ use Rattle.event_model.specs.Row.{Row, after, choose, each, nothing, outs, send}
 use Rattle.event_model.specs.Settings.{Settings}
 use Rattle.event_model.proofs.Frames.{one_more}
 use Rattle.event_model.proofs.Turns.{behind_more}
-use Rattle.group_facts.proofs.Asks.{registering_hurried}
+use Rattle.group_facts.proofs.Asks.{call_hurried}
+use Rattle.lsp_method.specs.Class.{server_request}
 use Rattle.group_facts.proofs.AskingRows.{registers_all, unregisters_all}
 use Rattle.group_facts.specs.group_rows.specs.Asks.{Asking, asked_next, asking_next, asking_of, has_number, is_own_work, is_patient, next_ask, serves, unparked}
+use Rattle.group_facts.specs.group_rows.specs.Created.{is_creating}
 use Rattle.group_facts.specs.group_rows.specs.Live.{register_text, unregister_text}
 use Rattle.group_facts.specs.group_rows.specs.LiveRows.{call, has_some}
 use Rattle.group_facts.specs.group_rows.specs.LiveTexts.{AreWritten}
@@ -28,12 +30,21 @@ use Rattle.mux_tables.specs.Puts.{IsNextAsk}
 use Rattle.mux_tables.proofs.Asking.{asking_more}
 use Rattle.mux_turns.specs.Calls.{IsCall}
 
+-- neither creates a token
+registers_none : is_creating (codes "client/registerCapability") ≡ false
+unfolding server_request
+registers_none = refl
+
+unregisters_none : is_creating (codes "client/unregisterCapability") ≡ false
+unfolding server_request
+unregisters_none = refl
+
 -- what is told of registrations that are written
 pub register_call : (rs : List Registration) → AreWritten rs → IsCall (register_text rs)
-register_call rs h = record { method = codes "client/registerCapability"; impatient = registering_hurried (codes "client/registerCapability") registers_all; says = λ n small. let q = register_says rs h n (omega (arith, small)) in (Some q.0, q.1) }
+register_call rs h = record { method = codes "client/registerCapability"; impatient = call_hurried (codes "client/registerCapability") registers_all; uncreating = registers_none; says = λ n small. let q = register_says rs h n (omega (arith, small)) in (Some q.0, q.1) }
 
 pub unregister_call : (rs : List Registration) → AreWritten rs → IsCall (unregister_text rs)
-unregister_call rs h = record { method = codes "client/unregisterCapability"; impatient = registering_hurried (codes "client/unregisterCapability") unregisters_all; says = λ n small. let q = unregister_says rs h n (omega (arith, small)) in (Some q.0, q.1) }
+unregister_call rs h = record { method = codes "client/unregisterCapability"; impatient = call_hurried (codes "client/unregisterCapability") unregisters_all; uncreating = unregisters_none; says = λ n small. let q = unregister_says rs h n (omega (arith, small)) in (Some q.0, q.1) }
 
 -- whether there are any
 pub none_there : (rs : List Registration) (b : Bool) → b ≡ nat_eq (length rs) 0 → b ≡ true → has_some rs ≡ false

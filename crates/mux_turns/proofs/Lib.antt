@@ -1,5 +1,7 @@
 pub mod Stays
 pub mod Marks
+pub mod CreatedMarks
+pub mod KindTexts
 pub mod Asked
 pub mod Called
 pub mod Cancels
@@ -12,6 +14,8 @@ pub mod Keeping
 pub mod Lspmux
 pub mod Matched
 pub mod Numbers
+pub mod Offering
+pub mod Offers
 pub mod Ready
 pub mod Rows
 pub mod Welcoming

@@ -1,4 +1,5 @@
 pub mod Calls
+pub mod Creates
 pub mod Founding
 pub mod Leavings
 pub mod Welcomes

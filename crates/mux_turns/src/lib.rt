@@ -3,6 +3,7 @@
 
 mod answered;
 mod calls;
+mod creates;
 mod doubled;
 mod evicting;
 mod greeting;
@@ -15,6 +16,7 @@ mod tokens;
 
 pub use answered::{answered_ask, answered_number};
 pub use calls::{call_registered, call_unregistered, call_unregistered_any};
+pub use creates::{created_mark, created_text, held_text, kind_of, offer, told_text};
 pub use doubled::doubles;
 pub use evicting::{evict, replace, stage_at};
 pub use greeting::{add_comma, bytes_of, folders_text, opening, shown_of};
@@ -27,4 +29,4 @@ pub use placing::{found, turn_away, waits, welcome};
 pub use refusals::{
     asked_at, refuse, refuse_early, refuse_request, refuse_reserved, refuse_wrong, reject,
 };
-pub use tokens::{forwarded_text, mark_text, marked, marked_text, reserves};
+pub use tokens::{forwarded_text, is_reserved, mark_text, marked, marked_text, reserves};

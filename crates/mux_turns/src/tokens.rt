@@ -56,8 +56,8 @@ fn mark_in(cs: &[u8]) -> Option<u64>
     if writes(digits, k) { Some(k) } else { None }
 }
 
-// Whether a token of this name might be the daemon's.
-fn is_reserved(alloc: Global, message: &Message, name: &str) -> Result<bool, Memory>
+/// Whether a token of this name might be the daemon's.
+pub fn is_reserved(alloc: Global, message: &Message, name: &str) -> Result<bool, Memory>
     ensures { is_ascii name.now ≡ true → (body method : List ℕ) (id : Id) (params : Option Json) → IsRead message.now body
         → message_of body ≡ request id method params → IfOk result (λ reserved. reserved ≡ is_reserved (named_of name.now (params_of body))) }
 {

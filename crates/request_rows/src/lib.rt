@@ -1,9 +1,11 @@
-//! Tests of the tables of asks, of registrations and of progress tokens, of what no session of mux_rows comes to, through the public
-//! calls of ask_route, registrations and progress_route.
+//! Tests of the tables of asks, of registrations, of progress tokens and of last lists of diagnostics, of what no session of mux_rows
+//! comes to, through the public calls of ask_route, registrations, progress_route and diagnostics_route.
 #![tactic(auto)]
 
 #[cfg(test)]
 mod asks;
+#[cfg(test)]
+mod diagnostics;
 #[cfg(test)]
 mod live;
 #[cfg(test)]

@@ -12,3 +12,6 @@ pub mod SpawnedLaw
 pub mod Client4Law
 pub mod Server5Law
 pub mod Client7Law
+pub mod Tokens
+pub mod Client6Law
+pub mod Server7Law

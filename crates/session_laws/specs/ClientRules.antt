@@ -15,6 +15,7 @@ use Rattle.document_model.specs.Sayings.{string_at}
 use Rattle.event_model.specs.Requests.{answered_id, open_of, is_open, without, with_request}
 use Rattle.event_model.specs.Always.{Always}
 use Rattle.event_model.specs.Parts.{editor_part}
+use Rattle.session_laws.specs.Progress.{Creates, Tokened, creates_heard, creates_told, names_one, no_creates, tokens_at, tokens_in, unanswered}
 use Rattle.session_laws.specs.ServerRules.{HasNumber, may_cancel}
 
 -- Rule 1 (LSP 3.17, Base Protocol: messages go over a connection): nothing goes to an editor whose link ended, or was to be ended.
@@ -127,6 +128,31 @@ abbrev pub ClientRule5 : List Event → Event → Type 0
 ClientRule5 before (did (ToEditor n body) m) = IsTrue (may_cancel (unanswered_of before) m)
 ClientRule5 before other = Unit {0}
 
+-- Rule 6 (LSP 3.17, Progress Support, Work Done Progress and Partial Result Progress): `$/progress` has a token of an open request of the editor, its `workDoneToken` or its `partialResultToken`,
+-- or that of a `window/workDoneProgress/create` that the editor answered with a result, and to which no progress of the kind `end` went since.
+
+-- its open requests, with their tokens
+abbrev pub tokened_behind : List Tokened → Event → List Tokened
+tokened_behind rs (took (FromEditor e body) (request id method params)) = rs ++ record { id = id; tokens = tokens_at (codes "workDoneToken") params ++ tokens_at (codes "partialResultToken") params } ∷ []
+tokened_behind rs (did (ToEditor e body) m) = unanswered (answered_id m) rs
+tokened_behind rs other = rs
+
+abbrev pub tokened_of : List Event → List Tokened
+tokened_of part = fold tokened_behind [] part
+
+-- what it was asked to create, and created
+abbrev pub accepted_behind : Creates → Event → Creates
+accepted_behind x (did (ToEditor e body) m) = creates_told x m
+accepted_behind x (took (FromEditor e body) m) = creates_heard x m
+accepted_behind x other = x
+
+abbrev pub accepted_of : List Event → Creates
+accepted_of part = fold accepted_behind no_creates part
+
+abbrev pub ClientRule6 : List Event → Event → Type 0
+ClientRule6 before (did (ToEditor n body) m) = IsTrue (names_one (codes "$/progress") (tokens_in (tokened_of before) ++ (accepted_of before).created) m)
+ClientRule6 before other = Unit {0}
+
 -- Rule 7 (LSP 3.17, Register Capability and Unregister Capability): an item of `client/registerCapability` has an id that isn't registered, and one of `client/unregisterCapability` an id that is.
 -- An id is registered, or isn't any more, from the request on, whatever the editor answers; ids are compared by their characters, which are told in UTF-8.
 
@@ -178,6 +204,9 @@ KeepsClient4 history = (e : ℕ) → Always ClientRule4 (editor_part e (events_o
 
 abbrev pub KeepsClient5 : List Entry → Type 0
 KeepsClient5 history = (e : ℕ) → Always ClientRule5 (editor_part e (events_of history))
+
+abbrev pub KeepsClient6 : List Entry → Type 0
+KeepsClient6 history = (e : ℕ) → Always ClientRule6 (editor_part e (events_of history))
 
 abbrev pub KeepsClient7 : List Entry → Type 0
 KeepsClient7 history = (e : ℕ) → Always ClientRule7 (editor_part e (events_of history))

@@ -1,3 +1,4 @@
 pub mod ClientRules
+pub mod Progress
 pub mod ServerRules
 pub mod Sessions

@@ -16,6 +16,7 @@ use Rattle.event_model.specs.Stages.{is_first_result}
 use Rattle.event_model.specs.Always.{Always}
 use Rattle.event_model.specs.Parts.{server_part}
 use Rattle.mux_facts.specs.Allowed.{AllowsSaying, is_response}
+use Rattle.session_laws.specs.Progress.{Creates, Tokened, creates_heard, creates_told, names_one, no_creates, tokens_at, tokens_in, unanswered}
 
 -- Rule 1 (LSP 3.17, Lifecycle Messages): bodies go to a program while it runs, and not once it is to be ended.
 pub record Program : Type 0 where
@@ -160,6 +161,31 @@ abbrev pub ServerRule6 : List Event → Event → Type 0
 ServerRule6 before (did (ToServer s body) m) = IsTrue (may_cancel (waiting_of before) m)
 ServerRule6 before other = Unit {0}
 
+-- Rule 7 (LSP 3.17, Work Done Progress, `window/workDoneProgress/cancel`): it names the `workDoneToken`, as it was sent, of a request that has no response yet,
+-- or a token that the start created, by a create that got a result, and of which it told no progress of the kind `end` since.
+
+-- the requests that have no response yet, with their tokens
+abbrev pub working_behind : List Tokened → Event → List Tokened
+working_behind rs (did (ToServer s body) (request id method params)) = rs ++ record { id = id; tokens = tokens_at (codes "workDoneToken") params } ∷ []
+working_behind rs (took (FromServer s body) m) = unanswered (answered_id m) rs
+working_behind rs other = rs
+
+abbrev pub working_of : List Event → List Tokened
+working_of part = fold working_behind [] part
+
+-- what the start asked to create, and created
+abbrev pub creates_behind : Creates → Event → Creates
+creates_behind x (took (FromServer s body) m) = creates_told x m
+creates_behind x (did (ToServer s body) m) = creates_heard x m
+creates_behind x other = x
+
+abbrev pub creates_of : List Event → Creates
+creates_of part = fold creates_behind no_creates part
+
+abbrev pub ServerRule7 : List Event → Event → Type 0
+ServerRule7 before (did (ToServer s body) m) = IsTrue (names_one (codes "window/workDoneProgress/cancel") (tokens_in (working_of before) ++ (creates_of before).created) m)
+ServerRule7 before other = Unit {0}
+
 -- Rule 8 (LSP 3.17, Shutdown Request and Exit Notification): behind the request `shutdown` only the notification `exit` follows, once the
 -- response to `shutdown` came; behind `exit` nothing follows. And `exit` doesn't come without `shutdown`.
 pub data Farewell : Type 0 where
@@ -224,6 +250,9 @@ KeepsServer5 history = KeepsServer ServerRule5 history
 
 abbrev pub KeepsServer6 : List Entry → Type 0
 KeepsServer6 history = KeepsServer ServerRule6 history
+
+abbrev pub KeepsServer7 : List Entry → Type 0
+KeepsServer7 history = KeepsServer ServerRule7 history
 
 abbrev pub KeepsServer8 : List Entry → Type 0
 KeepsServer8 history = KeepsServer ServerRule8 history

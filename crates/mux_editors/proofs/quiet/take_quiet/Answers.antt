@@ -11,12 +11,12 @@ use Rattle.mux_turns.proofs.Matched.{whole_entry}
 use Rattle.mux_editors.proofs.quiet.take_quiet.Goals as goal
 
 pub returns-clause-does : goal.returns-clause-does
-returns-clause-does c = λ settings before body read other quiet silent st ds.
+returns-clause-does c = λ settings before body read other quiet silent untaken st ds.
     let e = c.args.e in
     let base = with_cause before (FromEditor e body) in
     let u = c.hear_editor.new.self in
     let off = aside before e (message_of body) other in
     let stays = c.phase_behind.ensures.stands before e body read other (sym (c.phase_of-phase.ensures.stands settings before st)) in
-    let heard = c.hear_editor.ensures.stands settings before body st silent off.placed off.stopped (off.unopened settings.servers) stays in
+    let heard = c.hear_editor.ensures.stands settings before body st silent untaken off.placed off.stopped (off.unopened settings.servers) stays in
     let docs = c.hear_editor.ensures.documents settings nothing_owed before body quiet ds in
     whole_entry (λ k events. AllStand settings k events) nothing base (u, nothing_owed) (u, nothing_owed) [] [] refl (heard, docs) does_nothing

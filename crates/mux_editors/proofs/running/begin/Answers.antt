@@ -7,27 +7,29 @@ use Rattle.event_model.proofs.Turns.{alike_then}
 use Rattle.mux_history.specs.declared.cause.Cause.TheVariants.{FromEditor}
 use Rattle.mux_tables.specs.Documents.{AllStand}
 use Rattle.mux_turns.proofs.Departing.{behind_first}
-use Rattle.mux_editors.proofs.Beginning.{all_begun, home_mid, runs_here, runs_mid, silent_begun, works_here, works_mid}
+use Rattle.mux_editors.proofs.Beginning.{all_begun, home_late, rests_mid, runs_here, runs_late, runs_mid, silent_begun, small_mid, unasked_mid, works_here, works_late}
 use Rattle.mux_editors.proofs.Runs.{begins_row, runs_row, unready_run}
 use Rattle.mux_editors.proofs.running.begin.Goals as goal
 
 pub returns-then-not-begins-clause-begun : goal.returns-then-not-begins-clause-begun
-returns-then-not-begins-clause-begun c = λ settings owed before body served runs is first st ds.
+returns-then-not-begins-clause-begun c = λ settings owed before body served runs is first can st ds.
     silent_begun settings c.args.tables.now c.args.tables.now owed before c.args.e body c.args.outs.now c.args.outs.now first st ds (runs_row settings before c.args.e body served runs (sym is ∙ c.if-not-begins.true))
 
 pub returns-in-None-clause-begun : goal.returns-in-None-clause-begun
-returns-in-None-clause-begun c = λ settings owed before body served runs is first st ds.
+returns-in-None-clause-begun c = λ settings owed before body served runs is first can st ds.
     silent_begun settings c.args.tables.now c.args.tables.now owed before c.args.e body c.args.outs.now c.args.outs.now first st ds
     (alike_then (begins_row settings before c.args.e body served runs (sym is ∙ c.if-not-begins.false)) (unready_run settings before c.args.e body served runs (λ s start. c.in-None.ensures.unready settings (with_cause before (FromEditor c.args.e body)) s st start)))
 
 pub returns-in_ok-resume-in-Some-clause-begun : goal.returns-in_ok-resume-in-Some-clause-begun
-returns-in_ok-resume-in-Some-clause-begun c = λ settings owed before body served runs is first st ds.
+returns-in_ok-resume-in-Some-clause-begun c = λ settings owed before body served runs is first can st ds.
     let t = c.args.tables.now in
     let w = c.restore.new.tables in
+    let v = c.offer_live.new.tables in
     let u = c.resume.new.self in
     let e = c.args.e in
     let xs = c.args.outs.now in
     let zs = c.restore.new.outs in
+    let vs = c.offer_live.new.outs in
     let ys = c.resume.new.outs in
     let base = with_cause before (FromEditor e body) in
     let g = c.in-Some.g in
@@ -37,8 +39,14 @@ returns-in_ok-resume-in-Some-clause-begun c = λ settings owed before body serve
     let begins = sym is ∙ c.if-not-begins.false in
     let works = works_here settings t u owed before e body xs ys first served runs begins st ds g x.0 x.1 ready home in
     let restored = c.in_ok-restore-in-Some.ensures.does settings owed base x.0 x.1 ready (runs_here settings t u owed before e body xs ys first served runs begins st ds g x.0 x.1 ready home) (λ s. (works s).asker) in
-    let told = (restored.done (subst (λ es. AllStand settings (t, owed) es) (sym (behind_first base xs first)) (st, ds))).outs in
-    all_begun settings t u owed before e body xs ys first served runs begins st ds g x.0 x.1 ready home zs told w restored
-    (c.in_ok-resume-in-Some.ensures.does settings base x.0 (ap (λ ls. slice_get ls.items g) c.restore.ensures.lasts ∙ x.1) ready (runs_mid settings t u owed before e body xs ys first served runs begins st ds g x.0 x.1 ready home zs told)
-    (home_mid settings t u owed before e body xs ys first served runs begins st ds g x.0 x.1 ready home zs told) (works_mid settings t u owed before e body xs ys first served runs begins st ds g x.0 x.1 ready home zs told))
+    let known = restored.done (subst (λ es. AllStand settings (t, owed) es) (sym (behind_first base xs first)) (st, ds)) in
+    let told = known.outs in
+    let here = ap (λ ls. slice_get ls.items g) c.restore.ensures.lasts ∙ x.1 in
+    let offers = c.in_ok-offer_live-in-Some.ensures.does settings owed base x.0 here (runs_mid settings t u owed before e body xs ys first served runs begins st ds g x.0 x.1 ready home can zs told)
+    (rests_mid settings t u owed before e body xs ys first served runs begins st ds g x.0 x.1 ready home can zs told) (unasked_mid settings t u owed before e body xs ys first served runs begins st ds g x.0 x.1 ready home can zs told)
+    (small_mid settings t u owed before e body xs ys first served runs begins st ds g x.0 x.1 ready home can zs told) in
+    let offered = (offers.done known.stands).outs in
+    all_begun settings t u owed before e body xs ys first served runs begins st ds g x.0 x.1 ready home can zs told vs offered w v restored offers
+    (c.in_ok-resume-in-Some.ensures.does settings base x.0 (ap (λ ls. slice_get ls.items g) c.offer_live.ensures.lasts ∙ here) ready (runs_late settings t u owed before e body xs ys first served runs begins st ds g x.0 x.1 ready home can zs told vs offered)
+    (home_late settings t u owed before e body xs ys first served runs begins st ds g x.0 x.1 ready home can zs told vs offered) (works_late settings t u owed before e body xs ys first served runs begins st ds g x.0 x.1 ready home can zs told vs offered))
     (λ d. c.in_ok-resume-in-Some.ensures.documents settings owed base d)

@@ -53,5 +53,5 @@ returns-clause-does c = λ settings owed base x here ready runs none.
     (λ left next.
     let one = next_call (register_text live) called e n now c.in_ok-text.text is left next in
     subst (λ w. Does (λ k events. AllStand settings k events) (send (ToEditor e w)) base (t, owed) xs (u, owed) ys) is
-    (all_does settings t u owed owed base xs ys (c.in_ok-call.ensures.does settings base called.method one.0 runs one.1 called.impatient none)
+    (all_does settings t u owed owed base xs ys (c.in_ok-call.ensures.does settings base called.method one.0 runs one.1 called.impatient called.uncreating none)
     (λ _ d. c.in_ok-call.ensures.documents settings owed base d)))))

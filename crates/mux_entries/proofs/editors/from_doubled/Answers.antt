@@ -11,13 +11,13 @@ use Rattle.mux_entries.proofs.EditorRows.{asks_doubled, closes, done_alike, read
 use Rattle.mux_entries.proofs.editors.from_doubled.Goals as goal
 
 pub returns-in_ok-take_doubled_own-clause-does : goal.returns-in_ok-take_doubled_own-clause-does
-returns-in_ok-take_doubled_own-clause-does c = λ settings before body read first built twice st ds.
+returns-in_ok-take_doubled_own-clause-does c = λ settings before body read first built twice settled st ds.
     let e = c.args.e in
     done_alike (λ k events. AllStand settings k events) (closes settings before e body (read_well c.args.message.now body read) twice)
     (c.in_ok-take_doubled_own.ensures.does settings before body (sym (c.asks_lspmux.ensures body read) ∙ c.if-asks_lspmux.true) (first_of (is_begun (desk_of e before).phase) (is_doubled before e (message_of body)) twice) first st ds)
 
 pub returns-in_ok-take_doubled-clause-does : goal.returns-in_ok-take_doubled-clause-does
-returns-in_ok-take_doubled-clause-does c = λ settings before body read first built twice st ds.
+returns-in_ok-take_doubled-clause-does c = λ settings before body read first built twice settled st ds.
     let e = c.args.e in
     let m = message_of body in
     let p = (desk_of e before).phase in
@@ -26,4 +26,4 @@ returns-in_ok-take_doubled-clause-does c = λ settings before body read first bu
     let doubled = ap (λ x. is_begun p && is_doubled before e x) (sym asks.is) ∙ twice in
     let standard = standard_built asks.id asks.method asks.params none (ap built_from_editor (sym asks.is) ∙ built) in
     done_alike (λ k events. AllStand settings k events) (closes settings before e body (read_well c.args.message.now body read) twice)
-    (c.in_ok-take_doubled.ensures.does settings before body asks.method asks.id asks.params read asks.is standard doubled first st ds)
+    (c.in_ok-take_doubled.ensures.does settings before body asks.method asks.id asks.params read asks.is standard doubled first settled st ds)

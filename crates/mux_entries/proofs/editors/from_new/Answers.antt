@@ -28,4 +28,4 @@ returns-in_ok-from_early-clause-does c = λ settings before body read at servers
     let other : requests (codes "initialize") m ≡ false = sym (c.is_initialize.ensures body read) ∙ c.if-is_initialize.false in
     let unplaced : places (desk_of e before).phase m ≡ false = ap (λ p. places p m) at ∙ other in
     done_alike (λ k events. AllStand settings k events) (early_new settings before e body at (read_well c.args.message.now body read) other none)
-    (c.in_ok-from_early.ensures.does settings before body read (ap is_early at) unplaced (built_stays before e m built) (unasked_there (desk_of e before).phase m (ap is_there at) none) (asked_none settings before e m settled (ap is_served at)) first st ds)
+    (c.in_ok-from_early.ensures.does settings before body read (ap is_early at) unplaced (built_stays before e m built) (unasked_there (desk_of e before).phase m (ap is_there at) none) (asked_none settings before e m settled (ap is_served at)) first settled st ds)

@@ -7,6 +7,7 @@ use Rattle.mux_starts.specs.mux_tables.specs.Documents.{AllStand}
 use Rattle.mux_entries.proofs.EditorRows.{asks_by_sort, done_alike, notes_by_sort, unasking, unnoting}
 use Rattle.mux_entries.proofs.Said.{answer_here, asked, stage_here}
 use Rattle.mux_entries.proofs.Questions.{asks_here, built_here, no_request}
+use Rattle.mux_starts.proofs.Uncreated.{answers_create}
 use Rattle.mux_entries.proofs.servers.take_ready.Goals as goal
 
 pub returns-in_ok-take_question-in-Request-clause-does : goal.returns-in_ok-take_question-in-Request-clause-does
@@ -39,4 +40,4 @@ returns-in_ok-take_answer-in-Result-clause-does c = λ settings before body s re
     let unasked = unasking m c.sort.result (c.sort.ensures body read) c.in-Result.is in
     let unnoted = unnoting m c.sort.result (c.sort.ensures body read) c.in-Result.is in
     done_alike (λ k events. AllStand settings k events) (answer_here settings before s body stage unasked unnoted)
-    (c.in_ok-take_answer-in-Result.ensures.does settings before body s x.0 read (no_request m unasked) first x.1 ready at (asked before s m known.asked) known.meant st ds)
+    (c.in_ok-take_answer-in-Result.ensures.does settings before body s x.0 read (no_request m unasked) (answers_create settings before s body (no_request m unasked) unnoted) first x.1 ready at (asked before s m known.asked) known.meant st ds)

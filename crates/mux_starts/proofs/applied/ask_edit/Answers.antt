@@ -11,14 +11,14 @@ use Rattle.mux_starts.proofs.Applying.{asks_edited}
 use Rattle.mux_starts.proofs.applied.ask_edit.Goals as goal
 
 pub returns-in_default-clause-does : goal.returns-in_default-clause-does
-returns-in_default-clause-does c = λ settings before base body method id params s x read says here ready at runs work meant stamps.
+returns-in_default-clause-does c = λ settings before base body method id params s x read says uncreating here ready at runs work meant stamps.
     let e = c.args.e in
     let now = behind base c.args.outs.now in
     none_numbered (λ k events. AllStand settings k events) (λ n. edited s body e (asked_text (current_version settings before s e) body (decimal n))) e base c.args.outs.now (c.args.tables.now, nothing_owed)
     (λ st. c.in_default.ensures settings now runs st.0)
 
 pub returns-clause-does : goal.returns-clause-does
-returns-clause-does c = λ settings before base body method id params s x read says here ready at runs work meant stamps.
+returns-clause-does c = λ settings before base body method id params s x read says uncreating here ready at runs work meant stamps.
     let t = c.args.tables.now in
     let u = c.send_edit.new.tables in
     let xs = c.args.outs.now in
@@ -30,5 +30,5 @@ returns-clause-does c = λ settings before base body method id params s x read s
     let is = c.in_ok-text.ensures body r read (λ w digits. ap (λ o. version_now digits o None) (stamps w)) in
     one_numbered (λ k events. AllStand settings k events) (λ n. edited s body e (asked_text r body (decimal n))) e base xs (t, nothing_owed) n (λ st. c.in-Some.ensures settings now runs st.0) (u, nothing_owed) ys
     (λ left next. subst (λ o. Does (λ k events. AllStand settings k events) (edited s body e o) base (t, nothing_owed) xs (u, nothing_owed) ys) is
-    (c.in_ok-send_edit.ensures.does settings base body method id params s x read says here ready at runs work
+    (c.in_ok-send_edit.ensures.does settings base body method id params s x read says uncreating here ready at runs work
     (λ w given. asks_edited settings before now s e n body method id params meant says left next w (sym is ∙ given))))

@@ -1,38 +1,55 @@
--- What a start tells of an open request goes to its editor.
-use Rattle.std.proofs.Common.{subst}
+-- What a start tells of an open request goes to its editor, and what it tells of a token that it created to those that took it.
+use Rattle.std.proofs.Common.{ap, subst, ◌∙◌}
+use Rattle.std.specs.Prelude.{None, Some, slice_get}
 use Rattle.event_model.specs.Event.{with_cause}
-use Rattle.event_model.specs.Stages.{is_first_result}
-use Rattle.event_model.proofs.Turns.{does_alike, does_nothing}
-use Rattle.group_rows.specs.Tokens.{progress_row}
-use Rattle.group_words.specs.Houses.{is_first_error}
+use Rattle.event_model.proofs.Turns.{alike_then, does_alike, does_nothing}
+use Rattle.group_rows.specs.CreatedRows.{progress_row}
 use Rattle.mux_history.specs.declared.cause.Cause.TheVariants.{FromServer}
-use Rattle.rpc_message.specs.Message.{message_of}
+use Rattle.mux_starts.specs.Creates.{Dues}
 use Rattle.mux_starts.specs.Progress.{Passes}
 use Rattle.mux_tables.specs.Documents.{AllStand, nothing_owed}
-use Rattle.mux_starts.proofs.Early.{noticed_named}
-use Rattle.mux_starts.proofs.Parking.{noticed, noticed_keeps}
-use Rattle.mux_turns.proofs.Matched.{not_early, not_first, not_spawning, whole_entry}
+use Rattle.mux_tables.proofs.Homes.{group_seen}
+use Rattle.mux_tables.proofs.Starts.{start_at_place}
+use Rattle.mux_starts.proofs.Progressing.{due_seen, tells_nothing, tells_those}
+use Rattle.mux_turns.proofs.Matched.{whole_entry}
 use Rattle.mux_starts.proofs.progress.take_progress.Goals as goal
 
-pub returns-in-None-clause-does : goal.returns-in-None-clause-does
-returns-in-None-clause-does c = λ settings before body method params s x read says first here ready at st ds.
-    let m = message_of body in
-    let base = with_cause before (FromServer s body) in
-    let u = c.hear_answer.new.self in
-    let xs = c.args.outs.now in
-    let moved = c.hear_answer.ensures.moves settings before s body x here at (not_early (is_first_result m) x.life.stage ready) (not_first (is_first_error m) x.life.stage ready) (noticed settings before s body method params says) (noticed_keeps settings before s body method params says) (noticed_named m method params says) st in
-    let docs = c.hear_answer.ensures.documents settings nothing_owed before s body x here at (not_first (is_first_result m) x.life.stage ready) (λ e. not_spawning x.life.stage ready e) st ds in
-    whole_entry (λ k events. AllStand settings k events) (progress_row s before body params) base (u, nothing_owed) (u, nothing_owed) xs xs first (moved, docs)
-    (does_alike (λ _. subst (Passes s before body method params) c.in-None.is (c.in_ok-told.ensures settings before body method params s read says at st)) does_nothing)
-
 pub returns-in_ok-tell-in-Some-clause-does : goal.returns-in_ok-tell-in-Some-clause-does
-returns-in_ok-tell-in-Some-clause-does c = λ settings before body method params s x read says first here ready at st ds.
-    let m = message_of body in
+returns-in_ok-tell-in-Some-clause-does c = λ settings before body method params s x read says tells first here ready at st ds.
     let base = with_cause before (FromServer s body) in
-    let u = c.hear_answer.new.self in
+    let u = c.hear.new.tables in
     let xs = c.args.outs.now in
-    let passes = subst (Passes s before body method params) c.in-Some.is (c.in_ok-told.ensures settings before body method params s read says at st) in
-    let moved = c.hear_answer.ensures.moves settings before s body x here at (not_early (is_first_result m) x.life.stage ready) (not_first (is_first_error m) x.life.stage ready) (noticed settings before s body method params says) (noticed_keeps settings before s body method params says) (noticed_named m method params says) st in
-    let docs = c.hear_answer.ensures.documents settings nothing_owed before s body x here at (not_first (is_first_result m) x.life.stage ready) (λ e. not_spawning x.life.stage ready e) st ds in
-    whole_entry (λ k events. AllStand settings k events) (progress_row s before body params) base (u, nothing_owed) (u, nothing_owed) xs c.tell.new.outs first (moved, docs)
+    let passes = subst (Passes settings s before body method params) c.in-Some.is (c.in_ok-told.ensures settings before body method params s read says at st) in
+    let due = c.in_ok-due.ensures settings before body method params x read says here st in
+    let stands = c.in_ok-hear.ensures.stands settings before body method params s x read says tells (c.is_some.ensures ∙ due_seen settings before x.life.group x.life.start params c.in_ok-due.due due) here ready at st ds in
+    whole_entry (λ k events. AllStand settings k events) (progress_row settings s before body params) base (u, nothing_owed) (u, nothing_owed) xs c.tell.new.outs first stands
     (does_alike (λ _. passes.1) (c.in_ok-tell-in-Some.ensures.does settings base method passes.0.0 passes.0.1))
+
+pub returns-in_ok-tell_due-in-Some-due-clause-does : goal.returns-in_ok-tell_due-in-Some-due-clause-does
+returns-in_ok-tell_due-in-Some-due-clause-does c = λ settings before body method params s x read says tells first here ready at st ds.
+    let base = with_cause before (FromServer s body) in
+    let t = c.args.tables.now in
+    let u = c.hear.new.tables in
+    let xs = c.args.outs.now in
+    let own = start_at_place t.lasts.items c.args.g s x here at in
+    let other = subst (Passes settings s before body method params) c.in-None.is (c.in_ok-told.ensures settings before body method params s read says at st) in
+    let due = c.in_ok-due.ensures settings before body method params x read says here st in
+    let stands = c.in_ok-hear.ensures.stands settings before body method params s x read says tells (c.is_some.ensures ∙ due_seen settings before x.life.group x.life.start params c.in_ok-due.due due) here ready at st ds in
+    let some = subst (λ n. Dues settings before x.life.group n params (Some c.in-Some-due.due)) own (subst (Dues settings before x.life.group x.life.start params) c.in-Some-due.is due) in
+    whole_entry (λ k events. AllStand settings k events) (progress_row settings s before body params) base (u, nothing_owed) (u, nothing_owed) xs c.tell_due.new.outs first stands
+    (does_alike (λ _. alike_then other (tells_those settings before x.life.group s params body c.in-Some-due.due (group_seen settings t before c.args.g s x st here at).0 some))
+    (c.in_ok-tell_due-in-Some-due.ensures.does settings base body method params s read says (ap (λ ns. slice_get ns c.args.g) c.hear.ensures.starts ∙ at)))
+
+pub returns-in-None-due-clause-does : goal.returns-in-None-due-clause-does
+returns-in-None-due-clause-does c = λ settings before body method params s x read says tells first here ready at st ds.
+    let base = with_cause before (FromServer s body) in
+    let t = c.args.tables.now in
+    let u = c.hear.new.tables in
+    let xs = c.args.outs.now in
+    let own = start_at_place t.lasts.items c.args.g s x here at in
+    let other = subst (Passes settings s before body method params) c.in-None.is (c.in_ok-told.ensures settings before body method params s read says at st) in
+    let due = c.in_ok-due.ensures settings before body method params x read says here st in
+    let stands = c.in_ok-hear.ensures.stands settings before body method params s x read says tells (c.is_some.ensures ∙ due_seen settings before x.life.group x.life.start params c.in_ok-due.due due) here ready at st ds in
+    let none = subst (λ n. Dues settings before x.life.group n params None) own (subst (Dues settings before x.life.group x.life.start params) c.in-None-due.is due) in
+    whole_entry (λ k events. AllStand settings k events) (progress_row settings s before body params) base (u, nothing_owed) (u, nothing_owed) xs xs first stands
+    (does_alike (λ _. alike_then other (tells_nothing settings before x.life.group s params body none)) does_nothing)

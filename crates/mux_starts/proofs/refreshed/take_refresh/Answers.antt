@@ -22,13 +22,14 @@ use Rattle.mux_turns.proofs.Matched.{not_early, not_first, not_spawning, whole_e
 use Rattle.mux_starts.proofs.Parking.{hasty, many_hasty, other_keeps}
 use Rattle.mux_starts.proofs.Refreshing.{answered_keeps, kept_all}
 use Rattle.mux_starts.proofs.Singles.{all_running, fresh_here, grants_one, none_under, rests_all, runs_here}
+use Rattle.mux_starts.proofs.Uncreated.{other_creates}
 use Rattle.mux_starts.proofs.refreshed.take_refresh.Goals as goal
 
 pub ask_all-requires : goal.ask_all-requires
 ask_all-requires c = subst (λ ns. All (λ e. e < length c.hear_answer.new.self.editors) ns) (sym c.deref.ensures.value) (subst (λ n. All (λ e. e < n) c.in_ok-numbers.numbers.items) (sym (ap length c.hear_answer.ensures.editors)) c.in_ok-numbers.ensures.inside)
 
 pub returns-clause-does : goal.returns-clause-does
-returns-clause-does c = λ settings before body method id params s x read says many other fresh first here ready at st ds.
+returns-clause-does c = λ settings before body method id params s x read says many other uncreating fresh first here ready at st ds.
     let m = message_of body in
     let base = with_cause before (FromServer s body) in
     let u = c.hear_answer.new.self in
@@ -41,7 +42,7 @@ returns-clause-does c = λ settings before body method id params s x read says m
     let k = grants_one text body method id params says is in
     let those = c.deref.ensures.value ∙ (c.in_ok-numbers.ensures.those settings before st ∙ ap (λ h. running_in settings h before) (c.group_number-group.ensures x here)) in
     let stay = hasty settings before s body id method params says (many_hasty method many) in
-    let moved = c.hear_answer.ensures.moves settings before s body x here at (not_early (is_first_result m) x.life.stage ready) (not_first (is_first_error m) x.life.stage ready) stay (other_keeps settings before s body id method params says other) (asked_named m id method params says) st in
+    let moved = c.hear_answer.ensures.moves settings before s body x here at (not_early (is_first_result m) x.life.stage ready) (not_first (is_first_error m) x.life.stage ready) stay (other_keeps settings before s body id method params says other) (other_creates settings before s body id method params says uncreating) (asked_named m id method params says) st in
     let docs = c.hear_answer.ensures.documents settings nothing_owed before s body x here at (not_first (is_first_result m) x.life.stage ready) (λ e. not_spawning x.life.stage ready e) st ds in
     let open_none = none_under text id (asking_of settings s (behind base xs)) k.answers (fresh_here settings before s body xs first id stay fresh) in
     let granted = all_does settings u u nothing_owed nothing_owed base xs ys
@@ -55,5 +56,5 @@ returns-clause-does c = λ settings before body method id params s x read says m
     (does_knowing (λ known.
     let kept = answered_keeps settings s text base xs ys (granted.done known).outs in
     does_then granted (subst (λ ns. Does (λ k events. AllStand settings k events) (each (ask body) ns) base (u, nothing_owed) ys (v, nothing_owed) zs) those
-    (c.in_ok-ask_all.ensures.does settings base body method id params read says (subst (λ ns. AllByRecursion (λ e. is_running (desk_of e (behind base ys)).phase ≡ true) ns) (sym those) (kept_all numbers (behind base xs) (behind base ys) (λ e h. ap is_running (kept.phases e) ∙ h) runs))
+    (c.in_ok-ask_all.ensures.does settings base body method id params read says uncreating (subst (λ ns. AllByRecursion (λ e. is_running (desk_of e (behind base ys)).phase ≡ true) ns) (sym those) (kept_all numbers (behind base xs) (behind base ys) (λ e h. ap is_running (kept.phases e) ∙ h) runs))
     (λ n. kept.rests n (idle n)))))))

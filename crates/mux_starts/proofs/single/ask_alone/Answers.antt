@@ -12,6 +12,7 @@ use Rattle.mux_starts.proofs.Early.{asked_named}
 use Rattle.mux_turns.proofs.Matched.{not_early, not_first, not_spawning, whole_entry}
 use Rattle.mux_starts.proofs.Parking.{attended, other_keeps, single_other}
 use Rattle.mux_starts.proofs.Singles.{puts_one, runs_here, still}
+use Rattle.mux_starts.proofs.Uncreated.{other_creates, single_creates}
 use Rattle.mux_starts.proofs.single.ask_alone.Goals as goal
 
 pub put-requires-clause-editor : goal.put-requires-clause-editor
@@ -27,10 +28,10 @@ returns-clause-does c = λ settings before body method id params s x read says o
     let xs = c.args.outs.now in
     let ys = c.put.new.outs in
     let stay = attended settings before s body id method params says attends in
-    let moved = c.hear_answer.ensures.moves settings before s body x here at (not_early (is_first_result m) x.life.stage ready) (not_first (is_first_error m) x.life.stage ready) stay (other_keeps settings before s body id method params says (single_other method one)) (asked_named m id method params says) st in
+    let moved = c.hear_answer.ensures.moves settings before s body x here at (not_early (is_first_result m) x.life.stage ready) (not_first (is_first_error m) x.life.stage ready) stay (other_keeps settings before s body id method params says (single_other method one)) (other_creates settings before s body id method params says (single_creates method one)) (asked_named m id method params says) st in
     let docs = c.hear_answer.ensures.documents settings nothing_owed before s body x here at (not_first (is_first_result m) x.life.stage ready) (λ e. not_spawning x.life.stage ready e) st ds in
     let y = still c.args.tables.now u c.args.g s x here at ready c.hear_answer.ensures.starts c.hear_answer.ensures.stages in
     whole_entry (λ k events. AllStand settings k events) (ask body e) base (u, nothing_owed) (v, nothing_owed) xs ys first (moved, docs)
     (all_does settings u v nothing_owed nothing_owed base xs ys
-    (c.in_ok-put.ensures.does settings base body method id params y.start y.at y.ready read says (runs_here settings before s body xs first e runs) (puts_one settings before s body method id params xs first says one stay fresh y.start.life.start y.own))
+    (c.in_ok-put.ensures.does settings base body method id params y.start y.at y.ready read says (single_creates method one) (runs_here settings before s body xs first e runs) (puts_one settings before s body method id params xs first says one stay fresh y.start.life.start y.own))
     (λ _ d. c.in_ok-put.ensures.documents settings nothing_owed base d))

@@ -32,5 +32,5 @@ returns-clause-does c = λ settings owed base call runs none.
     (λ left next.
     let one = next_call (unregister_text c.args.items.now) call e n now c.in_ok-text.text is left next in
     subst (λ w. Does (λ k events. AllStand settings k events) (send (ToEditor e w)) base (t, owed) xs (u, owed) ys) is
-    (all_does settings t u owed owed base xs ys (c.in_ok-call.ensures.does settings base call.method one.0 runs one.1 call.impatient none)
+    (all_does settings t u owed owed base xs ys (c.in_ok-call.ensures.does settings base call.method one.0 runs one.1 call.impatient call.uncreating none)
     (λ _ d. c.in_ok-call.ensures.documents settings owed base d)))

@@ -7,6 +7,7 @@ use Rattle.restart_replay.specs.Standings.{moved}
 use Rattle.event_model.specs.declared.stage.Stage.TheVariants.{Ended}
 use Rattle.restart_replay.specs.Standings.{Standing}
 use Rattle.event_model.specs.Phases.{needs_server}
+use Rattle.mux_tokens.specs.progress_route.specs.Tables.{less}
 use Rattle.mux_tables.specs.declared.tables.Start.{Start}
 use Rattle.mux_tables.specs.Stands.{any_in, number_in, unstopped}
 use Rattle.mux_tables.proofs.Starts.{read_here, read_same}
@@ -32,6 +33,7 @@ returns-clause-exits c = λ z at.
       editors = refl;
       time = refl;
       origins = refl;
+      created = c.end_start.ensures ∙ ap (λ n. less n c.args.self.now.origins.created) (c.start-2.ensures ∙ ap (λ (l : Standing). l.start) c.over.ensures ∙ ap number_in e);
       stopping = c.end_stop.ensures ∙ ap (λ n. unstopped n c.args.self.now.origins.stopping.items) (c.start.ensures ∙ ap (λ (l : Standing). l.start) c.over.ensures ∙ ap number_in e);
       requests = refl;
     }

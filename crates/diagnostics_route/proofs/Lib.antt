@@ -1,0 +1,4 @@
+mod Numbering
+mod Says
+mod Shows
+mod Worked

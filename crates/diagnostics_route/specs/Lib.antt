@@ -1,0 +1,4 @@
+pub mod Lists
+pub mod Published
+pub mod Rows
+pub mod Shown

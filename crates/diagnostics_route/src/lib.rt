@@ -1,0 +1,18 @@
+//! The last lists of diagnostics of one start of a server (LSP 3.17, Publish Diagnostics), and how they are shown to editors.
+#![tactic(auto)]
+
+mod fitting;
+mod full;
+mod last_list;
+mod lists;
+mod reading;
+mod rows;
+mod showing;
+mod without;
+
+pub use fitting::fits;
+pub use focus_switch::Agreement;
+pub use last_list::{LastList, Version};
+pub use lists::Lists;
+pub use reading::published;
+pub use showing::shown;

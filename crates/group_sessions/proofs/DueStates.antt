@@ -1,0 +1,386 @@
+-- How far an editor is with a token, by the words of the two and by what the fold keeps of them, and how that moves on by one word.
+use Rattle.std.proofs.Common.{◌≡◌, ℕ, ◌+◌, ◌<◌, ◌≤◌, Bool, true, false, not, ◌&&◌, ◌||◌, cond, List, [], ◌∷◌, ◌++◌, append-nil, append_assoc, filter, flat_map, map, nat_eq, nat_lt, length, take, if◌then◌else◌, Option, refl, sym, ◌∙◌, ap, ap₂, subst, arith}
+use Rattle.std.specs.List.{list_any}
+use Rattle.std.proofs.lemmas.Bool.{and_parts}
+use Rattle.json_text.specs.Json.{Json}
+use Rattle.rpc_message.specs.Message.{Id, Message}
+use Rattle.event_model.specs.Requests.{answered_id}
+use Rattle.event_model.proofs.Frames.{never}
+use Rattle.mux_facts.proofs.Words.{number_same}
+use Rattle.group_rows.specs.Created.{Created, Taking, Token, accepts, asked, held_first, held_most, is_answered, is_at, is_begin, is_end, is_over, lives, may_hold, settled, told}
+use Rattle.group_rows.specs.Forwarded.{names}
+use Rattle.group_sessions.specs.Due.{Word, asks, begins, bodies, body_in, due, ends, held_of, is_asks, is_parts, opening, parts, replies, settles, tells}
+use Rattle.group_sessions.proofs.DueFold.{head_passes, is_own, own}
+use Rattle.group_sessions.proofs.DueWords.{Over, asked_there, bodies_join, due_fresh, due_goes, due_waits, held_step, none_join, over_more, parted, refused}
+
+-- it was asked and hasn't answered
+pub record IsWaiting (e k : ℕ) (x : Created) (ws : List Word) : Type 0 where
+  pub us : List Word
+  pub number : ℕ
+  pub vs : List Word
+  pub taking : Taking
+  pub is : ws ≡ us ++ asks number ∷ vs
+  pub first : list_any is_asks us ≡ false
+  pub unsettled : list_any (settles number) vs ≡ false
+  pub only : own e k x ≡ taking ∷ []
+  pub unaccepted : taking.accepted ≡ false
+  pub under : taking.number ≡ number
+  pub held : taking.held ≡ held_of held_most (opening (bodies us) ++ bodies vs)
+  pub created : k < x.next
+
+-- it accepted, and the token lives or has ended
+pub data Seat (e k : ℕ) (x : Created) : Type 0 where
+  sits : (c : Taking) → own e k x ≡ c ∷ [] → c.accepted ≡ true → Seat e k x
+  rose : own e k x ≡ [] → lives k x ≡ false → Seat e k x
+
+pub record IsGoing (e k : ℕ) (x : Created) (ws : List Word) : Type 0 where
+  pub us : List Word
+  pub number : ℕ
+  pub vs : List Word
+  pub id : Option Id
+  pub zs : List Word
+  pub is : ws ≡ us ++ asks number ∷ (vs ++ replies id true ∷ zs)
+  pub first : list_any is_asks us ≡ false
+  pub unsettled : list_any (settles number) vs ≡ false
+  pub named : names id number ≡ true
+  pub stays : list_any is_parts zs ≡ false
+  pub seat : Seat e k x
+  pub created : k < x.next
+
+pub data State (e k : ℕ) (x : Created) (ws : List Word) : Type 0 where
+  fresh : list_any is_asks ws ≡ false → own e k x ≡ [] → State e k x ws
+  waits : IsWaiting e k x ws → State e k x ws
+  goes : IsGoing e k x ws → State e k x ws
+  over : Over ws → own e k x ≡ [] → State e k x ws
+
+-- one word more, by which so much more is due
+pub record Steps (e k : ℕ) (x : Created) (ws : List Word) (w : Word) (gain : List (List ℕ)) : Type 0 where
+  pub state : State e k x (ws ++ w ∷ [])
+  pub grows : due (ws ++ w ∷ []) ≡ due ws ++ gain
+
+empty : (c : Taking) → ◌≡◌ {A = List Taking} [] (c ∷ []) → ⊥
+empty c h = cc
+
+module _ (e k : ℕ) where
+  waits_due : (x : Created) (ws : List Word) → IsWaiting e k x ws → due ws ≡ []
+  waits_due x ws i = ap due i.is ∙ due_waits i.us i.number i.vs i.first i.unsettled
+
+  goes_due : (x : Created) (ws : List Word) (i : IsGoing e k x ws) → due ws ≡ held_of held_most (opening (bodies i.us) ++ bodies i.vs) ++ bodies i.zs
+  goes_due x ws i = ap due i.is ∙ due_goes i.us i.number i.vs i.first i.unsettled i.id i.zs i.named i.stays
+
+  still_none : (ws us : List Word) → due ws ≡ [] → due us ≡ [] → due us ≡ due ws ++ []
+  still_none ws us h k = k ∙ ap (λ z. z ++ []) (sym h)
+
+  last_wait : (us : List Word) (n : ℕ) (vs : List Word) (w : Word) → (us ++ asks n ∷ vs) ++ w ∷ [] ≡ us ++ asks n ∷ (vs ++ w ∷ [])
+  last_wait us n vs w = append_assoc us (asks n ∷ vs) (w ∷ [])
+
+  last_go : (us : List Word) (n : ℕ) (vs : List Word) (r : Word) (zs : List Word) (w : Word) → (us ++ asks n ∷ (vs ++ r ∷ zs)) ++ w ∷ [] ≡ us ++ asks n ∷ (vs ++ r ∷ (zs ++ w ∷ []))
+  last_go us n vs r zs w = append_assoc us (asks n ∷ (vs ++ r ∷ zs)) (w ∷ []) ∙ ap (λ z. us ++ asks n ∷ z) (append_assoc vs (r ∷ zs) (w ∷ []))
+
+  silent_last : (vs : List Word) (w : Word) → body_in w ≡ [] → bodies (vs ++ w ∷ []) ≡ bodies vs
+  silent_last vs w quiet = bodies_join vs (w ∷ []) ∙ (ap (λ z. bodies vs ++ (z ++ [])) quiet ∙ append-nil (bodies vs))
+
+  off_last : (test : Word → Bool) (vs : List Word) (w : Word) → list_any test vs ≡ false → test w ≡ false → list_any test (vs ++ w ∷ []) ≡ false
+  off_last test vs w h off = none_join test vs (w ∷ []) h (ap (λ b. b || false) off)
+
+  -- A word that changes nothing
+
+  module _ (x y : Created) (ws : List Word) (w : Word) (unasked : is_asks w ≡ false) (together : is_parts w ≡ false) (quiet : body_in w ≡ []) (apart : (c : Taking) → own e k x ≡ c ∷ [] → c.accepted ≡ false → settles c.number w ≡ false)
+      (same : own e k y ≡ own e k x) (dead : k < x.next → lives k x ≡ false → lives k y ≡ false) (more : x.next ≤ y.next) where
+    low : k < x.next → k < y.next
+    low h = omega (arith, h, more)
+
+    idle_waits : IsWaiting e k x ws → Steps e k y ws w []
+    idle_waits i = record {
+      state = waits (record {
+        us = i.us;
+        number = i.number;
+        vs = i.vs ++ w ∷ [];
+        taking = i.taking;
+        is = is;
+        first = i.first;
+        unsettled = unsettled;
+        only = same ∙ i.only;
+        unaccepted = i.unaccepted;
+        under = i.under;
+        held = i.held ∙ ap (λ z. held_of held_most (opening (bodies i.us) ++ z)) (sym (silent_last i.vs w quiet));
+        created = low i.created;
+      });
+      grows = still_none ws (ws ++ w ∷ []) (waits_due x ws i) (ap due is ∙ due_waits i.us i.number (i.vs ++ w ∷ []) i.first unsettled);
+    }
+      where
+        is : ws ++ w ∷ [] ≡ i.us ++ asks i.number ∷ (i.vs ++ w ∷ [])
+        is = ap (λ z. z ++ w ∷ []) i.is ∙ last_wait i.us i.number i.vs w
+
+        unsettled : list_any (settles i.number) (i.vs ++ w ∷ []) ≡ false
+        unsettled = off_last (settles i.number) i.vs w i.unsettled (ap (λ n. settles n w) (sym i.under) ∙ apart i.taking i.only i.unaccepted)
+
+    seated : Seat e k x → k < x.next → Seat e k y
+    seated (sits c is on) h = sits c (same ∙ is) on
+    seated (rose none off) h = rose (same ∙ none) (dead h off)
+
+    idle_goes : IsGoing e k x ws → Steps e k y ws w []
+    idle_goes i = record {
+      state = goes (record { us = i.us; number = i.number; vs = i.vs; id = i.id; zs = i.zs ++ w ∷ []; is = is; first = i.first; unsettled = i.unsettled; named = i.named; stays = stays; seat = seated i.seat i.created; created = low i.created });
+      grows = ap due is ∙ (due_goes i.us i.number i.vs i.first i.unsettled i.id (i.zs ++ w ∷ []) i.named stays ∙ (ap (λ z. held_of held_most (opening (bodies i.us) ++ bodies i.vs) ++ z) (silent_last i.zs w quiet) ∙ (sym (goes_due x ws i) ∙ sym (append-nil (due ws)))));
+    }
+      where
+        is : ws ++ w ∷ [] ≡ i.us ++ asks i.number ∷ (i.vs ++ replies i.id true ∷ (i.zs ++ w ∷ []))
+        is = ap (λ z. z ++ w ∷ []) i.is ∙ last_go i.us i.number i.vs (replies i.id true) i.zs w
+
+        stays : list_any is_parts (i.zs ++ w ∷ []) ≡ false
+        stays = off_last is_parts i.zs w i.stays together
+
+    pub idle : State e k x ws → Steps e k y ws w []
+    idle (fresh none nobody) = let off : list_any is_asks (ws ++ w ∷ []) ≡ false = off_last is_asks ws w none unasked in record { state = fresh off (same ∙ nobody); grows = still_none ws (ws ++ w ∷ []) (due_fresh ws none) (due_fresh (ws ++ w ∷ []) off) }
+    idle (waits i) = idle_waits i
+    idle (goes i) = idle_goes i
+    idle (over h nobody) = record { state = over (over_more ws (w ∷ []) h) (same ∙ nobody); grows = h.same (w ∷ []) ∙ sym (append-nil (due ws)) }
+
+  -- The editor leaves, or the start's program ends
+
+  pub part : (x y : Created) (ws : List Word) → own e k y ≡ [] → State e k x ws → Steps e k y ws parts []
+  part x y ws gone (fresh none nobody) = let off : list_any is_asks (ws ++ parts ∷ []) ≡ false = off_last is_asks ws parts none refl in record { state = fresh off gone; grows = still_none ws (ws ++ parts ∷ []) (due_fresh ws none) (due_fresh (ws ++ parts ∷ []) off) }
+  part x y ws gone (waits i) = let r = refused i.us i.number i.vs i.first i.unsettled parts refl refl in record {
+    state = over (subst (λ z. Over (z ++ parts ∷ [])) (sym i.is) r.0) gone;
+    grows = still_none ws (ws ++ parts ∷ []) (waits_due x ws i) (ap (λ z. due (z ++ parts ∷ [])) i.is ∙ r.1);
+  }
+  part x y ws gone (goes i) = let r = parted i.us i.number i.vs i.first i.unsettled i.id i.zs i.named i.stays parts refl in record {
+    state = over (subst (λ z. Over (z ++ parts ∷ [])) (sym i.is) r.0) gone;
+    grows = ap (λ z. due (z ++ parts ∷ [])) i.is ∙ (r.1 ∙ (sym (goes_due x ws i) ∙ sym (append-nil (due ws))));
+  }
+  part x y ws gone (over h nobody) = record { state = over (over_more ws (parts ∷ []) h) gone; grows = h.same (parts ∷ []) ∙ sym (append-nil (due ws)) }
+
+  -- It is asked, for the first time
+
+  held_one : (xs : List (List ℕ)) → held_of held_most (take 1 xs ++ []) ≡ take 1 xs
+  held_one [] = refl
+  held_one (x ∷ xs) = refl
+
+  pub ask : (x y : Created) (ws : List Word) (n : ℕ) (t : Token) → list_any is_asks ws ≡ false → own e k y ≡ own e k x ++ asked e n t ∷ [] → held_first t.begin ≡ opening (bodies ws) → k < y.next → State e k x ws → Steps e k y ws (asks n) []
+  ask x y ws n t none same first low s = record {
+    state = waits (record {
+      us = ws;
+      number = n;
+      vs = [];
+      taking = asked e n t;
+      is = refl;
+      first = none;
+      unsettled = refl;
+      only = same ∙ ap (λ z. z ++ asked e n t ∷ []) (nobody s);
+      unaccepted = refl;
+      under = refl;
+      held = first ∙ sym (held_one (filter begins (bodies ws)));
+      created = low;
+    });
+    grows = still_none ws (ws ++ asks n ∷ []) (due_fresh ws none) (due_waits ws n [] none refl);
+  }
+    where
+      nobody : State e k x ws → own e k x ≡ []
+      nobody (fresh h is) = is
+      nobody (waits i) = never (sym (ap (list_any is_asks) i.is ∙ asked_there i.us i.number i.vs i.first i.unsettled i.vs) ∙ none)
+      nobody (goes i) = never (sym (ap (list_any is_asks) i.is ∙ asked_there i.us i.number i.vs i.first i.unsettled (i.vs ++ replies i.id true ∷ i.zs)) ∙ none)
+      nobody (over h is) = is
+
+  -- It responds
+
+  abbrev pub handed : Message → List Taking → List (List ℕ)
+  handed m cs = if accepts m then flat_map (λ (c : Taking). if is_answered e (answered_id m) c then c.held else []) cs else []
+
+  abbrev pub settling : Message → Created → Taking → List Taking
+  settling m x c = if is_answered e (answered_id m) c then settled m x c else c ∷ []
+
+  module _ (x y : Created) (ws : List Word) (m : Message) (same : own e k y ≡ flat_map (settling m x) (own e k x)) (lives_on : lives k y ≡ lives k x) (next : y.next ≡ x.next) where
+    abbrev word : Word
+    word = replies (answered_id m) (accepts m)
+
+    abbrev Replied : Type 0
+    Replied = Steps e k y ws word (handed m (own e k x))
+
+    -- it answers nothing of this
+    aside : own e k y ≡ own e k x → handed m (own e k x) ≡ [] → ((c : Taking) → own e k x ≡ c ∷ [] → c.accepted ≡ false → settles c.number word ≡ false) → State e k x ws → Replied
+    aside still none apart s = subst (λ z. Steps e k y ws word z) (sym none)
+        (idle x y ws word refl refl refl apart still (λ low off. lives_on ∙ off) (omega (arith, next)) s)
+
+    nobody_handed : own e k x ≡ [] → handed m (own e k x) ≡ []
+    nobody_handed is = ap (handed m) is ∙ go (accepts m)
+      where
+        go : (b : Bool) → ◌≡◌ {A = List (List ℕ)} (if b then [] else []) []
+        go true = refl
+        go false = refl
+
+    nobody_there : own e k x ≡ [] → State e k x ws → Replied
+    nobody_there is s = aside (same ∙ (ap (flat_map (settling m x)) is ∙ sym is)) (nobody_handed is) (λ c only off. absurd (empty c (sym is ∙ only))) s
+
+    module _ (c : Taking) (only : own e k x ≡ c ∷ []) where
+      -- it isn't the answer to this
+      unanswered : is_answered e (answered_id m) c ≡ false → ((d : Taking) → own e k x ≡ d ∷ [] → d.accepted ≡ false → settles d.number word ≡ false) → State e k x ws → Replied
+      unanswered against apart s = aside
+          (same ∙ (ap (flat_map (settling m x)) only ∙ (ap (λ b. (if b then settled m x c else c ∷ []) ++ []) against ∙ sym only)))
+          (ap (handed m) only ∙ (ap (λ b. if accepts m then (if b then c.held else []) ++ [] else []) against ∙ go (accepts m)))
+          apart s
+        where
+          go : (b : Bool) → ◌≡◌ {A = List (List ℕ)} (if b then [] else []) []
+          go true = refl
+          go false = refl
+
+      one_only : (d : Taking) → own e k x ≡ d ∷ [] → c ≡ d
+      one_only d is = let both : c ∷ [] ≡ d ∷ [] = sym only ∙ is in cc
+
+    replied_waits : IsWaiting e k x ws → Replied
+    replied_waits i = go (names (answered_id m) i.number) refl
+      where
+        c : Taking
+        c = i.taking
+
+        test : (is_at e c ≡ true) × (nat_eq c.token k ≡ true)
+        test = and_parts (is_at e c) (nat_eq c.token k) (head_passes (is_own e k) x.takings c [] i.only)
+
+        answered_is : is_answered e (answered_id m) c ≡ names (answered_id m) i.number
+        answered_is = ap (λ b. not b && (nat_eq c.editor e && names (answered_id m) c.number)) i.unaccepted ∙ (ap (λ b. b && names (answered_id m) c.number) test.0 ∙ ap (names (answered_id m)) i.under)
+
+        apart : names (answered_id m) i.number ≡ false → (d : Taking) → own e k x ≡ d ∷ [] → d.accepted ≡ false → settles d.number word ≡ false
+        apart against d is off = let eq : c ≡ d = one_only c i.only d is in ap (names (answered_id m)) (ap (λ (z : Taking). z.number) (sym eq) ∙ i.under) ∙ against
+
+        own_then : names (answered_id m) i.number ≡ true → (l : Bool) → (accepts m && lives c.token x) ≡ l → own e k y ≡ (if l then record c { accepted = true; held = [] } ∷ [] else [])
+        own_then hit l lasts = same ∙ (ap (flat_map (settling m x)) i.only ∙ (ap (λ b. (if b then settled m x c else c ∷ []) ++ []) (answered_is ∙ hit) ∙ (append-nil (settled m x c) ∙ ap (λ b. if b then record c { accepted = true; held = [] } ∷ [] else []) lasts)))
+
+        handed_is : names (answered_id m) i.number ≡ true → accepts m ≡ true → handed m (own e k x) ≡ c.held
+        handed_is hit ok = ap (handed m) i.only ∙ (ap (λ b. if accepts m then (if b then c.held else []) ++ [] else []) (answered_is ∙ hit) ∙ (ap (λ b. if b then c.held ++ [] else []) ok ∙ append-nil c.held))
+
+        agreed : names (answered_id m) i.number ≡ true → accepts m ≡ true → Seat e k y → Replied
+        agreed hit ok seat = record {
+          state = goes (record { us = i.us; number = i.number; vs = i.vs; id = answered_id m; zs = []; is = is; first = i.first; unsettled = i.unsettled; named = hit; stays = refl; seat = seat; created = let low : k < x.next = i.created in omega (arith, low, next) });
+          grows = ap due is ∙ (due_goes i.us i.number i.vs i.first i.unsettled (answered_id m) [] hit refl ∙ (append-nil (held_of held_most (opening (bodies i.us) ++ bodies i.vs)) ∙ (sym i.held ∙ sym (ap₂ (λ u v. u ++ v) (waits_due x ws i) (handed_is hit ok)))));
+        }
+          where
+            is : ws ++ word ∷ [] ≡ i.us ++ asks i.number ∷ (i.vs ++ replies (answered_id m) true ∷ [])
+            is = ap (λ z. z ++ word ∷ []) i.is ∙ (last_wait i.us i.number i.vs word ∙ ap (λ b. i.us ++ asks i.number ∷ (i.vs ++ replies (answered_id m) b ∷ [])) ok)
+
+        by_answer : names (answered_id m) i.number ≡ true → (a : Bool) → accepts m ≡ a → (l : Bool) → lives c.token x ≡ l → Replied
+        by_answer hit true ok true living = agreed hit ok (sits (record c { accepted = true; held = [] }) (own_then hit true (ap₂ (λ a b. a && b) ok living)) refl)
+        by_answer hit true ok false ended = agreed hit ok (rose (own_then hit false (ap₂ (λ a b. a && b) ok ended)) (lives_on ∙ (ap (λ j. lives j x) (sym (number_same c.token k test.1)) ∙ ended)))
+        by_answer hit false against l living = let r = refused i.us i.number i.vs i.first i.unsettled word hit against in record {
+          state = over (subst (λ z. Over (z ++ word ∷ [])) (sym i.is) r.0) (own_then hit false (ap (λ b. b && lives c.token x) against));
+          grows = still_none ws (ws ++ word ∷ []) (waits_due x ws i) (ap (λ z. due (z ++ word ∷ [])) i.is ∙ r.1) ∙ ap (λ z. due ws ++ z) (sym (ap (λ b. if b then flat_map (λ (d : Taking). if is_answered e (answered_id m) d then d.held else []) (own e k x) else []) against));
+        }
+
+        go : (b : Bool) → names (answered_id m) i.number ≡ b → Replied
+        go true hit = by_answer hit (accepts m) refl (lives c.token x) refl
+        go false against = unanswered c i.only (answered_is ∙ against) (apart against) (waits i)
+
+    replied_goes : (i : IsGoing e k x ws) → Seat e k x → Replied
+    replied_goes i (sits c only on) = unanswered c only (ap (λ b. not b && (nat_eq c.editor e && names (answered_id m) c.number)) on) (λ d is off. never (sym on ∙ (ap (λ (z : Taking). z.accepted) (one_only c only d is) ∙ off))) (goes i)
+    replied_goes i (rose none off) = nobody_there none (goes i)
+
+    pub reply : State e k x ws → Replied
+    reply (fresh none is) = nobody_there is (fresh none is)
+    reply (waits i) = replied_waits i
+    reply (goes i) = replied_goes i i.seat
+    reply (over h is) = nobody_there is (over h is)
+
+  -- The start tells of the token
+
+  abbrev pub gained : List ℕ → List Taking → List (List ℕ)
+  gained body cs = if list_any (λ (c : Taking). c.accepted) cs then body ∷ [] else []
+
+  module _ (x y : Created) (ws : List Word) (body : List ℕ) (params : Option Json) (same : own e k y ≡ map (told k body params) (filter (λ c. not (is_over k params c)) (own e k x)))
+      (alive : lives k x ≡ true) (gone : is_end params ≡ true → lives k y ≡ false) (next : y.next ≡ x.next) (ending : ends body ≡ is_end params) where
+    abbrev Told : Type 0
+    Told = Steps e k y ws (tells body) (gained body (own e k x))
+
+    none_then : own e k x ≡ [] → own e k y ≡ []
+    none_then is = same ∙ ap (λ z. map (told k body params) (filter (λ c. not (is_over k params c)) z)) is
+
+    none_gained : own e k x ≡ [] → due ws ++ [] ≡ due ws ++ gained body (own e k x)
+    none_gained is = ap (λ z. due ws ++ gained body z) (sym is)
+
+    and_no : (b : Bool) → (b && false) ≡ false
+    and_no true = refl
+    and_no false = refl
+
+    and_yes : (b : Bool) → (b && true) ≡ b
+    and_yes true = refl
+    and_yes false = refl
+
+    told_waits : IsWaiting e k x ws → Told
+    told_waits i = record {
+      state = go (may_hold params c.held) held (same ∙ (ap (λ z. map (told k body params) (filter (λ d. not (is_over k params d)) z)) i.only ∙ (ap (λ b. map (told k body params) (cond (not b) (c ∷ []) [])) not_over ∙ ap (λ z. z ∷ []) told_is)));
+      grows = still_none ws (ws ++ tells body ∷ []) (waits_due x ws i) (ap due is ∙ due_waits i.us i.number (i.vs ++ tells body ∷ []) i.first unsettled)
+          ∙ ap (λ z. due ws ++ z) (sym (ap (gained body) i.only ∙ ap (λ b. if b || false then body ∷ [] else []) i.unaccepted));
+    }
+      where
+        c : Taking
+        c = i.taking
+
+        first : List (List ℕ)
+        first = opening (bodies i.us)
+
+        test : (is_at e c ≡ true) × (nat_eq c.token k ≡ true)
+        test = and_parts (is_at e c) (nat_eq c.token k) (head_passes (is_own e k) x.takings c [] i.only)
+
+        is : ws ++ tells body ∷ [] ≡ i.us ++ asks i.number ∷ (i.vs ++ tells body ∷ [])
+        is = ap (λ z. z ++ tells body ∷ []) i.is ∙ last_wait i.us i.number i.vs (tells body)
+
+        unsettled : list_any (settles i.number) (i.vs ++ tells body ∷ []) ≡ false
+        unsettled = off_last (settles i.number) i.vs (tells body) i.unsettled refl
+
+        not_over : is_over k params c ≡ false
+        not_over = ap (λ b. is_end params && (b && nat_eq c.token k)) i.unaccepted ∙ and_no (is_end params)
+
+        told_is : told k body params c ≡ (if may_hold params c.held then record c { held = c.held ++ body ∷ []; begun = c.begun || is_begin params } else c)
+        told_is = ap (λ b. if b then (if c.accepted then record c { begun = c.begun || is_begin params } else (if may_hold params c.held then record c { held = c.held ++ body ∷ []; begun = c.begun || is_begin params } else c)) else c) test.1
+            ∙ ap (λ b. if b then record c { begun = c.begun || is_begin params } else (if may_hold params c.held then record c { held = c.held ++ body ∷ []; begun = c.begun || is_begin params } else c)) i.unaccepted
+
+        held : (if may_hold params c.held then c.held ++ body ∷ [] else c.held) ≡ held_of held_most (first ++ bodies (i.vs ++ tells body ∷ []))
+        held = ap (λ z. if nat_lt (length z) held_most || is_end params then z ++ body ∷ [] else z) i.held
+            ∙ (ap (λ b. if nat_lt (length (held_of held_most (first ++ bodies i.vs))) held_most || b then held_of held_most (first ++ bodies i.vs) ++ body ∷ [] else held_of held_most (first ++ bodies i.vs)) (sym ending)
+            ∙ (sym (held_step held_most (first ++ bodies i.vs) body)
+            ∙ (ap (held_of held_most) (append_assoc first (bodies i.vs) (body ∷ [])) ∙ ap (λ z. held_of held_most (first ++ z)) (sym (bodies_join i.vs (tells body ∷ []))))))
+
+        low : k < y.next
+        low = let h : k < x.next = i.created in omega (arith, h, next)
+
+        go : (d : Bool) → (if d then c.held ++ body ∷ [] else c.held) ≡ held_of held_most (first ++ bodies (i.vs ++ tells body ∷ [])) → own e k y ≡ (if d then record c { held = c.held ++ body ∷ []; begun = c.begun || is_begin params } else c) ∷ [] → State e k y (ws ++ tells body ∷ [])
+        go true h only = waits (record { us = i.us; number = i.number; vs = i.vs ++ tells body ∷ []; taking = record c { held = c.held ++ body ∷ []; begun = c.begun || is_begin params }; is = is; first = i.first; unsettled = unsettled; only = only; unaccepted = i.unaccepted; under = i.under; held = h; created = low })
+        go false h only = waits (record { us = i.us; number = i.number; vs = i.vs ++ tells body ∷ []; taking = c; is = is; first = i.first; unsettled = unsettled; only = only; unaccepted = i.unaccepted; under = i.under; held = h; created = low })
+
+    told_goes : (i : IsGoing e k x ws) → Seat e k x → Told
+    told_goes i (rose none off) = never (sym alive ∙ off)
+    told_goes i (sits c only on) = record {
+      state = goes (record { us = i.us; number = i.number; vs = i.vs; id = i.id; zs = i.zs ++ tells body ∷ []; is = is; first = i.first; unsettled = i.unsettled; named = i.named; stays = stays; seat = seated (is_end params) refl; created = let h : k < x.next = i.created in omega (arith, h, next) });
+      grows = ap due is ∙ (due_goes i.us i.number i.vs i.first i.unsettled i.id (i.zs ++ tells body ∷ []) i.named stays ∙ (ap (λ z. handed_first ++ z) (bodies_join i.zs (tells body ∷ []))
+          ∙ (sym (append_assoc handed_first (bodies i.zs) (body ∷ [])) ∙ ap₂ (λ u v. u ++ v) (sym (goes_due x ws i)) (sym (ap (gained body) only ∙ ap (λ b. if b || false then body ∷ [] else []) on)))));
+    }
+      where
+        handed_first : List (List ℕ)
+        handed_first = held_of held_most (opening (bodies i.us) ++ bodies i.vs)
+
+        test : (is_at e c ≡ true) × (nat_eq c.token k ≡ true)
+        test = and_parts (is_at e c) (nat_eq c.token k) (head_passes (is_own e k) x.takings c [] only)
+
+        is : ws ++ tells body ∷ [] ≡ i.us ++ asks i.number ∷ (i.vs ++ replies i.id true ∷ (i.zs ++ tells body ∷ []))
+        is = ap (λ z. z ++ tells body ∷ []) i.is ∙ last_go i.us i.number i.vs (replies i.id true) i.zs (tells body)
+
+        stays : list_any is_parts (i.zs ++ tells body ∷ []) ≡ false
+        stays = off_last is_parts i.zs (tells body) i.stays refl
+
+        over_is : is_over k params c ≡ is_end params
+        over_is = ap₂ (λ a b. is_end params && (a && b)) on test.1 ∙ and_yes (is_end params)
+
+        own_then : (b : Bool) → is_end params ≡ b → own e k y ≡ map (told k body params) (cond (not b) (c ∷ []) [])
+        own_then b end = same ∙ (ap (λ z. map (told k body params) (filter (λ d. not (is_over k params d)) z)) only ∙ ap (λ z. map (told k body params) (cond (not z) (c ∷ []) [])) (over_is ∙ end))
+
+        told_is : told k body params c ≡ record c { begun = c.begun || is_begin params }
+        told_is = ap (λ b. if b then (if c.accepted then record c { begun = c.begun || is_begin params } else (if may_hold params c.held then record c { held = c.held ++ body ∷ []; begun = c.begun || is_begin params } else c)) else c) test.1
+            ∙ ap (λ b. if b then record c { begun = c.begun || is_begin params } else (if may_hold params c.held then record c { held = c.held ++ body ∷ []; begun = c.begun || is_begin params } else c)) on
+
+        seated : (b : Bool) → is_end params ≡ b → Seat e k y
+        seated true end = rose (own_then true end) (gone end)
+        seated false goes_on = sits (told k body params c) (own_then false goes_on) (ap (λ (z : Taking). z.accepted) told_is ∙ on)
+
+    pub tell : State e k x ws → Told
+    tell (fresh none is) = let off : list_any is_asks (ws ++ tells body ∷ []) ≡ false = off_last is_asks ws (tells body) none refl in record { state = fresh off (none_then is); grows = still_none ws (ws ++ tells body ∷ []) (due_fresh ws none) (due_fresh (ws ++ tells body ∷ []) off) ∙ none_gained is }
+    tell (waits i) = told_waits i
+    tell (goes i) = told_goes i i.seat
+    tell (over h is) = record { state = over (over_more ws (tells body ∷ []) h) (none_then is); grows = h.same (tells body ∷ []) ∙ (sym (append-nil (due ws)) ∙ none_gained is) }

@@ -1,0 +1,15 @@
+pub mod Rows
+pub mod Finding
+pub mod Seats
+pub mod Leaving
+pub mod Parts
+pub mod Told
+pub mod Settled
+pub mod Names
+pub mod Steps
+pub mod Stays
+pub mod Standing
+pub mod TokenIds
+pub mod Seen
+pub mod Below
+pub mod Fresh
