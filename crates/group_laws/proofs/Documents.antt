@@ -1,5 +1,5 @@
 -- E12 to E14 over the documents of a group: the steps are the rows, and what is kept of the group stands for the events behind the entry.
-use Rattle.std.proofs.Common.{◌≡◌, ℕ, ◌<◌, ◌^◌, true, List, [], map, Option, Some, None, IsUtf8, refl, sym, ap, ap₂, subst, ◌∙◌}
+use Rattle.std.proofs.Common.{◌≡◌, ℕ, ◌<◌, ◌^◌, true, List, [], ◌++◌, map, Option, Some, None, IsUtf8, refl, sym, ap, ap₂, subst, ◌∙◌}
 use Rattle.json_text.specs.Json.{Json}
 use Rattle.json_text.specs.Tree.{tree_of}
 use Rattle.mux_history.specs.declared.cause.Cause.TheVariants.{FromEditor}
@@ -30,6 +30,7 @@ use Rattle.focus_switch.specs.Rows as focus
 use Rattle.group_rows.specs.mux_model.specs.Documents.{held_at}
 use Rattle.group_rows.specs.mux_model.proofs.DocumentFolds.{outs_to_start}
 use Rattle.group_rows.specs.group_words.specs.Houses.{home_of, is_home}
+use Rattle.group_rows.specs.ListRows.{show_opened}
 use Rattle.group_rows.specs.Rows as rows
 use Rattle.group_laws.specs.Stands.{HeldStands, TextsStand}
 use Rattle.group_laws.specs.Steps.{changed_by, document_step}
@@ -138,10 +139,10 @@ module _ (settings : Settings) (g s e : ℕ) (code : Encoding) (before : List Ev
   pub document_held : HeldStands s code step.after (behind (with_cause before (FromEditor e body)) step.outs)
   document_held = entry_held settings g s e code before body method params d reads home served texts holds step right.stays right.texts _ right.are right.speak right.matches
 
-  -- and its outs are the row's
-  pub document_outs : d.versions ≡ settings.limits.versions → is_ready (life_of s before).stage ≡ true → (events : List Event) → outs (rows.document_at settings before e body (saying_by method params) g s) events ≡ step.outs
-  document_outs same ready events = rw ready (outs_to_start s _ events
-      ∙ (ap (map (λ b. ToServer s b)) (same_bodies settings.limits.versions _ _ _ _ same texts.encoding texts.texts) ∙ sym right.are))
+  -- and its outs are the row's, in front of the list that the editor is shown
+  pub document_outs : d.versions ≡ settings.limits.versions → is_ready (life_of s before).stage ≡ true → (events : List Event) → outs (rows.document_at settings before e body (saying_by method params) g s) events ≡ step.outs ++ outs (show_opened settings s e (saying_by method params)) (behind events step.outs)
+  document_outs same ready events = rw ready (ap (λ xs. xs ++ outs (show_opened settings s e (saying_by method params)) (behind events xs)) (outs_to_start s _ events
+      ∙ (ap (map (λ b. ToServer s b)) (same_bodies settings.limits.versions _ _ _ _ same texts.encoding texts.texts) ∙ sym right.are)))
     where
       same_bodies : (m : ℕ) (c k : Option Encoding) (x y : Texts) → d.versions ≡ m → c ≡ k → x ≡ y → rows.document_bodies m c x (λ u. held_at s u before) e body (saying_by method params) ≡ rows.document_bodies d.versions k y (λ u. held_at s u before) e body (saying_by method params)
       same_bodies m c k x y a b f = subst (λ z. rows.document_bodies m c x (λ u. held_at s u before) e body (saying_by method params) ≡ rows.document_bodies z k y (λ u. held_at s u before) e body (saying_by method params)) (sym a)
