@@ -1,0 +1,35 @@
+//! E12 and L2: last lists of diagnostics that an editor is shown (LSP 3.17, Publish Diagnostics).
+ghost use Rattle.std.specs.Prelude.{◌≡◌, ◌<◌, ℕ, List, Option, Some, true, codes, length, map, IfOk, OnOk, slice_get};
+ghost use Rattle.document_model.specs.Sayings.{integer_at, member_of, saying_by, string_at};
+ghost use Rattle.event_model.specs.declared.stage.Stage.TheVariants.{Ready};
+ghost use Rattle.event_model.specs.Does.{Does};
+ghost use Rattle.event_model.specs.Event.{Event, behind};
+ghost use Rattle.event_model.specs.Phases.{desk_of, is_running};
+ghost use Rattle.event_model.specs.Row.{each, look, nothing, on};
+ghost use Rattle.event_model.specs.Settings.{Settings};
+ghost use Rattle.event_model.specs.Spawns.{start_of};
+ghost use Rattle.event_model.specs.Stages.{is_ready, life_of};
+ghost use Rattle.group_rows.specs.diagnostics_route.specs.Lists.{nonempty};
+ghost use Rattle.group_rows.specs.diagnostics_route.specs.Rows.{is_of};
+ghost use Rattle.group_rows.specs.ListRows.{show_full, show_opened};
+ghost use Rattle.group_rows.specs.Lists.{lists_of};
+ghost use Rattle.json_nodes.specs.At.{Found};
+ghost use Rattle.json_text.specs.Json.{Json};
+ghost use Rattle.mux_editors.specs.Shows.{show_at, show_plain, uri_opened};
+ghost use Rattle.mux_members.specs.Finds.{is_ascii};
+ghost use Rattle.mux_tables.specs.declared.tables.Start.{Start};
+ghost use Rattle.mux_tables.specs.Documents.{AllStand, DocumentsStand, Owed, nothing_owed};
+ghost use Rattle.mux_tables.specs.Stands.{Stands};
+ghost use Rattle.rpc_message.specs.Message.{is_integer_value, is_string_value, message_of, notification};
+ghost use Rattle.rpc_message.specs.Parsed.{IsRead};
+
+use json_span::Tape;
+use json_text::Kind;
+use message_body::{Body, Memory};
+use mux_history::Outs;
+use mux_members::{member, string};
+use mux_tables::Tables;
+use mux_tables::diagnostics_route::LastList;
+use mux_turns::listed_text;
+use rpc_message::{Message, is_integer};
+use std::alloc::Global;
