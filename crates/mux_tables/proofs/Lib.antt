@@ -55,6 +55,7 @@ pub mod Placed
 pub mod Waiting
 pub mod Parking
 pub mod Registering
+pub mod Publishing
 pub mod Registered
 pub mod Creating
 pub mod Resuming

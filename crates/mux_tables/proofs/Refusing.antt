@@ -28,7 +28,7 @@ use Rattle.mux_tables.specs.declared.tables.Start.{Start}
 use Rattle.mux_tables.specs.declared.tables.Tables.{Tables}
 use Rattle.mux_tables.specs.Documents.{DocumentsStand, Owed}
 use Rattle.mux_tables.specs.Refusals.{of_editor, refusal, refusals}
-use Rattle.mux_tables.specs.Stands.{AreApart, AsksAt, AsksStand, HasText, IsFree, Part, of_life, of_ids, of_shown, of_stop, of_asks, of_parked, of_live, ParkedAt, ParkedStand, PartStands, Stands, kept_ask}
+use Rattle.mux_tables.specs.Stands.{AreApart, AsksAt, AsksStand, HasText, IsFree, Part, of_life, of_ids, of_shown, of_stop, of_asks, of_parked, of_live, of_lists, ParkedAt, ParkedStand, PartStands, Stands, kept_ask}
 use Rattle.mux_tables.proofs.Apart.{all_filter, less_apart, one_less, stand_filter}
 use Rattle.mux_tables.proofs.Asking.{asking_more, asks_later, none_gone, told_asking}
 use Rattle.mux_tables.proofs.Awaited.{told_stops}
@@ -98,6 +98,7 @@ module _ (settings : Settings) (t u : Tables) (base : List Event) (xs ys : List 
       part e none of_parked h = subst (λ k. ParkedAt k (asks_of settings z.life.start (here ++ ev ∷ [])) (parked_of settings z.life.start (here ++ ev ∷ [])) z.parked) (sym ready)
           (waits none (ready_parked z.life.stage (asks_of settings z.life.start here) (parked_of settings z.life.start here) z.parked ready h))
       part e none of_live h = part_quiet of_live settings t.requests z here ev refl h
+      part e none of_lists h = part_quiet of_lists settings t.requests z here ev refl h
 
 -- the tables in which these are kept of a group's last start
 abbrev pub keeping : Tables → ℕ → Start → List route.Ask → Tables
