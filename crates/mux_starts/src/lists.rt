@@ -10,6 +10,7 @@ ghost use Rattle.group_rows.specs.Lists.{is_publishing};
 ghost use Rattle.json_text.specs.Json.{Json};
 ghost use Rattle.mux_history.specs.declared.cause.Cause.TheVariants.{FromServer};
 ghost use Rattle.mux_starts.specs.Lists.{AreNotices, all_shown, tell};
+ghost use Rattle.mux_starts.specs.group_facts.specs.Facts.{Meant};
 ghost use Rattle.mux_tables.specs.declared.tables.Start.{Start};
 ghost use Rattle.mux_tables.specs.Documents.{AllStand, DocumentsStand, nothing_owed};
 ghost use Rattle.mux_tables.specs.Stands.{Stands, number_in};
@@ -79,7 +80,7 @@ pub fn take_list(
     ensures does { (settings : Settings) (before : List Event) (body method : List ℕ) (params : Option Json) (s : ℕ) (x : Start)
         → IsRead message.now body → message_of body ≡ notification method params → is_publishing method ≡ true → outs.old ≡ []
         → slice_get tables.old.lasts.items g ≡ Some x → x.life.stage ≡ Ready → slice_get (map number_in tables.old.lasts.items) g ≡ Some s
-        → Stands settings tables.old before → DocumentsStand settings nothing_owed tables.old before
+        → Meant before → Stands settings tables.old before → DocumentsStand settings nothing_owed tables.old before
         → OnOk result (Done (λ k events. AllStand settings k events) (list_row settings s before body)
         (with_cause before (FromServer s body)) [] (tables.new, nothing_owed) outs.new) }
 {
