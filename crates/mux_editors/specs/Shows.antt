@@ -1,17 +1,11 @@
 -- Last lists of diagnostics that an editor is shown, as the rows read them.
 use Rattle.std.specs.Prelude.{ℕ, List}
-use Rattle.std.specs.Prelude.{Option, Some, None, slice_get}
+use Rattle.std.specs.Prelude.{None, slice_get}
 use Rattle.mux_history.specs.declared.out.Out.TheVariants.{ToEditor}
-use Rattle.document_model.specs.Sayings.{Saying, opens}
 use Rattle.event_model.specs.Row.{Row, each, nothing, on, send}
 use Rattle.group_rows.specs.diagnostics_route.specs.declared.last_list.LastList.{LastList}
 use Rattle.group_rows.specs.diagnostics_route.specs.Lists.{nonempty}
 use Rattle.group_rows.specs.diagnostics_route.specs.Shown.{shown_text}
-
--- the document that a notification opens
-abbrev pub uri_opened : Saying → Option (List ℕ)
-uri_opened (opens u l v t) = Some u
-uri_opened other = None
 
 -- L2: an editor is shown a list of a document that isn't open there
 abbrev pub show_plain : ℕ → LastList → Row

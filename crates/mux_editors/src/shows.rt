@@ -1,6 +1,6 @@
 //! E12 and L2: last lists of diagnostics that an editor is shown (LSP 3.17, Publish Diagnostics).
-ghost use Rattle.std.specs.Prelude.{◌≡◌, ◌<◌, ℕ, List, Option, Some, bytes_eq, codes, length, IfOk, OnOk, slice_get};
-ghost use Rattle.document_model.specs.Sayings.{opening_by, saying_by};
+ghost use Rattle.std.specs.Prelude.{◌≡◌, ◌<◌, ℕ, List, Option, Some, length, OnOk, slice_get};
+ghost use Rattle.document_model.specs.Sayings.{saying_by};
 ghost use Rattle.event_model.specs.declared.stage.Stage.TheVariants.{Ready};
 ghost use Rattle.event_model.specs.Does.{Does};
 ghost use Rattle.event_model.specs.Event.{Event};
@@ -9,86 +9,24 @@ ghost use Rattle.event_model.specs.Settings.{Settings};
 ghost use Rattle.group_rows.specs.diagnostics_route.specs.Shown.{shown_text};
 ghost use Rattle.group_rows.specs.ListRows.{show_full, show_opened};
 ghost use Rattle.group_rows.specs.Lists.{lists_of, version_at};
-ghost use Rattle.json_nodes.specs.At.{Found};
 ghost use Rattle.json_text.specs.Json.{Json};
 ghost use Rattle.mux_editors.specs.Handing.{IsNotice};
-ghost use Rattle.mux_editors.specs.Shows.{all_plain, show_at, uri_opened};
+ghost use Rattle.mux_editors.specs.Shows.{all_plain, show_at};
 ghost use Rattle.mux_history.specs.declared.out.Out.TheVariants.{ToEditor};
 ghost use Rattle.mux_tables.specs.declared.tables.Start.{Start};
 ghost use Rattle.mux_tables.specs.Documents.{AllStand, Owed, nothing_owed};
 ghost use Rattle.mux_turns.specs.group_facts.specs.Facts.{Meant};
-ghost use Rattle.rpc_message.specs.Message.{is_integer_value, is_string_value, message_of, notification};
+ghost use Rattle.rpc_message.specs.Message.{message_of, notification};
 ghost use Rattle.rpc_message.specs.Parsed.{IsRead};
 
-use json_span::Tape;
-use json_text::Kind;
-use message_body::{Body, Memory};
+use message_body::Memory;
 use mux_history::Outs;
-use mux_members::{member, string};
+use mux_members::opened_uri;
 use mux_tables::Tables;
 use mux_tables::diagnostics_route::LastList;
 use mux_turns::listed_text;
-use rpc_message::{Message, is_integer};
+use rpc_message::Message;
 use std::alloc::Global;
-
-// Whether a value is there and a string.
-fn is_text(tape: &Tape, node: Option<u32>) -> bool
-    ensures { (o : Option Json) → Found tape.now o node → result ≡ is_string_value o }
-{
-    matches!(tape.maybe_kind(node), Some(Kind::Text))
-}
-
-// Whether a value is there and an integer.
-fn is_number(tape: &Tape, node: Option<u32>) -> bool
-    ensures { (o : Option Json) → Found tape.now o node → result ≡ is_integer_value o }
-{
-    let Some(node) = tape.within(node) else {
-        return false
-    };
-    match tape.kind(node) {
-        Kind::Number => is_integer(tape.values().bytes(node)),
-        _ => false,
-    }
-}
-
-// The URI of a document that is opened, where it has all its parts (LSP 3.17, TextDocumentItem). Its text isn't copied.
-fn uri_of(alloc: Global, tape: &Tape, document: Option<u32>) -> Result<Option<Body>, Memory>
-    ensures { (o : Option Json) → Found tape.now o document → IfOk result (λ uri. uri ≡ uri_opened (opening_by o)) }
-{
-    if is_text(tape, member(tape, document, "languageId"))
-        && is_number(tape, member(tape, document, "version"))
-        && is_text(tape, member(tape, document, "text"))
-    {
-        string(alloc, tape, document, "uri")
-    } else {
-        Ok(None)
-    }
-}
-
-// Whether a notification is `textDocument/didOpen`.
-fn is_opening(message: &Message) -> bool
-    ensures { (body method : List ℕ) (params : Option Json) → IsRead message.now body → message_of body ≡ notification method params
-        → result ≡ bytes_eq (codes "textDocument/didOpen") method }
-{
-    match message.method() {
-        Some(method) => "textDocument/didOpen".as_bytes() == method,
-        None => false,
-    }
-}
-
-// The URI of the document that a notification opens, where it opens one.
-fn opened_uri(alloc: Global, message: &Message) -> Result<Option<Body>, Memory>
-    ensures { (body method : List ℕ) (params : Option Json) → IsRead message.now body → message_of body ≡ notification method params
-        → IfOk result (λ uri. uri ≡ uri_opened (saying_by method params)) }
-{
-    if is_opening(message) {
-        let tape = message.tape();
-        let document = member(tape, message.params(), "textDocument");
-        uri_of(alloc, tape, document)
-    } else {
-        Ok(None)
-    }
-}
 
 // An editor is shown a list that fits it, with its own version of the document, where that is open there.
 fn show(
@@ -127,11 +65,15 @@ fn show_full(
         → OnOk result (Does (λ k events. AllStand settings k events) (look (λ events. show_full settings events x.life.start e list.now)) base
         (tables.now, nothing_owed) outs.old (tables.now, nothing_owed) outs.new) }
 {
-    if list.empty || !tables.fits(g, e, list) {
+    if list.empty {
         return Ok(());
     }
-    show(tables, alloc, outs, g, e, list)?;
-    Ok(())
+    if tables.fits(g, e, list) {
+        show(tables, alloc, outs, g, e, list)?;
+        Ok(())
+    } else {
+        Ok(())
+    }
 }
 
 /// E12: a notification of an editor was heard, and what the group's last start, which is ready, is to be told of it was sent. Where it

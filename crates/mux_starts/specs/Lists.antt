@@ -1,12 +1,8 @@
 -- What editors are shown of a list of diagnostics, as the row reads it.
-use Rattle.std.specs.Prelude.{◌≡◌, ℕ, List, [], ◌∷◌, flat_map, if◌then◌else◌}
-use Rattle.std.specs.Prelude.{Option}
-use Rattle.std.specs.List.{AllByRecursion}
-use Rattle.json_text.specs.Json.{Json}
+use Rattle.std.specs.Prelude.{ℕ, List, [], ◌∷◌, ◌++◌, if◌then◌else◌}
+use Rattle.mux_history.specs.declared.out.Out.{Out}
 use Rattle.mux_history.specs.declared.out.Out.TheVariants.{ToEditor}
-use Rattle.rpc_message.specs.Message.{message_of, notification}
 use Rattle.event_model.specs.Event.{Event}
-use Rattle.event_model.specs.Row.{Row, send}
 use Rattle.event_model.specs.Settings.{Settings}
 use Rattle.group_rows.specs.diagnostics_route.specs.declared.last_list.LastList.{LastList}
 use Rattle.group_rows.specs.diagnostics_route.specs.Shown.{fits, shown_text}
@@ -18,15 +14,9 @@ abbrev pub shown_to : Settings → List Event → ℕ → LastList → ℕ → L
 shown_to settings before s l e = if fits l (agreement_at settings s e before l.uri) then record { editor = e; text = shown_text (version_at settings s e before l.uri) l.body } ∷ [] else []
 
 abbrev pub all_shown : Settings → List Event → ℕ → LastList → List ℕ → List Telling
-all_shown settings before s l es = flat_map (shown_to settings before s l) es
+all_shown settings before s l [] = []
+all_shown settings before s l (e ∷ es) = shown_to settings before s l e ++ all_shown settings before s l es
 
--- an editor is told so
-abbrev pub tell : Telling → Row
-tell t = send (ToEditor t.editor t.text)
-
--- each is a notification
-abbrev pub IsNotice : Telling → Type 0
-IsNotice t = (method : List ℕ) × (params : Option Json) × (message_of t.text ≡ notification method params)
-
-abbrev pub AreNotices : List Telling → Type 0
-AreNotices ts = AllByRecursion IsNotice ts
+-- it is told so
+abbrev pub told : Telling → Out
+told t = ToEditor t.editor t.text

@@ -1,15 +1,14 @@
 //! S15: a start publishes diagnostics (LSP 3.17, Publish Diagnostics).
-ghost use Rattle.std.specs.Prelude.{◌≡◌, ◌<◌, ℕ, List, [], Option, Some, IfOk, OnOk, length, map, slice_get, true};
+ghost use Rattle.std.specs.Prelude.{◌≡◌, ◌<◌, ◌++◌, ℕ, List, [], Option, Some, IfOk, OnOk, length, map, slice_get, true};
 ghost use Rattle.event_model.specs.declared.stage.Stage.TheVariants.{Ready};
-ghost use Rattle.event_model.specs.Does.{Does, Done};
+ghost use Rattle.event_model.specs.Does.{Done};
 ghost use Rattle.event_model.specs.Event.{Event, with_cause};
-ghost use Rattle.event_model.specs.Row.{each};
 ghost use Rattle.event_model.specs.Settings.{Settings};
 ghost use Rattle.group_rows.specs.ListRows.{list_row};
 ghost use Rattle.group_rows.specs.Lists.{is_publishing};
 ghost use Rattle.json_text.specs.Json.{Json};
 ghost use Rattle.mux_history.specs.declared.cause.Cause.TheVariants.{FromServer};
-ghost use Rattle.mux_starts.specs.Lists.{AreNotices, all_shown, tell};
+ghost use Rattle.mux_starts.specs.Lists.{all_shown, told};
 ghost use Rattle.mux_starts.specs.group_facts.specs.Facts.{Meant};
 ghost use Rattle.mux_tables.specs.declared.tables.Start.{Start};
 ghost use Rattle.mux_tables.specs.Documents.{AllStand, DocumentsStand, nothing_owed};
@@ -17,7 +16,7 @@ ghost use Rattle.mux_tables.specs.Stands.{Stands, number_in};
 ghost use Rattle.rpc_message.specs.Message.{message_of, notification};
 ghost use Rattle.rpc_message.specs.Parsed.{IsRead};
 
-use crate::progress::{Telling, tell};
+use crate::progress::Telling;
 use message_body::Memory;
 use mux_history::Outs;
 use mux_tables::Tables;
@@ -53,12 +52,11 @@ fn shown_to(
 
 // Each is told so, in this order.
 fn tell_each(tables: &Tables, outs: &mut Outs, tellings: Vec<Telling>) -> Result<(), Memory>
-    ensures does { (settings : Settings) (base : List Event) → AreNotices tellings.items
-        → OnOk result (Does (λ k events. AllStand settings k events) (each tell tellings.items) base
-        (tables.now, nothing_owed) outs.old (tables.now, nothing_owed) outs.new) }
+    ensures { OnOk result (outs.new ≡ outs.old ++ map told tellings.items) }
 {
     for telling in tellings {
-        tell(tables, outs, telling)?;
+        let Telling { editor, text } = telling;
+        tables.tell(outs, editor, text)?;
     }
     Ok(())
 }

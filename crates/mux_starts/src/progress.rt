@@ -62,8 +62,8 @@ fn telling_of(
     }
 }
 
-/// The editor is told so.
-pub fn tell(tables: &Tables, outs: &mut Outs, telling: Telling) -> Result<(), Memory>
+// The editor is told so.
+fn tell(tables: &Tables, outs: &mut Outs, telling: Telling) -> Result<(), Memory>
     ensures does { (settings : Settings) (base : List Event) (method : List ℕ) (params : Option Json) → message_of telling.text ≡ notification method params
         → OnOk result (Does (λ k events. AllStand settings k events) (send (ToEditor telling.editor telling.text)) base
         (tables.now, nothing_owed) outs.old (tables.now, nothing_owed) outs.new) }
