@@ -57,6 +57,7 @@ pub mod Parking
 pub mod Registering
 pub mod Publishing
 pub mod Registered
+pub mod Listed
 pub mod Creating
 pub mod Resuming
 pub mod DocumentResumed

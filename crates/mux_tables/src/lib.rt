@@ -6,7 +6,7 @@ mod asks;
 mod created;
 mod documents;
 mod hears;
-mod lists;
+mod last_lists;
 mod looks;
 mod notes;
 mod places;
