@@ -401,16 +401,16 @@ module _ (settings : Settings) (before : List Event) (s : ℕ) (body : List ℕ)
       (broadcast_why method params says class es (events ++ said (ToEditor e body) ∷ []) (all_still settings before events e body es run.1))
 
   -- S15
-  module _ (meant : AllMeant before) (l : LastList) (kept : IsList l) (came : published (sayings_of s before) body ≡ Some l) where
+  module _ (meant : AllMeant before) (method : List ℕ) (params : Option Json) (says : message_of body ≡ notification method params) (class : class_of method Server true ≡ Diagnostics) (l : LastList) (kept : IsList l) (came : published (sayings_of s before) body ≡ Some l) where
     lists_why : (es : List ℕ) (events : List Event) → AllRun settings before events es → Because R events (each (λ e. show settings before s e l) es)
     lists_why [] events run = by_nothing
     lists_why (e ∷ es) events run = by_then
-        (shown_why settings before meant e s l kept before (FromServer s body) R events (λ text k. shows k) stage run.0 (λ text fitting. comes body l refl came fitting))
+        (shown_why settings before meant e s l kept before (FromServer s body) R events (λ text k. shows k) stage run.0 (λ text fitting. comes body method params l refl says class came fitting))
         (lists_why es (behind events (outs (show settings before s e l) events)) (behind_show settings before e s l (λ z. AllRun settings before z es) events
         (all_still settings before events e (shown_text (version_at settings s e before l.uri) l.body) es run.1) run.1))
 
   list_why : AllMeant before → (method : List ℕ) (params : Option Json) → message_of body ≡ notification method params → class_of method Server true ≡ Diagnostics → Because R now (list_row settings s before body)
-  list_why meant method params says class = by_on (λ none. by_nothing) (λ l came. by_on (λ none. by_nothing) (λ g home. lists_why meant l
+  list_why meant method params says class = by_on (λ none. by_nothing) (λ l came. by_on (λ none. by_nothing) (λ g home. lists_why meant method params says class l
       (record { method = method; params = params; says = ap message_of (published_body (sayings_of s before) body l came) ∙ says; class = ap names_list class }) came (running_in settings g before) now (run_now g)))
 
   -- S13

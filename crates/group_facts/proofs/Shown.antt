@@ -27,7 +27,7 @@ use Rattle.group_rows.proofs.ListsKept.{IsList}
 use Rattle.group_rows.proofs.Versions.{AllMeant, meant_more, meant_said, version_number}
 use Rattle.group_facts.specs.Why.{IsFitting, IsShown, Showing}
 
-list_is : (c : Class) → names_list c ≡ true → c ≡ Diagnostics
+pub list_is : (c : Class) → names_list c ≡ true → c ≡ Diagnostics
 list_is Diagnostics h = refl
 list_is _ h = never (sym h)
 

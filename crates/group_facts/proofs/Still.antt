@@ -171,7 +171,7 @@ module _ (settings : Settings) (before : List Event) (e : ℕ) (body : List ℕ)
   document_in : (what : Saying) (g : ℕ) → Still settings (on (start_of g before) nothing (document_at settings before e body what g))
   document_in what g = still_on (λ none. still_nothing) (λ s at. document_there what g s)
 
-  still_document : (what : Saying) → Still settings (document_row settings before e body what)
+  pub still_document : (what : Saying) → Still settings (document_row settings before e body what)
   still_document what = still_on (λ none. still_nothing) (λ g at. document_in what g)
 
   -- one that doesn't run yet was asked to take nothing

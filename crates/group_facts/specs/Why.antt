@@ -543,7 +543,8 @@ pub record IsFitting (settings : Settings) (events : List Event) (e s : ℕ) (l 
 
 -- which list of diagnostics is shown: one that comes (S15); the last one, which isn't empty, of a document that the editor opened, by what the start was sent by then (E12); and each such one, in the order of their documents' first lists, as it begins to run (L2)
 pub data Showing (settings : Settings) (before : List Event) (cause : Cause) (events : List Event) (e s : ℕ) (body : List ℕ) : Type 0 where
-  comes : (asked : List ℕ) (list : LastList) → cause ≡ FromServer s asked → published (sayings_of s before) asked ≡ Some list → IsFitting settings before e s list body → Showing settings before cause events e s body
+  comes : (asked method : List ℕ) (given : Option Json) (list : LastList) → cause ≡ FromServer s asked → message_of asked ≡ notification method given → class_of method Server true ≡ Diagnostics → published (sayings_of s before) asked ≡ Some list
+      → IsFitting settings before e s list body → Showing settings before cause events e s body
   opened_by : (text uri language version words : List ℕ) (list : LastList) → cause ≡ FromEditor e text → saying_of (message_of text) ≡ opens uri language version words → find (is_of uri) (lists_of s events) ≡ Some list → list.empty ≡ false
       → IsFitting settings events e s list body → Showing settings before cause events e s body
   begins_by : (list : LastList) (earlier later : List LastList) → IsRestoring settings before cause e s → lists_of s before ≡ earlier ++ list ∷ later → list.empty ≡ false → IsFitting settings before e s list body → Showing settings before cause events e s body

@@ -104,7 +104,7 @@ asks_none (error id r) h = refl
 asks_none not_json h = refl
 asks_none not_message h = refl
 
-well_formed : (m : Message) → makes_running m ≡ true → (is_malformed m ≡ false) × (asks_lspmux m ≡ false)
+pub well_formed : (m : Message) → makes_running m ≡ true → (is_malformed m ≡ false) × (asks_lspmux m ≡ false)
 well_formed (request id method ps) h = (refl, own (asks_lspmux (request id method ps)) refl)
   where
     own : (b : Bool) → asks_lspmux (request id method ps) ≡ b → b ≡ false
