@@ -1,28 +1,31 @@
 -- L2: an editor that begins to run is shown last lists as one at which no document is open.
-use Rattle.std.proofs.Common.{◌≡◌, ℕ, zero, suc, ◌+◌, Bool, true, false, not, List, [], ◌∷◌, ◌++◌, append-nil, append_assoc, length, length-append, if◌then◌else◌, refl, ap, ap₂, sym, subst, ◌∙◌, arith}
+use Rattle.std.proofs.Common.{◌≡◌, ℕ, zero, suc, ◌+◌, Bool, true, false, not, List, [], ◌∷◌, ◌++◌, append-nil, append_assoc, find, length, length-append, map, if◌then◌else◌, refl, ap, ap₂, sym, subst, ◌∙◌, arith}
 use Rattle.std.specs.Prelude.{Option, None, Some, slice_get}
 use Rattle.std.specs.List.{AllByRecursion}
 use Rattle.std.specs.Option.{option_map, option_map_or}
 use Rattle.mux_history.specs.declared.cause.Cause.TheVariants.{FromEditor}
 use Rattle.mux_history.specs.declared.out.Out.{Out}
-use Rattle.mux_history.specs.declared.out.Out.TheVariants.{ToEditor}
+use Rattle.mux_history.specs.declared.out.Out.TheVariants.{ToEditor, ToServer, Spawn, CloseEditor, EndServer}
 use Rattle.document_model.specs.Opens.{Open}
+use Rattle.document_model.specs.Sayings.{Saying, opens, changes, closes, misshapen}
+use Rattle.document_model.specs.Sayings.{nothing as silent}
 use Rattle.document_model.specs.Texts.{found}
 use Rattle.response_route.specs.document_model.specs.declared.agreement.Agreement.TheVariants.{NotOpen}
-use Rattle.event_model.specs.Does.{Alike}
-use Rattle.event_model.specs.Event.{Event, behind, heard, with_cause}
-use Rattle.event_model.specs.Row.{choose, each, nothing, on, outs, send}
+use Rattle.event_model.specs.Does.{Alike, Does}
+use Rattle.event_model.specs.Event.{Event, behind, heard, said, with_cause}
+use Rattle.event_model.specs.Row.{Row, choose, each, look, nothing, on, outs, send}
 use Rattle.event_model.specs.Settings.{Settings}
 use Rattle.event_model.proofs.Places.{same_item}
 use Rattle.group_rows.specs.Answers.{shared_texts}
 use Rattle.group_rows.specs.diagnostics_route.specs.declared.last_list.LastList.{LastList}
 use Rattle.group_rows.specs.diagnostics_route.specs.Lists.{nonempty}
-use Rattle.group_rows.specs.diagnostics_route.specs.Rows.{numbers_from}
+use Rattle.group_rows.specs.diagnostics_route.specs.Rows.{is_of, numbers_from}
 use Rattle.group_rows.specs.diagnostics_route.specs.Shown.{fits, shown_text}
-use Rattle.group_rows.specs.ListRows.{show, show_all, show_full}
-use Rattle.group_rows.specs.Lists.{agreement_at, agreement_by, changed_of, lists_of, version_at}
+use Rattle.group_rows.specs.ListRows.{show, show_all, show_full, show_opened}
+use Rattle.group_rows.specs.Lists.{agreement_at, agreement_by, changed_of, lists_next, lists_of, version_at}
 use Rattle.group_rows.proofs.ListsKept.{IsList, lists_kept}
 use Rattle.mux_model.specs.Documents.{held_at}
+use Rattle.mux_members.specs.Notices.{uri_opened}
 use Rattle.mux_tables.proofs.Publishing.{lists_more}
 use Rattle.mux_turns.specs.group_facts.specs.Facts.{IsMeant, Meant}
 use Rattle.mux_turns.specs.mux_facts.proofs.Lists.{all_join}
@@ -85,6 +88,18 @@ module _ (settings : Settings) (before : List Event) (s e : ℕ) (none : (u : Li
 pub lists_here : (s : ℕ) (before : List Event) (e : ℕ) (body : List ℕ) → lists_of s (with_cause before (FromEditor e body)) ≡ lists_of s before
 lists_here s before e body = lists_more s before (heard (FromEditor e body))
 
+-- and those behind outs
+pub lists_behind : (s : ℕ) (events : List Event) (xs : List Out) → lists_of s (behind events xs) ≡ lists_of s events
+lists_behind s events [] = ap (lists_of s) (append-nil events)
+lists_behind s events (x ∷ xs) = ap (lists_of s) (sym (append_assoc events (said x ∷ []) (map said xs))) ∙ (lists_behind s (events ++ said x ∷ []) xs ∙ (lists_more s events (said x) ∙ stays x (lists_of s events)))
+  where
+    stays : (x : Out) (ls : List LastList) → lists_next s events ls (said x) ≡ ls
+    stays (ToEditor n body) ls = refl
+    stays (ToServer n body) ls = refl
+    stays (Spawn n g) ls = refl
+    stays (CloseEditor n) ls = refl
+    stays (EndServer n) ls = refl
+
 pub meant_here : (before : List Event) (e : ℕ) (body : List ℕ) → Meant before → Meant (with_cause before (FromEditor e body))
 meant_here before e body meant = all_join IsMeant before (heard (FromEditor e body) ∷ []) meant (refl, tt)
 
@@ -132,3 +147,28 @@ module _ (settings : Settings) (e : ℕ) (ls : List LastList) (h : AreNotices ls
 
   pub plain_questions : (events : List Event) → AllByRecursion (IsQuestion e) (outs (all_plain e ls) events)
   plain_questions events = questions (nonempty ls) events
+
+-- A row that looks, at its place
+
+module _ {K : Type 0} {Stands : K → List Event → Type 0} where
+  pub does_looked : {f : List Event → Row} {base : List Event} {t u : K} {xs ys : List Out} → Does Stands (look f) base t xs u ys → Does Stands (f (behind base xs)) base t xs u ys
+  does_looked d = record { done = λ s. let one = d.done s in record { outs = one.outs; stands = one.stands } }
+
+-- E12: by what the message opened
+
+pub shows_none : (settings : Settings) (s e : ℕ) (what : Saying) → uri_opened what ≡ None → show_opened settings s e what ≡ nothing
+shows_none settings s e (opens u l v t) h = absurd (cc)
+shows_none settings s e (changes u v cs) h = refl
+shows_none settings s e (closes u) h = refl
+shows_none settings s e misshapen h = refl
+shows_none settings s e silent h = refl
+
+abbrev pub show_last : Settings → ℕ → ℕ → List ℕ → List Event → Row
+show_last settings s e u events = on (find (is_of u) (lists_of s events)) nothing (show_full settings events s e)
+
+pub shows_last : (settings : Settings) (s e : ℕ) (what : Saying) (u : List ℕ) → uri_opened what ≡ Some u → show_opened settings s e what ≡ look (show_last settings s e u)
+shows_last settings s e (opens w l v t) u h = let same : w ≡ u = cc in ap (λ z. look (show_last settings s e z)) same
+shows_last settings s e (changes w v cs) u h = absurd (cc)
+shows_last settings s e (closes w) u h = absurd (cc)
+shows_last settings s e misshapen u h = absurd (cc)
+shows_last settings s e silent u h = absurd (cc)

@@ -1,5 +1,5 @@
 -- What an editor says by a notification.
-use Rattle.std.proofs.Common.{ap, map, ◌∙◌, codes}
+use Rattle.std.proofs.Common.{◌<◌, ap, map, subst, sym, ◌∙◌, codes}
 use Rattle.document_model.specs.Sayings.{saying_by}
 use Rattle.event_model.specs.Event.{requests, with_cause}
 use Rattle.event_model.specs.Phases.{desk_of}
@@ -12,6 +12,7 @@ use Rattle.mux_tables.specs.Stands.{is_answer}
 use Rattle.mux_tables.proofs.Asking.{answers_none}
 use Rattle.mux_tables.specs.mux_tokens.proofs.Stays.{takes_none}
 use Rattle.mux_editors.proofs.Asides.{old_unopened}
+use Rattle.mux_editors.proofs.Beginning.{same_length}
 use Rattle.mux_editors.proofs.Noticing.{noticed, unnoticed}
 use Rattle.mux_editors.proofs.Runs.{runs_now, then_rest}
 use Rattle.mux_editors.proofs.Serving.{not_new, notice_makes, notice_stops, unplaced}
@@ -52,3 +53,8 @@ returns-in-None-clause-does c = λ settings before body method params g s read s
     let begun = c.in_ok-begin.ensures.begun settings (owes g (noticing settings before g s e body what)) before body served runs (c.may_begin-begins.ensures settings before st) first (can_begin settings before meant settled c.args.tables.now c.args.e body st ds) heard owed.1 in
     let rest = c.in_ok-begin.ensures.rest ∙ ap (λ ls. map unasked ls.items) c.hear_notice.ensures.lasts in
     then_rest begun.done (unnoticed settings c.args.tables.now u before e g s body what c.begin.new.outs c.pay.new.outs c.in_ok-owed.owed rest st home starts owed.0 c.in_ok-pay.ensures.outs (λ n start. c.in-None.ensures.unready settings before n st start))
+
+pub show_opened-requires : goal.show_opened-requires
+show_opened-requires c =
+    let kept = c.in_ok-begin.ensures.rest ∙ ap (λ ls. map unasked ls.items) c.hear_notice.ensures.lasts in
+    subst (λ n. c.in-Some.g < n) (sym (same_length unasked c.args.tables.now.lasts.items c.begin.new.tables.lasts.items kept)) c.in-Some.ensures.inside
