@@ -16,7 +16,6 @@ use Rattle.event_model.proofs.Frames.{never}
 use Rattle.group_rows.specs.Answers.{shared_texts}
 use Rattle.group_rows.specs.Texts.{texts_of}
 use Rattle.mux_tables.specs.declared.tables.Tables.{Tables}
-use Rattle.mux_tables.specs.document_laws.specs.Follows.{texts_in}
 use Rattle.mux_tables.specs.Documents.{DocumentsStand, IsOwned, nothing_owed}
 use Rattle.mux_tables.specs.Stands.{Stands}
 use Rattle.mux_tables.proofs.DocumentMoves.{documents_at}

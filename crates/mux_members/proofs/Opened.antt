@@ -1,5 +1,5 @@
 -- The document that a notification opens (LSP 3.17, DidOpenTextDocumentParams).
-use Rattle.std.proofs.Common.{◌≡◌, ℕ, Bool, true, false, ◌&&◌, List, codes, Option, Some, None, refl, sym, ◌∙◌, ap, ap₂, subst, Result, Ok, Err, IfOk}
+use Rattle.std.proofs.Common.{◌≡◌, ℕ, Bool, true, false, ◌&&◌, List, codes, Option, Some, None, refl, sym, ◌∙◌, ap, subst, Result, Ok, IfOk}
 use Rattle.std.specs.Prelude.{bytes_eq, is_some, option_map, if◌then◌else◌}
 use Rattle.std.specs.Option.{option_and_then}
 use Rattle.std.proofs.lemmas.Bool.{and_parts}

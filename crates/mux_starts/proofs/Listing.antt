@@ -23,7 +23,7 @@ use Rattle.mux_starts.specs.declared.progress.Telling.{Telling}
 use Rattle.mux_starts.specs.group_facts.specs.Facts.{Meant}
 use Rattle.mux_starts.specs.Lists.{all_shown, shown_to, told}
 use Rattle.mux_tables.specs.declared.tables.Tables.{Tables}
-use Rattle.mux_tables.specs.Documents.{AllStand, Owed, nothing_owed}
+use Rattle.mux_tables.specs.Documents.{AllStand, nothing_owed}
 use Rattle.mux_tables.proofs.DocumentOwed.{all_does}
 use Rattle.mux_tables.proofs.DocumentSaid.{told_documents}
 use Rattle.mux_tables.proofs.Said.{told_does}

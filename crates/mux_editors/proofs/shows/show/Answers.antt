@@ -1,5 +1,5 @@
 -- An editor is shown a list that fits it.
-use Rattle.std.proofs.Common.{ap, refl, sym, subst, ◌∙◌}
+use Rattle.std.proofs.Common.{ap, sym, ◌∙◌}
 use Rattle.mux_history.specs.declared.out.Out.TheVariants.{ToEditor}
 use Rattle.rpc_message.specs.Message.{message_of}
 use Rattle.event_model.specs.Event.{behind}

@@ -1,5 +1,5 @@
 -- An editor is shown the list of a number, as one at which its document isn't open.
-use Rattle.std.proofs.Common.{ap, refl, sym, subst, ◌∙◌}
+use Rattle.std.proofs.Common.{ap, sym, subst, ◌∙◌}
 use Rattle.std.specs.Prelude.{None, Some, slice_get}
 use Rattle.mux_history.specs.declared.out.Out.TheVariants.{ToEditor}
 use Rattle.rpc_message.specs.Message.{message_of}
@@ -7,7 +7,6 @@ use Rattle.event_model.specs.Does.{Does}
 use Rattle.event_model.specs.Event.{behind}
 use Rattle.event_model.specs.Row.{nothing, on, send}
 use Rattle.event_model.proofs.Turns.{does_knowing, does_nothing}
-use Rattle.group_rows.specs.diagnostics_route.specs.Shown.{shown_text}
 use Rattle.group_rows.specs.Lists.{lists_of}
 use Rattle.mux_tables.specs.Documents.{AllStand}
 use Rattle.mux_tables.proofs.DocumentOwed.{all_does}

@@ -1,5 +1,5 @@
 -- An editor is shown a last list that isn't empty and fits it.
-use Rattle.std.proofs.Common.{ap, not, sym, ◌∙◌}
+use Rattle.std.proofs.Common.{false, ap, sym, ◌∙◌}
 use Rattle.mux_history.specs.declared.out.Out.TheVariants.{ToEditor}
 use Rattle.event_model.specs.Event.{behind}
 use Rattle.event_model.specs.Row.{choose, nothing, send}
