@@ -273,6 +273,23 @@ impl<T: Text + Drop> Shared<T> {
         }
     }
 
+    /// How many notifications on documents the ready start was sent. It takes no memory.
+    pub fn sent(&self) -> u128
+        ensures { result ≡ self.now.sent }
+    {
+        self.sent
+    }
+
+    /// An editor's own version of a document, where it is open there. It takes no memory.
+    pub fn version(&self, e: u64, uri: &[u8]) -> Option<&[u8]>
+        ensures { option_map (λ v. v.now) result ≡ option_map (λ o. o.version) (find (is_open_at e uri.now) self.now.opens) }
+    {
+        match self.opens.find(e, uri) {
+            Some(opening) => Some(opening.version.bytes()),
+            None => None,
+        }
+    }
+
     /// The versions of the documents that an editor has open, in the order of their opening.
     pub fn versions_of(&self, alloc: Global, e: u64) -> Result<Vec<DocumentVersion>, Memory>
         ensures { IfOk result (λ versions. versions.items ≡ versions_of e self.now) }
