@@ -36,6 +36,7 @@ use Rattle.mux_tokens.specs.progress_route.specs.declared.tokens.Handed.{Handed}
 use Rattle.mux_tokens.specs.Rows.{Rows, changed, edited, table_of}
 use Rattle.mux_tokens.specs.Stands.{AreFresh, CreatedStand, IsOffer, TakesOne}
 use Rattle.mux_tokens.proofs.Seen.{given_seen, none_named, number_seen}
+use Rattle.mux_tokens.proofs.Stays.{is_notification}
 use Rattle.mux_tokens.proofs.Standing.{answer_moves as reply_tokens, asked_moves, create_moves, next_token, stay_stands, told_moves, unnamed_answers}
 use Rattle.mux_tables.specs.declared.tables.Start.{Start}
 use Rattle.mux_tables.specs.declared.tables.Tables.{Tables}

@@ -13,6 +13,7 @@ use Rattle.diagnostics_route.specs.declared.last_list.LastList.{LastList}
 use Rattle.diagnostics_route.specs.Lists.{Table, taken}
 use Rattle.diagnostics_route.specs.Published.{published}
 use Rattle.diagnostics_route.specs.Rows.{is_of, number_from, number_in, with_list}
+use Rattle.focus_switch.specs.Documents.{Documents}
 use Rattle.group_words.specs.Houses.{is_first_error}
 use Rattle.group_laws.specs.group_rows.specs.Created.{created_next, created_of}
 use Rattle.group_laws.specs.group_rows.specs.Lists.{is_publishing, lists_of, sayings_of}
@@ -20,8 +21,10 @@ use Rattle.mux_tokens.specs.Stands.{CreatedStay}
 use Rattle.mux_tokens.proofs.Stays.{other_notification}
 use Rattle.mux_tables.specs.declared.tables.Start.{Start}
 use Rattle.mux_tables.specs.declared.tables.Tables.{Tables}
+use Rattle.mux_tables.specs.Documents.{DocumentsStand, nothing_owed}
 use Rattle.mux_tables.specs.Stands.{ListsAt, NamesAt, Stands, is_early, is_request, number_in as start_in, of_life, of_lists}
 use Rattle.mux_tables.proofs.Asking.{parked_by}
+use Rattle.mux_tables.proofs.DocumentMoves.{documents_at}
 use Rattle.mux_tables.proofs.Frames.{asks_stay, live_stay}
 use Rattle.mux_tables.proofs.Publishing.{list_apart, listed, ready_lists}
 use Rattle.mux_tables.proofs.Registering.{live_by_stay}
@@ -109,3 +112,10 @@ lost_from n u (l ∷ ls) h = go (is_of u l) h (lost_from (n + 1) u ls)
 
 pub no_list : (u : List ℕ) (ls : List LastList) → number_in u ls ≡ None → find (is_of u) ls ≡ None
 no_list u ls h = lost_from 0 u ls h
+
+-- S15: the documents of each group that has a start stand in its place
+pub stored : (settings : Settings) (t : Tables) (events : List Event) (g : ℕ) (x : Start) → slice_get t.lasts.items g ≡ Some x → DocumentsStand settings nothing_owed t events → None ≡ slice_get t.documents.items g → ⊥
+stored settings t events g x at ds none = let d = documents_at settings nothing_owed t events g x at ds in some_none d.0 (none ∙ d.1)
+  where
+    some_none : (d : Documents) → ◌≡◌ {A = Option Documents} None (Some d) → ⊥
+    some_none d e = cc
