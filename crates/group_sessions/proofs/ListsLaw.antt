@@ -191,7 +191,7 @@ module _ (settings : Settings) (range : InRange settings) (before : List Event) 
         go true b h = never (sym h)
         go false true h = refl
         go false false h = never (sym h)
-    begins Running off on = never (sym off)
+    begins Running off on = never off
     begins Absent off on = never (sym on)
     begins Waiting off on = never (sym on)
     begins Down off on = never (sym on)

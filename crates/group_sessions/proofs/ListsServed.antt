@@ -112,7 +112,7 @@ module _ (settings : Settings) (before : List Event) (meant : AllMeant before) (
       says : has_number e events ≡ true → message_of (with_id_text p.body (decimal (next_ask e events))) ≡ request (integer (decimal (next_ask e events))) (known.0).method (known.0).params
       says room = request_with_id p.body (decimal (next_ask e events)) p.id (integer (decimal (next_ask e events))) (known.0).method (known.0).params (known.0).says (decimal_law (next_ask e events) (ltb-true (next_ask e events) (2 ^ 64) room))
 
-  abbrev full : ℕ → List (List ℕ)
+  abbrev pub full : ℕ → List (List ℕ)
   full s = flat_map (shown_full settings s e before) (lists_of s before)
 
   run_lists_at : (s : ℕ) (events : List Event) → lists_to e (outs (run_at settings before e s) events) ≡ (if is_ready (life_of s before).stage then full s else [])
