@@ -1,9 +1,9 @@
 -- In every legal history each entry sends each editor just the lists of diagnostics that it is due.
-use Rattle.std.proofs.Common.{◌≡◌, ℕ, Bool, true, false, ◌&&◌, List, [], ◌∷◌, ◌++◌, append-nil, append_assoc, codes, flat_map, map, nat_eq, if◌then◌else◌, Option, Some, None, ◌⊎◌, inl, inr, refl, sym, ◌∙◌, ap, ap₂, subst}
+use Rattle.std.proofs.Common.{◌≡◌, ℕ, Bool, true, false, ◌&&◌, List, [], ◌∷◌, ◌++◌, append-nil, append_assoc, codes, map, nat_eq, if◌then◌else◌, Option, ◌⊎◌, inl, inr, refl, sym, ◌∙◌, ap, ap₂, subst}
 use Rattle.std.specs.List.{AllByRecursion}
 use Rattle.std.specs.Option.{option_map_or}
 use Rattle.json_text.specs.Json.{Json}
-use Rattle.document_model.specs.Sayings.{Saying, opens, saying_by, saying_of}
+use Rattle.document_model.specs.Sayings.{opens, saying_by, saying_of}
 use Rattle.mux_history.specs.declared.cause.Cause.{Cause}
 use Rattle.mux_history.specs.declared.cause.Cause.TheVariants.{Joined, FromEditor, EditorGone, Started, StartFailed, FromServer, ServerGone, Drained, Tick}
 use Rattle.mux_history.specs.declared.entry.Entry.{Entry}
@@ -37,7 +37,7 @@ use Rattle.group_rows.proofs.Versions.{AllMeant, meant_heard, meant_more}
 use Rattle.group_facts.specs.Built.{built_behind}
 use Rattle.group_facts.specs.Legal.{Legal, LegalFrom}
 use Rattle.group_facts.specs.Settled.{Settled}
-use Rattle.group_facts.specs.Why.{IsQuestion, IsShown, Showing, Why, begins_by, comes, opened_by}
+use Rattle.group_facts.specs.Why.{IsQuestion, Showing, Why, begins_by, comes, opened_by}
 use Rattle.group_facts.proofs.AskingRows.{running_is, still_runs}
 use Rattle.group_facts.proofs.Begun.{leave_by}
 use Rattle.group_facts.proofs.Facts.{Facts}
