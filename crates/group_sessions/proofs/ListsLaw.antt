@@ -159,7 +159,7 @@ module _ (settings : Settings) (range : InRange settings) (before : List Event) 
       other none = all_off settings before (FromEditor e body) e (λ events text k. hidden events text k.start k.shown) now xs why ∙ sym (nothing_due (is_running (desk_of e after).phase))
         where
           hidden : (events : List Event) (text : List ℕ) (s : ℕ) → Showing settings before (FromEditor e body) events e s text → ⊥
-          hidden events text s (comes asked method given list from asks class came fitting) = let clash : FromEditor e body ≡ FromServer s asked = from in cc
+          hidden events text s (comes asked method given list from notified class came fitting) = let clash : FromEditor e body ≡ FromServer s asked = from in cc
           hidden events text s (opened_by words u l v t list from says found full fitting) = none u l v t (ap (λ z. saying_of (message_of z)) (let is : FromEditor e body ≡ FromEditor e words = from in let same : body ≡ words = cc in same) ∙ says)
           hidden events text s (begins_by list earlier later restoring order full fitting) = let clash : Running ≡ Answered = sym runs ∙ restoring.waited in cc
 
@@ -302,7 +302,7 @@ module _ (settings : Settings) (range : InRange settings) (before : List Event) 
           same = cc
 
       hidden : (events : List Event) (text : List ℕ) (s : ℕ) → Showing settings before (FromEditor n body) events e s text → ⊥
-      hidden events text s (comes asked method given list from asks class came fitting) = let clash : FromEditor n body ≡ FromServer s asked = from in cc
+      hidden events text s (comes asked method given list from notified class came fitting) = let clash : FromEditor n body ≡ FromServer s asked = from in cc
       hidden events text s (opened_by words u l v t list from says found full fitting) = mine words from
       hidden events text s (begins_by list earlier later restoring order full fitting) = mine restoring.text restoring.from
 
@@ -315,11 +315,11 @@ module _ (settings : Settings) (range : InRange settings) (before : List Event) 
     unpublished none = all_off settings before (FromServer s body) e (λ events text k. hidden events text k.start (ap is_ready k.ready) k.shown) told (outs_of settings before (FromServer s body)) (reasons settings range before facts (FromServer s body) built).why
       where
         hidden : (events : List Event) (text : List ℕ) (t : ℕ) → is_ready (life_of t before).stage ≡ true → Showing settings before (FromServer s body) events e t text → ⊥
-        hidden events text t ready (comes asked method given list from asks class came fitting) =
+        hidden events text t ready (comes asked method given list from notified class came fitting) =
             let is : FromServer s body ≡ FromServer t asked = from in
             let same_start : s ≡ t = cc in
             let same_body : body ≡ asked = cc in
-            none (ap (λ z. gives_list (message_of z)) same_body ∙ (ap gives_list asks ∙ ap names_list class)) (ap (λ z. is_ready (life_of z before).stage) same_start ∙ ready)
+            none (ap (λ z. gives_list (message_of z)) same_body ∙ (ap gives_list notified ∙ ap names_list class)) (ap (λ z. is_ready (life_of z before).stage) same_start ∙ ready)
         hidden events text t ready (opened_by words u l v x list from says found full fitting) = let clash : FromServer s body ≡ FromEditor e words = from in cc
         hidden events text t ready (begins_by list earlier later restoring order full fitting) = let clash : FromServer s body ≡ FromEditor e restoring.text = restoring.from in cc
 
@@ -351,7 +351,7 @@ module _ (settings : Settings) (range : InRange settings) (before : List Event) 
   silent cause quiet built = all_off settings before cause e (λ events text k. never (sym (spoken events text k.start k.shown) ∙ quiet)) (with_cause before cause) (outs_of settings before cause) (reasons settings range before facts cause built).why
     where
       spoken : (events : List Event) (text : List ℕ) (s : ℕ) → Showing settings before cause events e s text → talks cause ≡ true
-      spoken events text s (comes asked method given list from asks class came fitting) = ap talks from
+      spoken events text s (comes asked method given list from notified class came fitting) = ap talks from
       spoken events text s (opened_by words u l v t list from says found full fitting) = ap talks from
       spoken events text s (begins_by list earlier later restoring order full fitting) = ap talks restoring.from
 
