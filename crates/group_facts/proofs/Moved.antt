@@ -256,7 +256,7 @@ module _ (settings : Settings) (before : List Event) (e : ℕ) (body : List ℕ)
     })
       where
         by_shown : (s : ℕ) → Showing settings before cause x n s b → Showing settings before cause y n s b
-        by_shown s (comes text method given list from asks class came fitting) = none_from s text from
+        by_shown s (comes text method given list from notified class came fitting) = none_from s text from
         by_shown s (opened_by text u l v t list from said found full fitting) = opened_by text u l v t list from said (ap (find (is_of u)) (S.lists s) ∙ found) full
             (record { fit = ap (fits list) (same_agreement settings S s n list.uri) ∙ fitting.fit; bytes = fitting.bytes ∙ ap (λ own. shown_text own list.body) (sym (same_version settings S s n list.uri)) })
         by_shown s (begins_by list earlier later restoring order full fitting) = begins_by list earlier later restoring order full fitting

@@ -179,8 +179,7 @@ plain_says body method params is = go (params_of body) refl
         let old : depth (object v.span ls) ≤ 1024 = sound.1 in
         let ns : Members = put_named (codes "params") r.tree ls in
         let made : Replaced body es (object v.span ns) = replaced body es root (object v.span ns) sound.0
-        (in_object v.span ls ns es (named_step (codes "params") ls p r.tree es at (swapped p r.tree (without body (codes "version") None p) r.written))) in
-        (
+        (in_object v.span ls ns es (named_step (codes "params") ls p r.tree es at (swapped p r.tree (without body (codes "version") None p) r.written))) in (
           given (Some r.tree),
           message_says (object v.span ns) (replace body es) made.says (omega (arith, old, r.low, named_below (codes "params") ls p at, members_deep (codes "params") ls r.tree))
               ∙ ap (λ b. if b then by_method (named (codes "method") ns) ns else not_message)

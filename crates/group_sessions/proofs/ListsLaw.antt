@@ -1,9 +1,9 @@
 -- In every legal history each entry sends each editor just the lists of diagnostics that it is due.
-use Rattle.std.proofs.Common.{◌≡◌, ℕ, Bool, true, false, ◌&&◌, List, [], ◌∷◌, ◌++◌, append-nil, append_assoc, codes, flat_map, map, nat_eq, if◌then◌else◌, Option, Some, None, ◌⊎◌, inl, inr, refl, sym, ◌∙◌, ap, ap₂, subst}
+use Rattle.std.proofs.Common.{◌≡◌, ℕ, Bool, true, false, ◌&&◌, List, [], ◌∷◌, ◌++◌, append-nil, append_assoc, codes, map, nat_eq, if◌then◌else◌, Option, ◌⊎◌, inl, inr, refl, sym, ◌∙◌, ap, ap₂, subst}
 use Rattle.std.specs.List.{AllByRecursion}
 use Rattle.std.specs.Option.{option_map_or}
 use Rattle.json_text.specs.Json.{Json}
-use Rattle.document_model.specs.Sayings.{Saying, opens, saying_by, saying_of}
+use Rattle.document_model.specs.Sayings.{opens, saying_by, saying_of}
 use Rattle.mux_history.specs.declared.cause.Cause.{Cause}
 use Rattle.mux_history.specs.declared.cause.Cause.TheVariants.{Joined, FromEditor, EditorGone, Started, StartFailed, FromServer, ServerGone, Drained, Tick}
 use Rattle.mux_history.specs.declared.entry.Entry.{Entry}
@@ -37,7 +37,7 @@ use Rattle.group_rows.proofs.Versions.{AllMeant, meant_heard, meant_more}
 use Rattle.group_facts.specs.Built.{built_behind}
 use Rattle.group_facts.specs.Legal.{Legal, LegalFrom}
 use Rattle.group_facts.specs.Settled.{Settled}
-use Rattle.group_facts.specs.Why.{IsQuestion, IsShown, Showing, Why, begins_by, comes, opened_by}
+use Rattle.group_facts.specs.Why.{IsQuestion, Showing, Why, begins_by, comes, opened_by}
 use Rattle.group_facts.proofs.AskingRows.{running_is, still_runs}
 use Rattle.group_facts.proofs.Begun.{leave_by}
 use Rattle.group_facts.proofs.Facts.{Facts}
@@ -159,7 +159,7 @@ module _ (settings : Settings) (range : InRange settings) (before : List Event) 
       other none = all_off settings before (FromEditor e body) e (λ events text k. hidden events text k.start k.shown) now xs why ∙ sym (nothing_due (is_running (desk_of e after).phase))
         where
           hidden : (events : List Event) (text : List ℕ) (s : ℕ) → Showing settings before (FromEditor e body) events e s text → ⊥
-          hidden events text s (comes asked method given list from asks class came fitting) = let clash : FromEditor e body ≡ FromServer s asked = from in cc
+          hidden events text s (comes asked method given list from notified class came fitting) = let clash : FromEditor e body ≡ FromServer s asked = from in cc
           hidden events text s (opened_by words u l v t list from says found full fitting) = none u l v t (ap (λ z. saying_of (message_of z)) (let is : FromEditor e body ≡ FromEditor e words = from in let same : body ≡ words = cc in same) ∙ says)
           hidden events text s (begins_by list earlier later restoring order full fitting) = let clash : Running ≡ Answered = sym runs ∙ restoring.waited in cc
 
@@ -191,7 +191,7 @@ module _ (settings : Settings) (range : InRange settings) (before : List Event) 
         go true b h = never (sym h)
         go false true h = refl
         go false false h = never (sym h)
-    begins Running off on = never (sym off)
+    begins Running off on = never off
     begins Absent off on = never (sym on)
     begins Waiting off on = never (sym on)
     begins Down off on = never (sym on)
@@ -302,7 +302,7 @@ module _ (settings : Settings) (range : InRange settings) (before : List Event) 
           same = cc
 
       hidden : (events : List Event) (text : List ℕ) (s : ℕ) → Showing settings before (FromEditor n body) events e s text → ⊥
-      hidden events text s (comes asked method given list from asks class came fitting) = let clash : FromEditor n body ≡ FromServer s asked = from in cc
+      hidden events text s (comes asked method given list from notified class came fitting) = let clash : FromEditor n body ≡ FromServer s asked = from in cc
       hidden events text s (opened_by words u l v t list from says found full fitting) = mine words from
       hidden events text s (begins_by list earlier later restoring order full fitting) = mine restoring.text restoring.from
 
@@ -315,11 +315,11 @@ module _ (settings : Settings) (range : InRange settings) (before : List Event) 
     unpublished none = all_off settings before (FromServer s body) e (λ events text k. hidden events text k.start (ap is_ready k.ready) k.shown) told (outs_of settings before (FromServer s body)) (reasons settings range before facts (FromServer s body) built).why
       where
         hidden : (events : List Event) (text : List ℕ) (t : ℕ) → is_ready (life_of t before).stage ≡ true → Showing settings before (FromServer s body) events e t text → ⊥
-        hidden events text t ready (comes asked method given list from asks class came fitting) =
+        hidden events text t ready (comes asked method given list from notified class came fitting) =
             let is : FromServer s body ≡ FromServer t asked = from in
             let same_start : s ≡ t = cc in
             let same_body : body ≡ asked = cc in
-            none (ap (λ z. gives_list (message_of z)) same_body ∙ (ap gives_list asks ∙ ap names_list class)) (ap (λ z. is_ready (life_of z before).stage) same_start ∙ ready)
+            none (ap (λ z. gives_list (message_of z)) same_body ∙ (ap gives_list notified ∙ ap names_list class)) (ap (λ z. is_ready (life_of z before).stage) same_start ∙ ready)
         hidden events text t ready (opened_by words u l v x list from says found full fitting) = let clash : FromServer s body ≡ FromEditor e words = from in cc
         hidden events text t ready (begins_by list earlier later restoring order full fitting) = let clash : FromServer s body ≡ FromEditor e restoring.text = restoring.from in cc
 
@@ -351,7 +351,7 @@ module _ (settings : Settings) (range : InRange settings) (before : List Event) 
   silent cause quiet built = all_off settings before cause e (λ events text k. never (sym (spoken events text k.start k.shown) ∙ quiet)) (with_cause before cause) (outs_of settings before cause) (reasons settings range before facts cause built).why
     where
       spoken : (events : List Event) (text : List ℕ) (s : ℕ) → Showing settings before cause events e s text → talks cause ≡ true
-      spoken events text s (comes asked method given list from asks class came fitting) = ap talks from
+      spoken events text s (comes asked method given list from notified class came fitting) = ap talks from
       spoken events text s (opened_by words u l v t list from says found full fitting) = ap talks from
       spoken events text s (begins_by list earlier later restoring order full fitting) = ap talks restoring.from
 

@@ -1,5 +1,5 @@
 -- Which lists an editor's own message brings it: as it begins to run, and as it opens a document.
-use Rattle.std.proofs.Common.{◌≡◌, ℕ, ◌^◌, ◌<◌, Bool, true, false, not, ◌&&◌, ◌||◌, List, [], ◌∷◌, ◌++◌, append-nil, bytes_eq, codes, decimal, find, flat_map, if◌then◌else◌, ltb-true, Option, Some, None, ◌⊎◌, inl, inr, refl, sym, ◌∙◌, ap, ap₂, subst, arith}
+use Rattle.std.proofs.Common.{◌≡◌, ℕ, ◌^◌, ◌<◌, Bool, true, false, List, [], ◌∷◌, ◌++◌, append-nil, bytes_eq, codes, decimal, find, flat_map, if◌then◌else◌, ltb-true, Option, Some, None, ◌⊎◌, inl, inr, refl, sym, ◌∙◌, ap, ap₂, subst, arith}
 use Rattle.std.specs.List.{AllByRecursion}
 use Rattle.std.specs.Option.{option_and_then, option_map_or}
 use Rattle.std.proofs.lemmas.Slice.Eq.{bytes_eq-Decides}
@@ -7,16 +7,16 @@ use Rattle.json_text.specs.Json.{Json}
 use Rattle.document_model.specs.Sayings.{Saying, changes, closes, misshapen, opens, saying_by, saying_of}
 use Rattle.document_model.specs.Sayings as saying
 use Rattle.mux_history.specs.declared.out.Out.{Out}
-use Rattle.mux_history.specs.declared.out.Out.TheVariants.{ToEditor, ToServer}
+use Rattle.mux_history.specs.declared.out.Out.TheVariants.{ToEditor}
 use Rattle.lsp_method.specs.Class.{class_of}
 use Rattle.lsp_method.specs.declared.variants.Origin.TheVariants.{Editor}
 use Rattle.rpc_message.specs.Message.{Id, Message, request, notification, result, error, not_json, not_message, id_bytes, integer, message_of}
 use Rattle.rpc_message.specs.Texts.{Code, error_text, invalid_params, invalid_request, request_failed, with_id_text}
 use Rattle.rpc_message.proofs.Decimals.{decimal_law}
 use Rattle.rpc_message.proofs.Ids.{request_with_id}
-use Rattle.event_model.specs.Event.{Event, behind, notifies, requests}
+use Rattle.event_model.specs.Event.{Event, behind}
 use Rattle.event_model.specs.Phases.{desk_of, is_running, makes_running}
-use Rattle.event_model.specs.Row.{Row, choose, each, look, nothing, on, outs, send}
+use Rattle.event_model.specs.Row.{choose, each, nothing, on, outs, send}
 use Rattle.event_model.specs.Settings.{Settings}
 use Rattle.event_model.specs.Spawns.{start_of}
 use Rattle.event_model.specs.Stages.{is_ready, life_of}
@@ -26,7 +26,7 @@ use Rattle.mux_model.specs.Methods.{goes_on}
 use Rattle.mux_model.specs.Rows.{to_start}
 use Rattle.mux_facts.proofs.Bodies.{refusal_says}
 use Rattle.mux_facts.proofs.Keeps.{behind_both}
-use Rattle.mux_facts.proofs.Reasons.{Because, by_choose, by_look, by_nothing, by_on, by_send, by_then}
+use Rattle.mux_facts.proofs.Reasons.{by_choose, by_look, by_nothing, by_on, by_send, by_then}
 use Rattle.group_words.specs.Houses.{home_of}
 use Rattle.group_rows.specs.diagnostics_route.specs.declared.last_list.LastList.{LastList}
 use Rattle.group_rows.specs.diagnostics_route.specs.Rows.{is_of}
@@ -40,7 +40,7 @@ use Rattle.group_rows.specs.ListRows.{show_all, show_full, show_opened}
 use Rattle.group_rows.specs.Lists.{agreement_at, lists_of, version_at}
 use Rattle.group_rows.specs.Live.{live_of, register_text}
 use Rattle.group_rows.specs.LiveRows.{restore}
-use Rattle.group_rows.specs.Rows.{answer_error, closing_row, document_at, document_bodies, document_row, notice_at, notice_row, request_at, request_row, served_request, served_row, sync_bodies, wrong_code}
+use Rattle.group_rows.specs.Rows.{answer_error, closing_row, document_at, document_bodies, document_row, notice_at, notice_row, request_at, request_row, served_row, sync_bodies, wrong_code}
 use Rattle.group_rows.specs.Texts.{encoding_of, texts_of}
 use Rattle.group_rows.proofs.CreatedKept.{found_one}
 use Rattle.group_rows.proofs.CreatedTexts.{create_says}
@@ -51,8 +51,8 @@ use Rattle.group_rows.proofs.Versions.{AllMeant}
 use Rattle.group_facts.specs.Facts.{Asks, IsParked}
 use Rattle.group_facts.specs.Why.{IsQuestion, has_method}
 use Rattle.group_facts.proofs.Begun.{bodies_by}
-use Rattle.group_facts.proofs.Same.{Same, same_questions}
-use Rattle.group_facts.proofs.Shown.{meant_behind, text_says, text_shown}
+use Rattle.group_facts.proofs.Same.{same_questions}
+use Rattle.group_facts.proofs.Shown.{meant_behind, text_says}
 use Rattle.group_facts.proofs.Still.{unended, unshut}
 use Rattle.group_sessions.proofs.ListsNone.{Listless, Off, lists_join, off_lists, plain_out}
 use Rattle.group_sessions.proofs.ListsShown.{all_full, own_full, same_due}
@@ -112,7 +112,7 @@ module _ (settings : Settings) (before : List Event) (meant : AllMeant before) (
       says : has_number e events ≡ true → message_of (with_id_text p.body (decimal (next_ask e events))) ≡ request (integer (decimal (next_ask e events))) (known.0).method (known.0).params
       says room = request_with_id p.body (decimal (next_ask e events)) p.id (integer (decimal (next_ask e events))) (known.0).method (known.0).params (known.0).says (decimal_law (next_ask e events) (ltb-true (next_ask e events) (2 ^ 64) room))
 
-  abbrev full : ℕ → List (List ℕ)
+  abbrev pub full : ℕ → List (List ℕ)
   full s = flat_map (shown_full settings s e before) (lists_of s before)
 
   run_lists_at : (s : ℕ) (events : List Event) → lists_to e (outs (run_at settings before e s) events) ≡ (if is_ready (life_of s before).stage then full s else [])

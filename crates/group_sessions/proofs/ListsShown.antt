@@ -1,5 +1,5 @@
 -- What the rows that show lists of diagnostics send an editor, exactly.
-use Rattle.std.proofs.Common.{◌≡◌, ℕ, ◌+◌, ◌<◌, ◌≤◌, Bool, true, false, ◌&&◌, List, [], ◌∷◌, ◌++◌, append-nil, filter, find, flat_map, map, nat_eq, nat_le, if◌then◌else◌, Option, Some, None, refl, sym, ◌∙◌, ap, ap₂, subst, arith}
+use Rattle.std.proofs.Common.{◌≡◌, ℕ, ◌+◌, ◌<◌, Bool, true, false, ◌&&◌, List, [], ◌∷◌, ◌++◌, find, flat_map, nat_eq, nat_le, if◌then◌else◌, Option, Some, None, refl, sym, ◌∙◌, ap, ap₂, subst, arith}
 use Rattle.std.specs.List.{AllByRecursion, range_with_len}
 use Rattle.std.specs.Option.{option_and_then, option_map_or}
 use Rattle.std.proofs.lemmas.Bool.{leb-false, leb-true}
@@ -27,7 +27,7 @@ use Rattle.group_rows.specs.diagnostics_route.specs.Shown.{fits, shown_text}
 use Rattle.group_rows.specs.AskRows.{notified_row}
 use Rattle.group_rows.specs.Asks.{running_in, serves}
 use Rattle.group_rows.specs.ListRows.{list_row, show, show_full}
-use Rattle.group_rows.specs.Lists.{agreement_at, is_publishing, lists_of, sayings_of, version_at}
+use Rattle.group_rows.specs.Lists.{agreement_at, is_publishing, lists_of, sayings_of}
 use Rattle.group_rows.specs.Rows.{from_server, outs_of}
 use Rattle.group_rows.proofs.ListsKept.{IsList, published_body}
 use Rattle.group_rows.proofs.Versions.{AllMeant}
@@ -38,7 +38,7 @@ use Rattle.group_facts.proofs.Same.{Same, same_agreement, same_version}
 use Rattle.group_facts.proofs.Shown.{list_is, text_says, text_shown}
 use Rattle.group_sessions.proofs.DueSent.{flat_kept, only_one}
 use Rattle.group_sessions.proofs.ListsNone.{lists_join}
-use Rattle.group_sessions.specs.LastLists.{due_coming, due_opening, gives_list, is_hearing, lists_to, of_start, shown, shown_full}
+use Rattle.group_sessions.specs.LastLists.{due_coming, due_opening, gives_list, is_hearing, lists_to, shown, shown_full}
 
 -- A list, to an editor that it fits
 
