@@ -97,8 +97,8 @@ module _ (o : Option Json) where
 
   pub opened_whole : is_whole o ≡ true → uri_opened (opening_by o) ≡ option_and_then string_text (member_of (codes "uri") o)
   opened_whole h =
-      let first = and_parts h in
-      let rest = and_parts first.1 in
+      let first = and_parts _ _ h in
+      let rest = and_parts _ _ first.1 in
       let l = string_there (named_of (codes "languageId") o) first.0 in
       let v = integer_there (named_of (codes "version") o) rest.0 in
       let t = string_there (named_of (codes "text") o) rest.1 in
