@@ -57,10 +57,10 @@ module _ (settings : Settings) (before : List Event) (s e : ℕ) (none : (u : Li
   one_longer : (pre : List LastList) (l : LastList) → length (pre ++ l ∷ []) ≡ length pre + 1
   one_longer pre l = length-append pre (l ∷ [])
 
-  sent_by : List LastList → List ℕ → List Event → List Out
+  abbrev sent_by : List LastList → List ℕ → List Event → List Out
   sent_by all ns events = outs (each (show_at e all) ns) events
 
-  numbers_of : ℕ → List LastList → List ℕ
+  abbrev numbers_of : ℕ → List LastList → List ℕ
   numbers_of n ls = numbers_from n (λ (l : LastList). not l.empty) ls
 
   all_sent : (pre ls : List LastList) (events : List Event) → outs (each (show_full settings before s e) ls) events ≡ sent_by (pre ++ ls) (numbers_of (length pre) ls) events

@@ -33,7 +33,7 @@ use Rattle.mux_turns.proofs.Listed.{Notes, own_notes}
 -- What they are shown, one by one
 
 module _ (settings : Settings) (before : List Event) (s : ℕ) (l : LastList) where
-  shown : List ℕ → List Telling
+  abbrev shown : List ℕ → List Telling
   shown es = all_shown settings before s l es
 
   shown_more : (es : List ℕ) (e : ℕ) → shown (es ++ e ∷ []) ≡ shown es ++ shown_to settings before s l e
@@ -82,12 +82,9 @@ module _ (settings : Settings) (before : List Event) (s : ℕ) (l : LastList) wh
   row_sends [] events = refl
   row_sends (e ∷ es) events = go (fits l (agreement_at settings s e before l.uri))
     where
-      text : List ℕ
-      text = shown_text (version_at settings s e before l.uri) l.body
-
-      go : (b : Bool) → outs (choose b (send (ToEditor e text)) nothing) events ++ outs (each (λ e. show settings before s e l) es) (behind events (outs (choose b (send (ToEditor e text)) nothing) events))
-          ≡ map told ((if b then record { editor = e; text = text } ∷ [] else []) ++ shown es)
-      go true = ap (λ xs. ToEditor e text ∷ xs) (row_sends es (behind events (ToEditor e text ∷ [])))
+      go : (b : Bool) → outs (choose b (send (ToEditor e (shown_text (version_at settings s e before l.uri) l.body))) nothing) events ++ outs (each (λ e. show settings before s e l) es) (behind events (outs (choose b (send (ToEditor e (shown_text (version_at settings s e before l.uri) l.body))) nothing) events))
+          ≡ map told ((if b then record { editor = e; text = shown_text (version_at settings s e before l.uri) l.body } ∷ [] else []) ++ shown es)
+      go true = ap (λ xs. ToEditor e (shown_text (version_at settings s e before l.uri) l.body) ∷ xs) (row_sends es (behind events (ToEditor e (shown_text (version_at settings s e before l.uri) l.body) ∷ [])))
       go false = row_sends es (behind events [])
 
 -- Each is told so
