@@ -285,10 +285,10 @@ module _ (settings : Settings) (range : InRange settings) (before : List Event) 
       where
         by_now : is_running (desk_of e before).phase ≡ false → (b : Bool) → is_running (desk_of e now).phase ≡ b → Sends
         by_now off false still = unrun still
-        by_now off true on = let p = begins (desk_of e before).phase off (sym (ap is_running phase_now) ∙ on) in run_later p.0 p.1 (running_is (desk_of e now).phase on)
+        by_now off true on = let p = begins (desk_of e before).phase off (sym (ap is_running phase_now) ∙ on) in run_later p.0 p.1 (running_is settings before (desk_of e now).phase on)
 
         go : (b : Bool) → is_running (desk_of e before).phase ≡ b → Sends
-        go true on = run_before (running_is (desk_of e before).phase on)
+        go true on = run_before (running_is settings before (desk_of e before).phase on)
         go false off = by_now off (is_running (desk_of e now).phase) refl
 
   -- by a message of another editor
