@@ -1,5 +1,5 @@
 use crate::play::{limits, play};
-use crate::tests::{MOST, TWO_EDITORS};
+use crate::tests::{MOST, TWO_EDITORS, TWO_GROUPS};
 use std::test::Fail;
 
 // A start registers something, and each editor is told under a number of its own; what they answer goes nowhere. The id comes again, written
@@ -54,6 +54,27 @@ const LATER: [(&str, &str); 6] = [
     ),
 ];
 
+// The starts of two groups register under one id: each tells the editor of its own group alone, and what one takes back stays registered at
+// the other.
+const OF_TWO_GROUPS: [(&str, &str); 4] = [
+    (
+        "sv 0 {\"jsonrpc\":\"2.0\",\"id\":9,\"method\":\"client/registerCapability\",\"params\":{\"registrations\":[{\"id\":\"r\",\"method\":\"m\"}]}}\n",
+        ">sv 0 {\"jsonrpc\":\"2.0\",\"id\":9,\"result\":null}\n>ed 0 {\"jsonrpc\":\"2.0\",\"id\":1,\"method\":\"client/registerCapability\",\"params\":{\"registrations\":[{\"id\":\"r\",\"method\":\"m\"}]}}\n",
+    ),
+    (
+        "sv 1 {\"jsonrpc\":\"2.0\",\"id\":9,\"method\":\"client/unregisterCapability\",\"params\":{\"unregisterations\":[{\"id\":\"r\",\"method\":\"m\"}]}}\n",
+        ">sv 1 {\"jsonrpc\":\"2.0\",\"id\":9,\"error\":{\"code\":-32602,\"message\":\"Invalid params\"}}\n",
+    ),
+    (
+        "sv 1 {\"jsonrpc\":\"2.0\",\"id\":9,\"method\":\"client/registerCapability\",\"params\":{\"registrations\":[{\"id\":\"r\",\"method\":\"n\"}]}}\n",
+        ">sv 1 {\"jsonrpc\":\"2.0\",\"id\":9,\"result\":null}\n>ed 1 {\"jsonrpc\":\"2.0\",\"id\":1,\"method\":\"client/registerCapability\",\"params\":{\"registrations\":[{\"id\":\"r\",\"method\":\"n\"}]}}\n",
+    ),
+    (
+        "sv 0 {\"jsonrpc\":\"2.0\",\"id\":9,\"method\":\"client/unregisterCapability\",\"params\":{\"unregisterations\":[{\"id\":\"r\",\"method\":\"m\"}]}}\n",
+        ">sv 0 {\"jsonrpc\":\"2.0\",\"id\":9,\"result\":null}\n>ed 0 {\"jsonrpc\":\"2.0\",\"id\":2,\"method\":\"client/unregisterCapability\",\"params\":{\"unregisterations\":[{\"id\":\"r\",\"method\":\"m\"}]}}\n",
+    ),
+];
+
 #[test]
 fn a_start_registers_what_editors_are_told(rt: HostRuntime) -> Result<(), Fail> {
     play(
@@ -61,6 +82,17 @@ fn a_start_registers_what_editors_are_told(rt: HostRuntime) -> Result<(), Fail> 
         rt.alloc(),
         limits(MOST, MOST),
         &[&TWO_EDITORS, &REGISTERING, &LATER],
+        Ok(()),
+    )
+}
+
+#[test]
+fn starts_of_two_groups_register_apart(rt: HostRuntime) -> Result<(), Fail> {
+    play(
+        &rt,
+        rt.alloc(),
+        limits(MOST, MOST),
+        &[&TWO_GROUPS, &OF_TWO_GROUPS],
         Ok(()),
     )
 }

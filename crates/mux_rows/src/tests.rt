@@ -283,7 +283,7 @@ const CLOSING: [(&str, &str); 5] = [
 ];
 
 // Two editors in two groups, each with the same document open.
-const TWO_GROUPS: [(&str, &str); 10] = [
+pub const TWO_GROUPS: [(&str, &str); 10] = [
     ("join 0\n", ""),
     (
         "ed 0 {\"jsonrpc\":\"2.0\",\"id\":0,\"method\":\"initialize\",\"params\":{\"rootUri\":\"file:///w\",\"capabilities\":{}}}\n",

@@ -97,6 +97,31 @@ const WORKING: [(&str, &str); 8] = [
     ),
 ];
 
+// Two open requests of an editor brought one token: a cancel of that work goes under the daemon's token of the lower one, and once that is
+// answered under that of the other.
+const ONE_TOKEN: [(&str, &str); 5] = [
+    (
+        "ed 0 {\"jsonrpc\":\"2.0\",\"id\":1,\"method\":\"textDocument/references\",\"params\":{\"workDoneToken\":\"w\"}}\n",
+        ">sv 0 {\"jsonrpc\":\"2.0\",\"id\":2,\"method\":\"textDocument/references\",\"params\":{\"workDoneToken\":\"lspmux:4\"}}\n",
+    ),
+    (
+        "ed 0 {\"jsonrpc\":\"2.0\",\"id\":2,\"method\":\"textDocument/references\",\"params\":{\"workDoneToken\":\"w\"}}\n",
+        ">sv 0 {\"jsonrpc\":\"2.0\",\"id\":3,\"method\":\"textDocument/references\",\"params\":{\"workDoneToken\":\"lspmux:6\"}}\n",
+    ),
+    (
+        "ed 0 {\"jsonrpc\":\"2.0\",\"method\":\"window/workDoneProgress/cancel\",\"params\":{\"token\":\"w\"}}\n",
+        ">sv 0 {\"jsonrpc\":\"2.0\",\"method\":\"window/workDoneProgress/cancel\",\"params\":{\"token\":\"lspmux:4\"}}\n",
+    ),
+    (
+        "sv 0 {\"jsonrpc\":\"2.0\",\"id\":2,\"result\":null}\n",
+        ">ed 0 {\"jsonrpc\":\"2.0\",\"id\":1,\"result\":null}\n",
+    ),
+    (
+        "ed 0 {\"jsonrpc\":\"2.0\",\"method\":\"window/workDoneProgress/cancel\",\"params\":{\"token\":\"w\"}}\n",
+        ">sv 0 {\"jsonrpc\":\"2.0\",\"method\":\"window/workDoneProgress/cancel\",\"params\":{\"token\":\"lspmux:6\"}}\n",
+    ),
+];
+
 #[test]
 fn editors_have_tokens_of_their_own(rt: HostRuntime) -> Result<(), Fail> {
     let alloc = rt.alloc();
@@ -105,6 +130,13 @@ fn editors_have_tokens_of_their_own(rt: HostRuntime) -> Result<(), Fail> {
         alloc,
         limits(MOST, MOST),
         &[&TWO_EDITORS, &PROGRESSING, &RESERVED, &WORKING],
+        Ok(()),
+    )?;
+    play(
+        &rt,
+        alloc,
+        limits(MOST, MOST),
+        &[&TWO_EDITORS, &ONE_TOKEN],
         Ok(()),
     )
 }
