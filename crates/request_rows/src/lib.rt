@@ -7,6 +7,8 @@ mod asks;
 #[cfg(test)]
 mod diagnostics;
 #[cfg(test)]
+mod held;
+#[cfg(test)]
 mod live;
 #[cfg(test)]
 mod progress;
