@@ -1,4 +1,5 @@
 use diagnostics_route::{Agreement, LastList, Lists, fits, published, shown};
+use message_body::Memory;
 use rpc_message::Message;
 use std::alloc::Global;
 use std::test::Fail;
@@ -53,25 +54,46 @@ fn a_list_is_shown_with_the_own_version(rt: HostRuntime) -> Result<(), Fail> {
     Ok(())
 }
 
+// The number of the document whose list a body gives, which is its last one from then on.
+fn take(alloc: Global, lists: &mut Lists, body: &str) -> Result<Option<u64>, Memory> {
+    let Some(message) = read(alloc, body) else {
+        return Ok(None);
+    };
+    match published(alloc, &message, 0)? {
+        Some(list) => Ok(Some(lists.take(list)?)),
+        None => Ok(None),
+    }
+}
+
+fn send(lists: &mut Lists, editor: u64, number: u64) -> Result<(), Memory> {
+    lists.sent(editor, number)
+}
+
+// Whether an editor has diagnostics of these documents.
+fn has(lists: &Lists, editor: u64, numbers: &[u64]) -> Result<bool, Memory> {
+    Ok(lists.full_at(editor)?.as_slice() == numbers)
+}
+
+fn ends(lists: &mut Lists, editor: u64) -> Result<bool, Memory> {
+    lists.leave(editor);
+    let left = lists.full_at(editor)?.is_empty() && lists.number_of(b"file:///v") == Some(1);
+    lists.over();
+    Ok(left && lists.get(0).is_none())
+}
+
 #[test]
 fn an_empty_list_clears_where_it_is_sent(rt: HostRuntime) -> Result<(), Fail> {
     let alloc = rt.alloc();
-    let first = read(alloc, FIRST).expect(&rt, "a message");
-    let other = read(alloc, OTHER).expect(&rt, "a message");
-    let none = read(alloc, NONE).expect(&rt, "a message");
     let mut lists = Lists::new(alloc);
-    assert!(rt; lists.take(published(alloc, &first, 0)?.expect(&rt, "a list"))? == 0);
-    assert!(rt; lists.take(published(alloc, &other, 0)?.expect(&rt, "a list"))? == 1);
-    lists.sent(5, 1)?;
-    lists.sent(5, 0)?;
-    assert!(rt; lists.full_at(5)?.as_slice() == [0, 1].as_slice());
-    assert!(rt; lists.take(published(alloc, &none, 0)?.expect(&rt, "a list"))? == 0);
+    assert!(rt; take(alloc, &mut lists, FIRST)? == Some(0));
+    assert!(rt; take(alloc, &mut lists, OTHER)? == Some(1));
+    send(&mut lists, 5, 1)?;
+    send(&mut lists, 5, 0)?;
+    assert!(rt; has(&lists, 5, &[0, 1])?);
+    assert!(rt; take(alloc, &mut lists, NONE)? == Some(0));
     assert!(rt; lists.nonempty()?.as_slice() == [1].as_slice());
-    lists.sent(5, 0)?;
-    assert!(rt; lists.full_at(5)?.as_slice() == [1].as_slice());
-    lists.leave(5);
-    assert!(rt; lists.full_at(5)?.is_empty() && lists.number_of(b"file:///v") == Some(1));
-    lists.over();
-    assert!(rt; lists.get(0).is_none());
+    send(&mut lists, 5, 0)?;
+    assert!(rt; has(&lists, 5, &[1])?);
+    assert!(rt; ends(&mut lists, 5)?);
     Ok(())
 }
