@@ -132,6 +132,3 @@ module _ (settings : Settings) (range : InRange settings) where
 
   pub settled_holds : (history : List Entry) → Legal settings history → Settled settings (events_of history)
   settled_holds history legal = settled_of (events_of history) (from_here [] history legal no_rests)
-
-  pub one_holds : (history : List Entry) → Legal settings history → OneStart (events_of history)
-  one_holds history legal = (from_here [] history legal no_rests).one

@@ -1,5 +1,5 @@
 -- What the rows of S13 and E19 send an editor of a token, exactly.
-use Rattle.std.proofs.Common.{◌≡◌, ℕ, ◌+◌, ◌^◌, ◌<◌, ◌≤◌, Bool, true, false, not, ◌&&◌, List, [], ◌∷◌, ◌++◌, bytes_eq, codes, find, map, nat_eq, nat_le, if◌then◌else◌, Option, Some, None, is_some, refl, sym, ◌∙◌, ap, ap₂, subst, arith}
+use Rattle.std.proofs.Common.{◌≡◌, ℕ, ◌^◌, ◌<◌, ◌≤◌, Bool, true, false, not, ◌&&◌, List, [], ◌∷◌, ◌++◌, bytes_eq, codes, find, map, nat_eq, nat_le, if◌then◌else◌, Option, Some, None, is_some, refl, sym, ◌∙◌, ap, ap₂, subst, arith}
 use Rattle.std.specs.List.{range_with_len}
 use Rattle.std.specs.Option.{option_and_then}
 use Rattle.std.proofs.lemmas.Bool.{and_parts, leb-false, leb-true}
@@ -216,7 +216,7 @@ module _ (settings : Settings) (before : List Event) (facts : Facts settings bef
 
         none : Showing settings before (FromEditor e body) events e w.start out → is_progress method ≡ true
         none (comes asked method given list from notified class came fitting) = absurd (let clash : FromEditor e body ≡ FromServer w.start asked = from in cc)
-        none (opened_by text u l v t list from says found full fitting) = absurd (unopened (message_of body) agrees u l v t (ap (λ z. saying_of (message_of z)) (let is : FromEditor e body ≡ FromEditor e text = from in let same : body ≡ text = cc in same) ∙ says))
+        none (opened_by words u l v t list from says found full fitting) = absurd (unopened (message_of body) agrees u l v t (ap (λ z. saying_of (message_of z)) (let is : FromEditor e body ≡ FromEditor e words = from in let same : body ≡ words = cc in same) ∙ says))
         none (begins_by list earlier later restoring order full fitting) = absurd (let clash : Running ≡ Answered = sym seat.running ∙ restoring.waited in cc)
     progress_of events out (spreads w) method params says = absurd (let clash : FromEditor e body ≡ FromServer w.start out = (w.source).from in cc)
     progress_of events out (recalls w) method params says = absurd (let clash : FromEditor e body ≡ FromServer w.start w.asked = (w.source).from in cc)

@@ -22,7 +22,7 @@ use Rattle.mux_facts.specs.Allowed.{is_response}
 use Rattle.mux_facts.proofs.Lists.{found_is}
 use Rattle.mux_facts.proofs.Reasons.{Reasons}
 use Rattle.mux_facts.proofs.Words.{id_same, number_same, same_number}
-use Rattle.group_rows.specs.Created.{Created, Taking, Token, accepts, created_mark, created_of, created_text, has_accepted, is_answered, is_called, is_progress, named_token, names_progress, no_created, token_called}
+use Rattle.group_rows.specs.Created.{Created, Taking, Token, created_mark, created_of, created_text, has_accepted, is_answered, is_called, is_progress, named_token, names_progress, no_created, token_called}
 use Rattle.group_rows.specs.Forwarded.{forwarding_of}
 use Rattle.group_rows.specs.Tokens.{is_told, marked_text}
 use Rattle.group_facts.specs.Settled.{Settled}

@@ -45,7 +45,7 @@ use Rattle.group_facts.proofs.Known.{facts_hold}
 use Rattle.group_facts.proofs.OneStart.{OneStart}
 use Rattle.group_facts.proofs.Resuming.{run_questions, stays_there}
 use Rattle.group_facts.proofs.Same.{IsBody}
-use Rattle.group_facts.proofs.Settling.{one_holds, settled_holds}
+use Rattle.group_facts.proofs.Settling.{settled_holds}
 use Rattle.group_facts.proofs.Shown.{meant_behind}
 use Rattle.group_facts.proofs.Still.{Goes, goes_body, still_document, still_served}
 use Rattle.group_facts.proofs.Table.{reasons}
@@ -53,6 +53,7 @@ use Rattle.group_sessions.proofs.DueOnce.{well_formed}
 use Rattle.group_sessions.proofs.ListsNone.{Listless, Off, all_off, lists_join, off_lists, unrun_more, unrun_off}
 use Rattle.group_sessions.proofs.ListsServed.{Opens, OpensNone, at_join, at_none, at_same, full, none_due, opened_row, opens_lists, opens_or, run_lists, served_off}
 use Rattle.group_sessions.proofs.ListsShown.{comes_exactly}
+use Rattle.group_sessions.proofs.TellingPlaces.{one_start}
 use Rattle.group_sessions.proofs.Tied.{runs_on}
 use Rattle.group_sessions.specs.LastLists.{KeepsLists, at_start, due_beginning, due_coming, due_opening, due_own, gives_list, lists_due, lists_to, shown}
 
@@ -285,10 +286,10 @@ module _ (settings : Settings) (range : InRange settings) (before : List Event) 
       where
         by_now : is_running (desk_of e before).phase ≡ false → (b : Bool) → is_running (desk_of e now).phase ≡ b → Sends
         by_now off false still = unrun still
-        by_now off true on = let p = begins (desk_of e before).phase off (sym (ap is_running phase_now) ∙ on) in run_later p.0 p.1 (running_is (desk_of e now).phase on)
+        by_now off true on = let p = begins (desk_of e before).phase off (sym (ap is_running phase_now) ∙ on) in run_later p.0 p.1 (running_is settings before (desk_of e now).phase on)
 
         go : (b : Bool) → is_running (desk_of e before).phase ≡ b → Sends
-        go true on = run_before (running_is (desk_of e before).phase on)
+        go true on = run_before (running_is settings before (desk_of e before).phase on)
         go false off = by_now off (is_running (desk_of e now).phase) refl
 
   -- by a message of another editor
@@ -384,7 +385,7 @@ legal_parts settings before (x ∷ xs) ys legal =
 module _ (settings : Settings) (range : InRange settings) where
   at_entry : (before later : List Entry) (entry : Entry) → Legal settings before → LegalFrom settings before (entry ∷ later) → (e : ℕ) → lists_to e entry.outs ≡ lists_due settings e (events_of before) entry.cause (events_of (before ++ entry ∷ []))
   at_entry before later entry so_far legal e = ap (lists_to e) legal.2
-      ∙ (entry_lists settings range (events_of before) (facts_hold settings range before so_far) (settled_holds settings range before so_far) (one_holds settings range before so_far) e entry.cause legal.1
+      ∙ (entry_lists settings range (events_of before) (facts_hold settings range before so_far) (settled_holds settings range before so_far) (one_start settings range before so_far) e entry.cause legal.1
       ∙ ap (lists_due settings e (events_of before) entry.cause) (ap (behind (with_cause (events_of before) entry.cause)) (sym legal.2) ∙ sym (events_more before entry)))
 
   pub lists_law : (history : List Entry) → Legal settings history → KeepsLists settings history

@@ -16,7 +16,7 @@ use Rattle.rpc_message.proofs.Decimals.{decimal_law}
 use Rattle.rpc_message.proofs.Ids.{request_with_id}
 use Rattle.event_model.specs.Event.{Event, behind}
 use Rattle.event_model.specs.Phases.{desk_of, is_running, makes_running}
-use Rattle.event_model.specs.Row.{choose, each, nothing, on, outs, send}
+use Rattle.event_model.specs.Row.{choose, each, nothing, on, outs, send, ◌⨾◌}
 use Rattle.event_model.specs.Settings.{Settings}
 use Rattle.event_model.specs.Spawns.{start_of}
 use Rattle.event_model.specs.Stages.{is_ready, life_of}

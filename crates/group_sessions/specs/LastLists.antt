@@ -1,4 +1,4 @@
--- Which lists of diagnostics each editor is sent (LSP 3.17, Publish Diagnostics): last lists of its group's start, just those that fit it, and each once: as a list comes, as the editor begins to run, and as it opens a document.
+-- Which lists of diagnostics each editor is sent (LSP 3.17, Publish Diagnostics): those of its group's last start that fit it, and no others: as one comes, as the editor begins to run, and as it opens a document.
 use Rattle.std.specs.Prelude.{◌≡◌, ℕ, Bool, false, ◌&&◌, List, [], ◌∷◌, ◌++◌, find, flat_map, nat_eq, if◌then◌else◌}
 use Rattle.std.specs.Prelude.{Option, Some, None}
 use Rattle.std.specs.Option.{option_and_then, option_map_or}

@@ -104,9 +104,11 @@ pub fn progress_due()
     ensures { (settings : Settings) → InRange settings → (history : List Entry) → Legal settings history → KeepsDue settings history }
 {}
 
-/// A law: each entry sends an editor just the lists of diagnostics that it is due, and each of them once: the one that its group's ready start
-/// publishes, while the editor runs; as it begins to run, each last list of that start that isn't empty; and as it opens a document, that one's.
-/// Each goes there only where it fits the editor's text, and with the editor's own version (LSP 3.17, Publish Diagnostics).
+/// A law: each entry sends an editor just the lists of diagnostics that it is due, in order, as often as it is due them: the one that its group's
+/// ready start publishes, while the editor runs; as it begins to run, each last list of that start that isn't empty; and as it opens a document,
+/// that one's, if it isn't empty.
+/// Each goes there only where it fits by what the start and the editor have of its document, and with the editor's own version where it is
+/// open there (LSP 3.17, Publish Diagnostics).
 pub fn last_lists()
     ensures { (settings : Settings) → InRange settings → (history : List Entry) → Legal settings history → KeepsLists settings history }
 {}
