@@ -10,7 +10,7 @@ use Rattle.document_model.specs.Opens.{Open}
 use Rattle.document_model.specs.Sayings.{Saying, opens, changes, closes, misshapen}
 use Rattle.document_model.specs.Sayings.{nothing as silent}
 use Rattle.document_model.specs.Texts.{found}
-use Rattle.response_route.specs.document_model.specs.declared.agreement.Agreement.TheVariants.{NotOpen}
+use Rattle.document_model.specs.declared.agreement.Agreement.TheVariants.{NotOpen}
 use Rattle.event_model.specs.Does.{Alike, Does}
 use Rattle.event_model.specs.Event.{Event, behind, heard, said, with_cause}
 use Rattle.event_model.specs.Row.{Row, choose, each, look, nothing, on, outs, send}
