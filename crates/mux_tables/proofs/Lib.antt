@@ -45,6 +45,7 @@ pub mod DocumentReady
 pub mod Downs
 pub mod DocumentGroups
 pub mod DocumentNoticed
+pub mod DocumentAgreed
 pub mod DocumentAsked
 pub mod Answering
 pub mod DocumentNotes

@@ -33,6 +33,7 @@ use Rattle.mux_tables.proofs.Apart.{all_filter, less_apart, one_less, stand_filt
 use Rattle.mux_tables.proofs.Asking.{asking_more, asks_later, none_gone, told_asking}
 use Rattle.mux_tables.proofs.Awaited.{told_stops}
 use Rattle.mux_tables.proofs.DocumentEvents.{shared_notified}
+use Rattle.mux_tables.proofs.DocumentFrames.{sent_at}
 use Rattle.mux_tables.proofs.DocumentMoves.{Rest, documents_all, documents_last}
 use Rattle.mux_tables.proofs.DocumentOwed.{number_there}
 use Rattle.mux_tables.proofs.DocumentSaid.{rest_notified}
@@ -224,7 +225,7 @@ rest_same settings t events = record {
   encoding = λ g l. refl;
   founds = λ g h. h;
   starts = λ n h. h;
-  sent = λ n l u. refl;
+  sent = λ n l. sent_at n events events refl;
   moments = λ g x n p at there. refl;
   left = λ e h. h;
 }
