@@ -18,6 +18,9 @@ def below(self):
 def init(self, *a, **k):
     old_init(self, *a, **k); DONE.add(self.folder)
 Crate.__init__, Crate.below = init, below
+import json
+try: GATE = json.load(open("/work/h/tools/gatestamps"))
+except Exception: GATE = {}
 STAMPS = {}
 def stamp(self):
     now = time.time(); kept = STAMPS.get(self.folder)
@@ -40,6 +43,7 @@ def crate(name):
     folder = f"{ROOT}/crates/{name}"
     if folder not in KNOWN: KNOWN[folder] = Crate(folder, ROOT, KNOWN)
     return KNOWN[folder]
+sys.path.insert(0, '/work/h/tools'); import store
 def libs(todo, lanes, jobs):
     order = []
     for c in todo:
@@ -49,7 +53,7 @@ def libs(todo, lanes, jobs):
     logs = f"/work/h/logs/{os.path.basename(ROOT)}"; os.makedirs(logs, exist_ok=True)
     todo = [c for c in order if c.makes_rlib()]
     for c in todo:
-        state[c.name] = "done" if c.is_built() else "wait"
+        state[c.name] = "done" if c.is_built() or store.take(c) else "wait"
     def work():
         while True:
             with cond:
@@ -60,13 +64,22 @@ def libs(todo, lanes, jobs):
                     bad = [c for c in waits if any(state.get(d.name) == "bad" for d in c.below())]
                     for c in bad: state[c.name] = "bad"
                     ready = [c for c in waits if c not in bad and all(state.get(d.name) == "done" for d in c.below())]
+                    for c in ready:
+                        if GATE.get(c.name) == c.stamp():
+                            if store.take(c): state[c.name] = "done"; cond.notify_all()
+                    ready = [c for c in ready if state[c.name] == "wait" and GATE.get(c.name) != c.stamp()]
                     if ready: pick = ready[0]; state[pick.name] = "busy"; break
                     if bad: continue
                     cond.wait(5)
             t = time.time()
             with open(f"{logs}/{pick.name}.lib", "w") as out:
                 pick.out = out
-                try: st = pick.build_rlib(["--jobs", str(jobs)], False)
+                try:
+                    with store.turn(pick):
+                        if store.take(pick): st = 0
+                        else:
+                            st = pick.build_rlib(["--jobs", str(jobs)], False)
+                            if st == 0 and pick.is_built(): store.put(pick)
                 except BaseException as e: print("EXC", repr(e), file=out); st = 9
             pick.out = sys.stdout
             STAMPS.clear()
@@ -78,8 +91,12 @@ def libs(todo, lanes, jobs):
     [t.start() for t in ts]; [t.join() for t in ts]
     return all(v == "done" for v in state.values())
 import fcntl
+sys.path.insert(0, "/work/h/tools"); import store
 verb, words = sys.argv[1], sys.argv[2:]
-if os.path.exists("/work/h/tools/gate"):
+if os.path.exists("/work/h/tools/gate") and (verb in ("try", "front") or os.path.exists("/work/h/tools/free." + os.path.basename(ROOT))):
+    own = '/work/h/tools/nice.' + os.path.basename(ROOT)
+    os.nice(int(open(own if os.path.exists(own) else '/work/h/tools/nice').read()))
+elif os.path.exists("/work/h/tools/gate"):
     own = '/work/h/tools/nice.' + os.path.basename(ROOT)
     os.nice(int(open(own if os.path.exists(own) else '/work/h/tools/nice').read()))
     LOCK = None
