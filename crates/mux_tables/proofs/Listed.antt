@@ -1,6 +1,8 @@
 -- A start publishes a list of diagnostics (S15), and its last lists are looked up (E12, L2), as the code has it.
 use Rattle.std.proofs.Common.{◌≡◌, ℕ, suc, ◌+◌, ◌<◌, Bool, true, false, cond, ◌&&◌, List, [], ◌∷◌, ◌++◌, find, map, length, get_or, refl, ap, sym, subst, ◌∙◌, arith}
-use Rattle.std.specs.Prelude.{Option, Some, None, slice_get, slice_set}
+use Rattle.std.specs.Prelude.{Option, Some, None, nat_lt, slice_get, slice_set}
+use Rattle.std.proofs.lemmas.Bool.{ltb-false, ltb-true}
+use Rattle.std.proofs.lemmas.Option.{slice_get-get_or, slice_get_past}
 use Rattle.json_text.specs.Json.{Json}
 use Rattle.mux_history.specs.declared.cause.Cause.TheVariants.{FromServer}
 use Rattle.rpc_message.specs.Message.{message_of, notification}
@@ -119,3 +121,11 @@ stored settings t events g x at ds none = let d = documents_at settings nothing_
   where
     some_none : (d : Documents) → ◌≡◌ {A = Option Documents} None (Some d) → ⊥
     some_none d e = cc
+
+-- what a look-up in a slice of these finds, and that it finds nothing
+
+pub got : {X : Type 0} (items read : List X) (g : ℕ) (y : X) → read ≡ items → true ≡ nat_lt g (length read) → y ≡ get_or read g y → slice_get items g ≡ Some y
+got items read g y same inside is = ap (λ xs. slice_get xs g) (sym same) ∙ (slice_get-get_or read g y (ltb-true g (length read) (sym inside)) ∙ ap Some (sym is))
+
+pub got_none : {X : Type 0} (items read : List X) (g : ℕ) → read ≡ items → false ≡ nat_lt g (length read) → None ≡ slice_get items g
+got_none items read g same past = sym (ap (λ xs. slice_get xs g) (sym same) ∙ slice_get_past read g (ltb-false g (length read) (sym past)))
