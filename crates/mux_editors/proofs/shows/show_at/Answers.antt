@@ -1,6 +1,6 @@
 -- An editor is shown the list of a number, as one at which its document isn't open.
 use Rattle.std.proofs.Common.{ap, sym, subst, ◌∙◌}
-use Rattle.std.specs.Prelude.{None, Some, slice_get}
+use Rattle.std.specs.Prelude.{slice_get}
 use Rattle.mux_history.specs.declared.out.Out.TheVariants.{ToEditor}
 use Rattle.rpc_message.specs.Message.{message_of}
 use Rattle.event_model.specs.Does.{Does}
