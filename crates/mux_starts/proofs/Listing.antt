@@ -71,21 +71,22 @@ module _ (settings : Settings) (before : List Event) (s : ℕ) (l : LastList) wh
   module _ (meant : Meant before) (method : List ℕ) (params : Option Json) (says : message_of l.body ≡ notification method params) where
     pub all_notes : (es : List ℕ) → AllByRecursion (λ (t : Telling). Notes method t.text) (shown es)
     all_notes [] = tt
-    all_notes (e ∷ es) = go (fits l (agreement_at settings s e before l.uri))
+    all_notes (e ∷ es) = go (fits l (agreement_at settings s e before l.uri)) (all_notes es)
       where
-        go : (b : Bool) → AllByRecursion (λ (t : Telling). Notes method t.text) ((if b then record { editor = e; text = shown_text (version_at settings s e before l.uri) l.body } ∷ [] else []) ++ shown es)
-        go true = (own_notes settings s e before l.uri l.body method params meant says, all_notes es)
-        go false = all_notes es
+        go : (b : Bool) → AllByRecursion (λ (t : Telling). Notes method t.text) (shown es) → AllByRecursion (λ (t : Telling). Notes method t.text) ((if b then record { editor = e; text = shown_text (version_at settings s e before l.uri) l.body } ∷ [] else []) ++ shown es)
+        go true rest = (own_notes settings s e before l.uri l.body method params meant says, rest)
+        go false rest = rest
 
   -- The row sends just them
   row_sends : (es : List ℕ) (events : List Event) → outs (each (λ e. show settings before s e l) es) events ≡ map told (shown es)
   row_sends [] events = refl
-  row_sends (e ∷ es) events = go (fits l (agreement_at settings s e before l.uri))
+  row_sends (e ∷ es) events = go (fits l (agreement_at settings s e before l.uri)) (row_sends es)
     where
-      go : (b : Bool) → outs (choose b (send (ToEditor e (shown_text (version_at settings s e before l.uri) l.body))) nothing) events ++ outs (each (λ e. show settings before s e l) es) (behind events (outs (choose b (send (ToEditor e (shown_text (version_at settings s e before l.uri) l.body))) nothing) events))
+      go : (b : Bool) → ((later : List Event) → outs (each (λ e. show settings before s e l) es) later ≡ map told (shown es))
+          → outs (choose b (send (ToEditor e (shown_text (version_at settings s e before l.uri) l.body))) nothing) events ++ outs (each (λ e. show settings before s e l) es) (behind events (outs (choose b (send (ToEditor e (shown_text (version_at settings s e before l.uri) l.body))) nothing) events))
           ≡ map told ((if b then record { editor = e; text = shown_text (version_at settings s e before l.uri) l.body } ∷ [] else []) ++ shown es)
-      go true = ap (λ xs. ToEditor e (shown_text (version_at settings s e before l.uri) l.body) ∷ xs) (row_sends es (behind events (ToEditor e (shown_text (version_at settings s e before l.uri) l.body) ∷ [])))
-      go false = row_sends es (behind events [])
+      go true rest = ap (λ xs. ToEditor e (shown_text (version_at settings s e before l.uri) l.body) ∷ xs) (rest (behind events (ToEditor e (shown_text (version_at settings s e before l.uri) l.body) ∷ [])))
+      go false rest = rest (behind events [])
 
 -- Each is told so
 

@@ -58,12 +58,12 @@ returns-in_ok-tell_each-in-Some-clause-does c = λ settings before body method p
     let one = sym (c.in_ok-found.ensures body read) ∙ c.in-Some.is in
     let is_body = published_body place body l one in
     let note = ap message_of is_body ∙ says in
-    let those = c.deref.ensures.value ∙ (c.in_ok-numbers.ensures.those settings before st ∙ ap (λ h. running_in settings h before) (c.group_number-group.ensures x here)) in
-    let shown = c.in_ok-tellings.ensures settings before x (subst (λ b. IsRead c.args.message.now b) (sym is_body) read) here ready st ds in
+    let those = c.deref.ensures.value ∙ (c.in_ok-numbers-in-Some.ensures.those settings before st ∙ ap (λ h. running_in settings h before) (c.group_number-group.ensures x here)) in
+    let shown = c.in_ok-tellings-in-Some.ensures settings before x (subst (λ b. IsRead c.args.message.now b) (sym is_body) read) here ready st ds in
     let so = shown ∙ ap (λ n. all_shown settings before n l c.deref.result.now) own in
     let given = given_one settings s before body place counted l one in
-    let moved = c.in_ok-publish.ensures.stands settings before body method params s x here ready at says class given st in
-    let docs = c.in_ok-publish.ensures.documents settings nothing_owed before body method params s x here ready at says st ds in
+    let moved = c.in_ok-publish-in-Some.ensures.stands settings before body method params s x here ready at says class given st in
+    let docs = c.in_ok-publish-in-Some.ensures.documents settings nothing_owed before body method params s x here ready at says st ds in
     whole_entry (λ k events. AllStand settings k events) (list_row settings s before body) base (u, nothing_owed) (u, nothing_owed) xs ys first (moved, docs)
-    (does_alike (λ _. shows_those settings s before body place counted l one x.life.group c.deref.result.now c.in_ok-tellings.tellings.items (group_seen settings t before c.args.g s x st here at).0 those so)
-    (each_told settings u base method c.in_ok-tellings.tellings.items xs ys (subst (λ ts. AllByRecursion (λ (t : Telling). Notes method t.text) ts) (sym so) (all_notes settings before s l meant method params note c.deref.result.now)) c.in_ok-tell_each.ensures))
+    (does_alike (λ _. shows_those settings s before body place counted l one x.life.group c.deref.result.now c.in_ok-tellings-in-Some.tellings.items (group_seen settings t before c.args.g s x st here at).0 those so)
+    (each_told settings u base method c.in_ok-tellings-in-Some.tellings.items xs ys (subst (λ ts. AllByRecursion (λ (t : Telling). Notes method t.text) ts) (sym so) (all_notes settings before s l meant method params note c.deref.result.now)) c.in_ok-tell_each-in-Some.ensures))
