@@ -1,5 +1,5 @@
 -- L2: an editor that begins to run is shown last lists as one at which no document is open.
-use Rattle.std.proofs.Common.{◌≡◌, ℕ, zero, suc, ◌+◌, Bool, true, false, not, List, [], ◌∷◌, ◌++◌, append-nil, append_assoc, find, length, length-append, map, if◌then◌else◌, refl, ap, ap₂, sym, subst, ◌∙◌, arith}
+use Rattle.std.proofs.Common.{◌≡◌, ℕ, zero, suc, ◌+◌, Bool, true, false, not, List, [], ◌∷◌, ◌++◌, append-nil, append_assoc, find, length, length-append, map, if◌then◌else◌, refl, ap, ap₂, sym, subst, ◌∙◌}
 use Rattle.std.specs.Prelude.{Option, None, Some, slice_get}
 use Rattle.std.specs.List.{AllByRecursion}
 use Rattle.std.specs.Option.{option_map, option_map_or}
@@ -65,18 +65,16 @@ module _ (settings : Settings) (before : List Event) (s e : ℕ) (none : (u : Li
 
   all_sent : (pre ls : List LastList) (events : List Event) → outs (each (show_full settings before s e) ls) events ≡ sent_by (pre ++ ls) (numbers_of (length pre) ls) events
   all_sent pre [] events = refl
-  all_sent pre (l ∷ ls) events = go l.empty
+  all_sent pre (l ∷ ls) events = go l.empty (λ now. all_sent (pre ++ l ∷ []) ls now ∙ ap₂ (λ all n. sent_by all (numbers_of n ls) now) (append_assoc pre (l ∷ []) ls) (one_longer pre l))
     where
-      rest : (now : List Event) → outs (each (show_full settings before s e) ls) now ≡ sent_by (pre ++ l ∷ ls) (numbers_of (length pre + 1) ls) now
-      rest now = all_sent (pre ++ l ∷ []) ls now ∙ ap₂ (λ all n. sent_by all (numbers_of n ls) now) (append_assoc pre (l ∷ []) ls) (one_longer pre l)
-
       first : outs (show settings before s e l) events ≡ outs (show_at e (pre ++ l ∷ ls) (length pre)) events
       first = shown_plain l events ∙ ap (λ o. outs (on o nothing (show_plain e)) events) (sym (at_end pre l ls))
 
-      go : (b : Bool) → outs (choose b nothing (show settings before s e l)) events ++ outs (each (show_full settings before s e) ls) (behind events (outs (choose b nothing (show settings before s e l)) events))
+      go : (b : Bool) → ((now : List Event) → outs (each (show_full settings before s e) ls) now ≡ sent_by (pre ++ l ∷ ls) (numbers_of (length pre + 1) ls) now)
+          → outs (choose b nothing (show settings before s e l)) events ++ outs (each (show_full settings before s e) ls) (behind events (outs (choose b nothing (show settings before s e l)) events))
           ≡ sent_by (pre ++ l ∷ ls) (if not b then length pre ∷ numbers_of (length pre + 1) ls else numbers_of (length pre + 1) ls) events
-      go true = ap (outs (each (show_full settings before s e) ls)) (append-nil events) ∙ rest events
-      go false =
+      go true rest = ap (outs (each (show_full settings before s e) ls)) (append-nil events) ∙ rest events
+      go false rest =
           ap (λ xs. xs ++ outs (each (show_full settings before s e) ls) (behind events xs)) first
           ∙ ap (λ ys. outs (show_at e (pre ++ l ∷ ls) (length pre)) events ++ ys) (rest (behind events (outs (show_at e (pre ++ l ∷ ls) (length pre)) events)))
 

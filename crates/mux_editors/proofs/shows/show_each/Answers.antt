@@ -11,6 +11,8 @@ loop-n-preserved c = record {
       (c.in_ok-show_at.ensures.does settings owed base x here ready meant);
 }
 
-pub returns-clause-does : goal.returns-clause-does
-returns-clause-does c = λ settings owed base x here ready meant.
-    does_whole (show_at c.args.e (lists_of x.life.start base)) c.args.numbers.now c.loop-n.n-index c.loop-n-test.false (c.loop-n.invariant.does settings owed base x here ready meant)
+pub returns : goal.returns
+returns c = record {
+  does = λ settings owed base x here ready meant.
+      does_whole (show_at c.args.e (lists_of x.life.start base)) c.args.numbers.now c.loop-n.n-index c.loop-n-test.false (c.loop-n.invariant.does settings owed base x here ready meant);
+}

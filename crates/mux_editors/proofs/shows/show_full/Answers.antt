@@ -10,33 +10,39 @@ use Rattle.group_rows.specs.Lists.{version_at}
 use Rattle.mux_editors.proofs.Showing.{does_looked}
 use Rattle.mux_editors.proofs.shows.show_full.Goals as goal
 
-pub returns-then-empty-clause-does : goal.returns-then-empty-clause-does
-returns-then-empty-clause-does c = λ settings base x here ready meant note.
-    let e = c.args.e in
-    let l = c.args.list.now in
-    let now = behind base c.args.outs.now in
-    does_look (λ _. ap (λ b. choose b nothing (show settings now x.life.start e l)) c.if-empty.true) (does_true does_nothing)
+pub returns-then-list : goal.returns-then-list
+returns-then-list c = record {
+  does = λ settings base x here ready meant note.
+      let e = c.args.e in
+      let l = c.args.list.now in
+      let now = behind base c.args.outs.now in
+      does_look (λ _. ap (λ b. choose b nothing (show settings now x.life.start e l)) c.if-list.true) (does_true does_nothing);
+}
 
-pub returns-then-fits-clause-does : goal.returns-then-fits-clause-does
-returns-then-fits-clause-does c = λ settings base x here ready meant note.
-    let e = c.args.e in
-    let s = x.life.start in
-    let l = c.args.list.now in
-    let now = behind base c.args.outs.now in
-    let shown = send (ToEditor e (shown_text (version_at settings s e now l.uri) l.body)) in
-    does_knowing (λ k.
-    let fit = sym (c.fits.ensures settings now x here ready k.0 k.1) ∙ c.if-fits.true in
-    does_look (λ _. ap (λ b. choose b nothing (show settings now s e l)) c.if-empty.false ∙ ap (λ b. choose false nothing (choose b shown nothing)) fit)
-    (does_false (does_true (does_looked (c.in_ok-show.ensures.does settings base x here ready meant note)))))
+pub returns-in_ok-show : goal.returns-in_ok-show
+returns-in_ok-show c = record {
+  does = λ settings base x here ready meant note.
+      let e = c.args.e in
+      let s = x.life.start in
+      let l = c.args.list.now in
+      let now = behind base c.args.outs.now in
+      let shown = send (ToEditor e (shown_text (version_at settings s e now l.uri) l.body)) in
+      does_knowing (λ k.
+      let fit = sym (c.fits.ensures settings now x here ready k.0 k.1) ∙ c.if-fits.true in
+      does_look (λ _. ap (λ b. choose b nothing (show settings now s e l)) c.if-list.false ∙ ap (λ b. choose false nothing (choose b shown nothing)) fit)
+      (does_false (does_true (does_looked (c.in_ok-show.ensures.does settings base x here ready meant note)))));
+}
 
-pub returns-else-fits-clause-does : goal.returns-else-fits-clause-does
-returns-else-fits-clause-does c = λ settings base x here ready meant note.
-    let e = c.args.e in
-    let s = x.life.start in
-    let l = c.args.list.now in
-    let now = behind base c.args.outs.now in
-    let shown = send (ToEditor e (shown_text (version_at settings s e now l.uri) l.body)) in
-    does_knowing (λ k.
-    let fit = sym (c.fits.ensures settings now x here ready k.0 k.1) ∙ c.if-fits.false in
-    does_look (λ _. ap (λ b. choose b nothing (show settings now s e l)) c.if-empty.false ∙ ap (λ b. choose false nothing (choose b shown nothing)) fit)
-    (does_false (does_false does_nothing)))
+pub returns-else-fits : goal.returns-else-fits
+returns-else-fits c = record {
+  does = λ settings base x here ready meant note.
+      let e = c.args.e in
+      let s = x.life.start in
+      let l = c.args.list.now in
+      let now = behind base c.args.outs.now in
+      let shown = send (ToEditor e (shown_text (version_at settings s e now l.uri) l.body)) in
+      does_knowing (λ k.
+      let fit = sym (c.fits.ensures settings now x here ready k.0 k.1) ∙ c.if-fits.false in
+      does_look (λ _. ap (λ b. choose b nothing (show settings now s e l)) c.if-list.false ∙ ap (λ b. choose false nothing (choose b shown nothing)) fit)
+      (does_false (does_false does_nothing)));
+}
