@@ -5,8 +5,8 @@ use Rattle.json_text.specs.Json.{Json, span_of}
 use Rattle.json_text.specs.Replace.{Edit, replace}
 use Rattle.capability_meet.specs.Shown.{without}
 use Rattle.document_model.specs.Notices.{edits_in}
-use Rattle.focus_switch.specs.declared.agreement.Agreement.{Agreement}
-use Rattle.focus_switch.specs.declared.agreement.Agreement.TheVariants.{NotOpen, Differs, Agrees}
+use Rattle.document_model.specs.declared.agreement.Agreement.{Agreement}
+use Rattle.document_model.specs.declared.agreement.Agreement.TheVariants.{NotOpen, Differs, Agrees}
 use Rattle.mux_members.specs.Members.{params_of}
 use Rattle.diagnostics_route.specs.declared.last_list.LastList.{LastList}
 use Rattle.diagnostics_route.specs.declared.last_list.Version.{Version}

@@ -3,7 +3,7 @@ ghost use Rattle.std.specs.Prelude.{◌≡◌, bytes_eq, decimal};
 ghost use Rattle.diagnostics_route.specs.Shown.{allows, fits};
 
 use crate::last_list::{LastList, Version};
-use focus_switch::Agreement;
+use document_model::Agreement;
 use itoa::Buffer;
 
 // Whether bytes are the digits of a number.

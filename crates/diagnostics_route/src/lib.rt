@@ -10,8 +10,8 @@ mod rows;
 mod showing;
 mod without;
 
+pub use document_model::Agreement;
 pub use fitting::fits;
-pub use focus_switch::Agreement;
 pub use last_list::{LastList, Version};
 pub use lists::Lists;
 pub use reading::published;

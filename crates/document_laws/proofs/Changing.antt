@@ -39,7 +39,7 @@ use Rattle.document_model.proofs.Written.{number_law}
 use Rattle.document_laws.proofs.Following.{touch_texts, touch_stays, touch_held}
 
 module _ (e : ℕ) (body : List ℕ) (tree : Json) (u w : List ℕ) (cs : Json) (s : Documents) (read : tree_of body ≡ Some tree) (said : saying_of (message_of body) ≡ changes u w cs) where
-  abbrev behind : Open → Step
+  abbrev pub behind : Open → Step
   behind new = touch new (send new.uri (change_sends new body tree (version_held new.uri s.helds) s) s)
 
   same_after : (list : Json) (x : List ℕ) (encoding : Option Encoding) → bare list ≡ cs → text_after encoding list x ≡ text_after encoding cs x
@@ -71,7 +71,7 @@ module _ (e : ℕ) (body : List ℕ) (tree : Json) (u w : List ℕ) (cs : Json) 
   pub change_not_open : found e u (texts_in s) ≡ None → change_row e body tree s ≡ nothing s
   change_not_open h = change_none (ap (option_and_then (changed_by cs (λ o. e) (λ o. u))) h)
 
-  changed_so : (new : Open) → changed s.encoding e u w cs (texts_in s) ≡ Some new → change_row e body tree s ≡ behind new
+  pub changed_so : (new : Open) → changed s.encoding e u w cs (texts_in s) ≡ Some new → change_row e body tree s ≡ behind new
   changed_so new h = change_is ∙ ap (λ z. or_nothing z s behind) h
 
   pub change_texts : texts_in (change_row e body tree s).after ≡ texts_behind s.encoding e (changes u w cs) (texts_in s)

@@ -66,15 +66,15 @@ module _ (e : ℕ) (u : List ℕ) (s : Documents) where
   pub close_none : found e u (texts_in s) ≡ None → close_row e u s ≡ nothing s
   close_none h = ap (λ z. or_nothing z s (λ (o : Open). forget e o.uri (send o.uri (close_sends e o.uri (version_held o.uri s.helds) s) s))) h
 
-  abbrev closing : Step
+  abbrev pub closing : Step
   closing = forget e u (send u (close_sends e u (version_held u s.helds) s) s)
 
-  close_is : (o : Open) → found e u (texts_in s) ≡ Some o → close_row e u s ≡ closing
+  pub close_is : (o : Open) → found e u (texts_in s) ≡ Some o → close_row e u s ≡ closing
   close_is o h = ap (λ z. or_nothing z s (λ (o : Open). forget e o.uri (send o.uri (close_sends e o.uri (version_held o.uri s.helds) s) s))) h
       ∙ ap (λ z. forget e z (send z (close_sends e z (version_held z s.helds) s) s)) (find_is e u s.opens o h).1
 
   -- the holder, were the document not open here, has this document
-  beside_uri : (o : Open) → holder_beside e u s.opens ≡ Some o → o.uri ≡ u
+  pub beside_uri : (o : Open) → holder_beside e u s.opens ≡ Some o → o.uri ≡ u
   beside_uri o h = bytes_same o.uri u (both_true (bytes_eq o.uri u) (not (nat_eq o.editor e))
       (latest_of (λ (p : Open). Unit {0}) (λ p. bytes_eq p.uri u && not (nat_eq p.editor e)) s.opens o (all_there s.opens) h).1).0
 

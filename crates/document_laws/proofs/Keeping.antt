@@ -60,3 +60,17 @@ version_put u None n hs = ap (option_map (λ (h : Held). h.version)) (held_drop 
 pub version_put_other : (u w : List ℕ) (v : Option ℕ) (n : ℕ) (hs : List (List ℕ × Held)) → bytes_eq w u ≡ false → version_held w (helds_behind u v n hs) ≡ version_held w hs
 version_put_other u w (Some v) n hs d = ap (option_map (λ (h : Held). h.version)) (held_put_other u w (record { version = v; sent = n }) hs d)
 version_put_other u w None n hs d = ap (option_map (λ (h : Held). h.version)) (held_drop_other u w hs d)
+
+-- and the count, where the start has the document
+
+pub sent_put : (u : List ℕ) (v : Option ℕ) (n : ℕ) (hs : List (List ℕ × Held)) (h : Held) → held_of u (helds_behind u v n hs) ≡ Some h → h.sent ≡ n
+sent_put u (Some v) n hs h is = let same : ◌≡◌ {A = Option Held} (Some (record { version = v; sent = n })) (Some h) = sym (held_put u (record { version = v; sent = n }) hs) ∙ is in
+    count (record { version = v; sent = n }) h same
+  where
+    count : (k h : Held) → Some k ≡ Some h → h.sent ≡ k.sent
+    count k h e = let same : k ≡ h = cc in ap (λ (x : Held). x.sent) (sym same)
+sent_put u None n hs h is = let none : ◌≡◌ {A = Option Held} None (Some h) = sym (held_drop u hs) ∙ is in absurd (cc)
+
+pub held_put_beside : (u w : List ℕ) (v : Option ℕ) (n : ℕ) (hs : List (List ℕ × Held)) → bytes_eq w u ≡ false → held_of w (helds_behind u v n hs) ≡ held_of w hs
+held_put_beside u w (Some v) n hs d = held_put_other u w (record { version = v; sent = n }) hs d
+held_put_beside u w None n hs d = held_drop_other u w hs d

@@ -1,4 +1,5 @@
 pub mod Changing
+pub mod Counting
 pub mod Following
 pub mod Keeping
 pub mod Owning

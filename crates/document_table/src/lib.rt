@@ -5,5 +5,5 @@ mod numbers;
 mod opens;
 mod rows;
 
-pub use document_model::{doc_text, json_span, rpc_message};
+pub use document_model::{Agreement, doc_text, json_span, rpc_message};
 pub use opens::{Opening, Opens};

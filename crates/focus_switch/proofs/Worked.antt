@@ -10,7 +10,7 @@ use Rattle.mux_history.specs.declared.out.Out.TheVariants.{ToServer}
 use Rattle.document_table.specs.rpc_message.specs.Message.{is_integer}
 use Rattle.position_codec.specs.declared.Encoding.TheVariants.{Utf16}
 use Rattle.focus_switch.specs.Documents.{Documents}
-use Rattle.focus_switch.specs.declared.agreement.Agreement.TheVariants.{Agrees, Differs}
+use Rattle.document_table.specs.document_model.specs.declared.agreement.Agreement.TheVariants.{Agrees, Differs}
 use Rattle.focus_switch.specs.Rows.{Step, nothing, or_nothing, open_row, change_row, close_row, ready_row, unready_row, sync_row, agreement}
 use Rattle.document_table.specs.document_model.specs.Bodies.{open_text, full_text, close_text}
 

@@ -8,8 +8,8 @@ use Rattle.mux_history.specs.declared.out.Out.TheVariants.{ToServer}
 use Rattle.position_codec.specs.declared.Encoding.{Encoding}
 use Rattle.document_table.specs.doc_text.specs.Changes.{text_behind}
 use Rattle.focus_switch.specs.declared.held.Held.{Held}
-use Rattle.focus_switch.specs.declared.agreement.Agreement.{Agreement}
-use Rattle.focus_switch.specs.declared.agreement.Agreement.TheVariants.{NotOpen, Differs, Agrees}
+use Rattle.document_table.specs.document_model.specs.declared.agreement.Agreement.{Agreement}
+use Rattle.document_table.specs.document_model.specs.declared.agreement.Agreement.TheVariants.{NotOpen, Differs, Agrees}
 use Rattle.focus_switch.specs.declared.telling.Telling.{Telling}
 use Rattle.focus_switch.specs.declared.telling.Telling.TheVariants.{Opens, Changes, Closes, OpensAnew}
 use Rattle.document_table.specs.Rows.{touched_at, uris_of}

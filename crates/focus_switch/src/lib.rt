@@ -1,7 +1,6 @@
 //! The documents of the editors that share a server: what each editor has open, and what the server is told of it (LSP 3.17, Text Document Synchronization).
 #![tactic(auto)]
 
-mod agreement;
 mod held;
 mod notice;
 mod shared;
@@ -9,6 +8,6 @@ mod telling;
 mod texts;
 mod version;
 
-pub use agreement::Agreement;
+pub use document_table::Agreement;
 pub use shared::Shared;
 pub use version::DocumentVersion;

@@ -13,7 +13,6 @@ ghost use Rattle.focus_switch.specs.Rows.{Step, agreement, agreement_of, change_
 ghost use Rattle.focus_switch.specs.Versions.{version_of, versions_of};
 ghost use Rattle.focus_switch.specs.Walks.{and_version, replay_at, replay_at_sends, replay_next, sync_at, sync_next};
 
-use crate::agreement::Agreement;
 use crate::held::Helds;
 use crate::notice::{Change, did_change, with_version};
 use crate::telling::{Telling, opens, switch};
@@ -22,7 +21,7 @@ use crate::version::DocumentVersion;
 use document_table::doc_text::{ChangeFault, Text};
 use document_table::json_span::Tape;
 use document_table::rpc_message::Message;
-use document_table::{Opening, Opens};
+use document_table::{Agreement, Opening, Opens};
 use message_body::{Body, Memory};
 use mux_history::Outs;
 use position_codec::Encoding;
@@ -271,6 +270,23 @@ impl<T: Text + Drop> Shared<T> {
                     changed: held.sent,
                 },
             _ => Agreement::Differs,
+        }
+    }
+
+    /// How many notifications on documents the ready start was sent. It takes no memory.
+    pub fn sent(&self) -> u128
+        ensures { result ≡ self.now.sent }
+    {
+        self.sent
+    }
+
+    /// An editor's own version of a document, where it is open there. It takes no memory.
+    pub fn version(&self, e: u64, uri: &[u8]) -> Option<&[u8]>
+        ensures { option_map (λ v. v.now) result ≡ option_map (λ o. o.version) (find (is_open_at e uri.now) self.now.opens) }
+    {
+        match self.opens.find(e, uri) {
+            Some(opening) => Some(opening.version.bytes()),
+            None => None,
         }
     }
 

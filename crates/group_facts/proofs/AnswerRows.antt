@@ -255,7 +255,7 @@ module _ (settings : Settings) (range : InRange settings) (before : List Event) 
     -- S5, and what it asks and tells
     ready_why : (life_of s before).stage ≡ Ready → built_ready settings before s (message_of body) ≡ true → (m : Message) → message_of body ≡ m → Because R now (ready_row settings s before body m)
     ready_why at built (request id method params) says = question_why settings before s body at meant written id method params says (ap (built_ready settings before s) (sym says) ∙ built)
-    ready_why at built (notification method params) says = notified_why settings before s body at asks method params says
+    ready_why at built (notification method params) says = notified_why settings before s body at asks meant method params says
     ready_why at built (result id r) says = subst (λ m. Because R now (answer_row settings s before body m)) says (response_why all apart meant)
     ready_why at built (error id x) says = subst (λ m. Because R now (answer_row settings s before body m)) says (response_why all apart meant)
     ready_why at built not_json says = subst (λ m. Because R now (answer_row settings s before body m)) says (response_why all apart meant)

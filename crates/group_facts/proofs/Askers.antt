@@ -32,7 +32,7 @@ use Rattle.group_facts.specs.Facts.{AllForwarded, IsAlone, IsAsker, IsForwarded}
 use Rattle.group_facts.proofs.Forwards.{forwarding_more, more_requests, notified_all, zip_all}
 use Rattle.group_facts.proofs.Levels.{each_start}
 use Rattle.group_facts.proofs.Numbers.{forwarding_other, forwarding_sent, response_forwards}
-use Rattle.group_facts.specs.Why.{IsForward, WhyToEditor, WhyToServer, begins, greets, forwarded, notes, tells, shuts, cancels, calls, rejects, resumes, refuses, answers, turns_away, welcomes, passes, responds, exits, asks, recalls, resolves, spreads, cancels_work, progresses}
+use Rattle.group_facts.specs.Why.{IsForward, WhyToEditor, WhyToServer, begins, greets, forwarded, notes, tells, shuts, cancels, calls, rejects, resumes, refuses, answers, turns_away, welcomes, passes, responds, exits, asks, recalls, resolves, spreads, cancels_work, progresses, shows}
 
 -- An editor that got its result stays one that did
 
@@ -215,3 +215,4 @@ module _ (settings : Settings) (before : List Event) (cause : Cause) (events : L
   asked_told (spreads k) h = unanswered (notification k.method k.params) k.says refl h
   asked_told (recalls k) h = unanswered (notification (codes "$/cancelRequest") (Some k.params)) k.says refl h
   asked_told (progresses k) h = unanswered (notification k.method k.params) k.says refl h
+  asked_told (shows k) h = unanswered (notification k.method k.params) k.says refl h

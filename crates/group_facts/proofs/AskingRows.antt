@@ -12,7 +12,7 @@ use Rattle.mux_history.specs.declared.out.Out.{Out}
 use Rattle.mux_history.specs.declared.out.Out.TheVariants.{ToEditor, ToServer}
 use Rattle.lsp_method.specs.Class.{class_of, goes_nowhere, is_focused, is_refresh, own_notification, own_request, server_request}
 use Rattle.lsp_method.specs.declared.variants.Class.{Class}
-use Rattle.lsp_method.specs.declared.variants.Class.TheVariants.{Broadcast, Cancel, Create, Folders, Focused, Lowest, Refresh, Register, Unregister, Progress}
+use Rattle.lsp_method.specs.declared.variants.Class.TheVariants.{Broadcast, Cancel, Create, Diagnostics, Folders, Focused, Lowest, Refresh, Register, Unregister, Progress}
 use Rattle.lsp_method.specs.declared.variants.Origin.TheVariants.{Server}
 use Rattle.rpc_message.specs.Message.{Message, request, notification, result, error, not_json, not_message, Id, id_bytes, id_of, integer, integer_if, message_of}
 use Rattle.rpc_message.specs.ValueTexts.{IsIdText}
@@ -50,6 +50,12 @@ use Rattle.group_rows.specs.Forwarded.{Forwarded, forwarding_of, names}
 use Rattle.group_rows.specs.registrations.specs.declared.registration.Registration.{Registration}
 use Rattle.group_rows.specs.registrations.specs.Items.{again}
 use Rattle.group_rows.specs.Leaves.{cancel_text}
+use Rattle.group_rows.specs.diagnostics_route.specs.declared.last_list.LastList.{LastList}
+use Rattle.group_rows.specs.diagnostics_route.specs.Published.{published}
+use Rattle.group_rows.specs.diagnostics_route.specs.Shown.{shown_text}
+use Rattle.group_rows.specs.ListRows.{list_row, show}
+use Rattle.group_rows.specs.Lists.{names_list, sayings_of, version_at}
+use Rattle.group_rows.proofs.ListsKept.{IsList, published_body}
 use Rattle.group_rows.specs.Tokens.{is_mark, is_told, listens, marked_text, own_token, partial_mark, work_mark}
 use Rattle.group_rows.proofs.TokenTexts.{HasTokens, IsTokenText, marked_says, tokens_kept}
 use Rattle.group_rows.specs.Created.{Taking, Token, accepts, created_of, created_text, has_accepted, is_answered, is_creating, is_progress, named_token, names_create, names_progress, token_called}
@@ -63,10 +69,11 @@ use Rattle.group_rows.proofs.Versions.{AllMeant, current_flat}
 use Rattle.group_rows.proofs.Cancels.{cancel_says, params_tree}
 use Rattle.group_facts.specs.Built.{built_asking}
 use Rattle.group_facts.specs.Facts.{Asks, IsAsked, IsWritten, Written, asked_by}
-use Rattle.group_facts.specs.Why.{IsChange, IsRecall, IsCall, Calling, Resolution, Why, asks, denied, displaces, enrolled, enrols, created, creates, uncreated, IsNotified, IsTaken, of_held, of_request, of_token, is_call, granted, handed_back, listed, moves, recalls, calls, released, releases, resolves, spreads, unapplied, unenrolled, unreleased, IsProgress, progresses}
+use Rattle.group_facts.specs.Why.{IsChange, IsRecall, IsCall, Calling, Resolution, Why, asks, denied, displaces, enrolled, enrols, created, creates, uncreated, IsNotified, IsTaken, of_held, of_request, of_token, is_call, granted, handed_back, listed, moves, recalls, calls, released, releases, resolves, spreads, unapplied, unenrolled, unreleased, IsProgress, progresses, comes, shows}
 use Rattle.group_facts.proofs.Asks.{asked_by_more, asked_of_more, asking_more}
 use Rattle.group_facts.proofs.Forwards.{get_all, zip_all}
 use Rattle.group_facts.proofs.Nulls.{null_said}
+use Rattle.group_facts.proofs.Shown.{behind_show, shown_why}
 use Rattle.group_facts.proofs.Tellings.{cancel_names}
 
 -- Lists
@@ -393,6 +400,19 @@ module _ (settings : Settings) (before : List Event) (s : ℕ) (body : List ℕ)
       (by_send (spreads (record { start = s; method = method; params = params; source = record { from = refl; ready = stage; running = run.0 }; says = says; class = class })))
       (broadcast_why method params says class es (events ++ said (ToEditor e body) ∷ []) (all_still settings before events e body es run.1))
 
+  -- S15
+  module _ (meant : AllMeant before) (method : List ℕ) (params : Option Json) (says : message_of body ≡ notification method params) (class : class_of method Server true ≡ Diagnostics) (l : LastList) (kept : IsList l) (came : published (sayings_of s before) body ≡ Some l) where
+    lists_why : (es : List ℕ) (events : List Event) → AllRun settings before events es → Because R events (each (λ e. show settings before s e l) es)
+    lists_why [] events run = by_nothing
+    lists_why (e ∷ es) events run = by_then
+        (shown_why settings before meant e s l kept before (FromServer s body) R events (λ text k. shows k) stage run.0 (λ text fitting. comes body method params l refl says class came fitting))
+        (lists_why es (behind events (outs (show settings before s e l) events)) (behind_show settings before e s l (λ z. AllRun settings before z es) events
+        (all_still settings before events e (shown_text (version_at settings s e before l.uri) l.body) es run.1) run.1))
+
+  list_why : AllMeant before → (method : List ℕ) (params : Option Json) → message_of body ≡ notification method params → class_of method Server true ≡ Diagnostics → Because R now (list_row settings s before body)
+  list_why meant method params says class = by_on (λ none. by_nothing) (λ l came. by_on (λ none. by_nothing) (λ g home. lists_why meant method params says class l
+      (record { method = method; params = params; says = ap message_of (published_body (sayings_of s before) body l came) ∙ says; class = ap names_list class }) came (running_in settings g before) now (run_now g)))
+
   -- S13
   module _ (method : List ℕ) (params : Option Json) (says : message_of body ≡ notification method params) (class : class_of method Server true ≡ Progress) where
     notified : IsNotified before (FromServer s body) s body params
@@ -460,12 +480,13 @@ module _ (settings : Settings) (before : List Event) (s : ℕ) (body : List ℕ)
               says = cancel_says a.number k.small;
             }
 
-    pub notified_why : (method : List ℕ) (params : Option Json) → message_of body ≡ notification method params → Because R now (notified_row settings s before body params (class_of method Server true))
-    notified_why method params says = go (class_of method Server true) refl
+    pub notified_why : AllMeant before → (method : List ℕ) (params : Option Json) → message_of body ≡ notification method params → Because R now (notified_row settings s before body params (class_of method Server true))
+    notified_why meant method params says = go (class_of method Server true) refl
       where
         go : (c : Class) → class_of method Server true ≡ c → Because R now (notified_row settings s before body params c)
         go Cancel class = recall_why method params says class
         go Progress class = progress_why method params says class
+        go Diagnostics class = list_why meant method params says class
         go Broadcast class = by_on (λ none. by_nothing) (λ g home. broadcast_why method params says class (running_in settings g before) now (run_now g))
         go _ class = by_nothing
 

@@ -10,13 +10,14 @@ use Rattle.mux_history.specs.declared.cause.Cause.{Cause}
 use Rattle.mux_history.specs.declared.cause.Cause.TheVariants.{Joined, FromEditor, EditorGone, Started, StartFailed, FromServer, ServerGone, Drained, Tick}
 use Rattle.mux_history.specs.declared.out.Out.{Out}
 use Rattle.mux_history.specs.declared.out.Out.TheVariants.{ToEditor, ToServer, Spawn, CloseEditor, EndServer}
-use Rattle.document_model.specs.Sayings.{Saying, saying_by}
+use Rattle.document_model.specs.Sayings.{Saying, changes, closes, misshapen, opens, saying_by}
+use Rattle.document_model.specs.Sayings as saying
 use Rattle.rpc_message.specs.Message.{Message, request, notification, result, error, not_json, not_message, id_bytes, message_of}
 use Rattle.rpc_message.specs.Texts.{error_text, initialized_text, ok_text, request_failed, with_id_text}
 use Rattle.json_text.specs.Json.{Json}
 use Rattle.lsp_method.specs.Class.{class_of}
 use Rattle.lsp_method.specs.declared.variants.Class.{Class}
-use Rattle.lsp_method.specs.declared.variants.Class.TheVariants.{Broadcast, Cancel, Create, Focused, Folders, Lowest, Refresh, Register, Unregister, Progress}
+use Rattle.lsp_method.specs.declared.variants.Class.TheVariants.{Broadcast, Cancel, Create, Diagnostics, Focused, Folders, Lowest, Refresh, Register, Unregister, Progress}
 use Rattle.lsp_method.specs.declared.variants.Origin.TheVariants.{Server}
 use Rattle.event_model.specs.declared.phase.Phase.{Phase}
 use Rattle.event_model.specs.declared.phase.Phase.TheVariants.{New, Waiting, Answered, Running, Down}
@@ -49,6 +50,10 @@ use Rattle.group_rows.specs.Live.{live_of, register_text, unregister_text}
 use Rattle.group_rows.specs.LiveRows.{accept, call, has_some, registering, restore, unregister_any}
 use Rattle.group_rows.specs.Cancelling.{cancelling_at, cancelling_row}
 use Rattle.group_rows.specs.Forwarded.{Forwarded, forwarding_of}
+use Rattle.group_rows.specs.diagnostics_route.specs.declared.last_list.LastList.{LastList}
+use Rattle.group_rows.specs.ListRows.{list_row, show, show_full, show_opened}
+use Rattle.group_rows.specs.diagnostics_route.specs.Published.{published}
+use Rattle.group_rows.specs.Lists.{lists_of, sayings_of}
 use Rattle.group_rows.specs.Leaves.{cancel, cancel_text, cancels, closings, leave_bodies, leave_row, refusals, refuse, uncancelled_of}
 use Rattle.group_rows.specs.AskRows.{ask, ask_edit, asking_row, broadcast, current_version, edited, notified_row, response_at, response_row, run_at, run_row}
 use Rattle.group_rows.specs.Asks.{Ask, Parked, asks_of, is_with, next_ask, parked_of, running_in}
@@ -211,8 +216,36 @@ module _ (settings : Settings) (before : List Event) where
   quiet_work : (e : ℕ) (body : List ℕ) (params : Option Json) (events : List Event) → Quiet events (work_row settings before e body params)
   quiet_work e body params events = by_on (λ none. by_nothing) (λ g home. quiet_works e body params events g)
 
+  -- lists
+  quiet_show : (seen : List Event) (s e : ℕ) (l : LastList) (events : List Event) → Quiet events (show settings seen s e l)
+  quiet_show seen s e l events = by_choose (λ fit. by_send tt) (λ no. by_nothing)
+
+  quiet_full : (seen : List Event) (s e : ℕ) (l : LastList) (events : List Event) → Quiet events (show_full settings seen s e l)
+  quiet_full seen s e l events = by_choose (λ empty. by_nothing) (λ full. quiet_show seen s e l events)
+
+  quiet_opened : (s e : ℕ) (x : Saying) (events : List Event) → Quiet events (show_opened settings s e x)
+  quiet_opened s e (opens u l v t) events = by_look (by_on (λ none. by_nothing) (λ list found. quiet_full events s e list events))
+  quiet_opened s e (changes u v cs) events = by_nothing
+  quiet_opened s e (closes u) events = by_nothing
+  quiet_opened s e misshapen events = by_nothing
+  quiet_opened s e saying.nothing events = by_nothing
+
+  quiet_shows : (s e : ℕ) (ls : List LastList) (events : List Event) → Quiet events (each (show_full settings before s e) ls)
+  quiet_shows s e [] events = by_nothing
+  quiet_shows s e (l ∷ ls) events = by_then (quiet_full before s e l events) (quiet_shows s e ls (behind events (outs (show_full settings before s e l) events)))
+
+  quiet_listed : (s : ℕ) (l : LastList) (es : List ℕ) (events : List Event) → Quiet events (each (λ e. show settings before s e l) es)
+  quiet_listed s l [] events = by_nothing
+  quiet_listed s l (e ∷ es) events = by_then (quiet_show before s e l events) (quiet_listed s l es (behind events (outs (show settings before s e l) events)))
+
+  quiet_group_list : (s : ℕ) (l : LastList) (events : List Event) → Quiet events (on (group_of s before) nothing (λ g. each (λ e. show settings before s e l) (running_in settings g before)))
+  quiet_group_list s l events = by_on (λ none. by_nothing) (λ g home. quiet_listed s l (running_in settings g before) events)
+
+  quiet_list : (s : ℕ) (body : List ℕ) (events : List Event) → Quiet events (list_row settings s before body)
+  quiet_list s body events = by_on {o = published (sayings_of s before) body} {row = λ l. on (group_of s before) nothing (λ g. each (λ e. show settings before s e l) (running_in settings g before))} (λ none. by_nothing) (λ l came. quiet_group_list s l events)
+
   quiet_told : (e : ℕ) (body : List ℕ) (x : Saying) (events : List Event) (g s : ℕ) → Quiet events (document_at settings before e body x g s)
-  quiet_told e body x events g s = by_choose (λ ready. quiet_bodies s (document_bodies settings.limits.versions (encoding_of g before) (texts_of settings g before) (λ u. held_at s u before) e body x) events) (λ off. by_nothing)
+  quiet_told e body x events g s = by_choose (λ ready. by_then (quiet_bodies s (document_bodies settings.limits.versions (encoding_of g before) (texts_of settings g before) (λ u. held_at s u before) e body x) events) (quiet_opened s e x _)) (λ off. by_nothing)
 
   quiet_documents : (e : ℕ) (body : List ℕ) (x : Saying) (events : List Event) (g : ℕ) → Quiet events (on (start_of g before) nothing (document_at settings before e body x g))
   quiet_documents e body x events g = by_on (λ none. by_nothing) (λ s start. quiet_told e body x events g s)
@@ -298,7 +331,7 @@ module _ (settings : Settings) (before : List Event) where
 
   quiet_run_at : (e s : ℕ) (events : List Event) → Quiet events (run_at settings before e s)
   quiet_run_at e s events = by_choose (λ ready. by_then (quiet_any (has_some (live_of settings s before)) (register_text (live_of settings s before)) e events)
-      (by_then (quiet_offers s e (created_of settings s before).tokens (behind events (outs (restore settings before e s) events))) (quiet_parked e (parked_of settings s before) _))) (λ off. by_nothing)
+      (by_then (quiet_offers s e (created_of settings s before).tokens (behind events (outs (restore settings before e s) events))) (by_then (quiet_shows s e (lists_of s before) _) (quiet_parked e (parked_of settings s before) _)))) (λ off. by_nothing)
 
   quiet_run_in : (e g : ℕ) (events : List Event) → Quiet events (on (start_of g before) nothing (run_at settings before e))
   quiet_run_in e g events = by_on (λ none. by_nothing) (λ s start. quiet_run_at e s events)
@@ -404,6 +437,7 @@ module _ (settings : Settings) (before : List Event) where
   quiet_notified : (s : ℕ) (body : List ℕ) (params : Option Json) (c : Class) (events : List Event) → Quiet events (notified_row settings s before body params c)
   quiet_notified s body params Cancel events = by_on (λ none. by_nothing) (λ a found. by_choose (λ runs. by_send tt) (λ no. by_nothing))
   quiet_notified s body params Broadcast events = by_on (λ none. by_nothing) (λ g home. quiet_spread body (running_in settings g before) events)
+  quiet_notified s body params Diagnostics events = quiet_list s body events
   quiet_notified s body params Progress events = by_on (λ none. quiet_tokens s body params events) (λ f found. quiet_tell body (named_of (codes "token") params) f events)
   quiet_notified s body params _ events = by_nothing
 

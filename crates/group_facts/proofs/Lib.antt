@@ -68,3 +68,4 @@ pub mod Listens
 pub mod WorkRow
 pub mod Marks
 pub mod Takings
+pub mod Shown

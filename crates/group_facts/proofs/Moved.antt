@@ -1,5 +1,5 @@
--- The reasons of what an editor's message gives hold behind what the editor is asked, as it begins to run.
-use Rattle.std.proofs.Common.{◌≡◌, ℕ, true, false, List, [], ◌∷◌, ◌++◌, map, codes, decimal, nat_lt, is_some, Option, None, refl, sym, ◌∙◌, ap, subst, append-nil, append_assoc}
+-- The reasons of what an editor's message gives hold behind what the editor is asked and told, as it begins to run.
+use Rattle.std.proofs.Common.{◌≡◌, ℕ, true, false, List, [], ◌∷◌, ◌++◌, find, map, codes, decimal, nat_lt, is_some, Option, None, refl, sym, ◌∙◌, ap, subst, append-nil, append_assoc}
 use Rattle.std.specs.List.{AllByRecursion, list_any}
 use Rattle.std.specs.Option.{option_map}
 use Rattle.std.proofs.lemmas.List.{append_cancel_left}
@@ -12,7 +12,7 @@ use Rattle.mux_history.specs.declared.out.Out.{Out}
 use Rattle.mux_history.specs.declared.out.Out.TheVariants.{ToEditor, ToServer, Spawn, CloseEditor, EndServer}
 use Rattle.rpc_message.specs.Message.{Message, request, notification, result, error, not_json, not_message, Id, integer, message_of}
 use Rattle.rpc_message.specs.ValueTexts.{IsIdText}
-use Rattle.event_model.specs.Event.{Event, behind, said, with_cause}
+use Rattle.event_model.specs.Event.{Event, behind, heard, said, with_cause}
 use Rattle.event_model.specs.Phases.{Desk, desk_of, has_id, is_malformed, is_running, is_there, makes_running}
 use Rattle.event_model.specs.Requests.{is_open}
 use Rattle.event_model.specs.Row.{Row, outs}
@@ -24,12 +24,16 @@ use Rattle.mux_facts.proofs.Keeps.{behind_both}
 use Rattle.mux_facts.proofs.Lists.{all_join}
 use Rattle.mux_facts.proofs.Reasons.{Because, Reasons}
 use Rattle.group_rows.specs.Asks.{next_ask}
+use Rattle.group_rows.specs.diagnostics_route.specs.Rows.{is_of}
+use Rattle.group_rows.specs.diagnostics_route.specs.Shown.{fits, shown_text}
 use Rattle.group_rows.specs.Forwarded.{Forwarded, Forwarding}
 use Rattle.group_facts.specs.Facts.{IsAlone, IsWaiting, is_early}
 use Rattle.group_facts.specs.Lively.{lives_at}
 use Rattle.group_rows.specs.Tokens.{forwarded_text}
-use Rattle.group_facts.specs.Why.{IsBehindSync, IsBeside, IsQuestion, Telling, Turn, Why, WhyToEditor, WhyToServer, answers, asks, asks_something, begins, cancels, exits, forwarded, greeted, greets, is_uncancelled, notes, of_held, of_request, of_token, passes, recalls, refuses, calls, rejects, resolves, responds, resumes, shuts, spreads, stays, tells, turns_away, versions_at, welcomes, cancels_work, progresses}
-use Rattle.group_facts.proofs.Same.{IsBody, Same, same_behind, same_held, same_questions}
+use Rattle.group_facts.specs.Why.{IsBehindSync, IsBeside, IsQuestion, Showing, Telling, Turn, Why, WhyToEditor, WhyToServer, answers, asks, asks_something, begins, cancels, exits, forwarded, greeted, greets, is_uncancelled, notes, of_held, of_request, of_token, passes, recalls, refuses, calls, rejects, resolves, responds, resumes, shuts, spreads, stays, tells, turns_away, versions_at, welcomes, cancels_work, progresses, begins_by, comes, opened_by, shows}
+use Rattle.group_rows.proofs.Versions.{AllMeant, meant_heard, meant_more}
+use Rattle.group_facts.proofs.Same.{IsBody, Same, same_agreement, same_behind, same_held, same_questions, same_version}
+use Rattle.group_facts.proofs.Shown.{meant_behind}
 use Rattle.group_facts.proofs.Still.{Goes, Still, goes_body}
 
 allow_same : (f g : List ℕ → Option ℕ) → ((u : List ℕ) → g u ≡ f u) → (x : Saying) → AllowsSaying f x → AllowsSaying g x
@@ -240,6 +244,22 @@ module _ (settings : Settings) (before : List Event) (e : ℕ) (body : List ℕ)
         by_told (of_request s text given f token told found own editor bytes) = none_from s text told.from
         by_told (of_token s text given token told found accepted bytes) = none_from s text told.from
         by_told (of_held s taking earlier held later taken order place bytes) = never (sym (ap is_running (ap (λ i. (desk_of i before).phase) (same_editor taken.answer taken.from) ∙ taken.ran)) ∙ idle)
+    editor_moved n b goes (shows k) = shows (record {
+      start = k.start;
+      shown = by_shown k.start k.shown;
+      ready = k.ready;
+      running = phase_of n ∙ k.running;
+      method = k.method;
+      params = k.params;
+      class = k.class;
+      says = k.says;
+    })
+      where
+        by_shown : (s : ℕ) → Showing settings before cause x n s b → Showing settings before cause y n s b
+        by_shown s (comes text method given list from notified class came fitting) = none_from s text from
+        by_shown s (opened_by text u l v t list from said found full fitting) = opened_by text u l v t list from said (ap (find (is_of u)) (S.lists s) ∙ found) full
+            (record { fit = ap (fits list) (same_agreement settings S s n list.uri) ∙ fitting.fit; bytes = fitting.bytes ∙ ap (λ own. shown_text own list.body) (sym (same_version settings S s n list.uri)) })
+        by_shown s (begins_by list earlier later restoring order full fitting) = begins_by list earlier later restoring order full fitting
     editor_moved n b goes (calls k) = no_question b (integer (decimal (next_ask n x))) k.method k.params goes k.says
     editor_moved n b goes (resumes k) = no_question b (integer (decimal (next_ask n x))) k.method k.params goes k.says
 
@@ -265,8 +285,11 @@ module _ (settings : Settings) (before : List Event) (e : ℕ) (body : List ℕ)
   )
 
   -- of a row that sends the same there
-  pub row_moved : (row : Row) → Still settings row → Because R base row → Because R (behind base questions) row
-  row_moved row still h = record {
-    why = subst (λ zs. Reasons R (behind base questions) zs) (sym (still.same (behind base questions) base (same_questions settings e base questions asked)))
-        (subst (λ z. Reasons R z (outs row base)) (append-nil (behind base questions)) (all_moved (outs row base) (still.goes base) [] tt (subst (λ z. Reasons R z (outs row base)) (sym (append-nil base)) h.why)));
+  pub row_moved : AllMeant before → (row : Row) → Still settings row → Because R base row → Because R (behind base questions) row
+  row_moved meant row still h = record {
+    why = subst (λ zs. Reasons R (behind base questions) zs) (sym (still.same (behind base questions) base (meant_behind base questions now_meant) (same_questions settings e base questions asked)))
+        (subst (λ z. Reasons R z (outs row base)) (append-nil (behind base questions)) (all_moved (outs row base) (still.goes base now_meant) [] tt (subst (λ z. Reasons R z (outs row base)) (sym (append-nil base)) h.why)));
   }
+    where
+      now_meant : AllMeant base
+      now_meant = meant_more before (heard (FromEditor e body)) meant (meant_heard (FromEditor e body))

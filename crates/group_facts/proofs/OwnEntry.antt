@@ -1,11 +1,12 @@
 -- What is open at an editor, behind the entry of a message of its own.
-use Rattle.std.proofs.Common.{◌≡◌, ℕ, Bool, true, false, ◌&&◌, List, [], ◌∷◌, ◌++◌, map, nat_eq, codes, decimal, if◌then◌else◌, Option, Some, None, ◌⊎◌, inl, inr, refl, sym, ◌∙◌, ap, ap₂, subst, subst₂, append-nil, append_assoc, bytes_eq}
+use Rattle.std.proofs.Common.{◌≡◌, ℕ, Bool, true, false, not, ◌&&◌, ◌||◌, List, [], ◌∷◌, ◌++◌, map, nat_eq, codes, decimal, if◌then◌else◌, Option, Some, None, ◌⊎◌, inl, inr, refl, sym, ◌∙◌, ap, ap₂, subst, subst₂, append-nil, append_assoc, bytes_eq}
 use Rattle.std.specs.List.{AllByRecursion}
 use Rattle.std.proofs.lemmas.Bool.{and_parts}
 use Rattle.std.proofs.lemmas.Slice.Eq.{bytes_eq-Decides}
 use Rattle.json_text.specs.declared.kind.Word.TheVariants.{Null}
 use Rattle.json_text.specs.Json.{Json, word}
-use Rattle.document_model.specs.Sayings.{Saying, saying_by}
+use Rattle.document_model.specs.Sayings.{Saying, changes, closes, misshapen, opens, saying_by}
+use Rattle.document_model.specs.Sayings as saying
 use Rattle.lsp_method.specs.Class.{class_of}
 use Rattle.lsp_method.specs.declared.variants.Origin.TheVariants.{Editor}
 use Rattle.mux_history.specs.declared.cause.Cause.TheVariants.{FromEditor}
@@ -18,7 +19,7 @@ use Rattle.event_model.specs.declared.phase.Phase.{Phase}
 use Rattle.event_model.specs.declared.phase.Phase.TheVariants.{Absent, New, Waiting, Answered, Running, Down, Closed, Gone}
 use Rattle.event_model.specs.Event.{Event, behind, heard, requests, said, with_cause}
 use Rattle.event_model.specs.Members.{params_of}
-use Rattle.event_model.specs.Phases.{is_running, Desk, desk_hears, desk_of, has_id, is_begun, is_linked, is_new, is_there, makes_running, phase_told}
+use Rattle.event_model.specs.Phases.{is_running, is_served, Desk, desk_hears, desk_of, has_id, is_begun, is_linked, is_new, is_there, makes_running, phase_told}
 use Rattle.event_model.specs.Requests.{answered_id, with_request, is_open, is_own, open_of, without}
 use Rattle.event_model.specs.Row.{each, Row, choose, nothing, on, outs, send, ◌⨾◌}
 use Rattle.event_model.specs.Settings.{Settings}
@@ -29,7 +30,7 @@ use Rattle.mux_model.specs.Methods.{goes_on, is_wrong}
 use Rattle.mux_model.specs.Rows.{malformed_code, malformed_row, malformed_text, to_start}
 use Rattle.mux_facts.specs.Ranges.{InRange}
 use Rattle.mux_facts.proofs.Bodies.{malformed_says, refusal_says}
-use Rattle.mux_facts.proofs.Folds.{opens_more}
+use Rattle.mux_facts.proofs.Folds.{desk_more, opens_more}
 use Rattle.mux_facts.proofs.Keeps.{behind_both}
 use Rattle.mux_facts.proofs.Lists.{all_of}
 use Rattle.mux_facts.proofs.Late.{error_told, told_late}
@@ -44,6 +45,12 @@ use Rattle.group_words.proofs.Frames.{home_more}
 use Rattle.group_rows.specs.AskRows.{hand_back, response_at, response_row, run_row}
 use Rattle.group_rows.specs.Cancelling.{cancelling_at, cancelling_row}
 use Rattle.group_rows.specs.Forwarded.{Forwarding, forwarding_of, numbered, token_in}
+use Rattle.group_rows.specs.diagnostics_route.specs.declared.last_list.LastList.{LastList}
+use Rattle.group_rows.specs.diagnostics_route.specs.Rows.{is_of}
+use Rattle.group_rows.specs.diagnostics_route.specs.Shown.{shown_text}
+use Rattle.group_rows.specs.ListRows.{show_full, show_opened}
+use Rattle.group_rows.specs.Lists.{lists_of, version_at}
+use Rattle.group_rows.proofs.Versions.{AllMeant, meant_heard, meant_more}
 use Rattle.group_rows.specs.Leaves.{leave_row}
 use Rattle.group_rows.specs.Created.{Taking, accepts, created_of, created_text, is_answered as is_settled}
 use Rattle.group_rows.specs.CreatedRows.{created_work, hand_out, taking_row, tell, work_at, work_row}
@@ -68,6 +75,7 @@ use Rattle.group_facts.proofs.Multiplexer.{lspmux_apart}
 use Rattle.group_facts.proofs.Nulls.{null_said}
 use Rattle.group_facts.proofs.RequestRow.{beside, beside_other, desk_taken, is_forward, not_own, status_said, synced_sender}
 use Rattle.group_facts.proofs.Resuming.{run_questions, stays_there}
+use Rattle.group_facts.proofs.Shown.{behind_full}
 use Rattle.group_facts.proofs.Same.{IsBody, same_behind, same_questions, sym_same}
 use Rattle.group_facts.proofs.Still.{Goes, Still, goes_body, still_served}
 use Rattle.group_facts.proofs.Sent.{IsOf, OneOf, SentAt, one_last, sent_did, sent_heard}
@@ -424,17 +432,65 @@ module _ (settings : Settings) (before : List Event) (n : ℕ) (body : List ℕ)
 
     -- Notifications
 
-    document_rests : (method : List ℕ) (params : Option Json) → message_of body ≡ notification method params → Rests (outs (document_row settings before n body (saying_by method params)) now)
-    document_rests method params says = open_bodies settings n Nobody now (outs (document_row settings before n body (saying_by method params)) now) (all_outs ToStart now _ (bodies (saying_by method params)).why) (no_request (notification method params) says refl refl)
+    -- it runs at this place
+    record Runs (events : List Event) : Type 0 where
+      running : (desk_of n events).phase ≡ Running
+      rests : OpenAt settings n Nobody events
+
+    -- behind bodies to a start it may be shown a list
+    document_rests : (method : List ℕ) (params : Option Json) → message_of body ≡ notification method params → is_served (desk_of n before).phase ≡ true → bytes_eq (codes "exit") method ≡ false → Rests (outs (document_row settings before n body (saying_by method params)) now)
+    document_rests method params says served stays_open = home_rests (home_of settings n before)
       where
-        told_at : (x : Saying) (g s : ℕ) → Because (λ places out. ToStart out) now (document_at settings before n body x g s)
-        told_at x g s = by_choose (λ ready. starts_bodies s (document_bodies settings.limits.versions (encoding_of g before) (texts_of settings g before) (λ u. held_at s u before) n body x) now) (λ off. by_nothing)
+        said_now : Saying
+        said_now = saying_by method params
 
-        told_group : (x : Saying) (g : ℕ) → Because (λ places out. ToStart out) now (on (start_of g before) nothing (document_at settings before n body x g))
-        told_group x g = by_on (λ none. by_nothing) (λ s start. told_at x g s)
+        rest : OpenAt settings n Nobody now
+        rest = no_request (notification method params) says refl refl
 
-        bodies : (x : Saying) → Because (λ places out. ToStart out) now (document_row settings before n body x)
-        bodies x = by_on (λ none. by_nothing) (λ g home. told_group x g)
+        hears : (phase : Phase) → is_served phase ≡ true → (desk_hears phase (desk_of n before).initialize body (notification method params)).phase ≡ Running
+        hears Running k = refl
+        hears Answered k = ap (λ b. if not (b || false) then Running else Answered) stays_open
+        hears Absent k = never (sym k)
+        hears New k = never (sym k)
+        hears Waiting k = never (sym k)
+        hears Down k = never (sym k)
+        hears Closed k = never (sym k)
+        hears Gone k = never (sym k)
+
+        runs_now : Runs now
+        runs_now = record {
+          running = ap (λ (d : Desk). d.phase) (desk_taken settings before n body) ∙ ap (λ m. (desk_hears (desk_of n before).phase (desk_of n before).initialize body m).phase) says ∙ hears (desk_of n before).phase served;
+          rests = rest;
+        }
+
+        shown_rests : (s : ℕ) (x : Saying) (events : List Event) → Runs events → OpenAt settings n Nobody (behind events (outs (show_opened settings s n x) events))
+        shown_rests s (opens u l v t) events k = go (find (is_of u) (lists_of s events))
+          where
+            go : (o : Option LastList) → OpenAt settings n Nobody (behind events (outs (on o nothing (show_full settings events s n)) events))
+            go None = subst (OpenAt settings n Nobody) (sym (append-nil events)) k.rests
+            go (Some list) = behind_full settings events n s list (OpenAt settings n Nobody) events (tell_rests events (shown_text (version_at settings s n events list.uri) list.body) k.running k.rests) k.rests
+        shown_rests s (changes u v cs) events k = subst (OpenAt settings n Nobody) (sym (append-nil events)) k.rests
+        shown_rests s (closes u) events k = subst (OpenAt settings n Nobody) (sym (append-nil events)) k.rests
+        shown_rests s misshapen events k = subst (OpenAt settings n Nobody) (sym (append-nil events)) k.rests
+        shown_rests s saying.nothing events k = subst (OpenAt settings n Nobody) (sym (append-nil events)) k.rests
+
+        bodies_rest : (s : ℕ) (bodies : List (List ℕ)) (events : List Event) → Runs events → Runs (behind events (outs (to_start s bodies) events))
+        bodies_rest s [] events k = subst Runs (sym (append-nil events)) k
+        bodies_rest s (b ∷ bodies) events k = subst Runs (append_assoc events (said (ToServer s b) ∷ []) (map said (outs (to_start s bodies) (events ++ said (ToServer s b) ∷ []))))
+            (bodies_rest s bodies (events ++ said (ToServer s b) ∷ []) (record { running = ap (λ (d : Desk). d.phase) (desk_more n events (said (ToServer s b))) ∙ k.running; rests = open_sent settings n Nobody events s b k.rests }))
+
+        start_rests : (s : ℕ) (bodies : List (List ℕ)) (b : Bool) → Rests (outs (choose b (to_start s bodies ⨾ show_opened settings s n said_now) nothing) now)
+        start_rests s bodies true = let xs : List Out = outs (to_start s bodies) now in
+            subst (OpenAt settings n Nobody) (sym (behind_both now xs (outs (show_opened settings s n said_now) (behind now xs)))) (shown_rests s said_now (behind now xs) (bodies_rest s bodies now runs_now))
+        start_rests s bodies false = rests_here rest
+
+        group_rests : (g : ℕ) (o : Option ℕ) → Rests (outs (on o nothing (document_at settings before n body said_now g)) now)
+        group_rests g None = rests_here rest
+        group_rests g (Some s) = start_rests s (document_bodies settings.limits.versions (encoding_of g before) (texts_of settings g before) (λ u. held_at s u before) n body said_now) (is_ready (life_of s before).stage)
+
+        home_rests : (o : Option ℕ) → Rests (outs (on o nothing (λ g. on (start_of g before) nothing (document_at settings before n body said_now g))) now)
+        home_rests None = rests_here rest
+        home_rests (Some g) = group_rests g (start_of g before)
 
     notice_rests : (method : List ℕ) (params : Option Json) → message_of body ≡ notification method params → Rests (outs (notice_row settings before n body) now)
     notice_rests method params says = open_bodies settings n Nobody now (outs (notice_row settings before n body) now) (all_outs ToStart now _ bodies.why) (no_request (notification method params) says refl refl)
@@ -482,29 +538,29 @@ module _ (settings : Settings) (before : List Event) (n : ℕ) (body : List ℕ)
         go true = closing_rests
         go false = rests_here (no_request (notification method params) says refl refl)
 
-    served_rests : (method : List ℕ) (params : Option Json) → message_of body ≡ notification method params → Rests (outs (served_row settings before n body (notification method params)) now)
-    served_rests method params says = go (bytes_eq (codes "exit") method) (goes_on (class_of method Editor true)) (bytes_eq (codes "$/cancelRequest") method) (bytes_eq (codes "window/workDoneProgress/cancel") method)
+    served_rests : (method : List ℕ) (params : Option Json) → message_of body ≡ notification method params → is_served (desk_of n before).phase ≡ true → Rests (outs (served_row settings before n body (notification method params)) now)
+    served_rests method params says served = go (bytes_eq (codes "exit") method) refl (goes_on (class_of method Editor true)) (bytes_eq (codes "$/cancelRequest") method) (bytes_eq (codes "window/workDoneProgress/cancel") method)
       where
-        go : (a b c d : Bool) → Rests (outs (choose a (closing_row settings before n) (choose b (notice_row settings before n body)
+        go : (a : Bool) → bytes_eq (codes "exit") method ≡ a → (b c d : Bool) → Rests (outs (choose a (closing_row settings before n) (choose b (notice_row settings before n body)
             (choose c (cancelling_row settings before n body params) (choose d (work_row settings before n body params) (document_row settings before n body (saying_by method params)))))) now)
-        go true b c d = closing_rests
-        go false true c d = notice_rests method params says
-        go false false true d = cancelling_rests method params says
-        go false false false true = work_rests method params says
-        go false false false false = document_rests method params says
+        go true is b c d = closing_rests
+        go false is true c d = notice_rests method params says
+        go false is false true d = cancelling_rests method params says
+        go false is false false true = work_rests method params says
+        go false is false false false = document_rests method params says served is
 
-    notified_rests : (method : List ℕ) (params : Option Json) → message_of body ≡ notification method params → (phase : Phase) → (phase ≡ Answered → ⊥) → Rests (outs (message_row settings before n body (notification method params) phase) now)
-    notified_rests method params says phase other = subst (λ xs. Rests xs) (sym (by_single (notification method params) phase refl refl)) (go phase other)
+    notified_rests : (method : List ℕ) (params : Option Json) → message_of body ≡ notification method params → (phase : Phase) → (desk_of n before).phase ≡ phase → (phase ≡ Answered → ⊥) → Rests (outs (message_row settings before n body (notification method params) phase) now)
+    notified_rests method params says phase at other = subst (λ xs. Rests xs) (sym (by_single (notification method params) phase refl refl)) (go phase at other)
       where
-        go : (phase : Phase) → (phase ≡ Answered → ⊥) → Rests (outs (taken_row settings before n body (notification method params) phase) now)
-        go Answered other = absurd (other refl)
-        go Running other = served_rests method params says
-        go New other = exit_rests method params says
-        go Waiting other = exit_rests method params says
-        go Down other = exit_rests method params says
-        go Absent other = rests_here (no_request (notification method params) says refl refl)
-        go Closed other = rests_here (no_request (notification method params) says refl refl)
-        go Gone other = rests_here (no_request (notification method params) says refl refl)
+        go : (phase : Phase) → (desk_of n before).phase ≡ phase → (phase ≡ Answered → ⊥) → Rests (outs (taken_row settings before n body (notification method params) phase) now)
+        go Answered at other = absurd (other refl)
+        go Running at other = served_rests method params says (ap is_served at)
+        go New at other = exit_rests method params says
+        go Waiting at other = exit_rests method params says
+        go Down at other = exit_rests method params says
+        go Absent at other = rests_here (no_request (notification method params) says refl refl)
+        go Closed at other = rests_here (no_request (notification method params) says refl refl)
+        go Gone at other = rests_here (no_request (notification method params) says refl refl)
 
     -- Any message that doesn't place it
 
@@ -518,9 +574,9 @@ module _ (settings : Settings) (before : List Event) (n : ℕ) (body : List ℕ)
 
           go : (b : Bool) → makes_running m ≡ b → Rests (outs (choose (makes_running m) (run_row settings before n) nothing ⨾ served) now)
           go false stops = subst (λ c. Rests (outs (choose c (run_row settings before n) nothing ⨾ served) now)) (sym stops) (subst (λ z. Rests (outs served z)) (sym (append-nil now)) rest)
-          go true runs = subst (λ c. Rests (outs (choose c (run_row settings before n) nothing ⨾ served) now)) (sym runs) (subst Rests (ap (λ zs. asked ++ zs) (still.same now (behind now asked) (sym_same settings (behind now asked) now (same_questions settings n now asked questions))))
+          go true runs = subst (λ c. Rests (outs (choose c (run_row settings before n) nothing ⨾ served) now)) (sym runs) (subst Rests (ap (λ zs. asked ++ zs) (still.same now (behind now asked) meant_now (sym_same settings (behind now asked) now (same_questions settings n now asked questions))))
               (subst (OpenAt settings n Nobody) (sym (behind_both now asked (outs served now)))
-              (open_moved settings n Nobody (behind now (outs served now)) (behind (behind now asked) (outs served now)) (same_behind settings (behind now asked) now (outs served now) (all_of Goes IsBody goes_body (outs served now) (still.goes now)) (same_questions settings n now asked questions)) rest)))
+              (open_moved settings n Nobody (behind now (outs served now)) (behind (behind now asked) (outs served now)) (same_behind settings (behind now asked) now (outs served now) (all_of Goes IsBody goes_body (outs served now) (still.goes now meant_now)) (same_questions settings n now asked questions)) rest)))
             where
               running : makes_running (message_of body) ≡ true
               running = ap makes_running says ∙ runs
@@ -529,7 +585,10 @@ module _ (settings : Settings) (before : List Event) (n : ℕ) (body : List ℕ)
               asked = outs (run_row settings before n) now
 
               questions : AllByRecursion (IsQuestion n) asked
-              questions = run_questions settings before n body at running (stays_there settings before n body at running (ap (is_doubled before n) says ∙ single)) (facts.steady).asks
+              questions = run_questions settings before n body at running (stays_there settings before n body at running (ap (is_doubled before n) says ∙ single)) (facts.steady).asks (facts.base).meant
+
+              meant_now : AllMeant now
+              meant_now = meant_more before (heard (FromEditor n body)) (facts.base).meant (meant_heard (FromEditor n body))
 
               still : Still settings served
               still = still_served settings before n body (ap is_running at) m says runs
@@ -584,7 +643,7 @@ module _ (settings : Settings) (before : List Event) (n : ℕ) (body : List ℕ)
       -- in phase Answered, and in another one
       answered_rests : (m : Message) → message_of body ≡ m → (desk_of n before).phase ≡ Answered → places Answered m ≡ false → Rests (outs (from_editor settings before n body m Answered) now)
       answered_rests (request id method params) says at off = asked_rests id method params says Answered at off
-      answered_rests (notification method params) says at off = begun_rests (notification method params) says at refl (served_rests method params says)
+      answered_rests (notification method params) says at off = begun_rests (notification method params) says at refl (served_rests method params says (ap is_served at))
       answered_rests not_json says at off = malformed_rests not_json Answered says refl refl
       answered_rests not_message says at off = malformed_rests not_message Answered says refl refl
       answered_rests (result id r) says at off = begun_rests (result id r) says at refl (handed_rests (result id r) says refl refl refl)
@@ -592,7 +651,7 @@ module _ (settings : Settings) (before : List Event) (n : ℕ) (body : List ℕ)
 
       other_rests : (m : Message) → message_of body ≡ m → (phase : Phase) → (desk_of n before).phase ≡ phase → (phase ≡ Answered → ⊥) → places phase m ≡ false → Rests (outs (from_editor settings before n body m phase) now)
       other_rests (request id method params) says phase at other off = asked_rests id method params says phase at off
-      other_rests (notification method params) says phase at other off = notified_rests method params says phase other
+      other_rests (notification method params) says phase at other off = notified_rests method params says phase at other
       other_rests not_json says phase at other off = malformed_rests not_json phase says refl refl
       other_rests not_message says phase at other off = malformed_rests not_message phase says refl refl
       other_rests (result id r) says phase at other off = response_rests (result id r) phase (by_single (result id r) phase refl refl) (result_handed id r says phase other)

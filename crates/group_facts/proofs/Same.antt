@@ -1,11 +1,17 @@
--- Two places of an entry that differ in what editors were asked: nothing else that the reasons of an editor's message look at.
-use Rattle.std.proofs.Common.{◌≡◌, ℕ, Bool, true, false, List, [], ◌∷◌, ◌++◌, cond, map, nat_eq, if◌then◌else◌, Option, None, Some, refl, sym, ◌∙◌, ap, subst, append-nil, append_assoc}
+-- Two places of an entry that differ in what editors were asked and told: nothing else that the reasons of an editor's message look at.
+use Rattle.std.proofs.Common.{◌≡◌, ℕ, ◌+◌, Bool, true, false, ◌&&◌, List, [], ◌∷◌, ◌++◌, cond, map, nat_eq, if◌then◌else◌, Option, None, Some, refl, sym, ◌∙◌, ap, ap₂, subst, append-nil, append_assoc}
 use Rattle.std.specs.List.{AllByRecursion}
+use Rattle.std.specs.Option.{option_map, option_map_or}
 use Rattle.std.proofs.lemmas.List.Elements.{filter-append}
+use Rattle.std.proofs.lemmas.List.Sums.{fold-append}
 use Rattle.mux_history.specs.declared.out.Out.{Out}
 use Rattle.mux_history.specs.declared.out.Out.TheVariants.{ToEditor, ToServer, Spawn, CloseEditor, EndServer}
 use Rattle.position_codec.specs.declared.Encoding.{Encoding}
+use Rattle.document_model.specs.declared.agreement.Agreement.TheVariants.{NotOpen}
 use Rattle.document_model.specs.Helds.{HeldText}
+use Rattle.document_model.specs.Opens.{Open}
+use Rattle.document_model.specs.Sayings.{saying_of}
+use Rattle.document_model.specs.Texts.{found, no_texts}
 use Rattle.rpc_message.specs.Message.{Message, request, notification, result, error, not_json, not_message, Id, message_of}
 use Rattle.event_model.specs.declared.phase.Phase.{Phase}
 use Rattle.event_model.specs.declared.phase.Phase.TheVariants.{Absent, New, Waiting, Answered, Running, Down, Closed, Gone}
@@ -14,26 +20,52 @@ use Rattle.event_model.specs.Parts.{is_of_server, server_part}
 use Rattle.event_model.specs.Phases.{desk_behind, desk_of, phase_told}
 use Rattle.event_model.specs.Requests.{answered_id, next_number, number_behind, open_behind, open_of, without}
 use Rattle.event_model.specs.Settings.{Settings}
-use Rattle.event_model.specs.Spawns.{start_behind, start_of}
+use Rattle.event_model.specs.Spawns.{group_behind, group_of, start_behind, start_of}
 use Rattle.event_model.specs.Stages.{life_behind, life_of}
 use Rattle.event_model.proofs.Frames.{never}
 use Rattle.mux_model.specs.Documents.{Sent, held_at, sent_behind, sent_of}
 use Rattle.mux_facts.proofs.Folds.{desk_more, life_more, number_more, opens_more}
 use Rattle.mux_facts.proofs.Tellings.{sent_more}
-use Rattle.group_words.specs.Houses.{groups_of, home_of}
-use Rattle.group_words.proofs.Frames.{groups_stay, home_stays, names_home, touches_groups}
+use Rattle.group_words.specs.Houses.{groups_of, home_of, is_home}
+use Rattle.group_words.proofs.Frames.{groups_stay, home_stays, names_home, past_more, touches_groups}
+use Rattle.group_rows.specs.Answers.{shared_texts}
 use Rattle.group_rows.specs.Forwarded.{forwarding_behind, forwarding_of}
+use Rattle.group_rows.specs.Lists.{agreement_at, agreement_by, changed_next, changed_of, is_about, lists_next, lists_of, sayings_behind, sayings_of, version_at}
+use Rattle.group_rows.specs.diagnostics_route.specs.declared.last_list.LastList.{LastList}
+use Rattle.group_rows.specs.Texts.{is_synced, texts_next, texts_of, touch_all, worker_behind, worker_of}
+use Rattle.group_rows.proofs.Frames.{texts_more}
 use Rattle.group_facts.specs.Facts.{asked_by, server_behind}
-use Rattle.group_facts.specs.Why.{IsQuestion, asks_something}
+use Rattle.group_facts.specs.Why.{IsQuestion, has_method}
 use Rattle.group_facts.proofs.Asks.{asked_by_more}
 use Rattle.group_facts.proofs.Begun.{start_more}
 use Rattle.group_facts.proofs.Forwards.{forwarding_more}
+use Rattle.group_facts.proofs.Housed.{group_more}
 
 -- a body
 abbrev pub IsBody : Out → Type 0
 IsBody (ToEditor e body) = Unit {0}
 IsBody (ToServer s body) = Unit {0}
 IsBody other = ⊥
+
+-- what lists are fitted by, one event more
+worker_more : (events : List Event) (event : Event) → worker_of (events ++ event ∷ []) ≡ worker_behind (worker_of events) event
+worker_more events event = fold-append worker_behind None events (event ∷ [])
+
+sayings_more : (s : ℕ) (events : List Event) (event : Event) → sayings_of s (events ++ event ∷ []) ≡ sayings_behind s (sayings_of s events) event
+sayings_more s events event = fold-append (sayings_behind s) 0 events (event ∷ [])
+
+changed_more : (s : ℕ) (u : List ℕ) (events : List Event) (event : Event) → changed_of s u (events ++ event ∷ []) ≡ changed_next s u events (changed_of s u events) event
+changed_more s u events event = past_more (changed_next s u) [] 0 events event
+
+lists_did : (s : ℕ) (events : List Event) (lists : List LastList) (out : Out) → lists_next s events lists (said out) ≡ lists
+lists_did s events lists (ToEditor e body) = refl
+lists_did s events lists (ToServer n body) = refl
+lists_did s events lists (Spawn n g) = refl
+lists_did s events lists (CloseEditor e) = refl
+lists_did s events lists (EndServer n) = refl
+
+lists_stay : (s : ℕ) (events : List Event) (out : Out) → lists_of s (events ++ said out ∷ []) ≡ lists_of s events
+lists_stay s events out = past_more (lists_next s) [] [] events (said out) ∙ lists_did s events (lists_of s events) out
 
 pub record Same (settings : Settings) (x y : List Event) : Type 0 where
   pub life : (s : ℕ) → life_of s x ≡ life_of s y
@@ -47,9 +79,30 @@ pub record Same (settings : Settings) (x y : List Event) : Type 0 where
   pub start : (g : ℕ) → start_of g x ≡ start_of g y
   pub groups : groups_of settings x ≡ groups_of settings y
   pub home : (e : ℕ) → home_of settings e x ≡ home_of settings e y
+  pub group : (s : ℕ) → group_of s x ≡ group_of s y
+  pub worker : worker_of x ≡ worker_of y
+  pub texts : (g : ℕ) → texts_of settings g x ≡ texts_of settings g y
+  pub sayings : (s : ℕ) → sayings_of s x ≡ sayings_of s y
+  pub changed : (s : ℕ) (u : List ℕ) → changed_of s u x ≡ changed_of s u y
+  pub lists : (s : ℕ) → lists_of s x ≡ lists_of s y
 
 pub same_held : {x y : List Event} (settings : Settings) → Same settings x y → (s : ℕ) (u : List ℕ) → held_at s u x ≡ held_at s u y
 same_held settings k s u = ap (λ (z : Sent). z.held) (k.sent s u)
+
+-- an editor's document is the same there, and the start agrees alike
+same_shared : {x y : List Event} (settings : Settings) → Same settings x y → (s : ℕ) → shared_texts settings s x ≡ shared_texts settings s y
+same_shared {x} {y} settings k s = go (group_of s x) ∙ ap (λ o. option_map_or (λ g. texts_of settings g y) o no_texts) (k.group s)
+  where
+    go : (o : Option ℕ) → option_map_or (λ g. texts_of settings g x) o no_texts ≡ option_map_or (λ g. texts_of settings g y) o no_texts
+    go (Some g) = k.texts g
+    go None = refl
+
+pub same_agreement : {x y : List Event} (settings : Settings) → Same settings x y → (s e : ℕ) (u : List ℕ) → agreement_at settings s e x u ≡ agreement_at settings s e y u
+same_agreement {x} {y} settings k s e u = ap (λ z. option_map_or (agreement_by (held_at s u x) (changed_of s u x)) (found e u z) NotOpen) (same_shared settings k s)
+    ∙ ap₂ (λ h n. option_map_or (agreement_by h n) (found e u (shared_texts settings s y)) NotOpen) (same_held settings k s u) (k.changed s u)
+
+pub same_version : {x y : List Event} (settings : Settings) → Same settings x y → (s e : ℕ) (u : List ℕ) → version_at settings s e x u ≡ version_at settings s e y u
+same_version settings k s e u = ap (λ z. option_map (λ (o : Open). o.version) (found e u z)) (same_shared settings k s)
 
 at_place : {x y z : List Event} (settings : Settings) → x ≡ y → Same settings x z → Same settings y z
 at_place {x} {y} {z} settings e k = subst (λ w. Same settings w z) e k
@@ -59,7 +112,7 @@ before_place {x} {y} {z} settings e k = subst (λ w. Same settings x w) e k
 
 module _ (settings : Settings) where
   pub same_itself : (x : List Event) → Same settings x x
-  same_itself x = record { life = λ s. refl; desk = λ e. refl; opens = λ e. refl; forwarding = λ s. refl; sent = λ s u. refl; asked = λ s. refl; part = λ s. refl; next = λ s. refl; start = λ g. refl; groups = refl; home = λ e. refl }
+  same_itself x = record { life = λ s. refl; desk = λ e. refl; opens = λ e. refl; forwarding = λ s. refl; sent = λ s u. refl; asked = λ s. refl; part = λ s. refl; next = λ s. refl; start = λ g. refl; groups = refl; home = λ e. refl; group = λ s. refl; worker = refl; texts = λ g. refl; sayings = λ s. refl; changed = λ s u. refl; lists = λ s. refl }
 
   pub same_both : (x y z : List Event) → Same settings x y → Same settings y z → Same settings x z
   same_both x y z h k = record {
@@ -74,6 +127,12 @@ module _ (settings : Settings) where
     start = λ g. h.start g ∙ k.start g;
     groups = h.groups ∙ k.groups;
     home = λ e. h.home e ∙ k.home e;
+    group = λ s. h.group s ∙ k.group s;
+    worker = h.worker ∙ k.worker;
+    texts = λ g. h.texts g ∙ k.texts g;
+    sayings = λ s. h.sayings s ∙ k.sayings s;
+    changed = λ s u. h.changed s u ∙ k.changed s u;
+    lists = λ s. h.lists s ∙ k.lists s;
   }
 
   touches_none : (out : Out) → IsBody out → touches_groups (said out) ≡ false
@@ -90,6 +149,22 @@ module _ (settings : Settings) where
   names_none e (CloseEditor n) = refl
   names_none e (EndServer s) = refl
 
+  texts_then : (x y : List Event) (out : Out) → IsBody out → Same settings x y → (g : ℕ) → texts_next settings g x (texts_of settings g x) (said out) ≡ texts_next settings g y (texts_of settings g y) (said out)
+  texts_then x y (ToEditor e body) is h g = h.texts g
+  texts_then x y (ToServer s body) is h g =
+      ap (λ o. if is_home g o && is_synced (message_of body) then touch_all (worker_of x) (texts_of settings g x) else texts_of settings g x) (h.group s)
+      ∙ ap₂ (λ w z. if is_home g (group_of s y) && is_synced (message_of body) then touch_all w z else z) h.worker (h.texts g)
+  texts_then x y (Spawn s n) is h g = absurd is
+  texts_then x y (CloseEditor e) is h g = absurd is
+  texts_then x y (EndServer s) is h g = absurd is
+
+  changed_then : (x y : List Event) (out : Out) → IsBody out → Same settings x y → (s : ℕ) (u : List ℕ) → changed_next s u x (changed_of s u x) (said out) ≡ changed_next s u y (changed_of s u y) (said out)
+  changed_then x y (ToEditor e body) is h s u = h.changed s u
+  changed_then x y (ToServer k body) is h s u = ap₂ (λ m n. if nat_eq k s && is_about u (saying_of (message_of body)) then m + 1 else n) (h.sayings s) (h.changed s u)
+  changed_then x y (Spawn k n) is h s u = absurd is
+  changed_then x y (CloseEditor e) is h s u = absurd is
+  changed_then x y (EndServer k) is h s u = absurd is
+
   -- behind the same body
   pub same_more : (x y : List Event) (out : Out) → IsBody out → Same settings x y → Same settings (x ++ said out ∷ []) (y ++ said out ∷ [])
   same_more x y out is h = record {
@@ -104,6 +179,12 @@ module _ (settings : Settings) where
     start = λ g. start_more g x (said out) ∙ (ap (λ o. start_behind g o (said out)) (h.start g) ∙ sym (start_more g y (said out)));
     groups = groups_stay settings x (said out) (touches_none out is) ∙ (h.groups ∙ sym (groups_stay settings y (said out) (touches_none out is)));
     home = λ e. home_stays settings e x (said out) (names_none e out) ∙ (h.home e ∙ sym (home_stays settings e y (said out) (names_none e out)));
+    group = λ s. group_more s x (said out) ∙ (ap (λ o. group_behind s o (said out)) (h.group s) ∙ sym (group_more s y (said out)));
+    worker = worker_more x (said out) ∙ (ap (λ w. worker_behind w (said out)) h.worker ∙ sym (worker_more y (said out)));
+    texts = λ g. texts_more settings g x (said out) ∙ (texts_then x y out is h g ∙ sym (texts_more settings g y (said out)));
+    sayings = λ s. sayings_more s x (said out) ∙ (ap (λ n. sayings_behind s n (said out)) (h.sayings s) ∙ sym (sayings_more s y (said out)));
+    changed = λ s u. changed_more s u x (said out) ∙ (changed_then x y out is h s u ∙ sym (changed_more s u y (said out)));
+    lists = λ s. lists_stay s x out ∙ (h.lists s ∙ sym (lists_stay s y out));
   }
 
   pub same_behind : (x y : List Event) (xs : List Out) → AllByRecursion IsBody xs → Same settings x y → Same settings (behind x xs) (behind y xs)
@@ -111,11 +192,11 @@ module _ (settings : Settings) where
   same_behind x y (out ∷ xs) all h = at_place settings (append_assoc x (said out ∷ []) (map said xs)) (before_place settings (append_assoc y (said out ∷ []) (map said xs))
       (same_behind (x ++ said out ∷ []) (y ++ said out ∷ []) xs all.1 (same_more x y out all.0 h)))
 
-  -- behind a request to an editor
+  -- behind a request or a notification to an editor
 
-  told_phase : (phase : Phase) (initialize : List ℕ) (m : Message) → asks_something m ≡ true → phase_told phase initialize m ≡ phase
+  told_phase : (phase : Phase) (initialize : List ℕ) (m : Message) → has_method m ≡ true → phase_told phase initialize m ≡ phase
   told_phase Waiting initialize (request id method params) h = refl
-  told_phase Waiting initialize (notification method params) h = never (sym h)
+  told_phase Waiting initialize (notification method params) h = refl
   told_phase Waiting initialize (result id r) h = never (sym h)
   told_phase Waiting initialize (error id r) h = never (sym h)
   told_phase Waiting initialize not_json h = never (sym h)
@@ -128,7 +209,7 @@ module _ (settings : Settings) where
   told_phase Closed initialize m h = refl
   told_phase Gone initialize m h = refl
 
-  told_none : (m : Message) (ids : List Id) → asks_something m ≡ true → without (answered_id m) ids ≡ ids
+  told_none : (m : Message) (ids : List Id) → has_method m ≡ true → without (answered_id m) ids ≡ ids
   told_none (request id method params) ids h = refl
   told_none (notification method params) ids h = refl
   told_none (result id r) ids h = never (sym h)
@@ -140,7 +221,7 @@ module _ (settings : Settings) where
   quiet_sent s u n body None held = refl
   quiet_sent s u n body (Some c) held = refl
 
-  same_asked : (x : List Event) (n : ℕ) (body : List ℕ) → asks_something (message_of body) ≡ true → Same settings (x ++ said (ToEditor n body) ∷ []) x
+  same_asked : (x : List Event) (n : ℕ) (body : List ℕ) → has_method (message_of body) ≡ true → Same settings (x ++ said (ToEditor n body) ∷ []) x
   same_asked x n body h = record {
     life = λ s. life_more s x (said (ToEditor n body));
     desk = λ e. desk_more e x (said (ToEditor n body)) ∙ seated e (nat_eq n e);
@@ -153,6 +234,12 @@ module _ (settings : Settings) where
     start = λ g. start_more g x (said (ToEditor n body));
     groups = groups_stay settings x (said (ToEditor n body)) refl;
     home = λ e. home_stays settings e x (said (ToEditor n body)) refl;
+    group = λ s. group_more s x (said (ToEditor n body));
+    worker = worker_more x (said (ToEditor n body));
+    texts = λ g. texts_more settings g x (said (ToEditor n body));
+    sayings = λ s. sayings_more s x (said (ToEditor n body));
+    changed = λ s u. changed_more s u x (said (ToEditor n body));
+    lists = λ s. lists_stay s x (ToEditor n body);
   }
     where
       either : (b : Bool) (ids : List Id) → (if b then ids else ids) ≡ ids
@@ -186,4 +273,10 @@ module _ (settings : Settings) where
     start = λ g. sym (h.start g);
     groups = sym h.groups;
     home = λ e. sym (h.home e);
+    group = λ s. sym (h.group s);
+    worker = sym h.worker;
+    texts = λ g. sym (h.texts g);
+    sayings = λ s. sym (h.sayings s);
+    changed = λ s u. sym (h.changed s u);
+    lists = λ s. sym (h.lists s);
   }

@@ -88,7 +88,7 @@ module _ (settings : Settings) (range : InRange settings) (before : List Event) 
       (λ cancels. cancelling_why settings range before (facts.steady).bounded e body served params (says ∙ ap (λ m. notification m params) (sym ((bytes_eq-Decides (codes "$/cancelRequest") method).0 cancels))))
       (λ off. by_choose
       (λ works. work_why settings range before (facts.steady).bounded e body served params (says ∙ ap (λ m. notification m params) (sym ((bytes_eq-Decides (codes "window/workDoneProgress/cancel") method).0 works))))
-      (λ other. document_why settings range before e body (facts.base).opened method params says))))
+      (λ other. document_why settings range before e body (facts.base).opened method params says (facts.base).meant served no))))
 
   served_why : (m : Message) → message_of body ≡ m → is_served (desk_of e before).phase ≡ true → is_early (desk_of e before).phase ≡ false → is_there (desk_of e before).phase ≡ true → is_doubled before e m ≡ false → Mine (served_row settings before e body m)
   served_why (request id method params) says served late there single = asked_why id method params says late there (alone_by before (facts.steady).asked e id single)
@@ -181,9 +181,9 @@ module _ (settings : Settings) (range : InRange settings) (before : List Event) 
       stays runs = stays_there settings before e body at runs single
 
       begun_why : (b : Bool) → makes_running (message_of body) ≡ b → Mine (choose (makes_running (message_of body)) (run_row settings before e) nothing ⨾ served_row settings before e body (message_of body))
-      begun_why true runs = by_then (subst (λ c. Mine (choose c (run_row settings before e) nothing)) (sym runs) (by_choose (λ yes. run_why settings before e body at runs (stays runs) (facts.steady).asks) (λ no. by_nothing)))
+      begun_why true runs = by_then (subst (λ c. Mine (choose c (run_row settings before e) nothing)) (sym runs) (by_choose (λ yes. run_why settings before e body at runs (stays runs) (facts.steady).asks (facts.base).meant) (λ no. by_nothing)))
           (subst (λ c. Because (R settings before e body) (behind (asked settings before e body) (outs (choose c (run_row settings before e) nothing) (asked settings before e body))) (served_row settings before e body (message_of body))) (sym runs)
-          (row_moved settings before e body runs (ap is_running at) (outs (run_row settings before e) (asked settings before e body)) (run_questions settings before e body at runs (stays runs) (facts.steady).asks) (served_row settings before e body (message_of body)) (still_served settings before e body (ap is_running at) (message_of body) refl runs) here))
+          (row_moved settings before e body runs (ap is_running at) (outs (run_row settings before e) (asked settings before e body)) (run_questions settings before e body at runs (stays runs) (facts.steady).asks (facts.base).meant) (facts.base).meant (served_row settings before e body (message_of body)) (still_served settings before e body (ap is_running at) (message_of body) refl runs) here))
       begun_why false stops = by_then (by_choose (λ yes. never (sym yes ∙ stops)) (λ no. by_nothing))
           (subst (λ c. Because (R settings before e body) (behind (asked settings before e body) (outs (choose c (run_row settings before e) nothing) (asked settings before e body))) (served_row settings before e body (message_of body))) (sym stops)
           (subst (λ z. Because (R settings before e body) z (served_row settings before e body (message_of body))) (sym (append-nil (asked settings before e body))) here))

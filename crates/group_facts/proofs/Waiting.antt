@@ -30,7 +30,7 @@ use Rattle.group_facts.specs.Facts.{is_too_many, turned_away}
 use Rattle.group_facts.proofs.Facts.{OthersWait}
 use Rattle.group_facts.proofs.PutOut.{turned_ends}
 use Rattle.group_facts.proofs.Listens.{listens_late}
-use Rattle.group_facts.specs.Why.{IsRefusal, WhyToEditor, calls, rejects, resumes, refuses, answers, turns_away, welcomes, passes, asks, recalls, spreads, progresses}
+use Rattle.group_facts.specs.Why.{IsRefusal, WhyToEditor, calls, rejects, resumes, refuses, answers, turns_away, welcomes, passes, asks, recalls, spreads, progresses, shows}
 
 -- one event more
 wait_more : (e : ℕ) (events : List Event) (event : Event) → WaitsAt (desk_behind e (desk_of e events) event) (open_behind e (open_of e events) event) → WaitsAt (desk_of e (events ++ event ∷ [])) (open_of e (events ++ event ∷ []))
@@ -88,6 +88,7 @@ module _ (settings : Settings) (before : List Event) (cause : Cause) (events : L
   waiting_told (resumes k) h e rest = running_told k.running e (h e rest)
   waiting_told (calls k) h e rest = running_told k.running e (h e rest)
   waiting_told (spreads k) h e rest = running_told (k.source).running e (h e rest)
+  waiting_told (shows k) h e rest = running_told k.running e (h e rest)
   waiting_told (recalls k) h e rest = running_told (k.source).running e (h e rest)
   waiting_told (progresses k) h e rest = result_told (λ at. absurd (late_not (desk_of n events).phase (listens_late (desk_of n events).phase k.hears) at)) e (h e rest)
   waiting_told (passes k) h e rest = result_told (λ at. absurd (late_not (desk_of n events).phase k.late at)) e (h e rest)

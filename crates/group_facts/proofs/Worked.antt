@@ -23,6 +23,7 @@ use Rattle.mux_facts.proofs.Keeps.{events_more}
 use Rattle.group_words.specs.Example.{with_groups}
 use Rattle.group_rows.specs.AsksExample.{asked_leaves, two_asked}
 use Rattle.group_rows.specs.CreatedExample.{asked_later, created_again, one_token_thrice, takers_leave, taken_by_one}
+use Rattle.group_rows.specs.ListsExample.{shown_to_openers, shown_twice}
 use Rattle.group_rows.specs.LiveExample.{registers}
 use Rattle.group_rows.specs.TokensExample.{marking, progressing, working}
 use Rattle.group_rows.specs.Example.{all_outs, both_ask, closing, switching, two_editors, two_groups}
@@ -147,9 +148,13 @@ takers_leave_is_legal : Legal (with_groups 8) (played (with_groups 8) (two_edito
 unfolding computes url_on_literals message_of named no_name_twice is_integer member_bytes with_id_text id_edits escape_byte digits own_request own_notification goes_nowhere editor_request editor_notification is_focused is_refresh server_notification server_request chars
 takers_leave_is_legal = legal (with_groups 8) (two_editors ++ takers_leave) refl
 
-diagnostics_are_not_built : taken_from (with_groups 8) [] (two_editors ++ FromServer 0 (codes "{\"jsonrpc\":\"2.0\",\"method\":\"textDocument/publishDiagnostics\"}") ∷ []) ≡ false
+lists_are_legal : Legal (with_groups 8) (played (with_groups 8) (two_editors ++ shown_to_openers))
 unfolding computes url_on_literals message_of named no_name_twice is_integer member_bytes with_id_text id_edits escape_byte digits own_request own_notification goes_nowhere editor_request editor_notification is_focused is_refresh server_notification server_request chars
-diagnostics_are_not_built = refl
+lists_are_legal = legal (with_groups 8) (two_editors ++ shown_to_openers) refl
+
+lists_of_one_begun_are_legal : Legal (with_groups 8) (played (with_groups 8) (two_editors ++ shown_twice))
+unfolding computes url_on_literals message_of named no_name_twice is_integer member_bytes with_id_text id_edits escape_byte digits own_request own_notification goes_nowhere editor_request editor_notification is_focused is_refresh server_notification server_request chars
+lists_of_one_begun_are_legal = legal (with_groups 8) (two_editors ++ shown_twice) refl
 
 an_edit_is_built : taken_from (with_groups 8) [] (two_editors ++ FromServer 0 (codes "{\"jsonrpc\":\"2.0\",\"id\":7,\"method\":\"workspace/applyEdit\"}") ∷ []) ≡ true
 unfolding computes url_on_literals message_of named no_name_twice is_integer member_bytes with_id_text id_edits escape_byte digits own_request own_notification goes_nowhere editor_request editor_notification is_focused is_refresh server_notification server_request chars

@@ -1,6 +1,6 @@
 -- Which causes meet only rows of the table over several editors and groups that are built, until all are.
 -- Not built of an editor: `lspmux/stop` (E6).
--- Not built of a start while it is ready: the class of S15. Nor the end of a program whose group lives.
+-- Not built of a start: the end of a program whose group lives.
 -- Of S2, what is read back must be what was meant: editors are shown all of the result.
 use Rattle.std.specs.Prelude.{ℕ, Bool, true, false, not, ◌&&◌, ◌||◌, List, bytes_eq}
 use Rattle.std.specs.Prelude.{Some}
@@ -10,7 +10,7 @@ use Rattle.mux_history.specs.declared.cause.Cause.TheVariants.{Joined, FromEdito
 use Rattle.mux_history.specs.declared.entry.Entry.{Entry}
 use Rattle.lsp_method.specs.Class.{class_of}
 use Rattle.lsp_method.specs.declared.variants.Class.{Class}
-use Rattle.lsp_method.specs.declared.variants.Class.TheVariants.{Broadcast, Cancel, Create, Focused, Folders, Initialize, Lowest, Other, Progress, Refresh, Register, Shutdown, Unregister, Wrong}
+use Rattle.lsp_method.specs.declared.variants.Class.TheVariants.{Broadcast, Cancel, Create, Diagnostics, Focused, Folders, Initialize, Lowest, Other, Progress, Refresh, Register, Shutdown, Unregister, Wrong}
 use Rattle.lsp_method.specs.declared.variants.Origin.TheVariants.{Editor, Server}
 use Rattle.rpc_message.specs.Message.{Id, Message, request, notification, result, message_of, result_bytes}
 use Rattle.event_model.specs.declared.phase.Phase.{Phase}
@@ -68,10 +68,11 @@ built_asking Register = true
 built_asking Unregister = true
 built_asking _ = false
 
--- S13, S14, and what goes to each editor
+-- S13 to S15, and what goes to each editor
 abbrev pub built_telling : Class → Bool
 built_telling Cancel = true
 built_telling Progress = true
+built_telling Diagnostics = true
 built_telling Broadcast = true
 built_telling _ = false
 

@@ -16,7 +16,7 @@ use Rattle.group_rows.specs.Rows.{sync_bodies}
 use Rattle.group_rows.specs.Texts.{is_synced, texts_of}
 use Rattle.group_facts.specs.Why.{IsQuestion}
 
--- s is the last start of an editor's group; in this entry, which is about a message of that editor, it was sent just the switches of the editor's documents, and nothing else went out but requests to the editor before it
+-- s is the last start of an editor's group; in this entry, which is about a message of that editor, it was sent just the switches of the editor's documents, and nothing else went out but requests and notifications to the editor before it
 pub record IsSwitched (settings : Settings) (before : List Event) (cause : Cause) (events : List Event) (s : ℕ) : Type 0 where
   pub editor : ℕ
   pub asked : List ℕ

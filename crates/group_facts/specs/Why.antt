@@ -4,12 +4,12 @@ use Rattle.std.specs.Prelude.{Option, Some, None, slice_get}
 use Rattle.std.specs.List.{AllByRecursion, list_any}
 use Rattle.std.specs.Option.{option_and_then, option_map}
 use Rattle.json_text.specs.Json.{Json}
-use Rattle.document_model.specs.Sayings.{saying_of, speaks}
+use Rattle.document_model.specs.Sayings.{opens, saying_of, speaks}
 use Rattle.mux_history.specs.declared.cause.Cause.{Cause}
 use Rattle.mux_history.specs.declared.cause.Cause.TheVariants.{Started, FromServer, FromEditor}
 use Rattle.lsp_method.specs.Class.{class_of}
 use Rattle.lsp_method.specs.declared.variants.Class.{Class}
-use Rattle.lsp_method.specs.declared.variants.Class.TheVariants.{Broadcast, Cancel, Create, Focused, Folders, Progress, Refresh, Register, Unregister}
+use Rattle.lsp_method.specs.declared.variants.Class.TheVariants.{Broadcast, Cancel, Create, Diagnostics, Focused, Folders, Progress, Refresh, Register, Unregister}
 use Rattle.lsp_method.specs.declared.variants.Origin.TheVariants.{Editor, Server}
 use Rattle.mux_history.specs.declared.entry.Entry.{Entry}
 use Rattle.mux_history.specs.declared.out.Out.{Out}
@@ -34,6 +34,10 @@ use Rattle.mux_facts.specs.Allowed.{AllowsSaying, is_response}
 use Rattle.mux_model.specs.Documents.{held_at}
 use Rattle.mux_model.specs.Methods.{goes_on}
 use Rattle.document_model.specs.Helds.{HeldText}
+use Rattle.group_rows.specs.diagnostics_route.specs.declared.last_list.LastList.{LastList}
+use Rattle.group_rows.specs.diagnostics_route.specs.Published.{published}
+use Rattle.group_rows.specs.diagnostics_route.specs.Rows.{is_of}
+use Rattle.group_rows.specs.diagnostics_route.specs.Shown.{fits, shown_text}
 use Rattle.group_rows.specs.registrations.specs.declared.registration.Registration.{Registration}
 use Rattle.group_rows.specs.registrations.specs.Items.{again, registered}
 use Rattle.group_words.specs.declared.kept.Kept.{Kept}
@@ -48,6 +52,7 @@ use Rattle.group_rows.specs.CreatedRows.{create_text}
 use Rattle.group_rows.specs.Ends.{answers_shutdown}
 use Rattle.group_rows.specs.Forwarded.{Forwarded, Sender, answered_by, forwarding_of}
 use Rattle.group_rows.specs.Leaves.{cancel_text}
+use Rattle.group_rows.specs.Lists.{agreement_at, lists_of, sayings_of, version_at}
 use Rattle.group_rows.specs.Live.{is_registering, live_of, register_text, taken_back, unregister_text}
 use Rattle.group_rows.specs.Rows.{sync_bodies}
 use Rattle.group_rows.specs.Texts.{texts_of}
@@ -94,16 +99,23 @@ pub record IsGreeting (before : List Event) (cause : Cause) (events : List Event
   pub part : server_part s events ≡ server_part s before ++ heard cause ∷ []
   pub says : message_of body ≡ notification (codes "initialized") params
 
--- a request to this editor
+-- a request
 abbrev pub asks_something : Message → Bool
 asks_something (request id method params) = true
 asks_something other = false
 
+-- a request or a notification
+abbrev pub has_method : Message → Bool
+has_method (request id method params) = true
+has_method (notification method params) = true
+has_method other = false
+
+-- one to this editor
 abbrev pub IsQuestion : ℕ → Out → Type 0
-IsQuestion e (ToEditor n body) = (n ≡ e) × (asks_something (message_of body) ≡ true)
+IsQuestion e (ToEditor n body) = (n ≡ e) × (has_method (message_of body) ≡ true)
 IsQuestion e other = ⊥
 
--- s, the ready start of e's group, was told of e's documents and of nothing else in this entry, which is about a message of e that changes no document (LSP 3.17, Text Document Synchronization); before it e may have been asked, as it begins to run
+-- s, the ready start of e's group, was told of e's documents and of nothing else in this entry, which is about a message of e that changes no document (LSP 3.17, Text Document Synchronization); before it e may have been asked and told, as it begins to run
 pub record IsBehindSync (settings : Settings) (before : List Event) (events : List Event) (s e : ℕ) (asked : List ℕ) : Type 0 where
   pub group : ℕ
   pub start : start_of group before ≡ Some s
@@ -524,6 +536,30 @@ pub record IsProgress (settings : Settings) (before : List Event) (cause : Cause
   pub hears : listens (desk_of e events).phase ≡ true
   pub says : message_of body ≡ notification method params
 
+-- a list fits an editor by what these events say, and is shown so
+pub record IsFitting (settings : Settings) (events : List Event) (e s : ℕ) (l : LastList) (body : List ℕ) : Type 0 where
+  pub fit : fits l (agreement_at settings s e events l.uri) ≡ true
+  pub bytes : body ≡ shown_text (version_at settings s e events l.uri) l.body
+
+-- which list of diagnostics is shown: one that comes (S15); the last one, which isn't empty, of a document that the editor opened, by what the start was sent by then (E12); and each such one, in the order of their documents' first lists, as it begins to run (L2)
+pub data Showing (settings : Settings) (before : List Event) (cause : Cause) (events : List Event) (e s : ℕ) (body : List ℕ) : Type 0 where
+  comes : (asked method : List ℕ) (given : Option Json) (list : LastList) → cause ≡ FromServer s asked → message_of asked ≡ notification method given → class_of method Server true ≡ Diagnostics → published (sayings_of s before) asked ≡ Some list
+      → IsFitting settings before e s list body → Showing settings before cause events e s body
+  opened_by : (text uri language version words : List ℕ) (list : LastList) → cause ≡ FromEditor e text → saying_of (message_of text) ≡ opens uri language version words → find (is_of uri) (lists_of s events) ≡ Some list → list.empty ≡ false
+      → IsFitting settings events e s list body → Showing settings before cause events e s body
+  begins_by : (list : LastList) (earlier later : List LastList) → IsRestoring settings before cause e s → lists_of s before ≡ earlier ++ list ∷ later → list.empty ≡ false → IsFitting settings before e s list body → Showing settings before cause events e s body
+
+-- a list of a ready start is shown to an editor that runs
+pub record IsShown (settings : Settings) (before : List Event) (cause : Cause) (events : List Event) (e : ℕ) (body : List ℕ) : Type 0 where
+  pub start : ℕ
+  pub shown : Showing settings before cause events e start body
+  pub ready : (life_of start before).stage ≡ Ready
+  pub running : (desk_of e events).phase ≡ Running
+  pub method : List ℕ
+  pub params : Option Json
+  pub class : class_of method Server true ≡ Diagnostics
+  pub says : message_of body ≡ notification method params
+
 pub data WhyToEditor (settings : Settings) (before : List Event) (cause : Cause) (events : List Event) (e : ℕ) (body : List ℕ) : Type 0 where
   rejects : IsRejection before cause events e body → WhyToEditor settings before cause events e body
   refuses : IsRefusal events e body → WhyToEditor settings before cause events e body
@@ -537,6 +573,7 @@ pub data WhyToEditor (settings : Settings) (before : List Event) (cause : Cause)
   spreads : IsSpread settings before cause events e body → WhyToEditor settings before cause events e body
   recalls : IsRecall settings before cause events e body → WhyToEditor settings before cause events e body
   progresses : IsProgress settings before cause events e body → WhyToEditor settings before cause events e body
+  shows : IsShown settings before cause events e body → WhyToEditor settings before cause events e body
 
 -- its program is to begin, or gave no result yet
 abbrev pub is_starting : Stage → Bool

@@ -12,7 +12,7 @@ use Rattle.document_model.specs.Helds.{HeldText}
 use Rattle.document_model.specs.Bodies.{open_text}
 use Rattle.document_model.specs.Opens.{Open, holder}
 use Rattle.document_model.specs.Orderly.{AllSpelt, Orderly}
-use Rattle.document_model.specs.Sayings.{nothing, saying_of}
+use Rattle.document_model.specs.Sayings.{nothing, saying_of, speaks}
 use Rattle.document_model.specs.Texts.{Texts}
 use Rattle.document_model.proofs.Spoken.{AllSpeak, sent_open_speaks}
 use Rattle.document_model.proofs.Spelt.{latest_spelt}
@@ -27,10 +27,13 @@ use Rattle.focus_switch.specs.Documents.{Documents}
 use Rattle.focus_switch.specs.Rows.{ready_row}
 use Rattle.group_rows.specs.mux_model.specs.Documents.{Sent, encoding_by, held_at, sent_behind, sent_of}
 use Rattle.group_rows.specs.mux_model.proofs.DocumentFolds.{sent_encoding}
+use Rattle.group_rows.specs.Lists.{sayings_of}
 use Rattle.group_rows.specs.Texts.{encoding_of, is_synced, texts_of}
 use Rattle.group_rows.specs.Rows as rows
 use Rattle.group_rows.proofs.Frames.{encoding_more, encoding_stays, texts_stay}
-use Rattle.group_laws.specs.Stands.{HeldStands, TextsStand}
+use Rattle.group_laws.specs.Stands.{CountsStand, HeldStands, TextsStand}
+use Rattle.group_laws.proofs.Counting.{ready_counts}
+use Rattle.group_laws.proofs.Counts.{SameCounts, counts_at, counts_more, counts_stay, counts_then, silent_uncounted}
 use Rattle.group_laws.proofs.Entries.{all_told, encoding_told, first_behind, held_same, itself, texts_told}
 use Rattle.group_laws.proofs.ReplayHeld.{ready_held}
 use Rattle.group_laws.proofs.Replaying.{ready_outs, ready_stays, ready_texts}
@@ -61,6 +64,13 @@ sent_tell s u code k events (ToEditor n body ∷ xs) h e = ap (sent_of s u) (fir
     ∙ sent_tell s u code k (events ++ said (ToEditor n body) ∷ []) xs h.1 (one_more (sent_behind s u) _ _ events (said (ToEditor n body)) e)
 sent_tell s u code k events (other ∷ xs) h e = absurd h.0
 
+counts_tell : (s : ℕ) (events : List Event) (xs : List Out) → AreTellings xs → SameCounts s events (behind events xs)
+counts_tell s events [] h = counts_at s events (behind events []) (append-nil events)
+counts_tell s events (ToEditor e body ∷ xs) h =
+    let more : List Event = events ++ said (ToEditor e body) ∷ [] in
+    subst (SameCounts s events) (sym (first_behind events (ToEditor e body) xs)) (counts_then s events more (behind more xs) (counts_more s events (said (ToEditor e body)) refl) (counts_tell s more xs h.1))
+counts_tell s events (other ∷ xs) h = absurd h.0
+
 -- the bodies of a replay tell of documents
 pub replay_speaks : (told : List (List ℕ)) (all os : List Open) → AllSpelt all → AllSpeak (rows.replay_bodies told all os)
 replay_speaks told all [] spelt = tt
@@ -74,7 +84,7 @@ replay_speaks told all (o ∷ os) spelt = go (list_any (bytes_eq o.uri) told) (h
 
 module _ (settings : Settings) (g s : ℕ) (code : Encoding) (before : List Event) (body first : List ℕ) (d : Documents) (tells : List Out)
     (there : group_of s before ≡ Some g) (begins : is_initializing (life_of s before).stage ≡ true) (gives : encoding_by (message_of body) ≡ Some code)
-    (fresh : (u : List ℕ) → sent_of s u before ≡ record { encoding = None; held = None }) (says : saying_of (message_of first) ≡ nothing) (aside : is_synced (message_of first) ≡ false)
+    (fresh : (u : List ℕ) → sent_of s u before ≡ record { encoding = None; held = None }) (unsaid : sayings_of s before ≡ 0) (says : saying_of (message_of first) ≡ nothing) (aside : is_synced (message_of first) ≡ false)
     (telling : AreTellings tells) (texts : TextsStand settings g d before) where
   abbrev bodies : List (List ℕ)
   bodies = rows.replay_bodies [] d.opens d.opens
@@ -124,6 +134,15 @@ module _ (settings : Settings) (g s : ℕ) (code : Encoding) (before : List Even
   last_sent : (u : List ℕ) → sent_of s u (behind after_cause row_outs) ≡ record { encoding = Some code; held = told_outs (Some code) u None (map (λ b. ToServer s b) bodies) }
   last_sent u = ap (sent_of s u) all_behind ∙ sent_tell s u code (told_outs (Some code) u None (map (λ b. ToServer s b) bodies)) mid tells telling (all_told s u code None bodies after_first (first_sent u))
 
+  first_counts : SameCounts s before after_first
+  first_counts = counts_then s before after_cause after_first (counts_more s before (heard (FromServer s body)) refl) (counts_more s after_cause (said (ToServer s first)) (silent_uncounted s s first (message_of first) (ap speaks says)))
+
+  last_counts : CountsStand s (ready_row s code d).after (behind after_cause row_outs)
+  last_counts =
+      let told : List Event = behind after_first (ready_row s code d).outs in
+      subst (CountsStand s (ready_row s code d).after) (sym (first_behind after_cause (ToServer s first) ((ready_row s code d).outs ++ tells) ∙ behind_more after_first (ready_row s code d).outs tells))
+      (counts_stay s (ready_row s code d).after told (behind told tells) (counts_tell s told tells telling) (ready_counts s code d after_first texts.spelt (first_counts.sayings ∙ unsaid)))
+
   pub begun_held : HeldStands s code (ready_row s code d).after (behind after_cause row_outs)
   begun_held = record {
     start = (ready_stays s code d).start;
@@ -131,4 +150,5 @@ module _ (settings : Settings) (g s : ℕ) (code : Encoding) (before : List Even
     given = sym (sent_encoding s [] (behind after_cause row_outs)) ∙ ap (λ (x : Sent). x.encoding) (last_sent []);
     held = held_same (ready_row s code d).after (λ u. told_outs (Some code) u None (ready_row s code d).outs) (λ u. held_at s u (behind after_cause row_outs))
         (λ u. ap (told_outs (Some code) u None) outs_is ∙ sym (ap (λ (x : Sent). x.held) (last_sent u))) (ready_held s code d texts.orderly.once texts.spelt);
+    counts = last_counts;
   }

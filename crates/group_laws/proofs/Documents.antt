@@ -1,5 +1,5 @@
 -- E12 to E14 over the documents of a group: the steps are the rows, and what is kept of the group stands for the events behind the entry.
-use Rattle.std.proofs.Common.{◌≡◌, ℕ, ◌<◌, ◌^◌, true, List, [], map, Option, Some, None, IsUtf8, refl, sym, ap, ap₂, subst, ◌∙◌}
+use Rattle.std.proofs.Common.{◌≡◌, ℕ, ◌<◌, ◌^◌, true, List, [], ◌++◌, map, Option, Some, None, IsUtf8, refl, sym, ap, ap₂, subst, ◌∙◌}
 use Rattle.json_text.specs.Json.{Json}
 use Rattle.json_text.specs.Tree.{tree_of}
 use Rattle.mux_history.specs.declared.cause.Cause.TheVariants.{FromEditor}
@@ -15,8 +15,10 @@ use Rattle.document_model.specs.Texts.{Texts, texts_behind, opened, found, chang
 use Rattle.document_model.proofs.ScalarTrees.{MayHold}
 use Rattle.document_model.proofs.Spelt.{IsSaidSpelt, said_spelt, document_spelt, opens_spelt, closes_spelt, latest_spelt}
 use Rattle.document_model.proofs.Spoken.{AllSpeak, sent_open_speaks, sent_change_speaks, sent_close_speaks}
+use Rattle.document_laws.specs.Counts.{Counted, still}
 use Rattle.document_laws.specs.Follows.{Held, texts_in, told_outs}
 use Rattle.document_laws.proofs.Changing.{change_none, change_not_open, change_texts, change_stays, change_outs, change_held}
+use Rattle.document_laws.proofs.Counting.{change_counted, close_counted, open_counted}
 use Rattle.document_laws.proofs.Following.{open_texts, open_stays, open_outs, open_held, close_none, close_texts, close_stays, close_outs, close_held}
 use Rattle.document_laws.proofs.Sends.{Stays}
 use Rattle.event_model.specs.Event.{Event, behind, with_cause}
@@ -30,6 +32,7 @@ use Rattle.focus_switch.specs.Rows as focus
 use Rattle.group_rows.specs.mux_model.specs.Documents.{held_at}
 use Rattle.group_rows.specs.mux_model.proofs.DocumentFolds.{outs_to_start}
 use Rattle.group_rows.specs.group_words.specs.Houses.{home_of, is_home}
+use Rattle.group_rows.specs.ListRows.{show_opened}
 use Rattle.group_rows.specs.Rows as rows
 use Rattle.group_laws.specs.Stands.{HeldStands, TextsStand}
 use Rattle.group_laws.specs.Steps.{changed_by, document_step}
@@ -46,6 +49,7 @@ module _ (s e : ℕ) (code : Encoding) (body : List ℕ) (d : Documents) (held :
     pub stays : Stays d step.after
     pub texts : texts_in step.after ≡ texts_behind d.encoding e x (texts_in d)
     pub matches : Held step.after (λ u. told_outs d.encoding u (held u) step.outs)
+    pub counted : Counted s d step.outs step.after
 
   same_stays : Stays d d
   same_stays = record { start = refl; encoding = refl; versions = refl }
@@ -59,6 +63,7 @@ module _ (s e : ℕ) (code : Encoding) (body : List ℕ) (d : Documents) (held :
         stays = open_stays e u l v w d;
         texts = open_texts e u l v w d;
         matches = open_held s code e u l v w d held started known orderly follows few utf8.0 utf8.1 utf8.2;
+        counted = open_counted s e u l v w d started few utf8.0 utf8.1 utf8.2;
       }
 
   close_right : (u : List ℕ) → saying_of (message_of body) ≡ closes u → Right (closes u) (close_row e u d)
@@ -71,6 +76,7 @@ module _ (s e : ℕ) (code : Encoding) (body : List ℕ) (d : Documents) (held :
         stays = close_stays e u d;
         texts = close_texts e u d;
         matches = close_held s code e u d held started known orderly follows few spelt;
+        counted = close_counted s e u d started few spelt;
       }
 
       go : (o : Option Open) → found e u (texts_in d) ≡ o → Right (closes u) (close_row e u d)
@@ -89,6 +95,7 @@ module _ (s e : ℕ) (code : Encoding) (body : List ℕ) (d : Documents) (held :
           stays = change_stays e body tree u v cs d read says;
           texts = change_texts e body tree u v cs d read says;
           matches = change_held e body tree u v cs d read says s code held started known orderly follows few spelt;
+          counted = change_counted s e body tree u v cs d read says started few spelt;
         }
 
         same_bodies : (old new : Option Open) → found e u (texts_in d) ≡ old → changed d.encoding e u v cs (texts_in d) ≡ new → bodies (changes u v cs) ≡ rows.changed_bodies d.versions body old new (held u)
@@ -113,7 +120,7 @@ module _ (s e : ℕ) (code : Encoding) (body : List ℕ) (d : Documents) (held :
   changed_right u v cs (Some tree) read says = change_right tree read u v cs says
 
   still_right : (x : Saying) → bodies x ≡ [] → texts_behind d.encoding e x (texts_in d) ≡ texts_in d → Right x (focus.nothing d)
-  still_right x none same = record { are = ap (map (λ b. ToServer s b)) (sym none); speak = subst AllSpeak (sym none) tt; stays = same_stays; texts = sym same; matches = follows }
+  still_right x none same = record { are = ap (map (λ b. ToServer s b)) (sym none); speak = subst AllSpeak (sym none) tt; stays = same_stays; texts = sym same; matches = follows; counted = still refl refl refl }
 
   pub document_right : (x : Saying) → saying_of (message_of body) ≡ x → Right x (document_step e body x d)
   document_right (opens u l v w) says = open_right u l v w says
@@ -133,15 +140,15 @@ module _ (settings : Settings) (g s e : ℕ) (code : Encoding) (before : List Ev
   right = document_right s e code body d (λ u. held_at s u before) holds.start holds.known texts.orderly texts.spelt few holds.held (saying_by method params) (ap saying_of reads)
 
   pub document_texts : TextsStand settings g step.after (behind (with_cause before (FromEditor e body)) step.outs)
-  document_texts = entry_texts settings g s e code before body method params d reads home served texts holds step right.stays right.texts _ right.are right.speak right.matches
+  document_texts = entry_texts settings g s e code before body method params d reads home served texts holds step right.stays right.texts _ right.are right.speak right.matches right.counted
 
   pub document_held : HeldStands s code step.after (behind (with_cause before (FromEditor e body)) step.outs)
-  document_held = entry_held settings g s e code before body method params d reads home served texts holds step right.stays right.texts _ right.are right.speak right.matches
+  document_held = entry_held settings g s e code before body method params d reads home served texts holds step right.stays right.texts _ right.are right.speak right.matches right.counted
 
-  -- and its outs are the row's
-  pub document_outs : d.versions ≡ settings.limits.versions → is_ready (life_of s before).stage ≡ true → (events : List Event) → outs (rows.document_at settings before e body (saying_by method params) g s) events ≡ step.outs
-  document_outs same ready events = rw ready (outs_to_start s _ events
-      ∙ (ap (map (λ b. ToServer s b)) (same_bodies settings.limits.versions _ _ _ _ same texts.encoding texts.texts) ∙ sym right.are))
+  -- and its outs are the row's, in front of the list that the editor is shown
+  pub document_outs : d.versions ≡ settings.limits.versions → is_ready (life_of s before).stage ≡ true → (events : List Event) → outs (rows.document_at settings before e body (saying_by method params) g s) events ≡ step.outs ++ outs (show_opened settings s e (saying_by method params)) (behind events step.outs)
+  document_outs same ready events = rw ready (ap (λ xs. xs ++ outs (show_opened settings s e (saying_by method params)) (behind events xs)) (outs_to_start s _ events
+      ∙ (ap (map (λ b. ToServer s b)) (same_bodies settings.limits.versions _ _ _ _ same texts.encoding texts.texts) ∙ sym right.are)))
     where
       same_bodies : (m : ℕ) (c k : Option Encoding) (x y : Texts) → d.versions ≡ m → c ≡ k → x ≡ y → rows.document_bodies m c x (λ u. held_at s u before) e body (saying_by method params) ≡ rows.document_bodies d.versions k y (λ u. held_at s u before) e body (saying_by method params)
       same_bodies m c k x y a b f = subst (λ z. rows.document_bodies m c x (λ u. held_at s u before) e body (saying_by method params) ≡ rows.document_bodies z k y (λ u. held_at s u before) e body (saying_by method params)) (sym a)

@@ -17,6 +17,7 @@ use Rattle.document_model.proofs.Orders.{orderly_behind}
 use Rattle.document_model.proofs.Spelt.{texts_spelt}
 use Rattle.document_model.proofs.Spoken.{AllSpeak, Speaks}
 use Rattle.document_model.proofs.Written.{Spoken, spoken}
+use Rattle.document_laws.specs.Counts.{Counted}
 use Rattle.document_laws.specs.Follows.{Held, Matches, texts_in, told_outs}
 use Rattle.document_laws.proofs.Sends.{Stays}
 use Rattle.event_model.specs.Event.{Event, behind, heard, said, with_cause}
@@ -33,6 +34,7 @@ use Rattle.group_rows.specs.group_words.specs.Houses.{home_of, is_home}
 use Rattle.group_rows.specs.Texts.{encoding_of, is_aside, is_synced, texts_of}
 use Rattle.group_rows.proofs.Frames.{encoding_stays, texts_more, texts_stay}
 use Rattle.group_laws.specs.Stands.{HeldStands, TextsStand}
+use Rattle.group_laws.proofs.Counts.{counts_behind, counts_more, counts_stay}
 
 abbrev to : ℕ → List (List ℕ) → List Out
 to s bodies = map (λ b. ToServer s b) bodies
@@ -90,7 +92,7 @@ module _ (settings : Settings) (g s e : ℕ) (code : Encoding) (before : List Ev
     (texts : TextsStand settings g d before) (holds : HeldStands s code d before)
     (step : Step) (stays : Stays d step.after) (now : texts_in step.after ≡ texts_behind d.encoding e (saying_by method params) (texts_in d))
     (bodies : List (List ℕ)) (are : step.outs ≡ map (λ b. ToServer s b) bodies) (speak : AllSpeak bodies)
-    (follows : Held step.after (λ u. told_outs d.encoding u (held_at s u before) step.outs)) where
+    (follows : Held step.after (λ u. told_outs d.encoding u (held_at s u before) step.outs)) (counted : Counted s d step.outs step.after) where
   abbrev after_cause : List Event
   after_cause = with_cause before (FromEditor e body)
 
@@ -120,4 +122,5 @@ module _ (settings : Settings) (g s e : ℕ) (code : Encoding) (before : List Ev
     known = stays.encoding ∙ holds.known;
     given = given_now;
     held = held_same step.after (λ u. told_outs d.encoding u (held_at s u before) step.outs) (λ u. held_at s u (behind after_cause step.outs)) (λ u. sym (held_now u)) follows;
+    counts = counts_behind s d step.after step.outs after_cause counted (counts_stay s d before after_cause (counts_more s before (heard (FromEditor e body)) refl) holds.counts);
   }

@@ -62,7 +62,7 @@ closed_texts e (u ∷ us) step = closed_texts e us (close_next e step u) ∙ ap 
 pub leave_texts : (e : ℕ) (s : Documents) → texts_in (leave_row e s).after ≡ without_editor e (texts_in s)
 leave_texts e s = closed_texts e (uris_of e s.opens) (nothing s) ∙ ap (λ (os : List Open). record { turn = s.turn; opens = os }) (all_dropped e s.opens)
 
-stays_then : (r s t : Documents) → Stays r s → Stays s t → Stays r t
+pub stays_then : (r s t : Documents) → Stays r s → Stays s t → Stays r t
 stays_then r s t f g = record { start = g.start ∙ f.start; encoding = g.encoding ∙ f.encoding; versions = g.versions ∙ f.versions }
 
 closed_stay : (e : ℕ) (s : Documents) (us : List (List ℕ)) (step : Step) → Stays s step.after → Stays s (fold (close_next e) step us).after
@@ -75,7 +75,7 @@ leave_stays e s = closed_stay e s (uris_of e s.opens) (nothing s) (record { star
 next_orderly : (e : ℕ) (u : List ℕ) (t : Documents) → Orderly (texts_in t) → Orderly (texts_in (close_row e u t).after)
 next_orderly e u t h = subst Orderly (sym (close_texts e u t)) (orderly_behind t.encoding e (closes u) (texts_in t) h)
 
-next_spelt : (e : ℕ) (u : List ℕ) (t : Documents) → AllSpelt t.opens → AllSpelt (close_row e u t).after.opens
+pub next_spelt : (e : ℕ) (u : List ℕ) (t : Documents) → AllSpelt t.opens → AllSpelt (close_row e u t).after.opens
 next_spelt e u t h = subst (λ (x : Texts). AllSpelt x.opens) (sym (close_texts e u t)) (drop_spelt e u t.opens h)
 
 closed_orderly : (e : ℕ) (us : List (List ℕ)) (step : Step) → Orderly (texts_in step.after) → Orderly (texts_in (fold (close_next e) step us).after)

@@ -1,5 +1,5 @@
 -- A whole entry in which an editor leaves: what is kept of the group stands for the events behind it.
-use Rattle.std.proofs.Common.{◌≡◌, ℕ, ◌<◌, ◌^◌, Bool, true, false, ◌&&◌, List, [], ◌∷◌, ◌++◌, map, codes, refl, sym, ◌∙◌, ap, ap₂, append-nil}
+use Rattle.std.proofs.Common.{◌≡◌, ℕ, ◌<◌, ◌^◌, Bool, true, false, ◌&&◌, List, [], ◌∷◌, ◌++◌, map, codes, refl, sym, ◌∙◌, ap, ap₂, subst, append-nil}
 use Rattle.std.specs.Prelude.{Option, Some, None, if◌then◌else◌}
 use Rattle.std.specs.List.{AllByRecursion}
 use Rattle.mux_history.specs.declared.cause.Cause.TheVariants.{FromEditor, EditorGone}
@@ -9,7 +9,7 @@ use Rattle.mux_history.specs.declared.cause.Why.{Why}
 use Rattle.document_model.specs.rpc_message.specs.Message.{message_of}
 use Rattle.position_codec.specs.declared.Encoding.{Encoding}
 use Rattle.document_model.specs.Helds.{HeldText, told}
-use Rattle.document_model.specs.Sayings.{nothing, saying_of}
+use Rattle.document_model.specs.Sayings.{nothing, saying_of, speaks}
 use Rattle.document_model.specs.Texts.{Texts, texts_behind}
 use Rattle.document_model.proofs.Spoken.{AllSpeak}
 use Rattle.document_laws.specs.Follows.{texts_in, told_outs}
@@ -27,7 +27,9 @@ use Rattle.group_rows.specs.group_words.specs.Houses.{home_of, is_home}
 use Rattle.group_rows.specs.Leaves as departures
 use Rattle.group_rows.specs.Texts.{encoding_of, is_synced, texts_of}
 use Rattle.group_rows.proofs.Frames.{encoding_stays, texts_more, texts_stay}
-use Rattle.group_laws.specs.Stands.{HeldStands, TextsStand}
+use Rattle.group_laws.specs.Stands.{CountsStand, HeldStands, TextsStand}
+use Rattle.group_laws.proofs.Counting.{leave_counted}
+use Rattle.group_laws.proofs.Counts.{SameCounts, counts_at, counts_behind, counts_more, counts_stay, counts_then, silent_uncounted}
 use Rattle.group_laws.proofs.Entries.{all_told, encoding_told, first_behind, heard_sent, held_same, known_sent, texts_told}
 use Rattle.group_laws.proofs.Leaving.{leave_held, leave_orderly, leave_outs, leave_silent, leave_speaks, leave_spelt, leave_stays, leave_texts}
 
@@ -49,6 +51,13 @@ quiet_texts settings g s events (b ∷ bodies) h = ap (texts_of settings g) (fir
 quiet_told : (s : ℕ) (u : List ℕ) (code : Encoding) (h : Option HeldText) (bodies : List (List ℕ)) → AreQuiet bodies → told_outs (Some code) u h (to s bodies) ≡ h
 quiet_told s u code h [] q = refl
 quiet_told s u code h (b ∷ bodies) q = ap (λ x. told_outs (Some code) u (told (Some code) u h x) (to s bodies)) q.0.1 ∙ quiet_told s u code h bodies q.1
+
+quiet_counts : (s : ℕ) (events : List Event) (bodies : List (List ℕ)) → AreQuiet bodies → SameCounts s events (behind events (to s bodies))
+quiet_counts s events [] h = counts_at s events (behind events []) (append-nil events)
+quiet_counts s events (b ∷ bodies) h =
+    let more : List Event = events ++ said (ToServer s b) ∷ [] in
+    subst (SameCounts s events) (sym (first_behind events (ToServer s b) (to s bodies)))
+    (counts_then s events more (behind more (to s bodies)) (counts_more s events (said (ToServer s b)) (silent_uncounted s s b (message_of b) (ap speaks h.0.1))) (quiet_counts s more bodies h.1))
 
 module _ (settings : Settings) (g e : ℕ) (d : Documents) (before mid : List Event) (texts : TextsStand settings g d before)
     (removed : texts_of settings g mid ≡ without_editor e (texts_of settings g before)) (kept : encoding_of g mid ≡ encoding_of g before) where
@@ -72,7 +81,7 @@ module _ (settings : Settings) (g e : ℕ) (d : Documents) (before mid : List Ev
       stands_at (behind mid (leave_row e d).outs) (ap (texts_of settings g) same) (ap (encoding_of g) same)
 
   module _ (s : ℕ) (code : Encoding) (quiet : List (List ℕ)) (few : d.versions < 2 ^ 32) (still : AreQuiet quiet) (holds : HeldStands s code d before)
-      (sent : (u : List ℕ) → sent_of s u mid ≡ record { encoding = Some code; held = held_at s u before }) where
+      (sent : (u : List ℕ) → sent_of s u mid ≡ record { encoding = Some code; held = held_at s u before }) (counts : SameCounts s before mid) where
     abbrev bodies : List (List ℕ)
     bodies = departures.leave_bodies d.versions (λ u. held_at s u before) e d.opens d.opens
 
@@ -109,6 +118,9 @@ module _ (settings : Settings) (g e : ℕ) (d : Documents) (before mid : List Ev
       held = held_same (leave_row e d).after (λ u. told_outs d.encoding u (held_at s u before) (leave_row e d).outs) (λ u. held_at s u (behind mid row_outs))
           (λ u. ap₂ (λ c xs. told_outs c u (held_at s u before) xs) holds.known outs_is ∙ sym (ap (λ (x : Sent). x.held) (last_sent u)))
           (leave_held s e code d (λ u. held_at s u before) holds.start holds.known few holds.held texts.orderly texts.spelt);
+      counts = subst (CountsStand s (leave_row e d).after) (sym (behind_more mid (to s quiet) (leave_row e d).outs))
+          (counts_behind s d (leave_row e d).after (leave_row e d).outs later (leave_counted s e d holds.start few texts.spelt)
+          (counts_stay s d before later (counts_then s before mid later counts (quiet_counts s mid quiet still)) holds.counts));
     }
 
     -- its outs are the row's
@@ -129,6 +141,9 @@ module _ (settings : Settings) (g e : ℕ) (why : Why) (before : List Event) whe
   pub lost_sent : (s : ℕ) (code : Encoding) (u : List ℕ) → starts.encoding_of s before ≡ Some code → sent_of s u after_loss ≡ record { encoding = Some code; held = held_at s u before }
   lost_sent s code u h = one_more (sent_behind s u) _ _ before (heard (EditorGone e why)) (known_sent s u code before h)
 
+  pub lost_counts : (s : ℕ) → SameCounts s before after_loss
+  lost_counts s = counts_more s before (heard (EditorGone e why)) refl
+
 -- E9: its `shutdown` is answered
 module _ (settings : Settings) (g e : ℕ) (body answer : List ℕ) (before : List Event) (home : is_home g (home_of settings e before) ≡ true) (served : is_served (desk_of e before).phase ≡ true) (asks : requests (codes "shutdown") (message_of body) ≡ true) where
   abbrev asked : List Event
@@ -145,6 +160,9 @@ module _ (settings : Settings) (g e : ℕ) (body answer : List ℕ) (before : Li
 
   pub shut_sent : (s : ℕ) (code : Encoding) (u : List ℕ) → starts.encoding_of s before ≡ Some code → sent_of s u after_answer ≡ record { encoding = Some code; held = held_at s u before }
   shut_sent s code u h = one_more (sent_behind s u) _ _ asked (said (ToEditor e answer)) (heard_sent s e u body code (held_at s u before) before (known_sent s u code before h))
+
+  pub shut_counts : (s : ℕ) → SameCounts s before after_answer
+  shut_counts s = counts_then s before asked after_answer (counts_more s before (heard (FromEditor e body)) refl) (counts_more s asked (said (ToEditor e answer)) refl)
 
 -- its `exit`: its session is closed
 module _ (settings : Settings) (g e : ℕ) (body : List ℕ) (before : List Event) (silent : saying_of (message_of body) ≡ nothing) (other : requests (codes "shutdown") (message_of body) ≡ false) where
@@ -169,3 +187,6 @@ module _ (settings : Settings) (g e : ℕ) (body : List ℕ) (before : List Even
 
   pub exit_sent : (s : ℕ) (code : Encoding) (u : List ℕ) → starts.encoding_of s before ≡ Some code → sent_of s u after_close ≡ record { encoding = Some code; held = held_at s u before }
   exit_sent s code u h = one_more (sent_behind s u) _ _ ended (said (CloseEditor e)) (heard_sent s e u body code (held_at s u before) before (known_sent s u code before h))
+
+  pub exit_counts : (s : ℕ) → SameCounts s before after_close
+  exit_counts s = counts_then s before ended after_close (counts_more s before (heard (FromEditor e body)) refl) (counts_more s ended (said (CloseEditor e)) refl)

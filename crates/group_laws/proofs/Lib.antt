@@ -1,5 +1,7 @@
 pub mod Asking
 pub mod Beginning
+pub mod Counting
+pub mod Counts
 pub mod Documents
 pub mod Entries
 pub mod Leaving

@@ -18,6 +18,7 @@ use Rattle.group_rows.specs.group_words.specs.Houses.{home_of, is_home}
 use Rattle.group_rows.specs.Texts.{encoding_of, texts_of}
 use Rattle.group_rows.proofs.Frames.{encoding_more, encoding_stays, texts_apart, texts_more, texts_stay}
 use Rattle.group_laws.specs.Stands.{HeldStands, TextsStand}
+use Rattle.group_laws.proofs.Counts.{SameCounts, apart_uncounted, counts_at, counts_more, counts_stay, counts_then, is_counted}
 use Rattle.group_laws.proofs.Entries.{first_behind, held_same, known_sent}
 
 -- bodies to one start, and bodies to editors
@@ -69,23 +70,36 @@ module _ (n s : ℕ) (code : Encoding) (apart : nat_eq s n ≡ false) where
   sent_all [] u k events h e = ap (sent_of n u) (append-nil events) ∙ e
   sent_all (x ∷ xs) u k events h e = ap (sent_of n u) (first_behind events x xs) ∙ sent_all xs u k (events ++ said x ∷ []) h.1 (sent_one x u k events h.0 e)
 
-  others_held : (d : Documents) (before events : List Event) → ((u : List ℕ) → Known u (held_at n u before) events) → HeldStands n code d before → HeldStands n code d events
-  others_held d before events same holds = record {
+  counts_all : (xs : List Out) (before events : List Event) → AllGo s xs → SameCounts n before events → SameCounts n before (behind events xs)
+  counts_all [] before events h same = counts_then n before events (behind events []) same (counts_at n events (behind events []) (append-nil events))
+  counts_all (x ∷ xs) before events h same = subst (SameCounts n before) (sym (first_behind events x xs))
+      (counts_all xs before (events ++ said x ∷ []) h.1 (counts_then n before events (events ++ said x ∷ []) same (counts_more n events (said x) (uncounted x h.0))))
+    where
+      uncounted : (x : Out) → GoesTo s x → is_counted n (said x) ≡ false
+      uncounted (ToServer m body) k = apart_uncounted n m body (message_of body) (ap (λ z. nat_eq z n) k ∙ apart)
+      uncounted (ToEditor m body) k = refl
+      uncounted other k = absurd k
+
+  others_held : (d : Documents) (before events : List Event) → ((u : List ℕ) → Known u (held_at n u before) events) → SameCounts n before events → HeldStands n code d before → HeldStands n code d events
+  others_held d before events same counts holds = record {
     start = holds.start;
     known = holds.known;
     given = sym (sent_encoding n [] events) ∙ ap (λ (x : Sent). x.encoding) (same []);
     held = held_same d (λ u. held_at n u before) (λ u. held_at n u events) (λ u. sym (ap (λ (x : Sent). x.held) (same u))) holds.held;
+    counts = counts_stay n d before events counts holds.counts;
   }
 
   -- behind an entry of an editor
   pub editor_others : (d : Documents) (before : List Event) (e : ℕ) (body : List ℕ) (xs : List Out) → AllGo s xs → HeldStands n code d before → HeldStands n code d (behind (with_cause before (FromEditor e body)) xs)
   editor_others d before e body xs go holds = others_held d before _ (λ u. sent_all xs u (held_at n u before) (with_cause before (FromEditor e body)) go
-      (one_more (sent_behind n u) _ _ before (heard (FromEditor e body)) (known_sent n u code before holds.given))) holds
+      (one_more (sent_behind n u) _ _ before (heard (FromEditor e body)) (known_sent n u code before holds.given)))
+      (counts_all xs before (with_cause before (FromEditor e body)) go (counts_more n before (heard (FromEditor e body)) refl)) holds
 
   -- behind one of a start
   pub server_others : (d : Documents) (before : List Event) (m : ℕ) (body : List ℕ) (xs : List Out) → AllGo s xs → HeldStands n code d before → HeldStands n code d (behind (with_cause before (FromServer m body)) xs)
   server_others d before m body xs go holds = others_held d before _ (λ u. sent_all xs u (held_at n u before) (with_cause before (FromServer m body)) go
-      (one_more (sent_behind n u) _ _ before (heard (FromServer m body)) (known_sent n u code before holds.given))) holds
+      (one_more (sent_behind n u) _ _ before (heard (FromServer m body)) (known_sent n u code before holds.given)))
+      (counts_all xs before (with_cause before (FromServer m body)) go (counts_more n before (heard (FromServer m body)) refl)) holds
 
 -- what the editors of another group have open
 pub editor_texts : (settings : Settings) (g s e : ℕ) (d : Documents) (before : List Event) (body : List ℕ) (xs : List Out) → is_home g (home_of settings e before) ≡ false → is_home g (group_of s before) ≡ false → AllGo s xs

@@ -19,3 +19,6 @@ pub mod WorkedTokens
 pub mod WorkedCreated
 pub mod CreatedTexts
 pub mod CreatedKept
+pub mod WorkedLists
+pub mod ListTexts
+pub mod ListsKept

@@ -31,6 +31,7 @@ use Rattle.group_words.specs.Past.{past}
 use Rattle.group_rows.specs.AskRows.{current_version}
 use Rattle.group_rows.specs.Answers.{agreed_version, held_version, moment_next, moment_of, own_version, sends_on, shared_texts, stamp_at, stamped}
 use Rattle.group_rows.specs.Forwarded.{Forwarded}
+use Rattle.group_rows.specs.Lists.{version_at}
 use Rattle.group_rows.specs.Texts.{encoding_of, is_synced, texts_heard, texts_next, texts_of, touch_all, touched_at, worker_of}
 use Rattle.group_rows.proofs.Integers.{IsSaidNumber, said_number}
 
@@ -133,6 +134,16 @@ module _ (settings : Settings) where
       go (Some o) there h =
           let same : stamped (version o (held_at s u events)) o ≡ x = cc in
           subst (λ (z : Stamp). IsNumber z.version) same (all_find IsNumbered (is_open_at e u) (shared_texts settings s events).opens o (shared_numbered s events told) there)
+      go None there h = absurd (cc)
+
+  -- what an editor gave as a version is the text of a number
+  pub version_number : (s e : ℕ) (events : List Event) (u v : List ℕ) → AllMeant events → version_at settings s e events u ≡ Some v → IsNumber v
+  version_number s e events u v told is = go (found e u (shared_texts settings s events)) refl is
+    where
+      go : (p : Option Open) → found e u (shared_texts settings s events) ≡ p → option_map (λ (o : Open). o.version) p ≡ Some v → IsNumber v
+      go (Some o) there h =
+          let same : o.version ≡ v = cc in
+          subst IsNumber same (all_find IsNumbered (is_open_at e u) (shared_texts settings s events).opens o (shared_numbered s events told) there)
       go None there h = absurd (cc)
 
 -- a moment of a history is a front of it

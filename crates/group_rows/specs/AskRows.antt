@@ -1,4 +1,4 @@
--- S6 to S12, S14 and L2: what a ready start asks of editors and tells them, and E19: what it gets of their answers.
+-- S6 to S12, S14, S15 and L2: what a ready start asks of editors and tells them, and E19: what it gets of their answers.
 use Rattle.std.specs.Prelude.{ℕ, Bool, false, List, bytes_eq, filter, find, codes, decimal, nat_eq}
 use Rattle.std.specs.Prelude.{Option, Some, None, slice_get}
 use Rattle.std.specs.List.{last_or, list_any}
@@ -7,7 +7,7 @@ use Rattle.json_text.specs.Json.{Json}
 use Rattle.mux_history.specs.declared.out.Out.TheVariants.{ToEditor, ToServer}
 use Rattle.lsp_method.specs.Class.{class_of}
 use Rattle.lsp_method.specs.declared.variants.Class.{Class}
-use Rattle.lsp_method.specs.declared.variants.Class.TheVariants.{Broadcast, Cancel, Create, Focused, Folders, Lowest, Progress, Refresh, Register, Unregister}
+use Rattle.lsp_method.specs.declared.variants.Class.TheVariants.{Broadcast, Cancel, Create, Diagnostics, Focused, Folders, Lowest, Progress, Refresh, Register, Unregister}
 use Rattle.lsp_method.specs.declared.variants.Origin.TheVariants.{Server}
 use Rattle.rpc_message.specs.Message.{Id, Message, id_bytes, id_of}
 use Rattle.rpc_message.specs.Texts.{error_text, ok_text, request_failed, with_id_text}
@@ -29,6 +29,7 @@ use Rattle.group_rows.specs.Asks.{Ask, Parked, asking_of, asks_of, first_in, has
 use Rattle.group_rows.specs.CreatedRows.{create_row, offer_all, progress_row, taking_row}
 use Rattle.group_rows.specs.Forwarded.{Forwarded, forwarding_of}
 use Rattle.group_rows.specs.Leaves.{cancel_text}
+use Rattle.group_rows.specs.ListRows.{list_row, show_all}
 use Rattle.group_rows.specs.LiveRows.{register_row, restore, unregister_row}
 
 -- the editor is asked what the start asks, under the editor's next number, while one is left
@@ -93,9 +94,9 @@ asking_row settings before g s body method Unregister = unregister_row settings 
 asking_row settings before g s body method Create = create_row settings before g s body
 asking_row settings before g s body method _ = nothing
 
--- L2: an editor begins to run: it is told of what is registered at its group's start, asked to take the tokens that live there, and then asked what waited there
+-- L2: an editor begins to run: it is told of what is registered at its group's start, asked to take the tokens that live there, shown the last lists that fit it, and then asked what waited there
 abbrev pub run_at : Settings → List Event → ℕ → ℕ → Row
-run_at settings before e s = choose (is_ready (life_of s before).stage) (restore settings before e s ⨾ (offer_all settings before e s ⨾ each (λ (p : Parked). ask p.body e) (parked_of settings s before))) nothing
+run_at settings before e s = choose (is_ready (life_of s before).stage) (restore settings before e s ⨾ (offer_all settings before e s ⨾ (show_all settings before e s ⨾ each (λ (p : Parked). ask p.body e) (parked_of settings s before)))) nothing
 
 abbrev pub run_row : Settings → List Event → ℕ → Row
 run_row settings before e = on (home_of settings e before) nothing (λ g. on (start_of g before) nothing (run_at settings before e))
@@ -122,6 +123,7 @@ broadcast_row settings before s body = on (group_of s before) nothing (λ g. eac
 abbrev pub notified_row : Settings → ℕ → List Event → List ℕ → Option Json → Class → Row
 notified_row settings s before body params Cancel = cancelled_row settings s before params
 notified_row settings s before body params Progress = progress_row settings s before body params
+notified_row settings s before body params Diagnostics = list_row settings s before body
 notified_row settings s before body params Broadcast = broadcast_row settings before s body
 notified_row settings s before body params _ = nothing
 

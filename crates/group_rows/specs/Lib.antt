@@ -22,6 +22,10 @@ pub mod TokensExample
 pub mod Created
 pub mod CreatedExample
 pub mod CreatedRows
+pub mod Lists
+pub mod ListRows
+pub mod ListsExample
+pub use Rattle.diagnostics_route
 pub use Rattle.group_words
 pub use Rattle.registrations.specs.mux_members
 pub use Rattle.registrations.specs.mux_model

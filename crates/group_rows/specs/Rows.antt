@@ -1,4 +1,4 @@
--- The routing table over several editors and groups, in part: J1, J2, E2 to E5, E7 to E10, E11, E12 to E17, E19, S1, S2 with X4, S3, S4, S5 with V1 and V2, S6 to S12 with V3, S13, S14, L2 of registrations, of tokens and of what waits until an editor runs, X1 to X3 of groups that live no more, and X5 to X7.
+-- The routing table over several editors and groups, in part: J1, J2, E2 to E5, E7 to E10, E11, E12 to E17, E19, S1, S2 with X4, S3, S4, S5 with V1 and V2, S6 to S12 with V3, S13 to S15, L2, X1 to X3 of groups that live no more, and X5 to X7.
 use Rattle.std.specs.Prelude.{ℕ, Bool, true, false, ◌&&◌, ◌||◌, List, [], ◌∷◌, ◌++◌, filter, flat_map, codes, nat_eq, nat_lt, bytes_eq, if◌then◌else◌}
 use Rattle.std.specs.Prelude.{Option, Some, None, slice_get}
 use Rattle.std.specs.List.{list_any}
@@ -43,6 +43,7 @@ use Rattle.group_rows.specs.CreatedRows.{work_row}
 use Rattle.group_rows.specs.Ends.{answers_shutdown, exit_server}
 use Rattle.group_rows.specs.Forwarded.{forwarding_of}
 use Rattle.group_rows.specs.Leaves.{leave_row}
+use Rattle.group_rows.specs.ListRows.{show_opened}
 use Rattle.group_rows.specs.Status.{items_of, status_text}
 use Rattle.group_rows.specs.Texts.{encoding_of, texts_of}
 use Rattle.group_rows.specs.Ticks.{tick_row}
@@ -100,9 +101,10 @@ abbrev pub request_row : Settings → List Event → ℕ → List ℕ → Row
 request_row settings before e body = choose (reserves (params_of body)) (answer_error e body invalid_params) (on (home_of settings e before) (answer_error e body request_failed)
     (λ g. on (start_of g before) (answer_error e body request_failed) (request_at settings before e body g)))
 
+-- E12 to E14, where the start is ready: behind what it is sent an editor that opened the document is shown its last list
 abbrev pub document_at : Settings → List Event → ℕ → List ℕ → Saying → ℕ → ℕ → Row
 document_at settings before e body x g s =
-    choose (is_ready (life_of s before).stage) (to_start s (document_bodies settings.limits.versions (encoding_of g before) (texts_of settings g before) (λ u. held_at s u before) e body x)) nothing
+    choose (is_ready (life_of s before).stage) (to_start s (document_bodies settings.limits.versions (encoding_of g before) (texts_of settings g before) (λ u. held_at s u before) e body x) ⨾ show_opened settings s e x) nothing
 
 abbrev pub document_row : Settings → List Event → ℕ → List ℕ → Saying → Row
 document_row settings before e body x = on (home_of settings e before) nothing (λ g. on (start_of g before) nothing (document_at settings before e body x g))
@@ -163,7 +165,7 @@ abbrev pub down_row : Settings → List Event → ℕ → List ℕ → Message �
 down_row settings before e body (request id method params) = answer_error e body (wrong_code method invalid_request)
 down_row settings before e body other = exit_row settings before e other
 
--- L2: by a message that makes it run an editor is first told of what is registered, and asked to take tokens and what waits
+-- L2: by a message that makes it run an editor is first told of what is registered, asked to take tokens, shown lists, and asked what waits
 abbrev pub begun_row : Settings → List Event → ℕ → List ℕ → Message → Row
 begun_row settings before e body m = choose (makes_running m) (run_row settings before e) nothing ⨾ served_row settings before e body m
 

@@ -31,8 +31,9 @@ use Rattle.group_words.specs.Houses.{is_doubled}
 use Rattle.group_rows.specs.AskRows.{run_row}
 use Rattle.group_rows.specs.Leaves.{leave_row}
 use Rattle.group_rows.specs.Rows.{closing_row, from_editor, outs_of}
+use Rattle.group_rows.proofs.Versions.{AllMeant}
 use Rattle.group_facts.specs.Facts.{Asks}
-use Rattle.group_facts.specs.Why.{IsQuestion, asks_something}
+use Rattle.group_facts.specs.Why.{IsQuestion, has_method}
 use Rattle.group_facts.proofs.Begun.{all_outs, leave_by}
 use Rattle.group_facts.proofs.OpenByPhase.{without_last}
 use Rattle.group_facts.proofs.RequestRow.{desk_taken}
@@ -54,9 +55,9 @@ bodies_rest e events (Spawn s g ∷ xs) all h = absurd (all.0)
 bodies_rest e events (CloseEditor n ∷ xs) all h = absurd (all.0)
 bodies_rest e events (EndServer s ∷ xs) all h = absurd (all.0)
 
--- A request to an editor changes nothing of its opening, and may go once the editor spoke
+-- A request or a notification to an editor changes nothing of its opening, and may go once the editor spoke
 
-heard_question : (o : Opening) (m : Message) → asks_something m ≡ true → may_hear o m ≡ o.spoke
+heard_question : (o : Opening) (m : Message) → has_method m ≡ true → may_hear o m ≡ o.spoke
 heard_question o (request id method params) h = refl
 heard_question o (notification method params) h = refl
 heard_question o (result (Some id) r) h = absurd (cc)
@@ -65,7 +66,7 @@ heard_question o (error id x) h = absurd (cc)
 heard_question o not_json h = refl
 heard_question o not_message h = refl
 
-told_question : (o : Opening) (m : Message) → asks_something m ≡ true → opening_told o m ≡ o
+told_question : (o : Opening) (m : Message) → has_method m ≡ true → opening_told o m ≡ o
 told_question o (request id method params) h = refl
 told_question o (notification method params) h = refl
 told_question o (result (Some id) r) h = absurd (cc)
@@ -186,11 +187,11 @@ module _ (settings : Settings) (before : List Event) (n : ℕ) (body : List ℕ)
   asked_more (CloseEditor e ∷ xs) all place kept spoke = absurd all.0
   asked_more (EndServer s ∷ xs) all place kept spoke = absurd all.0
 
-  begun_rests : Asks settings before → (desk_of n before).phase ≡ Answered → is_open id ids ≡ false → Rests (outs (run_row settings before n) now ++ ToEditor n (error_text (id_bytes body) invalid_request) ∷ [])
-  begun_rests asks at fresh =
+  begun_rests : Asks settings before → AllMeant before → (desk_of n before).phase ≡ Answered → is_open id ids ≡ false → Rests (outs (run_row settings before n) now ++ ToEditor n (error_text (id_bytes body) invalid_request) ∷ [])
+  begun_rests asks meant at fresh =
       let runs : makes_running (message_of body) ≡ true = ap makes_running says in
       let single : is_doubled before n (message_of body) ≡ false = ap (is_doubled before n) says ∙ fresh in
-      let all = run_questions settings before n body at runs (stays_there settings before n body at runs single) asks in
+      let all = run_questions settings before n body at runs (stays_there settings before n body at runs single) asks meant in
       let xs : List Out = outs (run_row settings before n) now in
       let spoke : (opening n now).spoke ≡ true = ap (λ (o : Opening). o.spoke) opening_now ∙ speaks_now (opening n before).spoke (opening n before).answered false (subst (λ z. Link z (desk_of n before).initialize (opening n before)) at h.link).1 refl in
       let more = asked_more xs all now always_now spoke in
@@ -220,15 +221,15 @@ module _ (settings : Settings) (before : List Event) (n : ℕ) (body : List ℕ)
   silent_rests : (desk_of n before).phase ≡ Closed → Rests []
   silent_rests at = subst (Here n) (sym (append-nil now)) (record { always = always_now; link = subst (λ (d : Desk). LinkAt d (opening n now)) (sym (desk_taken settings before n body ∙ ap (λ q. desk_hears q (desk_of n before).initialize body (message_of body)) at)) tt })
 
-  row_rests : Asks settings before → (p : Phase) → (desk_of n before).phase ≡ p → is_new p ≡ false → is_linked p ≡ true → Rests (outs (from_editor settings before n body (request id (codes "initialize") params) p) now)
-  row_rests asks Waiting at old there = by_double (is_open id ids) refl _ (λ fresh. refused_rests Waiting at refl fresh invalid_request)
-  row_rests asks Answered at old there = by_double (is_open id ids) refl _ (λ fresh. begun_rests asks at fresh)
-  row_rests asks Running at old there = by_double (is_open id ids) refl _ (λ fresh. refused_rests Running at refl fresh invalid_request)
-  row_rests asks Down at old there = by_double (is_open id ids) refl _ (λ fresh. refused_rests Down at refl fresh invalid_request)
-  row_rests asks Closed at old there = silent_rests at
-  row_rests asks New at old there = absurd (cc)
-  row_rests asks Absent at old there = absurd (cc)
-  row_rests asks Gone at old there = absurd (cc)
+  row_rests : Asks settings before → AllMeant before → (p : Phase) → (desk_of n before).phase ≡ p → is_new p ≡ false → is_linked p ≡ true → Rests (outs (from_editor settings before n body (request id (codes "initialize") params) p) now)
+  row_rests asks meant Waiting at old there = by_double (is_open id ids) refl _ (λ fresh. refused_rests Waiting at refl fresh invalid_request)
+  row_rests asks meant Answered at old there = by_double (is_open id ids) refl _ (λ fresh. begun_rests asks meant at fresh)
+  row_rests asks meant Running at old there = by_double (is_open id ids) refl _ (λ fresh. refused_rests Running at refl fresh invalid_request)
+  row_rests asks meant Down at old there = by_double (is_open id ids) refl _ (λ fresh. refused_rests Down at refl fresh invalid_request)
+  row_rests asks meant Closed at old there = silent_rests at
+  row_rests asks meant New at old there = absurd (cc)
+  row_rests asks meant Absent at old there = absurd (cc)
+  row_rests asks meant Gone at old there = absurd (cc)
 
 -- Behind the entry
 
@@ -236,13 +237,13 @@ never : {A : Type 0} (b : Bool) → (not b && false) ≡ true → A
 never true h = absurd (cc)
 never false h = absurd (cc)
 
-module _ (settings : Settings) (before : List Event) (asks : Asks settings before) (n : ℕ) (body : List ℕ) (there : is_linked (desk_of n before).phase ≡ true) (h : Here n before) (waits : (desk_of n before).phase ≡ Waiting → Waits (desk_of n before).initialize (open_of n before)) where
+module _ (settings : Settings) (before : List Event) (asks : Asks settings before) (meant : AllMeant before) (n : ℕ) (body : List ℕ) (there : is_linked (desk_of n before).phase ≡ true) (h : Here n before) (waits : (desk_of n before).phase ≡ Waiting → Waits (desk_of n before).initialize (open_of n before)) where
   abbrev Behind : Message → Type 0
   Behind m = Here n (behind (with_cause before (FromEditor n body)) (outs (from_editor settings before n body m (desk_of n before).phase) (with_cause before (FromEditor n body))))
 
   by_message : (m : Message) → message_of body ≡ m → (not (is_new (desk_of n before).phase) && requests (codes "initialize") m) ≡ true → Behind m
   by_message (request id method params) says again = subst (λ w. Behind (request id w params)) named
-      (row_rests settings before n body id params (says ∙ ap (λ w. request id w params) (sym named)) h waits asks (desk_of n before).phase refl (not_so (is_new (desk_of n before).phase) p.0) there)
+      (row_rests settings before n body id params (says ∙ ap (λ w. request id w params) (sym named)) h waits asks meant (desk_of n before).phase refl (not_so (is_new (desk_of n before).phase) p.0) there)
     where
       p : (not (is_new (desk_of n before).phase) ≡ true) × (bytes_eq (codes "initialize") method ≡ true)
       p = and_parts (not (is_new (desk_of n before).phase)) (bytes_eq (codes "initialize") method) again
@@ -260,11 +261,11 @@ module _ (settings : Settings) (before : List Event) (asks : Asks settings befor
   by_message not_message says again = never (is_new (desk_of n before).phase) again
 
 -- of the editor whose second `initialize` it was
-pub again_rests : (settings : Settings) (before : List Event) (cause : Cause) (e : ℕ) → Asks settings before → fits_behind before cause ≡ true → AllWaiting before → asks_again before cause e ≡ true → Here e before
+pub again_rests : (settings : Settings) (before : List Event) (cause : Cause) (e : ℕ) → Asks settings before → AllMeant before → fits_behind before cause ≡ true → AllWaiting before → asks_again before cause e ≡ true → Here e before
     → Here e (behind (with_cause before cause) (outs_of settings before cause))
-again_rests settings before (FromEditor n body) e asks fits waiting again h =
+again_rests settings before (FromEditor n body) e asks meant fits waiting again h =
     let p = and_parts (nat_eq n e) (not (is_new (desk_of n before).phase) && requests (codes "initialize") (message_of body)) again in
     let same : n ≡ e = number_same n e p.0 in
     subst (λ k. Here k (behind (with_cause before (FromEditor n body)) (outs_of settings before (FromEditor n body)))) same
-    (by_message settings before asks n body fits (subst (λ k. Here k before) (sym same) h) (λ at. waits_at before n at waiting) (message_of body) refl p.1)
-again_rests settings before cause e asks fits waiting again h = absurd (cc)
+    (by_message settings before asks meant n body fits (subst (λ k. Here k before) (sym same) h) (λ at. waits_at before n at waiting) (message_of body) refl p.1)
+again_rests settings before cause e asks meant fits waiting again h = absurd (cc)

@@ -12,7 +12,7 @@ use Rattle.event_model.specs.declared.phase.Phase.TheVariants.{Answered, Gone, R
 use Rattle.event_model.specs.declared.phase.Phase.{Phase}
 use Rattle.event_model.specs.declared.stage.Stage.{Stage}
 use Rattle.event_model.specs.declared.stage.Stage.TheVariants.{Unspawned, Spawning, Initializing, Ready, Stopping, Ending, Ended}
-use Rattle.event_model.specs.Event.{Event, behind, requests, said, with_cause}
+use Rattle.event_model.specs.Event.{Event, behind, heard, requests, said, with_cause}
 use Rattle.event_model.specs.Phases.{Desk, desk_of, is_malformed, is_new, is_running, makes_running, needs_server, phase_closed}
 use Rattle.event_model.specs.Row.{Row, choose, each, nothing, on, outs, send, ◌⨾◌}
 use Rattle.event_model.specs.Settings.{Settings}
@@ -43,8 +43,14 @@ use Rattle.group_facts.proofs.Asks.{call_hurried}
 use Rattle.group_facts.proofs.Begun.{all_outs, leave_by}
 use Rattle.group_facts.proofs.Facts.{Facts}
 use Rattle.group_facts.proofs.Lively.{up_of}
+use Rattle.group_facts.proofs.Shown.{behind_full, meant_behind, text_says, text_shown}
 use Rattle.group_facts.proofs.Still.{Goes, still_served, unshut}
-use Rattle.group_sessions.proofs.Changes.{Some_hold, none_gone, small, still_some}
+use Rattle.group_rows.specs.diagnostics_route.specs.declared.last_list.LastList.{LastList}
+use Rattle.group_rows.specs.ListRows.{show_all, show_full}
+use Rattle.group_rows.specs.Lists.{lists_of}
+use Rattle.group_rows.proofs.ListsKept.{IsList, lists_kept}
+use Rattle.group_rows.proofs.Versions.{AllMeant, meant_heard, meant_more}
+use Rattle.group_sessions.proofs.Changes.{Some_hold, none_gone, small, still_some, still_there}
 use Rattle.group_sessions.proofs.Enrolled.{create_apart, Adds, Same, is_about, may_add, register_adds, same_all}
 use Rattle.group_sessions.proofs.Registered.{At, at_free, at_plain, at_told, at_took, ids}
 use Rattle.group_sessions.proofs.Tied.{All, IsTied, Place, all_back, has_run, live_here, place, runs_on}
@@ -175,8 +181,11 @@ module _ (settings : Settings) (range : InRange settings) (before : List Event) 
         ∙ ap (λ b. outs (choose b (lspmux_row settings before e body (message_of body)) (taken_row settings before e body (message_of body) Answered)) now) (well_formed (message_of body) runs).1
         ∙ ap (λ b. outs (choose b (run_row settings before e) nothing ⨾ served) now) runs) ∙ behind_both now (outs (run_row settings before e) now) (outs served there)
 
+    meant_there : AllMeant there
+    meant_there = meant_behind now (outs (run_row settings before e) now) (meant_more before (heard (FromEditor e body)) (facts.base).meant (meant_heard (FromEditor e body)))
+
     serves : (xs : List (List ℕ)) → At e xs there → At e xs later
-    serves xs h = subst (At e xs) (sym later_is) (going e xs (outs served there) there ((still_served settings before e body (ap is_running was) (message_of body) refl runs).goes there) h)
+    serves xs h = subst (At e xs) (sym later_is) (going e xs (outs served there) there ((still_served settings before e body (ap is_running was) (message_of body) refl runs).goes there meant_there) h)
 
     unrun : outs (run_row settings before e) now ≡ [] → At e [] later
     unrun none = serves [] (subst (λ zs. At e [] (behind now zs)) (sym none) (subst (At e []) (sym (append-nil now)) at_now))
@@ -237,22 +246,33 @@ module _ (settings : Settings) (range : InRange settings) (before : List Event) 
               go true room = at_plain e e xs z (create_text s t.number (next_ask e z)) (λ same. plain z room) h
               go false none = subst (At e xs) (sym (append-nil z)) h
 
+      -- nor is one that is shown lists
+      shown : (ls : List LastList) → AllByRecursion IsList ls → (events : List Event) → Held events → Held (behind events (outs (each (show_full settings before s e) ls) events))
+      shown [] kept events h = subst Held (sym (append-nil events)) h
+      shown (l ∷ ls) kept events h = subst Held (sym (behind_both events (outs (show_full settings before s e l) events) (outs (each (show_full settings before s e) ls) (behind events (outs (show_full settings before s e l) events)))))
+          (shown ls kept.1 (behind events (outs (show_full settings before s e l) events)) (still_some e live (live_written settings s before) (show_full settings before s e l) one live events h))
+        where
+          one : (xs : List (List ℕ)) (z : List Event) → At e xs z → At e xs (behind z (outs (show_full settings before s e l) z))
+          one xs z k = behind_full settings before e s l (At e xs) z (at_plain e e xs z (text_shown settings before (facts.base).meant e s l kept.0) (λ same. ap is_about (text_says settings before (facts.base).meant e s l kept.0).1) k) k
+
       run_is : outs (run_row settings before e) now ≡ outs (run_at settings before e s) now
       run_is = ap (λ o. outs (on o nothing (λ g. on (start_of g before) nothing (run_at settings before e))) now) home ∙ ap (λ o. outs (on o nothing (run_at settings before e)) now) start
 
-      run_holds : (b : Bool) → is_ready (life_of s before).stage ≡ b → Held (behind now (outs (choose b (restore settings before e s ⨾ (offer_all settings before e s ⨾ each (λ (p : Parked). ask p.body e) (parked_of settings s before))) nothing) now))
+      run_holds : (b : Bool) → is_ready (life_of s before).stage ≡ b → Held (behind now (outs (choose b (restore settings before e s ⨾ (offer_all settings before e s ⨾ (show_all settings before e s ⨾ each (λ (p : Parked). ask p.body e) (parked_of settings s before)))) nothing) now))
       run_holds true ready = let mid : List Event = behind now (outs (restore settings before e s) now) in
           let late : List Event = behind mid (outs (offer_all settings before e s) mid) in
-          subst Held (sym (behind_both now (outs (restore settings before e s) now) (outs (offer_all settings before e s ⨾ each (λ (p : Parked). ask p.body e) (parked_of settings s before)) mid)))
-          (subst Held (sym (behind_both mid (outs (offer_all settings before e s) mid) (outs (each (λ (p : Parked). ask p.body e) (parked_of settings s before)) late)))
-          (asked (parked_of settings s before) ((facts.steady).asks s).parked late (offered (created_of settings s before).tokens mid restored)))
+          let last : List Event = behind late (outs (show_all settings before e s) late) in
+          subst Held (sym (behind_both now (outs (restore settings before e s) now) (outs (offer_all settings before e s ⨾ (show_all settings before e s ⨾ each (λ (p : Parked). ask p.body e) (parked_of settings s before))) mid)))
+          (subst Held (sym (behind_both mid (outs (offer_all settings before e s) mid) (outs (show_all settings before e s ⨾ each (λ (p : Parked). ask p.body e) (parked_of settings s before)) late)))
+          (subst Held (sym (behind_both late (outs (show_all settings before e s) late) (outs (each (λ (p : Parked). ask p.body e) (parked_of settings s before)) last)))
+          (asked (parked_of settings s before) ((facts.steady).asks s).parked last (shown (lists_of s before) (lists_kept s before (facts.base).meant) late (offered (created_of settings s before).tokens mid restored)))))
       run_holds false off = record { xs = []; holds = record { at = subst (At e []) (sym (append-nil now)) at_now; same = inl (subst (Same []) (sym empty) (λ x. refl)) } }
         where
           empty : live ≡ []
           empty = all.unready s (up_unready (life_of s before).stage (up_of settings before settled.lively e g s (ap answered_phase was) home start) off)
 
       outcome : Outcome
-      outcome = finish (still_some e live (live_written settings s before) served (λ xs z h. going e xs (outs served z) z ((still_served settings before e body (ap is_running was) (message_of body) refl runs).goes z) h) live there
+      outcome = finish (still_there e live (live_written settings s before) served there (λ xs h. going e xs (outs served there) there ((still_served settings before e body (ap is_running was) (message_of body) refl runs).goes there meant_there) h) live
           (subst (λ zs. Held (behind now zs)) (sym run_is) (run_holds (is_ready (life_of s before).stage) refl)))
         where
           finish : Held (behind there (outs served there)) → Outcome

@@ -116,6 +116,14 @@ module _ (e : ℕ) (live : List Registration) (written : AreWritten live) where
       go (inl k) = inl k
       go (inr k) = inr (out_rests e events (outs row events) k)
 
+  -- at one place
+  pub still_there : (row : Row) (events : List Event) → ((xs : List (List ℕ)) → At e xs events → At e xs (behind events (outs row events))) → (rs : List Registration) → Some_hold rs events → Some_hold rs (behind events (outs row events))
+  still_there row events still rs h = record { xs = h.xs; holds = record { at = still h.xs (h.holds).at; same = go (h.holds).same } }
+    where
+      go : Same h.xs rs ⊎ (has_number e events ≡ false) → Same h.xs rs ⊎ (has_number e (behind events (outs row events)) ≡ false)
+      go (inl k) = inl k
+      go (inr k) = inr (out_rests e events (outs row events) k)
+
   pub still_some : (row : Row) → Still row → (rs : List Registration) (events : List Event) → Some_hold rs events → Some_hold rs (behind events (outs row events))
   still_some row still rs events h = record { xs = h.xs; holds = still_holds row still h.xs rs events h.holds }
 

@@ -29,8 +29,9 @@ use Rattle.group_rows.specs.Rows.{outs_of}
 use Rattle.group_rows.specs.Tokens.{listens}
 use Rattle.group_facts.specs.Facts.{Asks}
 use Rattle.group_facts.specs.Legal.{Legal}
-use Rattle.group_facts.specs.Why.{IsBeside, WhyToEditor, calls, rejects, resumes, refuses, answers, turns_away, welcomes, passes, asks, recalls, spreads, progresses}
+use Rattle.group_facts.specs.Why.{IsBeside, WhyToEditor, calls, rejects, resumes, refuses, answers, turns_away, welcomes, passes, asks, recalls, shows, spreads, progresses}
 use Rattle.group_facts.proofs.RestLaws.{RestLaw, rest_holds}
+use Rattle.group_rows.proofs.Versions.{AllMeant}
 use Rattle.group_sessions.proofs.Again.{again_rests}
 use Rattle.session_laws.proofs.Client2Law.{is_own_word}
 use Rattle.group_rows.specs.Asks.{next_ask}
@@ -317,6 +318,7 @@ module _ (events : List Event) (n : ℕ) (body : List ℕ) where
   heard_it settings before cause (spreads k) h = asked_told (notification k.method k.params) (k.source).running k.says refl h
   heard_it settings before cause (recalls k) h = asked_told (notification (codes "$/cancelRequest") (Some k.params)) (k.source).running k.says refl h
   heard_it settings before cause (progresses k) h = progress_told (notification k.method k.params) k.hears k.says refl h
+  heard_it settings before cause (shows k) h = asked_told (notification k.method k.params) k.running k.says refl h
   heard_it settings before cause (passes k) h = answer_told k.id k.there k.late (response_to k.id (message_of body) k.response k.answers) h
 
 -- Other outs
@@ -332,12 +334,12 @@ closed events n e h = one_more e events (said (CloseEditor n)) h (λ same. tt)
 
 -- Behind the entry the one that sent it is tied as well
 
-rests : (settings : Settings) (before : List Event) (cause : Cause) → Asks settings before → fits_behind before cause ≡ true → AllWaiting before → Everywhere before → Within before cause (behind (with_cause before cause) (outs_of settings before cause))
+rests : (settings : Settings) (before : List Event) (cause : Cause) → Asks settings before → AllMeant before → fits_behind before cause ≡ true → AllWaiting before → Everywhere before → Within before cause (behind (with_cause before cause) (outs_of settings before cause))
     → Everywhere (behind (with_cause before cause) (outs_of settings before cause))
-rests settings before cause everywhere fits waiting h i e = go (asks_again before cause e) refl
+rests settings before cause everywhere meant fits waiting h i e = go (asks_again before cause e) refl
   where
     go : (b : Bool) → asks_again before cause e ≡ b → Here e (behind (with_cause before cause) (outs_of settings before cause))
-    go true again = later e (behind (with_cause before cause) (outs_of settings before cause)) (again_rests settings before cause e everywhere fits waiting again (now e before waiting (h e)))
+    go true again = later e (behind (with_cause before cause) (outs_of settings before cause)) (again_rests settings before cause e everywhere meant fits waiting again (now e before waiting (h e)))
     go false other = i e other
 
 law : (settings : Settings) → RestLaw settings Everywhere Within
@@ -348,7 +350,7 @@ law settings = record {
   close = λ before cause events n turned there known here h i. λ e other. closed events n e (i e other);
   end = λ before cause events s starting known here h i. λ e other. one_more e events (said (EndServer s)) (i e other) (λ same. tt) (i e other).link;
   spawn = λ before cause events g inside known here h i. λ e other. one_more e events (said (Spawn (starts_of events) g)) (i e other) (λ same. tt) (i e other).link;
-  rest = λ before cause fits known h i. rests settings before cause (known.steady).asks fits known.waiting h i;
+  rest = λ before cause fits known h i. rests settings before cause (known.steady).asks (known.base).meant fits known.waiting h i;
 }
 
 pub client_3_law : (settings : Settings) → InRange settings → (history : List Entry) → Legal settings history → KeepsClient3 history

@@ -16,8 +16,8 @@ use Rattle.session_laws.proofs.Client4Law.{free_5}
 use Rattle.session_laws.proofs.PartLaws.{either_same, part_tied, same_if}
 use Rattle.group_facts.specs.Facts.{asked_of, editor_behind}
 use Rattle.group_facts.specs.Legal.{Legal}
-use Rattle.group_facts.specs.Why.{WhyToEditor, answers, asks, passes, recalls, refuses, calls, rejects, resumes, spreads, turns_away, welcomes, progresses}
-use Rattle.group_facts.proofs.Spreads.{not_cancel, progress_no_cancel}
+use Rattle.group_facts.specs.Why.{WhyToEditor, answers, asks, passes, recalls, refuses, calls, rejects, resumes, shows, spreads, turns_away, welcomes, progresses}
+use Rattle.group_facts.proofs.Spreads.{list_no_cancel, not_cancel, progress_no_cancel}
 use Rattle.group_sessions.proofs.PartLaws.{EditorRule, editor_history}
 use Rattle.session_laws.proofs.Server6Law.{response_free}
 
@@ -51,6 +51,7 @@ module _ (settings : Settings) (before : List Event) (cause : Cause) (events : L
   may_go (spreads k) = subst May (sym k.says) (ap (λ b. not b || is_among (cancelled_id k.params) ids) (not_cancel k.method k.class))
   may_go (recalls k) = subst May (sym k.says) (ap (λ j. is_among (id_at j) ids) k.named ∙ ap (λ i. is_among i ids) k.id ∙ ap (is_open (integer (decimal (k.ask).number))) (sym (open_by_part e events)) ∙ k.open_there)
   may_go (progresses k) = subst May (sym k.says) (ap (λ b. not b || is_among (cancelled_id k.params) ids) (progress_no_cancel k.method k.class))
+  may_go (shows k) = subst May (sym k.says) (ap (λ b. not b || is_among (cancelled_id k.params) ids) (list_no_cancel k.method k.class))
 
 rule : (settings : Settings) → EditorRule settings ClientRule5
 rule settings = record { free = free_5; told = λ before cause events e body why. may_go settings before cause events e body why }

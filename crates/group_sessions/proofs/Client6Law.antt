@@ -9,7 +9,7 @@ use Rattle.mux_history.specs.declared.entry.Entry.{Entry}
 use Rattle.mux_history.specs.declared.out.Out.{Out}
 use Rattle.mux_history.specs.declared.out.Out.TheVariants.{ToEditor, ToServer, Spawn, CloseEditor, EndServer}
 use Rattle.lsp_method.specs.Class.{class_of, server_notification}
-use Rattle.lsp_method.specs.declared.variants.Class.TheVariants.{Broadcast, Progress}
+use Rattle.lsp_method.specs.declared.variants.Class.TheVariants.{Broadcast, Diagnostics, Progress}
 use Rattle.lsp_method.specs.declared.variants.Origin.TheVariants.{Server}
 use Rattle.rpc_message.specs.Message.{Id, Message, id_of, message_of, notification, text}
 use Rattle.rpc_message.specs.ValueTexts.{IsIdText, IsValueText}
@@ -38,7 +38,7 @@ use Rattle.group_rows.specs.Tokens.{is_mark, is_told, marked_text, own_token, pa
 use Rattle.group_rows.proofs.CreatedTexts.{created_is}
 use Rattle.group_facts.specs.Built.{built_behind}
 use Rattle.group_facts.specs.Legal.{Legal}
-use Rattle.group_facts.specs.Why.{IsNotified, Telling, Why, WhyToEditor, answers, asks, calls, of_held, of_request, of_token, passes, progresses, recalls, refuses, rejects, resumes, spreads, turns_away, welcomes}
+use Rattle.group_facts.specs.Why.{IsNotified, Telling, Why, WhyToEditor, answers, asks, calls, of_held, of_request, of_token, passes, progresses, recalls, refuses, rejects, resumes, shows, spreads, turns_away, welcomes}
 use Rattle.group_facts.proofs.Facts.{Facts}
 use Rattle.group_facts.proofs.Forwards.{forwarding_more}
 use Rattle.group_facts.proofs.Known.{Here, facts_hold, here_did, here_took}
@@ -59,6 +59,14 @@ not_progress method class = go (bytes_eq method (codes "$/progress")) refl
   where
     go : (b : Bool) → bytes_eq method (codes "$/progress") ≡ b → b ≡ false
     go true same = absurd (let clash : Progress ≡ Broadcast = sym (ap (λ z. class_of z Server true) ((bytes_eq-Decides method (codes "$/progress")).0 same)) ∙ class in cc)
+    go false other = refl
+
+pub list_no_progress : (method : List ℕ) → class_of method Server true ≡ Diagnostics → bytes_eq method (codes "$/progress") ≡ false
+unfolding server_notification
+list_no_progress method class = go (bytes_eq method (codes "$/progress")) refl
+  where
+    go : (b : Bool) → bytes_eq method (codes "$/progress") ≡ b → b ≡ false
+    go true same = absurd (let clash : Progress ≡ Diagnostics = sym (ap (λ z. class_of z Server true) ((bytes_eq-Decides method (codes "$/progress")).0 same)) ∙ class in cc)
     go false other = refl
 
 -- an editor's own token is the one for its work, or for its partial results
@@ -146,6 +154,7 @@ module _ (settings : Settings) (range : InRange settings) (before : List Event) 
     may_go (spreads k) h = subst May (sym k.says) (ap (λ b. not b || is_one (token_at (codes "token") k.params) tokens) (not_progress k.method k.class))
     may_go (recalls k) h = subst May (sym k.says) refl
     may_go (progresses k) h = let heard : IsHeard settings before cause events n body = h k.told in telling heard.told heard.hears
+    may_go (shows k) h = subst May (sym k.says) (ap (λ b. not b || is_one (token_at (codes "token") k.params) tokens) (list_no_progress k.method k.class))
 
   abbrev Both : List Event → Out → Type 0
   Both events out = Why settings before cause events out × Heard settings before cause events out

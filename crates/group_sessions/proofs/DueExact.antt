@@ -1,5 +1,5 @@
 -- What the rows of S13 and E19 send an editor of a token, exactly.
-use Rattle.std.proofs.Common.{◌≡◌, ℕ, ◌+◌, ◌^◌, ◌<◌, ◌≤◌, Bool, true, false, not, ◌&&◌, List, [], ◌∷◌, ◌++◌, bytes_eq, codes, find, map, nat_eq, nat_le, if◌then◌else◌, Option, Some, None, is_some, refl, sym, ◌∙◌, ap, ap₂, subst, arith}
+use Rattle.std.proofs.Common.{◌≡◌, ℕ, ◌^◌, ◌<◌, ◌≤◌, Bool, true, false, not, ◌&&◌, List, [], ◌∷◌, ◌++◌, bytes_eq, codes, find, map, nat_eq, nat_le, if◌then◌else◌, Option, Some, None, is_some, refl, sym, ◌∙◌, ap, ap₂, subst, arith}
 use Rattle.std.specs.List.{range_with_len}
 use Rattle.std.specs.Option.{option_and_then}
 use Rattle.std.proofs.lemmas.Bool.{and_parts, leb-false, leb-true}
@@ -10,8 +10,9 @@ use Rattle.mux_history.specs.declared.out.Out.{Out}
 use Rattle.mux_history.specs.declared.out.Out.TheVariants.{ToEditor}
 use Rattle.lsp_method.specs.Class.{class_of}
 use Rattle.lsp_method.specs.declared.variants.Origin.TheVariants.{Server}
+use Rattle.document_model.specs.Sayings.{opens, saying_of}
 use Rattle.rpc_message.specs.Message.{Id, Message, request, notification, result, error, not_json, not_message, id_of, message_of, text}
-use Rattle.event_model.specs.declared.phase.Phase.TheVariants.{Running}
+use Rattle.event_model.specs.declared.phase.Phase.TheVariants.{Answered, Running}
 use Rattle.event_model.specs.declared.stage.Stage.TheVariants.{Ready}
 use Rattle.event_model.specs.Event.{Event, behind, said, with_cause}
 use Rattle.event_model.specs.Members.{named_of}
@@ -35,7 +36,7 @@ use Rattle.group_rows.specs.Forwarded.{Forwarded, forwarding_of, names as names_
 use Rattle.group_rows.specs.Rows.{from_editor, from_server, outs_of}
 use Rattle.group_rows.specs.Tokens.{is_mark, is_told, listens, mark, marked_text, own_token, partial_mark, tell_progress, work_mark}
 use Rattle.group_facts.specs.Settled.{HasTaken, RunsAt, Settled}
-use Rattle.group_facts.specs.Why.{IsNotified, IsTaken, Why, WhyToEditor, answers, asks, calls, passes, progresses, recalls, refuses, rejects, resumes, spreads, turns_away, welcomes}
+use Rattle.group_facts.specs.Why.{IsNotified, IsTaken, Showing, Why, WhyToEditor, answers, asks, begins_by, calls, comes, opened_by, passes, progresses, recalls, refuses, rejects, resumes, shows, spreads, turns_away, welcomes}
 use Rattle.group_facts.proofs.Facts.{Facts}
 use Rattle.group_sessions.proofs.Accepted.{NamesToken}
 use Rattle.group_sessions.proofs.Client6Law.{created_id}
@@ -203,6 +204,20 @@ module _ (settings : Settings) (before : List Event) (facts : Facts settings bef
       where
         same : notification method params ≡ notification w.method w.params → method ≡ w.method
         same h = cc
+    progress_of events out (shows w) method params says = none w.shown
+      where
+        unopened : (m : Message) → accepts m ≡ true → (u l v t : List ℕ) → saying_of m ≡ opens u l v t → ⊥
+        unopened (result id r) h u l v t k = cc
+        unopened (error id x) h u l v t k = cc
+        unopened (request id method params) h u l v t k = cc
+        unopened (notification method params) h u l v t k = never (sym h)
+        unopened not_json h u l v t k = cc
+        unopened not_message h u l v t k = cc
+
+        none : Showing settings before (FromEditor e body) events e w.start out → is_progress method ≡ true
+        none (comes asked method given list from notified class came fitting) = absurd (let clash : FromEditor e body ≡ FromServer w.start asked = from in cc)
+        none (opened_by words u l v t list from says found full fitting) = absurd (unopened (message_of body) agrees u l v t (ap (λ z. saying_of (message_of z)) (let is : FromEditor e body ≡ FromEditor e words = from in let same : body ≡ words = cc in same) ∙ says))
+        none (begins_by list earlier later restoring order full fitting) = absurd (let clash : Running ≡ Answered = sym seat.running ∙ restoring.waited in cc)
     progress_of events out (spreads w) method params says = absurd (let clash : FromEditor e body ≡ FromServer w.start out = (w.source).from in cc)
     progress_of events out (recalls w) method params says = absurd (let clash : FromEditor e body ≡ FromServer w.start w.asked = (w.source).from in cc)
     progress_of events out (rejects w) method params says = absurd (let clash : notification method params ≡ error None w.x = sym says ∙ w.says in cc)

@@ -48,12 +48,18 @@ use Rattle.group_rows.proofs.LiveTexts.{again_written, live_written, register_sa
 use Rattle.group_facts.specs.Built.{built_behind}
 use Rattle.group_facts.specs.Facts.{IsParked}
 use Rattle.group_facts.specs.Settled.{Settled}
-use Rattle.group_facts.specs.Why.{Calling, IsCall, IsChange, IsRestoring, Why, WhyToEditor, answers, asks, asks_something, calls, creates, displaces, enrols, passes, progresses, recalls, refuses, rejects, releases, restores, resumes, revives, spreads, turns_away, welcomes}
+use Rattle.group_facts.specs.Why.{Calling, IsCall, IsChange, IsRestoring, Why, WhyToEditor, answers, asks, asks_something, calls, creates, displaces, enrols, passes, progresses, recalls, refuses, rejects, releases, restores, resumes, revives, shows, spreads, turns_away, welcomes}
 use Rattle.group_facts.proofs.Asks.{is_question, response_asks_none}
 use Rattle.group_facts.proofs.Begun.{all_outs, leave_by}
 use Rattle.group_facts.proofs.Facts.{Facts}
 use Rattle.group_facts.proofs.Marks.{mark_number, mark_start, marked_same}
+use Rattle.group_facts.proofs.Shown.{meant_behind, text_says, text_shown}
 use Rattle.group_facts.proofs.Still.{Goes, still_served}
+use Rattle.group_rows.specs.diagnostics_route.specs.declared.last_list.LastList.{LastList}
+use Rattle.group_rows.specs.ListRows.{show_full}
+use Rattle.group_rows.specs.Lists.{lists_of}
+use Rattle.group_rows.proofs.ListsKept.{IsList, lists_kept}
+use Rattle.group_rows.proofs.Versions.{meant_heard, meant_more}
 use Rattle.group_facts.proofs.Table.{reasons}
 use Rattle.group_sessions.proofs.CreatedFold.{AllApart, IsApart, IsLive, IsNew, created_orderly, new_is}
 use Rattle.group_sessions.proofs.HeldFold.{created_fair}
@@ -98,7 +104,7 @@ asks_none (error id r) h = refl
 asks_none not_json h = refl
 asks_none not_message h = refl
 
-well_formed : (m : Message) → makes_running m ≡ true → (is_malformed m ≡ false) × (asks_lspmux m ≡ false)
+pub well_formed : (m : Message) → makes_running m ≡ true → (is_malformed m ≡ false) × (asks_lspmux m ≡ false)
 well_formed (request id method ps) h = (refl, own (asks_lspmux (request id method ps)) refl)
   where
     own : (b : Bool) → asks_lspmux (request id method ps) ≡ b → b ≡ false
@@ -272,6 +278,7 @@ module _ (settings : Settings) (range : InRange settings) (before : List Event) 
   origin events n body (spreads w) a = never (sym (asking_makes events n body a) ∙ ap makes w.says)
   origin events n body (recalls w) a = never (sym (asking_makes events n body a) ∙ ap makes w.says)
   origin events n body (progresses w) a = never (sym (asking_makes events n body a) ∙ ap makes w.says)
+  origin events n body (shows w) a = never (sym (asking_makes events n body a) ∙ ap makes w.says)
 
   -- such an editor runs at that place
   asked_runs : (events : List Event) (n : ℕ) (body : List ℕ) → WhyToEditor settings before cause events n body → IsAsking events n body → (desk_of n events).phase ≡ Running
@@ -287,6 +294,7 @@ module _ (settings : Settings) (range : InRange settings) (before : List Event) 
   asked_runs events n body (spreads w) a = never (sym (asking_makes events n body a) ∙ ap makes w.says)
   asked_runs events n body (recalls w) a = never (sym (asking_makes events n body a) ∙ ap makes w.says)
   asked_runs events n body (progresses w) a = never (sym (asking_makes events n body a) ∙ ap makes w.says)
+  asked_runs events n body (shows w) a = never (sym (asking_makes events n body a) ∙ ap makes w.says)
 
   closed_off : (events : List Event) (n : ℕ) → is_asks (word settings s k e events (said (CloseEditor n))) ≡ false
   closed_off events n = go (nat_eq n e)
@@ -527,10 +535,17 @@ module _ (settings : Settings) (range : InRange settings) (before : List Event) 
       plain : has_number e events ≡ true → makes (message_of (with_id_text p.body (decimal (next_ask e events)))) ≡ false
       plain room = ap makes (request_with_id p.body (decimal (next_ask e events)) p.id (integer (decimal (next_ask e events))) (known.0).method (known.0).params (known.0).says (decimal_law (next_ask e events) (ltb-true (next_ask e events) (2 ^ 64) room))) ∙ off_creating (known.0).method (known.0).patient
 
+  shown_once : (t : ℕ) (ls : List LastList) → AllByRecursion IsList ls → (events : List Event) → Because Once events (each (show_full settings before t e) ls)
+  shown_once t [] kept events = by_nothing
+  shown_once t (l ∷ ls) kept events = by_then
+      (by_choose (λ empty. by_nothing) (λ full. by_choose (λ fit. by_send (plain_once events e (text_shown settings before (facts.base).meant e t l kept.0) (ap makes (text_says settings before (facts.base).meant e t l kept.0).1))) (λ no. by_nothing)))
+      (shown_once t ls kept.1 (behind events (outs (show_full settings before t e l) events)))
+
   run_once : (t : ℕ) (events : List Event) → Unasked events → Because Once events (run_at settings before e t)
   run_once t events un = by_choose (λ ready. by_then (restored_once t events) (by_then
       (lives_once t (spawned t (ready_is (life_of t before).stage ready)) tokens mid (created_orderly settings t before).apart (lows tokens (created_orderly settings t before).live) (inl (restored_rests t events un)))
-      (parked_once t (parked_of settings t before) (behind mid (outs (offer_all settings before e t) mid)) ((facts.steady).asks t).parked))) (λ off. by_nothing)
+      (by_then (shown_once t (lists_of t before) (lists_kept t before (facts.base).meant) (behind mid (outs (offer_all settings before e t) mid)))
+      (parked_once t (parked_of settings t before) _ ((facts.steady).asks t).parked)))) (λ off. by_nothing)
     where
       tokens : List Token
       tokens = (created_of settings t before).tokens
@@ -573,7 +588,7 @@ module _ (settings : Settings) (range : InRange settings) (before : List Event) 
     single once = subst (Reasons Once there) (sym (first_row ∙ (ap (λ b. outs (choose b (closing_row settings before e) (told_row settings before e body (message_of body) Answered)) there) once
         ∙ (ap (λ b. outs (choose b (lspmux_row settings before e body (message_of body)) (taken_row settings before e body (message_of body) Answered)) there) (well_formed (message_of body) runs).1
         ∙ ap (λ b. outs (choose b (run_row settings before e) nothing ⨾ served) there) runs))))
-        (reasons_both Once there (outs (run_row settings before e) there) (outs served mid) begun_part.why (going_once (outs served mid) mid ((still_served settings before e body (ap is_running was) (message_of body) refl runs).goes mid)))
+        (reasons_both Once there (outs (run_row settings before e) there) (outs served mid) begun_part.why (going_once (outs served mid) mid ((still_served settings before e body (ap is_running was) (message_of body) refl runs).goes mid (meant_behind there (outs (run_row settings before e) there) (meant_more before (heard (FromEditor e body)) (facts.base).meant (meant_heard (FromEditor e body)))))))
 
     begun_once : Reasons Once there (outs_of settings before (FromEditor e body))
     begun_once = go (is_doubled before e (message_of body)) refl

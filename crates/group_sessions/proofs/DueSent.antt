@@ -22,15 +22,15 @@ use Rattle.mux_facts.specs.Allowed.{is_response}
 use Rattle.mux_facts.proofs.Lists.{found_is}
 use Rattle.mux_facts.proofs.Reasons.{Reasons}
 use Rattle.mux_facts.proofs.Words.{id_same, number_same, same_number}
-use Rattle.group_rows.specs.Created.{Created, Taking, Token, accepts, created_mark, created_of, created_text, has_accepted, is_answered, is_called, is_progress, named_token, names_progress, no_created, token_called}
+use Rattle.group_rows.specs.Created.{Created, Taking, Token, created_mark, created_of, created_text, has_accepted, is_answered, is_called, is_progress, named_token, names_progress, no_created, token_called}
 use Rattle.group_rows.specs.Forwarded.{forwarding_of}
 use Rattle.group_rows.specs.Tokens.{is_told, marked_text}
 use Rattle.group_facts.specs.Settled.{Settled}
-use Rattle.group_facts.specs.Why.{IsNotified, IsTaken, Telling, Why, WhyToEditor, answers, asks, calls, of_held, of_request, of_token, passes, progresses, recalls, refuses, rejects, resumes, spreads, turns_away, welcomes}
+use Rattle.group_facts.specs.Why.{IsNotified, IsTaken, Telling, Why, WhyToEditor, answers, asks, calls, of_held, of_request, of_token, passes, progresses, recalls, refuses, rejects, resumes, shows, spreads, turns_away, welcomes}
 use Rattle.group_facts.proofs.Facts.{Facts}
 use Rattle.group_facts.proofs.Marks.{mark_number, mark_start}
 use Rattle.group_sessions.proofs.Accepted.{NamesToken}
-use Rattle.group_sessions.proofs.Client6Law.{created_id, not_progress, own_is}
+use Rattle.group_sessions.proofs.Client6Law.{created_id, list_no_progress, not_progress, own_is}
 use Rattle.group_sessions.proofs.CreatedFold.{IsLive, created_orderly, is_free}
 use Rattle.group_sessions.proofs.HeldFold.{Fair, IsFair, NameTokens, called_some, created_fair}
 use Rattle.group_sessions.proofs.Marked.{Marked, marked}
@@ -256,6 +256,7 @@ module _ (settings : Settings) (before : List Event) (facts : Facts settings bef
   source events body (resumes w) h = never (sym h ∙ ap (names_mark s k) w.says)
   source events body (calls w) h = never (sym h ∙ ap (names_mark s k) w.says)
   source events body (spreads w) h = never (sym h ∙ (ap (names_mark s k) w.says ∙ ap (λ b. b && option_map_or (bytes_eq (created_mark s k)) (string_of (named_of (codes "token") w.params)) false) (not_progress w.method w.class)))
+  source events body (shows w) h = never (sym h ∙ (ap (names_mark s k) w.says ∙ ap (λ b. b && option_map_or (bytes_eq (created_mark s k)) (string_of (named_of (codes "token") w.params)) false) (list_no_progress w.method w.class)))
   source events body (recalls w) h = never (sym h ∙ ap (names_mark s k) w.says)
 
   -- what is sent has such a source

@@ -53,3 +53,8 @@ pub mod DueClear
 pub mod DueOnce
 pub mod DueDone
 pub mod WorkedDue
+pub mod ListsNone
+pub mod ListsShown
+pub mod ListsServed
+pub mod ListsLaw
+pub mod WorkedLists

@@ -28,7 +28,7 @@ use Rattle.session_laws.proofs.Client7Law.{free_7}
 use Rattle.group_rows.specs.Live.{changes_live, is_registering}
 use Rattle.group_rows.specs.Rows.{outs_of}
 use Rattle.group_facts.specs.Built.{built_behind}
-use Rattle.group_facts.specs.Why.{progresses, IsAsk, IsChange, IsResumed, Calling, Why, WhyToEditor, answers, asks, displaces, enrols, passes, recalls, refuses, calls, rejects, releases, restores, creates, revives, resumes, spreads, turns_away, welcomes}
+use Rattle.group_facts.specs.Why.{progresses, IsAsk, IsChange, IsResumed, Calling, Why, WhyToEditor, answers, asks, displaces, enrols, passes, recalls, refuses, calls, rejects, releases, restores, creates, revives, resumes, shows, spreads, turns_away, welcomes}
 use Rattle.group_facts.proofs.Asks.{call_hurried}
 use Rattle.group_facts.proofs.Facts.{Facts}
 use Rattle.group_facts.proofs.Table.{reasons}
@@ -149,6 +149,7 @@ module _ (settings : Settings) (before : List Event) (cause : Cause) (same : is_
     plain (spreads k) = ap is_about k.says
     plain (recalls k) = ap is_about k.says
     plain (progresses k) = ap is_about k.says
+    plain (shows k) = ap is_about k.says
 
   -- each out leaves what is registered at an editor that doesn't begin to run
   module _ (e : ℕ) (runs : begins before cause e ≡ false) (xs : List (List ℕ)) where

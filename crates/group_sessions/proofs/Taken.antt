@@ -39,14 +39,14 @@ use Rattle.group_facts.specs.Built.{built_behind}
 use Rattle.group_facts.specs.Facts.{shuts}
 use Rattle.group_facts.specs.Legal.{Legal}
 use Rattle.group_facts.specs.Settled.{Settled}
-use Rattle.group_facts.specs.Why.{IsNotified, IsTaken, Telling, Why, WhyToEditor, answers, asks, calls, of_held, of_request, of_token, passes, progresses, recalls, refuses, rejects, resumes, spreads, turns_away, welcomes}
+use Rattle.group_facts.specs.Why.{IsNotified, IsTaken, Telling, Why, WhyToEditor, answers, asks, calls, of_held, of_request, of_token, passes, progresses, recalls, refuses, rejects, resumes, shows, spreads, turns_away, welcomes}
 use Rattle.group_facts.proofs.Facts.{Facts}
 use Rattle.group_facts.proofs.Known.{Here, facts_hold, here_did, here_took}
 use Rattle.group_facts.proofs.OneStart.{OneStart}
 use Rattle.group_facts.proofs.Settling.{settled_holds}
 use Rattle.group_facts.proofs.Table.{reasons}
 use Rattle.group_sessions.proofs.Accepted.{NamesToken, accepted}
-use Rattle.group_sessions.proofs.Client6Law.{created_id, not_progress, own_is}
+use Rattle.group_sessions.proofs.Client6Law.{created_id, list_no_progress, not_progress, own_is}
 use Rattle.group_sessions.proofs.CreatedFold.{IsLive, created_orderly, is_free}
 use Rattle.group_sessions.proofs.CreatedTies.{created_more, outs_tokens, spoken_tokens}
 use Rattle.group_sessions.proofs.HeldFold.{Fair, IsAlive, IsFair, NameTokens, NoneEnds, called_some, created_fair, gone_behind, rest}
@@ -176,6 +176,7 @@ asked_ran settings before cause events n body (calls k) is = ap has_run k.runnin
 asked_ran settings before cause events n body (spreads k) is = never (sym is ∙ ap is_request k.says)
 asked_ran settings before cause events n body (recalls k) is = never (sym is ∙ ap is_request k.says)
 asked_ran settings before cause events n body (progresses k) is = never (sym is ∙ ap is_request k.says)
+asked_ran settings before cause events n body (shows k) is = never (sym is ∙ ap is_request k.says)
 
 took_tied : (At : ℕ → ℕ → Type 0) (settings : Settings) (before : List Event) (cause : Cause) → Tied At settings before → Tied At settings (with_cause before cause)
 took_tied At settings before (FromEditor e body) h = tied_heard At settings before e body h
@@ -367,6 +368,7 @@ module _ (settings : Settings) (range : InRange settings) (before : List Event) 
     tied_now (spreads k) known = tied_notified Stands settings events n body k.method k.params k.says (λ s. untold k.method k.params (not_progress k.method k.class) s (created_of settings s events).takings) i.tied
     tied_now (recalls k) known = tied_notified Stands settings events n body (codes "$/cancelRequest") (Some k.params) k.says (λ s. untold (codes "$/cancelRequest") (Some k.params) refl s (created_of settings s events).takings) i.tied
     tied_now (progresses k) known = let told : Known settings before cause events n body = known k.told in told_tied told.told told.knows
+    tied_now (shows k) known = tied_notified Stands settings events n body k.method k.params k.says (λ s. untold k.method k.params (list_no_progress k.method k.class) s (created_of settings s events).takings) i.tied
 
   has_later : (events : List Event) (out : Out) (e : ℕ) → HasRun events e → HasRun (events ++ said out ∷ []) e
   has_later events out e h = run_later (has_run (desk_of e events).phase) (has_run (desk_of e (events ++ said out ∷ [])).phase) (all_back (λ p. not (has_run p)) not_run e events (out ∷ [])) h

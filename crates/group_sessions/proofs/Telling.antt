@@ -22,7 +22,7 @@ use Rattle.session_laws.proofs.Client6Law.{tokened, tokened_grows, tokened_left}
 use Rattle.session_laws.proofs.Tokens.{holds}
 use Rattle.group_rows.specs.Forwarded.{Forwarded, Forwarding, answered_by, cancelled_by, forwarding_behind, forwarding_of, forwards, is_written, no_forwarding, numbered}
 use Rattle.group_facts.specs.Facts.{AllForwarded, IsAlone, is_early}
-use Rattle.group_facts.specs.Why.{WhyToEditor, answers, asks, calls, passes, progresses, recalls, refuses, rejects, resumes, spreads, turns_away, welcomes}
+use Rattle.group_facts.specs.Why.{WhyToEditor, answers, asks, calls, passes, progresses, recalls, refuses, rejects, resumes, shows, spreads, turns_away, welcomes}
 use Rattle.group_facts.proofs.Apart.{alone_early}
 use Rattle.group_facts.proofs.Forwards.{forwarding_more, zip_all}
 
@@ -217,6 +217,7 @@ module _ (settings : Settings) (before : List Event) (cause : Cause) (events : L
   alone_answered asked (spreads k) = none (ap answered_id k.says)
   alone_answered asked (recalls k) = none (ap answered_id k.says)
   alone_answered asked (progresses k) = none (ap answered_id k.says)
+  alone_answered asked (shows k) = none (ap answered_id k.says)
 
   abbrev sent : List Event
   sent = events ++ said (ToEditor n body) ∷ []

@@ -26,7 +26,7 @@ use Rattle.session_laws.proofs.Tokens.{holds, holds_last, open_behind, or_first}
 use Rattle.group_rows.specs.Forwarded.{Forwarding, Sender, forwarding_behind, forwarding_of, forwards, no_forwarding, numbered, sender_of, token_in}
 use Rattle.group_rows.specs.Rows.{sync_bodies}
 use Rattle.group_rows.specs.Texts.{texts_of}
-use Rattle.group_facts.specs.Why.{IsForward, IsQuestion, WhyToServer, asks_something, begins, cancels, cancels_work, exits, forwarded, greets, notes, resolves, responds, shuts, tells}
+use Rattle.group_facts.specs.Why.{IsForward, IsQuestion, WhyToServer, begins, cancels, cancels_work, exits, forwarded, greets, has_method, notes, resolves, responds, shuts, tells}
 use Rattle.group_facts.proofs.Apart.{grow, new}
 use Rattle.group_facts.proofs.Forwards.{forwarding_more, notified_sender}
 use Rattle.group_sessions.proofs.Brought.{Brought, brought, token_request}
@@ -105,7 +105,7 @@ abbrev Quiet : Out → Type 0
 Quiet (ToEditor n body) = answered_id (message_of body) ≡ None
 Quiet other = Unit {0}
 
-asked_nothing : (m : Message) → asks_something m ≡ true → answered_id m ≡ None
+asked_nothing : (m : Message) → has_method m ≡ true → answered_id m ≡ None
 asked_nothing (request id method params) h = refl
 asked_nothing (notification method params) h = refl
 asked_nothing (result id r) h = absurd (cc)

@@ -8,6 +8,7 @@ ghost use Rattle.event_model.specs.Spawns.{starts_of};
 ghost use Rattle.mux_facts.specs.Ranges.{InRange};
 ghost use Rattle.group_facts.specs.Legal.{Legal};
 ghost use Rattle.group_sessions.specs.Due.{KeepsDue};
+ghost use Rattle.group_sessions.specs.LastLists.{KeepsLists};
 ghost use Rattle.session_laws.specs.ClientRules.{KeepsClient1, KeepsClient2, KeepsClient3, KeepsClient4, KeepsClient5, KeepsClient6, KeepsClient7};
 ghost use Rattle.session_laws.specs.ServerRules.{KeepsServer1, KeepsServer2, KeepsServer3, KeepsServer4, KeepsServer5, KeepsServer6, KeepsServer7, KeepsServer8};
 
@@ -101,6 +102,15 @@ pub fn server_8()
 /// them what was held until then (LSP 3.17, Work Done Progress, Server Initiated Progress).
 pub fn progress_due()
     ensures { (settings : Settings) → InRange settings → (history : List Entry) → Legal settings history → KeepsDue settings history }
+{}
+
+/// A law: each entry sends an editor just the lists of diagnostics that it is due, in order, as often as it is due them: the one that its group's
+/// ready start publishes, while the editor runs; as it begins to run, each last list of that start that isn't empty; and as it opens a document,
+/// that one's, if it isn't empty.
+/// Each goes there only where it fits by what the start and the editor have of its document, and with the editor's own version where it is
+/// open there (LSP 3.17, Publish Diagnostics).
+pub fn last_lists()
+    ensures { (settings : Settings) → InRange settings → (history : List Entry) → Legal settings history → KeepsLists settings history }
 {}
 
 /// A law: no start is spawned twice, whatever group it is for. It is no rule of a session; that each lane of a server

@@ -18,7 +18,7 @@ use Rattle.drive_text.specs.Outs.{outs_text}
 use Rattle.mux_hub.specs.group_facts.specs.OwnTexts.{OwnTexts}
 use Rattle.mux_hub.specs.group_facts.proofs.OwnVersions.{own_versions_hold}
 use Rattle.mux_hub.specs.group_facts.proofs.Switching.{switches_hold}
-use Rattle.mux_hub.proofs.Sessions.{due_law, sessions_kept}
+use Rattle.mux_hub.proofs.Sessions.{due_law, lists_law, sessions_kept}
 use Rattle.lspmux_program.specs.Program.{status_of, fault_line, status_line, refused_line, Ran, Drove, JournalTells, words_line, IsUnrefused, Undisturbed}
 use Rattle.lspmux_program.specs.Reports.{Wrote, Reported, said, unsaid}
 use Rattle.lspmux_program.specs.Runs.{built_in, Refused, Outcome, drive_of, IsRunOfRead, PassesFirst, TakesFirst, WroteFront}
@@ -78,6 +78,7 @@ drove_done told journal input left w v failed r = record {
   legal = r.legal;
   sessions = sessions_kept built_in (record { requests = lit< tt; versions = lit< tt }) r.history r.legal;
   due = due_law built_in (record { requests = lit< tt; versions = lit< tt }) r.history r.legal;
+  lists = lists_law built_in (record { requests = lit< tt; versions = lit< tt }) r.history r.legal;
   switches = switches_hold built_in (record { requests = lit< tt; versions = lit< tt }) r.history r.legal;
   versions = own_versions_hold built_in (record { requests = lit< tt; versions = lit< tt }) r.history r.legal;
   own = r.own;
@@ -118,6 +119,7 @@ silent told journal input left w v u failed s status r m six seven nine l e = re
   legal = r.legal;
   sessions = sessions_kept built_in (record { requests = lit< tt; versions = lit< tt }) r.history r.legal;
   due = due_law built_in (record { requests = lit< tt; versions = lit< tt }) r.history r.legal;
+  lists = lists_law built_in (record { requests = lit< tt; versions = lit< tt }) r.history r.legal;
   switches = switches_hold built_in (record { requests = lit< tt; versions = lit< tt }) r.history r.legal;
   versions = own_versions_hold built_in (record { requests = lit< tt; versions = lit< tt }) r.history r.legal;
   own = r.own;
@@ -156,6 +158,7 @@ spoken told journal input left w v u failed s status r m o f six seven nine = re
   legal = r.legal;
   sessions = sessions_kept built_in (record { requests = lit< tt; versions = lit< tt }) r.history r.legal;
   due = due_law built_in (record { requests = lit< tt; versions = lit< tt }) r.history r.legal;
+  lists = lists_law built_in (record { requests = lit< tt; versions = lit< tt }) r.history r.legal;
   switches = switches_hold built_in (record { requests = lit< tt; versions = lit< tt }) r.history r.legal;
   versions = own_versions_hold built_in (record { requests = lit< tt; versions = lit< tt }) r.history r.legal;
   own = r.own;
@@ -182,6 +185,7 @@ refused_at told journal input left w v u failed k refusal r f = record {
   legal = r.legal;
   sessions = sessions_kept built_in (record { requests = lit< tt; versions = lit< tt }) r.history r.legal;
   due = due_law built_in (record { requests = lit< tt; versions = lit< tt }) r.history r.legal;
+  lists = lists_law built_in (record { requests = lit< tt; versions = lit< tt }) r.history r.legal;
   switches = switches_hold built_in (record { requests = lit< tt; versions = lit< tt }) r.history r.legal;
   versions = own_versions_hold built_in (record { requests = lit< tt; versions = lit< tt }) r.history r.legal;
   own = r.own;
@@ -222,6 +226,7 @@ drove_words told journal input left w v failed t f = record {
   legal = tt;
   sessions = sessions_kept built_in (record { requests = lit< tt; versions = lit< tt }) [] tt;
   due = due_law built_in (record { requests = lit< tt; versions = lit< tt }) [] tt;
+  lists = lists_law built_in (record { requests = lit< tt; versions = lit< tt }) [] tt;
   switches = switches_hold built_in (record { requests = lit< tt; versions = lit< tt }) [] tt;
   versions = own_versions_hold built_in (record { requests = lit< tt; versions = lit< tt }) [] tt;
   own = tt;

@@ -8,6 +8,7 @@ use Rattle.mux_hub.specs.Hubs.{Tells}
 use Rattle.event_model.specs.Event.{events_of}
 use Rattle.mux_hub.specs.session_laws.specs.Sessions.{KeepsSessions}
 use Rattle.mux_hub.specs.Due.{KeepsDue}
+use Rattle.mux_hub.specs.LastLists.{KeepsLists}
 use Rattle.mux_hub.specs.group_facts.specs.Legal.{Legal}
 use Rattle.mux_hub.specs.group_facts.specs.OwnTexts.{OwnTexts}
 use Rattle.mux_hub.specs.group_facts.specs.OwnVersions.{OwnVersions}
@@ -120,14 +121,15 @@ pub record CutOff (input left before now : Option (List ℕ)) (failed : Type 0) 
   pub too_many : status ≡ 9 → IfSome rest (PassesFirst built_in history)
 
 -- a run of the program: there is a legal history of conforming sessions, in which each editor was told of each token that a start
--- created what it was due, each message that went on behind a sync stood on its editor's own texts, just those documents were switched
--- before it on which the server didn't agree, and each answer had its editor's own versions or was an error, of at most 2^63 - 1 causes
--- and outs, which the journal tells where it tells
+-- created what it was due, and was sent just the lists of diagnostics that it was due, each message that went on behind a sync stood on
+-- its editor's own texts, just those documents were switched before it on which the server didn't agree, and each answer had its
+-- editor's own versions or was an error, of at most 2^63 - 1 causes and outs, which the journal tells where it tells
 pub record Drove {J : Type 0} (told : J → Option (List Entry)) (journal : Option J) (input left before now : Option (List ℕ)) (failed : Type 0) (status : ℕ) : Type 0 where
   pub history : List Entry
   pub legal : Legal built_in history
   pub sessions : KeepsSessions history
   pub due : KeepsDue built_in history
+  pub lists : KeepsLists built_in history
   pub switches : Switches built_in history
   pub versions : OwnVersions built_in history
   pub own : OwnTexts built_in history

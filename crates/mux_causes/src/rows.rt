@@ -94,11 +94,14 @@ fn is_shown_whole(alloc: Global, message: &Message) -> Result<bool, Memory>
     Ok(told.bytes() == answer)
 }
 
-// S13, S14, and what goes to each editor: whether notifications of this class are built.
+// S13 to S15, and what goes to each editor: whether notifications of this class are built.
 fn is_told(class: Class) -> bool
     ensures { result ≡ built_telling class }
 {
-    matches!(class, Class::Cancel | Class::Progress | Class::Broadcast)
+    matches!(
+        class,
+        Class::Cancel | Class::Progress | Class::Diagnostics | Class::Broadcast
+    )
 }
 
 // Whether a notification of a start that is ready is built.

@@ -5,6 +5,7 @@ use Rattle.std.specs.List.{AllByRecursion}
 use Rattle.mux_history.specs.declared.cause.Cause.TheVariants.{FromEditor}
 use Rattle.mux_history.specs.declared.out.Out.{Out}
 use Rattle.rpc_message.specs.Message.{message_of}
+use Rattle.document_model.specs.Texts.{found}
 use Rattle.event_model.specs.declared.stage.Stage.TheVariants.{Ready}
 use Rattle.event_model.specs.Does.{Alike, Does}
 use Rattle.event_model.specs.Event.{Event, behind, heard, with_cause}
@@ -13,12 +14,15 @@ use Rattle.event_model.specs.Row.{Row, after, each, nothing, outs}
 use Rattle.event_model.specs.Settings.{Settings}
 use Rattle.event_model.specs.Stages.{Life, is_ready, life_of}
 use Rattle.event_model.proofs.Places.{same_item}
-use Rattle.event_model.proofs.Turns.{alike_then, behind_more, does_alike, does_nothing, does_then}
+use Rattle.event_model.proofs.Turns.{alike, alike_then, behind_more, does_alike, does_nothing, does_then}
 use Rattle.mux_turns.specs.group_facts.specs.Why.{IsQuestion}
+use Rattle.group_rows.specs.Answers.{shared_texts}
 use Rattle.group_rows.specs.AskRows.{ask}
 use Rattle.group_rows.specs.Asks.{Asking, Parked, asking_of, asks_of, parked_of}
 use Rattle.group_rows.specs.Created.{Created, created_of}
 use Rattle.group_rows.specs.CreatedRows.{offer, offer_all}
+use Rattle.group_rows.specs.ListRows.{show_all}
+use Rattle.group_rows.specs.Lists.{lists_of}
 use Rattle.group_rows.specs.Live.{live_of, register_text}
 use Rattle.group_rows.specs.LiveRows.{has_some, register_any}
 use Rattle.group_rows.proofs.LiveTexts.{live_written}
@@ -41,7 +45,9 @@ use Rattle.mux_turns.proofs.Offers.{any_created, offers_quiet}
 use Rattle.mux_turns.proofs.Departing.{behind_first}
 use Rattle.mux_turns.proofs.Matched.{whole_entry}
 use Rattle.mux_editors.specs.Running.{AreUnasked, Begun, CanBegin, may_begin, running_row}
-use Rattle.mux_editors.proofs.Runs.{asks_all, begins_row, offers_all, ready_run, restores_all, runs_now, works_now}
+use Rattle.mux_editors.specs.Shows.{all_plain}
+use Rattle.mux_editors.proofs.Runs.{asks_all, begins_row, offers_all, ready_run, restores_all, runs_now, stage_now, works_now}
+use Rattle.mux_editors.proofs.Showing.{AreNotices, are_notices, lists_here, meant_here, plain_questions, plain_quiet, plain_row}
 use Rattle.mux_editors.proofs.Takings.{away_spoken}
 
 module _ (settings : Settings) (t u : Tables) (owed : Owed) (before : List Event) (e : ℕ) (body : List ℕ) (xs ys : List Out) (first : xs ≡ []) where
@@ -92,7 +98,10 @@ module _ (settings : Settings) (t u : Tables) (owed : Owed) (before : List Event
     abbrev asking : Row
     asking = each (λ (p : Parked). ask p.body e) (parked_of settings s base)
 
-    row_is : Alike (running_row settings before e (message_of body)) (after (register_any live e) (after offering asking))
+    abbrev showing : Row
+    showing = show_all settings before e s
+
+    row_is : Alike (running_row settings before e (message_of body)) (after (register_any live e) (after offering (after showing asking)))
     row_is = alike_then (begins_row settings before e body served runs begins) (ready_run settings before e body served runs x.life.group s home (st.lasts.each g x at).start stage)
 
     waiting : AllByRecursion MayWait (parked_of settings s base)
@@ -139,40 +148,64 @@ module _ (settings : Settings) (t u : Tables) (owed : Owed) (before : List Event
           abbrev late : List Event
           late = behind base vs
 
-          quiet_late : Quiet settings now late
-          quiet_late = quiet_then settings now mid late quiet (quiet_behind settings (each (offer s e) (created_of settings s mid).tokens) base zs vs offered (offers_quiet settings s e (created_of settings s mid).tokens mid))
+          quiet_offered : Quiet settings now late
+          quiet_offered = quiet_then settings now mid late quiet (quiet_behind settings (each (offer s e) (created_of settings s mid).tokens) base zs vs offered (offers_quiet settings s e (created_of settings s mid).tokens mid))
 
-          pub runs_late : is_running (desk_of e late).phase ≡ true
-          runs_late = runs_on settings now late quiet_late e runs_here
+          -- and behind what it is shown
+          module _ (ws : List Out) (shown : ws ≡ vs ++ outs (all_plain e (lists_of s base)) late) where
+            abbrev last : List Event
+            last = behind base ws
 
-          pub home_late : home_of settings e late ≡ Some x.life.group
-          home_late = quiet_late.homes e ∙ home_here
+            unopened : (u : List ℕ) → found e u (shared_texts settings s before) ≡ None
+            unopened u = can.unopened begins s (sym (stage_now settings before e body served runs s) ∙ stage) u
 
-          pub works_late : (n : ℕ) → IsWorking settings e n late
-          works_late n =
-              let same = quiet_late.asking n (works_here n).asker in
-              record { asker = ap (λ (a : Asking). a.asker) same ∙ (works_here n).asker; runs = ap (λ (a : Asking). a.runs) same ∙ (works_here n).runs }
+            -- the lists as the row has them
+            plain : Alike showing (all_plain e (lists_of s base))
+            plain = alike_then (plain_row settings before s e unopened) (alike (ap (all_plain e) (sym (lists_here s before e body))))
 
-          parked_late : parked_of settings s late ≡ parked_of settings s base
-          parked_late = ap (λ (a : Asking). a.parked) (quiet_late.asking s (works_here s).asker) ∙ ap (parked_of settings s) (sym here)
+            notices : AreNotices (lists_of s base)
+            notices = are_notices s base (meant_here before e body can.meant)
 
-          pub all_begun : (w v : Tables) → Does (λ k events. AllStand settings k events) (register_any (live_of settings s now) e) base (t, owed) xs (w, owed) zs
-              → Does (λ k events. AllStand settings k events) (each (offer s e) (created_of settings s mid).tokens) base (w, owed) zs (v, owed) vs
-              → Does (λ t events. Stands settings t events) (each (λ (p : Parked). ask p.body e) (parked_of settings s late)) base v vs u ys → (DocumentsStand settings owed v late → DocumentsStand settings owed u (behind base ys)) → Begun settings before e body owed u ys
-          all_begun w v d o one docs =
-              let first_part = subst (λ rs. Does (λ k events. AllStand settings k events) (register_any rs e) base (t, owed) xs (w, owed) zs) live_here d in
-              let second_part = subst (λ (c : Created). Does (λ k events. AllStand settings k events) (each (offer s e) c.tokens) base (w, owed) zs (v, owed) vs) created_mid o in
-              let third_part = subst (λ ps. Does (λ t events. Stands settings t events) (each (λ (p : Parked). ask p.body e) ps) base v vs u ys) parked_late one in
-              let done = whole_entry (λ k events. AllStand settings k events) (running_row settings before e (message_of body)) base (t, owed) (u, owed) xs ys first (st, ds)
-              (does_alike (λ _. row_is) (does_then first_part (does_then second_part (all_does settings v u owed owed base vs ys third_part (λ _ k. docs k))))) in
-              let told_first = outs (register_any live e) (behind base []) in
-              let told_next = outs offering (behind (behind base []) told_first) in
-              record {
-                done = done;
-                asks = subst (AllByRecursion (IsQuestion e)) (sym (done.outs ∙ row_is.sends (behind base [])))
-                    (all_join (IsQuestion e) told_first (outs (after offering asking) (behind (behind base []) told_first)) (restores_all e live called (behind base []))
-                    (all_join (IsQuestion e) told_next (outs asking (behind (behind (behind base []) told_first) told_next)) (offers_all s e (created_of settings s before).tokens (behind (behind base []) told_first)) (asks_all e (parked_of settings s base) waiting (behind (behind (behind base []) told_first) told_next))));
-              }
+            quiet_late : Quiet settings now last
+            quiet_late = quiet_then settings now late last quiet_offered (quiet_behind settings (all_plain e (lists_of s base)) base vs ws shown (plain_quiet settings e (lists_of s base) notices late))
+
+            pub runs_late : is_running (desk_of e last).phase ≡ true
+            runs_late = runs_on settings now last quiet_late e runs_here
+
+            pub home_late : home_of settings e last ≡ Some x.life.group
+            home_late = quiet_late.homes e ∙ home_here
+
+            pub works_late : (n : ℕ) → IsWorking settings e n last
+            works_late n =
+                let same = quiet_late.asking n (works_here n).asker in
+                record { asker = ap (λ (a : Asking). a.asker) same ∙ (works_here n).asker; runs = ap (λ (a : Asking). a.runs) same ∙ (works_here n).runs }
+
+            parked_late : parked_of settings s last ≡ parked_of settings s base
+            parked_late = ap (λ (a : Asking). a.parked) (quiet_late.asking s (works_here s).asker) ∙ ap (parked_of settings s) (sym here)
+
+            pub all_begun : (w v : Tables) → Does (λ k events. AllStand settings k events) (register_any (live_of settings s now) e) base (t, owed) xs (w, owed) zs
+                → Does (λ k events. AllStand settings k events) (each (offer s e) (created_of settings s mid).tokens) base (w, owed) zs (v, owed) vs
+                → Does (λ k events. AllStand settings k events) (all_plain e (lists_of s base)) base (v, owed) vs (v, owed) ws
+                → Does (λ t events. Stands settings t events) (each (λ (p : Parked). ask p.body e) (parked_of settings s last)) base v ws u ys → (DocumentsStand settings owed v last → DocumentsStand settings owed u (behind base ys)) → Begun settings before e body owed u ys
+            all_begun w v d o shows one docs =
+                let first_part = subst (λ rs. Does (λ k events. AllStand settings k events) (register_any rs e) base (t, owed) xs (w, owed) zs) live_here d in
+                let second_part = subst (λ (c : Created). Does (λ k events. AllStand settings k events) (each (offer s e) c.tokens) base (w, owed) zs (v, owed) vs) created_mid o in
+                let third_part = does_alike (λ _. plain) shows in
+                let fourth_part = subst (λ ps. Does (λ t events. Stands settings t events) (each (λ (p : Parked). ask p.body e) ps) base v ws u ys) parked_late one in
+                let done = whole_entry (λ k events. AllStand settings k events) (running_row settings before e (message_of body)) base (t, owed) (u, owed) xs ys first (st, ds)
+                (does_alike (λ _. row_is) (does_then first_part (does_then second_part (does_then third_part (all_does settings v u owed owed base ws ys fourth_part (λ _ k. docs k)))))) in
+                let told_first = outs (register_any live e) (behind base []) in
+                let told_next = outs offering (behind (behind base []) told_first) in
+                let told_last = outs showing (behind (behind (behind base []) told_first) told_next) in
+                record {
+                  done = done;
+                  asks = subst (AllByRecursion (IsQuestion e)) (sym (done.outs ∙ row_is.sends (behind base [])))
+                      (all_join (IsQuestion e) told_first (outs (after offering (after showing asking)) (behind (behind base []) told_first)) (restores_all e live called (behind base []))
+                      (all_join (IsQuestion e) told_next (outs (after showing asking) (behind (behind (behind base []) told_first) told_next)) (offers_all s e (created_of settings s before).tokens (behind (behind base []) told_first))
+                      (all_join (IsQuestion e) told_last (outs asking (behind (behind (behind (behind base []) told_first) told_next) told_last))
+                      (subst (AllByRecursion (IsQuestion e)) (sym (plain.sends (behind (behind (behind base []) told_first) told_next))) (plain_questions settings e (lists_of s base) notices (behind (behind (behind base []) told_first) told_next)))
+                      (asks_all e (parked_of settings s base) waiting (behind (behind (behind (behind base []) told_first) told_next) told_last)))));
+                }
 
 -- The last starts, but for what they asked
 

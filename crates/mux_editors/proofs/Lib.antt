@@ -12,10 +12,12 @@ pub mod Lspmux
 pub mod Noticing
 pub mod Passing
 pub mod Runs
+pub mod Showing
 pub mod Serving
 pub mod Synced
 pub mod Taking
 pub mod Takings
 mod Telling
 pub mod Turns
+pub mod Unopened
 pub mod Working

@@ -23,7 +23,7 @@ use Rattle.event_model.specs.Stages.{Life, is_ready, life_behind, life_of}
 use Rattle.event_model.proofs.Frames.{never, one_more}
 use Rattle.event_model.proofs.Turns.{alike, alike_then, behind_more}
 use Rattle.mux_turns.specs.mux_facts.proofs.Lists.{all_join}
-use Rattle.mux_turns.specs.group_facts.specs.Why.{IsQuestion, asks_something}
+use Rattle.mux_turns.specs.group_facts.specs.Why.{IsQuestion, has_method}
 use Rattle.mux_turns.specs.group_facts.proofs.Asks.{asking_more}
 use Rattle.mux_turns.specs.group_facts.proofs.Begun.{start_took}
 use Rattle.mux_turns.specs.group_facts.proofs.Homes.{took_home}
@@ -34,6 +34,7 @@ use Rattle.group_rows.specs.Created.{Token}
 use Rattle.group_rows.specs.CreatedRows.{create_text, offer, offer_all}
 use Rattle.group_rows.specs.Live.{live_of, register_text}
 use Rattle.group_rows.proofs.CreatedTexts.{create_says}
+use Rattle.group_rows.specs.ListRows.{show_all}
 use Rattle.group_rows.specs.LiveRows.{call, has_some, register_any, restore}
 use Rattle.group_rows.specs.Texts.{worker_behind, worker_of}
 use Rattle.group_words.specs.Houses.{home_of, is_doubled, stops}
@@ -129,7 +130,7 @@ module _ (settings : Settings) (before : List Event) (e : ℕ) (body : List ℕ)
   start_now : (g : ℕ) → start_of g base ≡ start_of g before
   start_now g = start_took g before (FromEditor e body)
 
-  stage_now : (s : ℕ) → is_ready (life_of s base).stage ≡ is_ready (life_of s before).stage
+  pub stage_now : (s : ℕ) → is_ready (life_of s base).stage ≡ is_ready (life_of s before).stage
   stage_now s = ap (λ (l : Life). is_ready l.stage) (one_more (life_behind s) _ _ before (heard (FromEditor e body)) refl)
 
   parked_now : (s : ℕ) → parked_of settings s base ≡ parked_of settings s before
@@ -142,8 +143,8 @@ module _ (settings : Settings) (before : List Event) (e : ℕ) (body : List ℕ)
     row_at : run_row settings before e ≡ run_at settings before e s
     row_at = some_start (home_of settings e before) (λ g. start_of g before) nothing (λ g. run_at settings before e) g s (sym home_now ∙ home) (sym (start_now g) ∙ start)
 
-    pub ready_run : is_ready (life_of s base).stage ≡ true → Alike (run_row settings before e) (after (restore settings base e s) (after (offer_all settings before e s) (each (λ (p : Parked). ask p.body e) (parked_of settings s base))))
-    ready_run h = alike_then (is_first row_at (sym (stage_now s) ∙ h)) (alike (ap₂ (λ rs ps. after (register_any rs e) (after (offer_all settings before e s) (each (λ (p : Parked). ask p.body e) ps))) (sym (live_now s)) (sym (parked_now s))))
+    pub ready_run : is_ready (life_of s base).stage ≡ true → Alike (run_row settings before e) (after (restore settings base e s) (after (offer_all settings before e s) (after (show_all settings before e s) (each (λ (p : Parked). ask p.body e) (parked_of settings s base)))))
+    ready_run h = alike_then (is_first row_at (sym (stage_now s) ∙ h)) (alike (ap₂ (λ rs ps. after (register_any rs e) (after (offer_all settings before e s) (after (show_all settings before e s) (each (λ (p : Parked). ask p.body e) ps)))) (sym (live_now s)) (sym (parked_now s))))
 
   pub unready_run : ((s : ℕ) → start_for settings e base ≡ Some s → is_ready (life_of s base).stage ≡ false) → Alike (run_row settings before e) nothing
   unready_run h = ended_start (home_of settings e before) (λ g. start_of g before) nothing (λ g. run_at settings before e)
@@ -215,7 +216,7 @@ asks_one : (e : ℕ) (p : Parked) → MayWait p → (events : List Event) → Al
 asks_one e p w events = go (has_number e events) refl
   where
     go : (b : Bool) → has_number e events ≡ b → AllByRecursion (IsQuestion e) (outs (choose b (send (ToEditor e (with_id_text p.body (decimal (next_ask e events))))) nothing) events)
-    go true room = let n = next_ask e events in ((refl, ap asks_something (request_with_id p.body (decimal n) p.id (integer (decimal n)) w.0 w.1 w.2 (decimal_law n (ltb-true n (2 ^ 64) room)))), tt)
+    go true room = let n = next_ask e events in ((refl, ap has_method (request_with_id p.body (decimal n) p.id (integer (decimal n)) w.0 w.1 w.2 (decimal_law n (ltb-true n (2 ^ 64) room)))), tt)
     go false full = tt
 
 pub asks_all : (e : ℕ) (ps : List Parked) → AllByRecursion MayWait ps → (events : List Event) → AllByRecursion (IsQuestion e) (outs (each (λ (p : Parked). ask p.body e) ps) events)
@@ -227,7 +228,7 @@ pub restores_all : (e : ℕ) (rs : List Registration) → IsCall (register_text 
 restores_all e rs k events = any (has_some rs)
   where
     one : (b : Bool) → has_number e events ≡ b → AllByRecursion (IsQuestion e) (outs (choose b (send (ToEditor e (register_text rs (next_ask e events)))) nothing) events)
-    one true room = ((refl, ap asks_something (k.says (next_ask e events) (ltb-true (next_ask e events) (2 ^ 64) room)).1), tt)
+    one true room = ((refl, ap has_method (k.says (next_ask e events) (ltb-true (next_ask e events) (2 ^ 64) room)).1), tt)
     one false full = tt
 
     any : (b : Bool) → AllByRecursion (IsQuestion e) (outs (choose b (call (register_text rs) e) nothing) events)
@@ -241,7 +242,7 @@ offers_all s e (u ∷ us) events = let xs = outs (offer s e u) events in all_joi
     one : (b : Bool) → has_number e events ≡ b → AllByRecursion (IsQuestion e) (outs (choose b (send (ToEditor e (create_text s u.number (next_ask e events)))) nothing) events)
     one true room =
         let low : next_ask e events < 2 ^ 64 = ltb-true (next_ask e events) (2 ^ 64) room in
-        ((refl, ap asks_something (create_says s u.number (next_ask e events) (omega (arith, low)))), tt)
+        ((refl, ap has_method (create_says s u.number (next_ask e events) (omega (arith, low)))), tt)
     one false full = tt
 
 -- Behind what is asked
@@ -278,15 +279,15 @@ module _ (settings : Settings) (s : ℕ) (id : Option Id) where
   asked_rests true e n x h = unparked_rests e n x x.parked refl h
   asked_rests false e n x h = h
 
-  one_rests : (events : List Event) (n : ℕ) (body : List ℕ) → asks_something (message_of body) ≡ true → Rests (asking_of settings s events) → Rests (asking_of settings s (events ++ said (ToEditor n body) ∷ []))
+  one_rests : (events : List Event) (n : ℕ) (body : List ℕ) → has_method (message_of body) ≡ true → Rests (asking_of settings s events) → Rests (asking_of settings s (events ++ said (ToEditor n body) ∷ []))
   one_rests events n body q h = subst Rests (sym (asking_more settings s events (said (ToEditor n body)))) (told (message_of body) q)
     where
-      told : (m : Message) → asks_something m ≡ true → Rests (asking_next settings s events (asking_of settings s events) (did (ToEditor n body) m))
+      told : (m : Message) → has_method m ≡ true → Rests (asking_next settings s events (asking_of settings s events) (did (ToEditor n body) m))
       told (request i method ps) k =
           let x = asking_of settings s events in
           let resumes = is_own_work n x.runs && (is_patient method && serves settings events s n) in
           subst (λ o. Rests (asked_next resumes n (next_ask n events) x o)) (sym h.asker) (asked_rests resumes n (next_ask n events) x h)
-      told (notification method ps) k = never (sym k)
+      told (notification method ps) k = h
       told (result i r) k = never (sym k)
       told (error i r) k = never (sym k)
       told not_json k = never (sym k)

@@ -2,14 +2,12 @@
 use Rattle.std.proofs.Common.{◌≡◌, ℕ, zero, suc, ◌<◌, Bool, true, false, List, [], ◌∷◌, find, get_or, length, if◌then◌else◌, refl, ap, sym, subst, ◌∙◌, arith}
 use Rattle.std.specs.Prelude.{Option, Some, None, IfSome, option_map}
 use Rattle.std.specs.List.{AllByRecursion}
-use Rattle.mux_history.specs.declared.cause.Cause.TheVariants.{FromEditor, FromServer}
 use Rattle.mux_history.specs.declared.out.Out.{Out}
-use Rattle.mux_history.specs.declared.out.Out.TheVariants.{ToServer}
 use Rattle.rpc_message.specs.Message.{Message}
 use Rattle.event_model.specs.declared.phase.Phase.{Phase}
 use Rattle.event_model.specs.declared.phase.Phase.TheVariants.{Absent, New, Waiting, Answered, Running, Down, Closed, Gone}
 use Rattle.event_model.specs.Does.{Alike, Does}
-use Rattle.event_model.specs.Event.{Event, did, took}
+use Rattle.event_model.specs.Event.{Event}
 use Rattle.event_model.specs.Phases.{desk_of, is_running, is_served}
 use Rattle.event_model.specs.Requests.{answered_id}
 use Rattle.event_model.specs.Row.{Row, choose, each, nothing, on}
@@ -20,9 +18,8 @@ use Rattle.group_rows.specs.Asks.{Ask}
 use Rattle.group_rows.specs.Created.{Taking, accepts, created_of, is_answered}
 use Rattle.group_rows.specs.CreatedRows.{hand_out, taking_row, tell}
 use Rattle.group_rows.proofs.CreatedKept.{AreTellings, found_one, held_told}
-use Rattle.group_rows.proofs.Versions as versions
-use Rattle.group_rows.proofs.Versions.{AllMeant}
-use Rattle.mux_turns.specs.group_facts.specs.Facts.{IsMeant, Meant}
+use Rattle.mux_turns.specs.group_facts.specs.Facts.{Meant}
+use Rattle.mux_turns.proofs.Listed.{meant_same}
 use Rattle.mux_tables.specs.mux_tokens.specs.progress_route.specs.declared.tokens.Handed.{Handed}
 use Rattle.mux_editors.specs.Handing.{AllHeld, AreHeld, IsNotice}
 use Rattle.mux_editors.specs.Running.{may_begin}
@@ -78,16 +75,6 @@ pub given_as : (o : Option Taking) (handed : Option Handed) (m : Message) (b : B
 given_as o handed m b is h = h ∙ ap (λ a. option_map {U = ℕ × List (List ℕ)} (λ (c : Taking). (c.token, if a then c.held else [])) o) is
 
 -- in a history of causes and outs notifications are held
-meant_same : (events : List Event) → Meant events → AllMeant events
-meant_same [] h = tt
-meant_same (event ∷ events) h = (one event h.0, meant_same events h.1)
-  where
-    one : (event : Event) → IsMeant event → versions.IsMeant event
-    one (took (FromEditor e body) m) k = k
-    one (took (FromServer s body) m) k = k
-    one (did (ToServer s body) m) k = k
-    one other k = tt
-
 pub takings_held : (settings : Settings) (s : ℕ) (before : List Event) → Meant before → AllHeld (created_of settings s before).takings
 takings_held settings s before meant = all_held (created_of settings s before).takings (held_told settings s before (meant_same before meant))
 

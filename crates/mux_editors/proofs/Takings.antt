@@ -13,16 +13,19 @@ use Rattle.event_model.specs.Settings.{Settings}
 use Rattle.event_model.specs.Spawns.{start_of, starts_of}
 use Rattle.event_model.specs.Stages.{is_ready, life_of}
 use Rattle.event_model.proofs.Frames.{never}
+use Rattle.mux_turns.specs.group_facts.specs.Facts.{Meant}
 use Rattle.mux_turns.specs.group_facts.specs.Settled.{HasTaken, Settled}
 use Rattle.group_rows.specs.Created.{Created, Taking, answered, created_of, is_answered, is_at, left, settled, spoken}
 use Rattle.group_rows.specs.Forwarded.{names}
 use Rattle.group_words.specs.Houses.{home_of}
 use Rattle.mux_tables.specs.mux_tokens.specs.Stands.{AreFresh, TakesNone, TakesOne}
 use Rattle.mux_tables.specs.declared.tables.Tables.{Tables}
+use Rattle.mux_tables.specs.Documents.{DocumentsStand, nothing_owed}
 use Rattle.mux_tables.specs.Stands.{Stands}
 use Rattle.mux_turns.proofs.Offering.{few_starts, no_starts, small_heard}
 use Rattle.mux_editors.specs.Running.{AreUnasked, CanBegin}
 use Rattle.mux_editors.proofs.Taking.{begins_unrun}
+use Rattle.mux_editors.proofs.Unopened.{unopened}
 use Rattle.mux_tables.proofs.Lasts.{same_place}
 
 -- An editor that wasn't asked to take anything
@@ -145,8 +148,10 @@ module _ (settings : Settings) (before : List Event) (settled : Settled settings
       go false away = takes_by_one e g s m home last n away
 
 -- what an editor may be asked where it begins to run
-pub can_begin : (settings : Settings) (before : List Event) → Settled settings before → (t : Tables) (e : ℕ) (body : List ℕ) → Stands settings t before → CanBegin settings before e body
-can_begin settings before settled t e body st = record {
+pub can_begin : (settings : Settings) (before : List Event) → Meant before → Settled settings before → (t : Tables) (e : ℕ) (body : List ℕ) → Stands settings t before → DocumentsStand settings nothing_owed t before → CanBegin settings before e body
+can_begin settings before meant settled t e body st ds = record {
   unasked = λ begins s. unrun_away settings before settled t st e (begins_unrun (desk_of e before).phase begins) s;
+  unopened = λ begins s ready u. unopened settings t before e st ds (begins_unrun (desk_of e before).phase begins) s ready u;
+  meant = meant;
   small = small_heard settings before (no_starts settings t before st) settled (few_starts settings t before st) (FromEditor e body);
 }

@@ -1,5 +1,6 @@
 pub mod Cancels
 pub mod Handing
 pub mod Running
+pub mod Shows
 pub mod Tellings
 pub mod Works

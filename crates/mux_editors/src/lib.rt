@@ -12,6 +12,7 @@ mod passed;
 mod quiet;
 mod requests;
 mod running;
+mod shows;
 mod status;
 mod worked;
 

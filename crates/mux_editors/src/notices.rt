@@ -16,9 +16,12 @@ ghost use Rattle.mux_tables.specs.Documents.{AllStand, DocumentsStand, nothing_o
 ghost use Rattle.mux_tables.specs.Stands.{Stands};
 ghost use Rattle.rpc_message.specs.Message.{message_of, notification};
 ghost use Rattle.rpc_message.specs.Parsed.{IsRead};
+ghost use Rattle.mux_turns.specs.group_facts.specs.Facts.{Meant};
 ghost use Rattle.mux_turns.specs.group_facts.specs.Settled.{Settled};
 
+use crate::passed::ready_at;
 use crate::running::{begin, may_begin};
+use crate::shows::show_opened;
 use event_model::Phase;
 use message_body::Memory;
 use mux_history::Outs;
@@ -27,7 +30,8 @@ use rpc_message::Message;
 use std::alloc::Global;
 
 /// E12 to E15: a notification that doesn't go on, other than `exit`, comes from an editor that is served, in a group that has a start.
-/// Where it opens, changes or closes a document, and the start is ready, the start is told so; another one gives nothing.
+/// Where it opens, changes or closes a document, and the start is ready, the start is told so, and where it opens one, the editor is shown
+/// the last list of diagnostics of that, where it isn't empty and fits; another one gives nothing.
 pub fn take_notice(
     tables: &mut Tables,
     alloc: Global,
@@ -40,15 +44,22 @@ pub fn take_notice(
     ensures versions { tables.new.versions ≡ tables.old.versions }
     ensures does { (settings : Settings) (before : List Event) (body method : List ℕ) (params : Option Json) (g s : ℕ) → IsRead message.now body
         → message_of body ≡ notification method params → bytes_eq (codes "exit") method ≡ false → is_served (desk_of e before).phase ≡ true
-        → home_of settings e before ≡ Some g → start_of g before ≡ Some s → outs.old ≡ [] → Settled settings before → Stands settings tables.old before
+        → home_of settings e before ≡ Some g → start_of g before ≡ Some s → outs.old ≡ [] → Meant before → Settled settings before → Stands settings tables.old before
         → DocumentsStand settings nothing_owed tables.old before
         → OnOk result (Done (λ k events. AllStand settings k events)
         (running_row settings before e (message_of body) ⨾ document_row settings before e body (saying_by method params))
         (with_cause before (FromEditor e body)) [] (tables.new, nothing_owed) outs.new) }
 {
     let begins = may_begin(tables, e);
+    let ready = ready_at(tables, e);
     let owed = tables.hear_notice(alloc, e, Phase::Running, message)?;
     begin(tables, alloc, outs, e, begins)?;
     tables.pay(outs, owed)?;
-    Ok(())
+    match ready {
+        None => Ok(()),
+        Some(g) => {
+            show_opened(tables, alloc, outs, g, e, message)?;
+            Ok(())
+        }
+    }
 }

@@ -20,6 +20,7 @@ ghost use Rattle.rpc_message.specs.Message.{Id, message_of, request};
 ghost use Rattle.rpc_message.specs.Parsed.{IsRead};
 ghost use Rattle.rpc_message.specs.Sorts.{Refuses, sort_of};
 ghost use Rattle.rpc_message.specs.Texts.{invalid_request};
+ghost use Rattle.mux_turns.specs.group_facts.specs.Facts.{Meant};
 ghost use Rattle.mux_turns.specs.group_facts.specs.Settled.{Settled};
 ghost use Rattle.mux_tables.specs.mux_tokens.specs.Stands.{TakesNone};
 
@@ -108,7 +109,7 @@ pub fn take_wrong(
     ensures versions { tables.new.versions ≡ tables.old.versions }
     ensures does { (settings : Settings) (before : List Event) (body method : List ℕ) (id : Id) (params : Option Json) → IsRead message.now body
         → message_of body ≡ request id method params → is_misplaced method ≡ true → is_served (desk_of e before).phase ≡ true
-        → outs.old ≡ [] → Settled settings before → Stands settings tables.old before → DocumentsStand settings nothing_owed tables.old before
+        → outs.old ≡ [] → Meant before → Settled settings before → Stands settings tables.old before → DocumentsStand settings nothing_owed tables.old before
         → OnOk result (Done (λ k events. AllStand settings k events) (running_row settings before e (message_of body) ⨾ answer_error e body (wrong_code method invalid_request))
         (with_cause before (FromEditor e body)) [] (tables.new, nothing_owed) outs.new) }
 {

@@ -22,6 +22,7 @@ ghost use Rattle.mux_tables.specs.Documents.{AllStand, DocumentsStand, nothing_o
 ghost use Rattle.mux_tables.specs.Stands.{Stands, number_in};
 ghost use Rattle.rpc_message.specs.Message.{Id, message_of, request};
 ghost use Rattle.rpc_message.specs.Parsed.{IsRead};
+ghost use Rattle.mux_turns.specs.group_facts.specs.Facts.{Meant};
 ghost use Rattle.mux_turns.specs.group_facts.specs.Settled.{Settled};
 
 use crate::running::hear_running;
@@ -91,7 +92,7 @@ pub fn take_request(
     ensures versions { tables.new.versions ≡ tables.old.versions }
     ensures does { (settings : Settings) (before : List Event) (body method : List ℕ) (id : Id) (params : Option Json) → IsRead message.now body
         → message_of body ≡ request id method params → is_other (class_of method Editor false) ≡ true → is_served (desk_of e before).phase ≡ true
-        → outs.old ≡ []
+        → outs.old ≡ [] → Meant before
         → Settled settings before → Stands settings tables.old before → DocumentsStand settings nothing_owed tables.old before
         → OnOk result (Done (λ k events. AllStand settings k events) (running_row settings before e (message_of body) ⨾ request_row settings before e body)
         (with_cause before (FromEditor e body)) [] (tables.new, nothing_owed) outs.new) }

@@ -19,11 +19,13 @@ ghost use Rattle.mux_tables.specs.Resumes.{unasked};
 ghost use Rattle.mux_turns.specs.Creates.{AreSmall};
 ghost use Rattle.mux_tables.specs.Stands.{AnswersNone, Stands};
 ghost use Rattle.rpc_message.specs.Message.{message_of};
+ghost use Rattle.mux_turns.specs.group_facts.specs.Facts.{Meant};
 ghost use Rattle.mux_turns.specs.group_facts.specs.Settled.{Settled};
 ghost use Rattle.mux_tables.specs.mux_tokens.specs.Stands.{TakesNone};
 
 use crate::passed::ready_at;
 use crate::quiet::phase_of;
+use crate::shows::show_all;
 use event_model::Phase;
 use message_body::Memory;
 use mux_history::Outs;
@@ -125,8 +127,8 @@ fn offer_live(
 }
 
 /// L2: a message by which an editor runs was heard. Where the editor `begins` to run by it, and the last start of its group is ready, it
-/// is told of all that is registered there, asked to take each token that lives there, and then asked what waits there. The time is
-/// linear in the bytes that are sent. Where the answer is an error the tables stand for nothing any more.
+/// is told of all that is registered there, asked to take each token that lives there, shown the last lists of diagnostics there that aren't
+/// empty, and then asked what waits there. The time is linear in the bytes that are sent. Where the answer is an error the tables stand for nothing any more.
 pub fn begin(
     tables: &mut Tables,
     alloc: Global,
@@ -152,6 +154,7 @@ pub fn begin(
         Some(g) => {
             restore(tables, alloc, outs, g, e)?;
             offer_live(tables, alloc, outs, g, e)?;
+            show_all(tables, alloc, outs, g, e)?;
             tables.resume(alloc, outs, g, e)?;
             Ok(())
         }
@@ -173,7 +176,7 @@ pub fn hear_running(
     ensures begun { (settings : Settings) (before : List Event) (body : List ℕ) → is_served (desk_of e before).phase ≡ true
         → makes_running (message_of body) ≡ true → AnswersNone settings e (message_of body) before → TakesNone settings e (message_of body) before
         → changes_documents before e (message_of body) ≡ false → outs.old ≡ []
-        → Settled settings before → Stands settings tables.old before → DocumentsStand settings nothing_owed tables.old before
+        → Meant before → Settled settings before → Stands settings tables.old before → DocumentsStand settings nothing_owed tables.old before
         → OnOk result (Begun settings before e body nothing_owed tables.new outs.new) }
 {
     let begins = may_begin(tables, e);

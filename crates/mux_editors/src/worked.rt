@@ -16,6 +16,7 @@ ghost use Rattle.mux_tables.specs.Documents.{AllStand, DocumentsStand, nothing_o
 ghost use Rattle.mux_tables.specs.Stands.{Stands, number_in};
 ghost use Rattle.rpc_message.specs.Message.{message_of, notification};
 ghost use Rattle.rpc_message.specs.Parsed.{IsRead};
+ghost use Rattle.mux_turns.specs.group_facts.specs.Facts.{Meant};
 ghost use Rattle.mux_turns.specs.group_facts.specs.Settled.{Settled};
 
 use crate::cancelled::Target;
@@ -150,7 +151,7 @@ pub fn take_work_cancel(
     ensures versions { tables.new.versions ≡ tables.old.versions }
     ensures does { (settings : Settings) (before : List Event) (body : List ℕ) (params : Option Json) → IsRead message.now body
         → message_of body ≡ notification (codes "window/workDoneProgress/cancel") params → is_served (desk_of e before).phase ≡ true
-        → outs.old ≡ [] → Settled settings before → Stands settings tables.old before → DocumentsStand settings nothing_owed tables.old before
+        → outs.old ≡ [] → Meant before → Settled settings before → Stands settings tables.old before → DocumentsStand settings nothing_owed tables.old before
         → OnOk result (Done (λ k events. AllStand settings k events) (running_row settings before e (message_of body) ⨾ work_row settings before e body params)
         (with_cause before (FromEditor e body)) [] (tables.new, nothing_owed) outs.new) }
 {

@@ -4,7 +4,7 @@ use Rattle.std.specs.Prelude.{Some}
 use Rattle.std.specs.List.{AllByRecursion}
 use Rattle.lsp_method.specs.Class.{class_of}
 use Rattle.lsp_method.specs.declared.variants.Class.{Class}
-use Rattle.lsp_method.specs.declared.variants.Class.TheVariants.{Broadcast, Cancel, Create, Focused, Folders, Lowest, Progress, Refresh, Register, Unregister}
+use Rattle.lsp_method.specs.declared.variants.Class.TheVariants.{Broadcast, Cancel, Create, Diagnostics, Focused, Folders, Lowest, Progress, Refresh, Register, Unregister}
 use Rattle.lsp_method.specs.declared.variants.Origin.TheVariants.{Server}
 use Rattle.rpc_message.specs.declared.sort.Sort.TheVariants as sort
 use Rattle.rpc_message.specs.Message.{Message, message_of, request}
@@ -39,11 +39,12 @@ unbuilt_class Unregister r d f l g u n h = absurd (u refl)
 unbuilt_class Create r d f l g u n h = absurd (n refl)
 unbuilt_class other r d f l g u n h = never (sym h)
 
-pub broadcasts : (c : Class) → (c ≡ Cancel → ⊥) → (c ≡ Progress → ⊥) → built_telling c ≡ true → c ≡ Broadcast
-broadcasts Cancel other more h = absurd (other refl)
-broadcasts Progress other more h = absurd (more refl)
-broadcasts Broadcast other more h = refl
-broadcasts c other more h = never (sym h)
+pub broadcasts : (c : Class) → (c ≡ Cancel → ⊥) → (c ≡ Progress → ⊥) → (c ≡ Diagnostics → ⊥) → built_telling c ≡ true → c ≡ Broadcast
+broadcasts Cancel other more most h = absurd (other refl)
+broadcasts Progress other more most h = absurd (more refl)
+broadcasts Diagnostics other more most h = absurd (most refl)
+broadcasts Broadcast other more most h = refl
+broadcasts c other more most h = never (sym h)
 
 -- it is under no open id
 pub built_else : (a b : Bool) → a ≡ false → (a || b) ≡ true → b ≡ true

@@ -7,7 +7,7 @@ ghost use Rattle.event_model.specs.Phases.{desk_of, is_begun, is_served, is_ther
 ghost use Rattle.event_model.specs.Row.{◌⨾◌};
 ghost use Rattle.event_model.specs.Settings.{Settings};
 ghost use Rattle.mux_starts.specs.group_facts.specs.Built.{built_behind, is_standard};
-ghost use Rattle.mux_starts.specs.group_facts.specs.Facts.{Known, is_early};
+ghost use Rattle.mux_starts.specs.group_facts.specs.Facts.{Known, Meant, is_early};
 ghost use Rattle.mux_starts.specs.group_facts.specs.Settled.{Settled};
 ghost use Rattle.group_rows.specs.Rows.{asks_lspmux, down_row, early_row, exit_row, lspmux_row, row_of, served_request, served_row};
 ghost use Rattle.group_words.specs.Houses.{is_doubled, places, stops};
@@ -208,7 +208,7 @@ fn from_asking(
     ensures does { (settings : Settings) (before : List Event) (body method : List ℕ) (id : Id) (params : Option Json) → IsRead message.now body
         → message_of body ≡ request id method params → is_standard (class_of method Editor false) ≡ true
         → is_served (desk_of e before).phase ≡ true → outs.old ≡ []
-        → Settled settings before → Stands settings tables.old before → DocumentsStand settings nothing_owed tables.old before
+        → Meant before → Settled settings before → Stands settings tables.old before → DocumentsStand settings nothing_owed tables.old before
         → OnOk result (Done (λ k events. AllStand settings k events) (running_row settings before e (message_of body) ⨾ served_request settings before e body method)
         (with_cause before (FromEditor e body)) [] (tables.new, nothing_owed) outs.new) }
 {

@@ -1,4 +1,4 @@
-//! What the program of a start says: S1 to S7, S9 to S14, and what goes to each editor.
+//! What the program of a start says: S1 to S15, and what goes to each editor.
 ghost use Rattle.std.specs.Prelude.{◌≡◌, ◌<◌, ◌≤◌, ℕ, List, [], map, Option, Some, false, true, length, OnOk, slice_get};
 ghost use Rattle.event_model.specs.declared.stage.Stage.TheVariants.{Initializing, Ready};
 ghost use Rattle.event_model.specs.Does.{Alike, Done};
@@ -21,7 +21,7 @@ ghost use Rattle.mux_history.specs.declared.cause.Cause.TheVariants.{FromServer}
 ghost use Rattle.mux_model.specs.Fits.{fits_behind};
 ghost use Rattle.mux_starts.specs.mux_tables.specs.declared.tables.Start.{Start};
 ghost use Rattle.mux_starts.specs.mux_tables.specs.Documents.{AllStand, DocumentsStand, nothing_owed};
-ghost use Rattle.mux_starts.specs.mux_tables.specs.Stands.{NamesAt, Stands, is_request, number_in};
+ghost use Rattle.mux_starts.specs.mux_tables.specs.Stands.{ListsStay, NamesAt, Stands, is_request, number_in};
 ghost use Rattle.rpc_message.specs.Message.{Id, message_of, notification, request};
 ghost use Rattle.rpc_message.specs.Parsed.{IsRead};
 ghost use Rattle.rpc_message.specs.Sorts.{Refuses};
@@ -35,9 +35,9 @@ use mux_starts::mux_members::{asked_class, is_first_result, told_class};
 use mux_starts::mux_tables::Tables;
 use mux_starts::{
     answered_number, is_first_error, stage_at, take_answer, take_broadcast, take_create,
-    take_ending, take_focused, take_folders, take_hasty, take_lowest, take_progress, take_recall,
-    take_refresh, take_refused, take_register, take_repeated, take_result, take_stopping,
-    take_unregister,
+    take_ending, take_focused, take_folders, take_hasty, take_list, take_lowest, take_progress,
+    take_recall, take_refresh, take_refused, take_register, take_repeated, take_result,
+    take_stopping, take_unregister,
 };
 use rpc_message::{Malformed, Message, Sort};
 use std::alloc::Global;
@@ -48,7 +48,7 @@ fn hear_quietly(tables: &mut Tables, g: usize, n: Option<u32>)
     ensures same_limit { tables.new.requests ≡ tables.old.requests }
     ensures same_versions { tables.new.versions ≡ tables.old.versions }
     ensures does { (settings : Settings) (before : List Event) (body : List ℕ) (s : ℕ) → is_request (message_of body) ≡ false
-        → CreatedStay settings s before (heard (FromServer s body))
+        → CreatedStay settings s before (heard (FromServer s body)) → ListsStay s before (heard (FromServer s body))
         → is_first_result (message_of body) ≡ false
         → is_first_error (message_of body) ≡ false → NamesAt (answered_id (message_of body)) n
         → Alike (row_of settings before (FromServer s body)) nothing
@@ -223,7 +223,7 @@ fn take_question(
     }
 }
 
-// S13, S14, and what goes to each editor: a notification comes from a start that is ready; other classes aren't built.
+// S13 to S15, and what goes to each editor: a notification comes from a start that is ready; other classes aren't built.
 fn take_telling(
     tables: &mut Tables,
     alloc: Global,
@@ -236,7 +236,7 @@ fn take_telling(
     ensures same_versions { tables.new.versions ≡ tables.old.versions }
     ensures does { (settings : Settings) (before : List Event) (body method : List ℕ) (params : Option Json) (s : ℕ) (x : Start)
         → IsRead message.now body → message_of body ≡ notification method params
-        → built_telling (class_of method Server true) ≡ true → outs.old ≡ [] → Settled settings before
+        → built_telling (class_of method Server true) ≡ true → outs.old ≡ [] → Known settings before → Settled settings before
         → slice_get tables.old.lasts.items g ≡ Some x → x.life.stage ≡ Ready → slice_get (map number_in tables.old.lasts.items) g ≡ Some s
         → Stands settings tables.old before → DocumentsStand settings nothing_owed tables.old before
         → OnOk result (Done (λ k events. AllStand settings k events) (notified_row settings s before body params (class_of method Server true))
@@ -249,6 +249,10 @@ fn take_telling(
         }
         Class::Progress => {
             take_progress(tables, alloc, outs, g, message)?;
+            Ok(())
+        }
+        Class::Diagnostics => {
+            take_list(tables, alloc, outs, g, message)?;
             Ok(())
         }
         _ => {

@@ -4,6 +4,7 @@ pub mod Encoded
 pub mod Encodings
 pub mod Looks
 pub mod Notices
+pub mod Opened
 pub mod Results
 pub mod Roots
 pub mod Spoken

@@ -125,7 +125,7 @@ moved n false true z a b c d e f p q r h = q h
 moved n false false true a b c d e f p q r h = subst (λ z. Says n z) r h
 moved n false false false a b c d e f p q r h = h
 
-says_bare : (n : Notice) (cs : List ℕ) (o : Option Json) → Says n (saying_by cs o) → Says n (saying_by cs (option_map bare o))
+pub says_bare : (n : Notice) (cs : List ℕ) (o : Option Json) → Says n (saying_by cs o) → Says n (saying_by cs (option_map bare o))
 says_bare n cs o h =
     let d : Option Json = member_of (codes "textDocument") o in
     let edits : Option Json = member_of (codes "contentChanges") o in

@@ -15,7 +15,7 @@ pub use method::{
     asked_class, cancels_work, class_in, goes_on, is_cancel, is_dollar, is_exit, is_initialize,
     is_initialized, is_message_request, is_open, is_status, is_wrong, told_class,
 };
-pub use notice::{Notice, notice_in, speaks, string};
+pub use notice::{Notice, notice_in, opened_uri, speaks, string};
 pub use outcome::{encoding, is_first_result, reads_versions};
 pub use params::{has_token, named_token, text, token};
 pub use rpc_message;

@@ -7,7 +7,7 @@ ghost use Rattle.rpc_message.specs.Message.{message_of};
 ghost use Rattle.rpc_message.specs.Parsed.{IsRead};
 ghost use Rattle.mux_model.specs.Sayings.{changing_by, closing, closing_by, integer_at, opening, opening_by, saying_by, saying_of, speaks, string_at};
 ghost use Rattle.mux_members.specs.Finds.{is_ascii};
-ghost use Rattle.mux_members.specs.Notices.{AreTexts, IsTextIf, Says, is_of_documents};
+ghost use Rattle.mux_members.specs.Notices.{AreTexts, IsTextIf, Says, is_of_documents, is_whole, uri_opened};
 
 use crate::envelope::{notification_method, notification_params};
 use crate::look::{bytes, is_integer, is_text, member, spells};
@@ -206,4 +206,52 @@ pub fn notice_in(alloc: Global, m: &Message) -> Result<Notice, Memory>
         return Ok(Notice::Nothing);
     }
     said(alloc, m.tape(), method, notification_params(m))
+}
+
+// Whether a document that is opened has a language, a version and a text (LSP 3.17, TextDocumentItem).
+fn is_whole(tape: &Tape, document: Option<u32>) -> bool
+    ensures { (o : Option Json) → Found tape.now o document → result ≡ is_whole o }
+{
+    is_text(tape, member(tape, document, "languageId"))
+        && is_integer(tape, member(tape, document, "version"))
+        && is_text(tape, member(tape, document, "text"))
+}
+
+// The URI of a document that is opened, where it has all its parts.
+fn uri_in(alloc: Global, tape: &Tape, document: Option<u32>) -> Result<Option<Body>, Memory>
+    ensures { (o : Option Json) → Found tape.now o document → IfOk result (λ uri. uri ≡ uri_opened (opening_by o)) }
+{
+    if is_whole(tape, document) {
+        string(alloc, tape, document, "uri")
+    } else {
+        Ok(None)
+    }
+}
+
+// The same of a notification of a method, by its params.
+fn uri_said(
+    alloc: Global,
+    tape: &Tape,
+    method: Option<u32>,
+    params: Option<u32>,
+) -> Result<Option<Body>, Memory>
+    ensures { (s : Span) (cs : List ℕ) (o : Option Json) → Found tape.now (Some (string s cs)) method → Found tape.now o params
+        → IfOk result (λ uri. uri ≡ uri_opened (saying_by cs o)) }
+{
+    if spells(tape, method, "textDocument/didOpen") {
+        uri_in(alloc, tape, member(tape, params, "textDocument"))
+    } else {
+        Ok(None)
+    }
+}
+
+/// E12: the URI of the document that a notification opens, where it opens one. Its text isn't copied.
+pub fn opened_uri(alloc: Global, m: &Message) -> Result<Option<Body>, Memory>
+    ensures { (bytes : List ℕ) → IsRead m.now bytes → IfOk result (λ uri. uri ≡ uri_opened (saying_of (message_of bytes))) }
+{
+    let method = notification_method(m);
+    if method.is_none() {
+        return Ok(None);
+    }
+    uri_said(alloc, m.tape(), method, notification_params(m))
 }

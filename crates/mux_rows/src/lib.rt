@@ -12,6 +12,8 @@ mod created;
 #[cfg(test)]
 mod languages;
 #[cfg(test)]
+mod lists;
+#[cfg(test)]
 mod play;
 #[cfg(test)]
 mod registered;

@@ -645,7 +645,7 @@ const IDLING: [(&str, &str); 10] = [
 // Lines that fit, and that no row takes yet.
 const UNBUILT: [&str; 2] = [
     "ed 0 {\"jsonrpc\":\"2.0\",\"id\":1,\"method\":\"lspmux/stop\"}\n",
-    "sv 0 {\"jsonrpc\":\"2.0\",\"method\":\"textDocument/publishDiagnostics\",\"params\":{\"uri\":\"file:///a\",\"diagnostics\":[]}}\n",
+    "exit 0\n",
 ];
 
 #[test]

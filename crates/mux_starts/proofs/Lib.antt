@@ -10,8 +10,10 @@ pub mod Parking
 pub mod Progressing
 pub mod Singles
 pub mod Creating
+pub mod Listing
 pub mod Offered
 pub mod Uncreated
+pub mod Unlisted
 pub mod Refreshing
 pub mod Recalls
 pub mod Registering

@@ -17,7 +17,7 @@ ghost use Rattle.mux_tables.specs.declared.tables.Start.{Start};
 ghost use Rattle.mux_tables.specs.Documents.{AllStand, DocumentsStand, Owed, nothing_owed};
 ghost use Rattle.mux_tables.specs.Notes.{IsNoted};
 ghost use Rattle.mux_tables.specs.mux_tokens.specs.Stands.{CreatedStay};
-ghost use Rattle.mux_tables.specs.Stands.{NamesAt, Stands, forwarded_as, is_request, number_in};
+ghost use Rattle.mux_tables.specs.Stands.{ListsStay, NamesAt, Stands, forwarded_as, is_request, number_in};
 ghost use Rattle.response_route.specs.Answers.{answer_text};
 ghost use Rattle.rpc_message.specs.Message.{message_of};
 ghost use Rattle.rpc_message.specs.Parsed.{IsRead};
@@ -161,7 +161,7 @@ pub fn take_answer(
     ensures requests { tables.new.requests ≡ tables.old.requests }
     ensures versions { tables.new.versions ≡ tables.old.versions }
     ensures does { (settings : Settings) (before : List Event) (body : List ℕ) (s : ℕ) (x : Start) → IsRead message.now body → is_request (message_of body) ≡ false
-        → CreatedStay settings s before (heard (FromServer s body)) → outs.old ≡ []
+        → CreatedStay settings s before (heard (FromServer s body)) → ListsStay s before (heard (FromServer s body)) → outs.old ≡ []
         → slice_get tables.old.lasts.items g ≡ Some x → x.life.stage ≡ Ready → slice_get (map number_in tables.old.lasts.items) g ≡ Some s
         → ((f : Forwarded) → find (answered_by (answered_id (message_of body))) (forwarding_of s before).open_requests ≡ Some f → IsAsked before f)
         → Meant before → Stands settings tables.old before → DocumentsStand settings nothing_owed tables.old before

@@ -7,6 +7,7 @@ ghost use Rattle.event_model.specs.Row.{each};
 ghost use Rattle.event_model.specs.Settings.{Settings};
 ghost use Rattle.group_rows.specs.Created.{is_progress};
 ghost use Rattle.group_rows.specs.AskRows.{broadcast, broadcast_row};
+ghost use Rattle.group_rows.specs.Lists.{is_publishing};
 ghost use Rattle.json_text.specs.Json.{Json};
 ghost use Rattle.mux_history.specs.declared.cause.Cause.TheVariants.{FromServer};
 ghost use Rattle.mux_tables.specs.declared.tables.Start.{Start};
@@ -54,7 +55,7 @@ pub fn take_broadcast(
     ensures requests { tables.new.requests ≡ tables.old.requests }
     ensures versions { tables.new.versions ≡ tables.old.versions }
     ensures does { (settings : Settings) (before : List Event) (body method : List ℕ) (params : Option Json) (s : ℕ) (x : Start)
-        → IsRead message.now body → message_of body ≡ notification method params → is_progress method ≡ false → outs.old ≡ []
+        → IsRead message.now body → message_of body ≡ notification method params → is_progress method ≡ false → is_publishing method ≡ false → outs.old ≡ []
         → slice_get tables.old.lasts.items g ≡ Some x → x.life.stage ≡ Ready → slice_get (map number_in tables.old.lasts.items) g ≡ Some s
         → Stands settings tables.old before → DocumentsStand settings nothing_owed tables.old before
         → OnOk result (Done (λ k events. AllStand settings k events) (broadcast_row settings before s body)

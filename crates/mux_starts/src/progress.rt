@@ -30,7 +30,7 @@ use mux_turns::{kind_of, marked, marked_text, told_text};
 use rpc_message::Message;
 use std::alloc::Global;
 
-/// What an editor is told of an open request of its own.
+/// What an editor is told.
 #[derive(Debug, Drop)]
 pub struct Telling {
     pub editor: u64,

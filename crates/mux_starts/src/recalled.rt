@@ -13,6 +13,7 @@ ghost use Rattle.group_rows.specs.AskRows.{cancelled_row};
 ghost use Rattle.group_rows.specs.Asks.{Ask, asks_of, is_under};
 ghost use Rattle.group_rows.specs.Cancelling.{named_id};
 ghost use Rattle.group_rows.specs.Leaves.{cancel_text};
+ghost use Rattle.group_rows.specs.Lists.{is_publishing};
 ghost use Rattle.json_text.specs.Json.{Json};
 ghost use Rattle.mux_history.specs.declared.cause.Cause.TheVariants.{FromServer};
 ghost use Rattle.mux_history.specs.declared.out.Out.TheVariants.{ToEditor};
@@ -68,7 +69,7 @@ pub fn take_recall(
     ensures requests { tables.new.requests ≡ tables.old.requests }
     ensures versions { tables.new.versions ≡ tables.old.versions }
     ensures does { (settings : Settings) (before : List Event) (body method : List ℕ) (params : Option Json) (s : ℕ) (x : Start)
-        → IsRead message.now body → message_of body ≡ notification method params → is_progress method ≡ false
+        → IsRead message.now body → message_of body ≡ notification method params → is_progress method ≡ false → is_publishing method ≡ false
         → AllByRecursion (λ (a : Ask). (desk_of a.editor before).phase ≡ Running) (asks_of settings s before) → outs.old ≡ []
         → slice_get tables.old.lasts.items g ≡ Some x → x.life.stage ≡ Ready → slice_get (map number_in tables.old.lasts.items) g ≡ Some s
         → Stands settings tables.old before → DocumentsStand settings nothing_owed tables.old before

@@ -32,6 +32,7 @@ use Rattle.mux_tables.specs.declared.tables.Tables.{Tables}
 use Rattle.mux_tables.specs.Documents.{DocumentsStand, IsOwned, Owed, SharedStands, nothing_owed}
 use Rattle.mux_tables.specs.Notes.{IsNoted, StampsAt, has_left, now_version}
 use Rattle.mux_tables.specs.Stands.{Stands, number_in}
+use Rattle.mux_tables.proofs.DocumentFrames.{owner_served}
 use Rattle.mux_tables.proofs.DocumentMoves.{documents_at}
 use Rattle.mux_tables.proofs.Stamping.{now_stamps}
 use Rattle.mux_tables.proofs.Starts.{read_here, start_at_place}
@@ -75,7 +76,7 @@ none_open settings events g e u (o ∷ os) away owned = go (nat_eq o.editor e) r
   where
     go : (b : Bool) → nat_eq o.editor e ≡ b → find (is_open_at e u) os ≡ None → cond (b && bytes_eq o.uri u) (Some o) (find (is_open_at e u) os) ≡ None
     go false is rest = rest
-    go true is rest = let same : o.editor ≡ e = grind (arith, nat_tests) in never (sym (sym away ∙ (ap (λ n. is_served (desk_of n events).phase) (sym same) ∙ owned.0.1)))
+    go true is rest = let same : o.editor ≡ e = grind (arith, nat_tests) in never (sym (sym away ∙ (ap (λ n. is_served (desk_of n events).phase) (sym same) ∙ owner_served settings events g o owned.0)))
 
 pub left_nowhere : (settings : Settings) (t : Tables) (events : List Event) (g s e : ℕ) (u : List ℕ) → g < length t.lasts.items → slice_get (map number_in t.lasts.items) g ≡ Some s → Stands settings t events → DocumentsStand settings nothing_owed t events
     → has_left (desk_of e events).phase ≡ true → stamp_at agreed_version settings s e events u ≡ None

@@ -4,7 +4,7 @@ use Rattle.std.specs.Prelude.{Option, Some, None}
 use Rattle.event_model.specs.Settings.{Settings}
 use Rattle.mux_tokens.proofs.Standing.{created_begins}
 use Rattle.mux_tables.specs.declared.tables.Tables.{Tables}
-use Rattle.mux_tables.specs.Stands.{Part, of_life, of_ids, of_shown, of_stop, of_asks, of_parked, of_live, PartStands, blank, GroupsStand, LastsStand, Stands}
+use Rattle.mux_tables.specs.Stands.{Part, of_life, of_ids, of_shown, of_stop, of_asks, of_parked, of_live, of_lists, PartStands, blank, GroupsStand, LastsStand, Stands}
 
 none_some : {A : Type 0} {x : A} → ◌≡◌ {A = Option A} None (Some x) → ⊥
 none_some e = cc
@@ -17,6 +17,7 @@ blank_stands settings limit s h of_stop = tt
 blank_stands settings limit s h of_asks = (refl, refl)
 blank_stands settings limit s h of_parked = (refl, refl)
 blank_stands settings limit s h of_live = (refl, refl)
+blank_stands settings limit s h of_lists = (refl, refl)
 
 no_lasts : (settings : Settings) (limit : ℕ) → 2 ≤ limit → LastsStand settings limit [] []
 no_lasts settings limit h = record {

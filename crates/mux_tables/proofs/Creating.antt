@@ -36,6 +36,7 @@ use Rattle.mux_tokens.specs.progress_route.specs.declared.tokens.Handed.{Handed}
 use Rattle.mux_tokens.specs.Rows.{Rows, changed, edited, table_of}
 use Rattle.mux_tokens.specs.Stands.{AreFresh, CreatedStand, IsOffer, TakesOne}
 use Rattle.mux_tokens.proofs.Seen.{given_seen, none_named, number_seen}
+use Rattle.mux_tokens.proofs.Stays.{is_notification}
 use Rattle.mux_tokens.proofs.Standing.{answer_moves as reply_tokens, asked_moves, create_moves, next_token, stay_stands, told_moves, unnamed_answers}
 use Rattle.mux_tables.specs.declared.tables.Start.{Start}
 use Rattle.mux_tables.specs.declared.tables.Tables.{Tables}
@@ -46,6 +47,7 @@ use Rattle.mux_tables.proofs.Moves.{house_moves}
 use Rattle.mux_tables.proofs.Parking.{impatient_stay}
 use Rattle.mux_tables.proofs.Putting.{asked_so, below, none_left, one_left}
 use Rattle.mux_tables.proofs.Registered.{called_stay}
+use Rattle.mux_tables.proofs.Publishing.{other_lists, progress_apart, quiet_lists}
 use Rattle.mux_tables.proofs.Registering.{other_live}
 use Rattle.mux_tables.proofs.Said.{does_send, told_house}
 use Rattle.mux_tables.proofs.Sent.{same_set}
@@ -88,7 +90,7 @@ module _ (settings : Settings) (t u : Tables) (events : List Event) (g s n : ℕ
       let next = next_token body (created_of settings s events) new makes in
       let heard : is_heard settings s events id ≡ true = ap (λ k. is_ready k && not (is_taken (Some id) (asking_of settings s events))) stage ∙ ap (λ b. not b) untaken in
       answer_moves settings t u events g s x z body None z.ids is at within read (ap (λ m. is_first_result m && is_early x.life.stage) says) (ap (λ m. is_first_error m && is_initializing x.life.stage) says)
-      (impatient_stay settings s events body method (message_of body) id params says (creates_impatient method creates)) (other_live settings s s events body method (message_of body) id params says (creates_apart method creates))
+      (impatient_stay settings s events body method (message_of body) id params says (creates_impatient method creates)) (other_live settings s s events body method (message_of body) id params says (creates_apart method creates)) (quiet_lists s s events body (message_of body) (ap is_notification says))
       (λ k small. ap (λ m. names (answered_id m) k) says) refl refl refl (λ o. o) set es gs now
       (record {
         groups = og;
@@ -103,7 +105,7 @@ module _ (settings : Settings) (t u : Tables) (events : List Event) (g s n : ℕ
   progress_by body method token params i kind cr says tells names_it text begun ends =
       let x_now : Created = created_of settings s events in
       answer_moves settings t u events g s x z body None z.ids is at within read (ap (λ m. is_first_result m && is_early x.life.stage) says) (ap (λ m. is_first_error m && is_initializing x.life.stage) says)
-      (asks_stay settings s events (took (FromServer s body) (message_of body)) (ap is_request says)).parked (live_stay settings s events (took (FromServer s body) (message_of body)) (ap is_request says))
+      (asks_stay settings s events (took (FromServer s body) (message_of body)) (ap is_request says)).parked (live_stay settings s events (took (FromServer s body) (message_of body)) (ap is_request says)) (other_lists s s events body method (message_of body) params says (progress_apart method tells))
       (λ k small. ap (λ m. names (answered_id m) k) says) refl refl refl (λ o. o) set es gs now
       (record {
         groups = og;

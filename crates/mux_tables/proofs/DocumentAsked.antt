@@ -19,7 +19,7 @@ use Rattle.event_model.specs.Does.{Does}
 use Rattle.event_model.specs.Event.{Event, behind, requests, said}
 use Rattle.event_model.specs.Requests.{is_own}
 use Rattle.event_model.specs.Members.{named_of}
-use Rattle.event_model.specs.Phases.{desk_of, is_served}
+use Rattle.event_model.specs.Phases.{desk_of, is_running}
 use Rattle.event_model.specs.Row.{look, send, ◌⨾◌}
 use Rattle.event_model.specs.Settings.{Settings}
 use Rattle.event_model.specs.Spawns.{group_of, start_behind, start_of, starts_behind, starts_of}
@@ -39,8 +39,10 @@ use Rattle.group_laws.specs.group_rows.specs.Forwarded.{Forwarding, cancelled_by
 use Rattle.group_laws.specs.group_rows.specs.Rows as rows
 use Rattle.group_laws.specs.group_rows.specs.Texts.{is_aside, is_synced, texts_of, touch_all, touched_at, worker_behind, worker_of}
 use Rattle.group_laws.specs.group_rows.proofs.Frames.{encoding_stays, texts_apart, texts_more}
-use Rattle.group_laws.specs.Stands.{HeldStands}
+use Rattle.group_laws.specs.Stands.{CountsStand, HeldStands}
 use Rattle.group_laws.proofs.Asking.{spelt_touched, sync_speaks, touch_orderly}
+use Rattle.group_laws.proofs.Counting.{sync_counted}
+use Rattle.group_laws.proofs.Counts.{counts_behind, counts_stay}
 use Rattle.group_laws.proofs.Entries.{all_told, encoding_told, first_behind, held_same, known_sent, texts_told}
 use Rattle.group_laws.proofs.SyncHeld.{sync_held}
 use Rattle.group_laws.proofs.Versions.{noted_from}
@@ -53,7 +55,7 @@ use Rattle.mux_tables.specs.Documents.{AllStand, AllTell, DocumentsStand, IsOwne
 use Rattle.mux_tables.specs.Notes.{IsNoted, NotesStand, StampsAt, stamp_in}
 use Rattle.mux_tables.specs.Stands.{Sends, Stands, forwarded_of, is_answer, number_in, of_ids}
 use Rattle.mux_tables.proofs.DocumentEvents.{shared_beside}
-use Rattle.mux_tables.proofs.DocumentFrames.{all_owned, owner_stays, sent_apart, sent_silent, shared_stays, start_stays}
+use Rattle.mux_tables.proofs.DocumentFrames.{SentSame, all_owned, owner_stays, sent_apart, sent_at, sent_silent, sent_then, shared_stays, start_stays}
 use Rattle.mux_tables.proofs.DocumentMoves.{Rest, documents_at, documents_set, founds_kept, set_same, starts_kept}
 use Rattle.mux_tables.proofs.Placed.{groups_apart}
 use Rattle.mux_tables.proofs.DocumentOwed.{stands_told}
@@ -97,9 +99,12 @@ founds_told g s bodies events = outs_more (start_behind g) None (start_of g even
     stay [] o = refl
     stay (body ∷ bodies) o = stay bodies o
 
-sent_beside : (n s : ℕ) (u : List ℕ) (bodies : List (List ℕ)) (events : List Event) → nat_eq s n ≡ false → sent_of n u (behind events (to s bodies)) ≡ sent_of n u events
-sent_beside n s u [] events off = ap (sent_of n u) (append-nil events)
-sent_beside n s u (body ∷ bodies) events off = ap (sent_of n u) (first_behind events (ToServer s body) (to s bodies)) ∙ (sent_beside n s u bodies (events ++ said (ToServer s body) ∷ []) off ∙ sent_apart n s u body (message_of body) events off)
+sent_beside : (n s : ℕ) (bodies : List (List ℕ)) (events : List Event) → nat_eq s n ≡ false → SentSame n events (behind events (to s bodies))
+sent_beside n s [] events off = sent_at n events (behind events []) (append-nil events)
+sent_beside n s (body ∷ bodies) events off =
+    let more : List Event = events ++ said (ToServer s body) ∷ [] in
+    subst (SentSame n events) (sym (first_behind events (ToServer s body) (to s bodies)))
+    (sent_then n events more (behind more (to s bodies)) (sent_apart n s body (message_of body) events off) (sent_beside n s bodies more off))
 
 -- an editor touches its documents, which stay its own
 touched_owned : (P : Open → Type 0) (e turn : ℕ) (os : List Open) → ((o p : Open) → o.editor ≡ p.editor → P o → P p) → AllByRecursion P os → AllByRecursion P (map (touched_at e turn) os)
@@ -188,7 +193,11 @@ module _ (settings : Settings) (t : Tables) (now : List Event) (i e : ℕ) (z : 
   mid_sent u = all_told s u was.start.code (held_at s u now) bodies now (known_sent s u was.start.code now holds.given)
 
   last_sent : (u : List ℕ) → sent_of s u last ≡ record { encoding = Some was.start.code; held = told_outs (Some was.start.code) u (held_at s u now) (to s bodies) }
-  last_sent u = sent_silent s s u text (message_of text) mid silent ∙ mid_sent u
+  last_sent u = (sent_silent s s text (message_of text) mid silent).sent u ∙ mid_sent u
+
+  mid_counts : CountsStand s (sync_row e d).after mid
+  mid_counts = subst (λ xs. CountsStand s (sync_row e d).after (behind now xs)) bodies_are
+      (counts_behind s d (sync_row e d).after (sync_row e d).outs now (sync_counted s e d holds.start few was.texts.spelt) holds.counts)
 
   told_last : Told s [] (sync_row e d).after last
   told_last = record {
@@ -201,6 +210,7 @@ module _ (settings : Settings) (t : Tables) (now : List Event) (i e : ℕ) (z : 
       held = held_same (sync_row e d).after (λ u. told_outs d.encoding u (held_at s u now) (sync_row e d).outs) (λ u. held_at s u last)
           (λ u. ap₂ (λ c xs. told_outs c u (held_at s u now) xs) holds.known bodies_are ∙ sym (ap (λ (x : Sent). x.held) (last_sent u)))
           (sync_held s e d (λ u. held_at s u now) holds.start holds.held was.start.code holds.known few was.texts.orderly.once was.texts.orderly.turns was.texts.spelt);
+      counts = counts_stay s (sync_row e d).after mid last (sent_silent s s text (message_of text) mid silent).counts mid_counts;
     });
   }
 
@@ -217,13 +227,13 @@ module _ (settings : Settings) (t : Tables) (now : List Event) (i e : ℕ) (z : 
     };
     versions = (sync_stays e d).versions ∙ was.versions;
     owned = subst (λ (x : Texts). AllByRecursion (IsOwned settings last g) x.opens) (sym (sync_texts e d)) (touched_owned (IsOwned settings last g) e d.turn d.opens
-        (λ o p same k. (ap (λ n. home_of settings n last) (sym same) ∙ k.0, ap (λ n. is_served (desk_of n last).phase) (sym same) ∙ k.1)) (all_owned (IsOwned settings now g) (IsOwned settings last g) d.opens (last_owner g) was.owned));
+        (λ o p same k. (ap (λ n. home_of settings n last) (sym same) ∙ k.0, ap (λ n. is_running (desk_of n last).phase) (sym same) ∙ k.1)) (all_owned (IsOwned settings now g) (IsOwned settings last g) d.opens (last_owner g) was.owned));
     start = told_last;
   }
 
   pub other_last : (j n : ℕ) (stage : Stage) (c : Documents) → nat_eq g j ≡ false → nat_eq s n ≡ false → SharedStands settings now [] j n stage c → SharedStands settings last [] j n stage c
   other_last j n stage c away off h = shared_stays settings mid last [] j n stage c (texts_apart settings j s text (message_of text) mid (ap (is_home j) here ∙ away)) (encoding_stays j mid (said (ToServer s text)) refl)
-      (start_stays n [] c mid last (λ u. sent_silent n s u text (message_of text) mid silent) stage) (λ q. all_owned (IsOwned settings mid j) (IsOwned settings last j) c.opens (λ o k. owner_stays settings mid j o (said (ToServer s text)) refl k) q)
+      (start_stays n [] c mid last (sent_silent n s text (message_of text) mid silent) stage) (λ q. all_owned (IsOwned settings mid j) (IsOwned settings last j) c.opens (λ o k. owner_stays settings mid j o (said (ToServer s text)) refl k) q)
       (beside_all settings [] j n s stage c bodies now tell off h)
 
   pub last_rest : Rest settings t now last
@@ -235,7 +245,7 @@ module _ (settings : Settings) (t : Tables) (now : List Event) (i e : ℕ) (z : 
         encoding = λ j l. encoding_stays j mid (said (ToServer s text)) refl ∙ encoding_told j s now bodies;
         founds = λ j l. sym (founds_told j s bodies now) ∙ founds_kept mid (said (ToServer s text)) refl j l;
         starts = λ n l. subst (λ m. m ≤ n) (outs_more starts_behind 0 (starts_of now) now (to s bodies) refl ∙ starts_told s bodies (starts_of now)) (starts_kept mid (said (ToServer s text)) refl n l);
-        sent = λ n l u. sent_silent n s u text (message_of text) mid silent ∙ sent_beside n s u bodies now (ne_eqb s n (λ q. absurd (omega (arith, q, l, old))));
+        sent = λ n l. sent_then n now mid (mid ++ said (ToServer s text) ∷ []) (sent_beside n s bodies now (ne_eqb s n (λ q. absurd (omega (arith, q, l, old))))) (sent_silent n s text (message_of text) mid silent);
         moments = λ j x n p there asked.
             let ids = (mid_stands.lasts.each j x there).parts of_ids in
             let low : n < x.ids.next = below_next n 2 x.ids.next x.ids.requests p ids.order.rising asked in

@@ -14,7 +14,7 @@ documents_begin settings t ls ds vs range = record {
   count = rw (ls, ds) refl;
   each = λ g x d at has. let none : ◌≡◌ {A = Option Start} None (Some x) = sym (ap (λ xs. slice_get xs g) ls) ∙ at in absurd (none_some none);
   none = λ g l. (refl, refl);
-  fresh = λ s l u. refl;
+  fresh = λ s l. record { none = λ u. refl; unsaid = refl };
   notes = λ g x at. let none : ◌≡◌ {A = Option Start} None (Some x) = sym (ap (λ xs. slice_get xs g) ls) ∙ at in absurd (none_some none);
   versions = vs;
   range = range;

@@ -28,7 +28,7 @@ use Rattle.group_laws.specs.group_rows.proofs.Frames.{encoding_more, encoding_st
 use Rattle.group_laws.specs.Stands.{HeldStands}
 use Rattle.group_laws.proofs.Entries.{first_behind, texts_told}
 use Rattle.mux_tables.specs.Documents.{IsOwned, SharedStands, StartTold, Told, changes_documents, to}
-use Rattle.mux_tables.proofs.DocumentFrames.{all_owned, off_then, owner_stays, parts, sent_apart, sent_given, sent_silent, sent_stays, sent_ungiven, sent_unheard, shared_stays, start_stays, told_stays, touches_sent, untold_stays}
+use Rattle.mux_tables.proofs.DocumentFrames.{all_owned, off_then, owner_served, owner_stays, parts, sent_apart, sent_given, sent_silent, sent_stays, sent_ungiven, sent_unheard, shared_stays, start_stays, told_stays, touches_sent, untold_stays}
 
 -- an event that speaks of no documents, but for the editor that joins
 abbrev pub touches_documents : Event → Bool
@@ -115,8 +115,8 @@ given_behind s xs events = outs_more (starts.encoding_behind s) None (starts.enc
 start_heard : (s : ℕ) (owed : List (List ℕ)) (d : Documents) (events : List Event) (body : List ℕ) (m : Message) (stage : Stage) → (stage ≡ Spawning → ⊥) → (is_first_result m && is_initializing stage) ≡ false
     → StartTold stage s owed d events → StartTold stage s owed d (events ++ took (FromServer s body) m ∷ [])
 start_heard s owed d events body m Spawning runs h k = absurd (runs refl)
-start_heard s owed d events body m Initializing runs h k = (k.0, untold_stays s owed d events (events ++ took (FromServer s body) m ∷ []) (λ u. sent_ungiven s s u body m events (no_encoding m (and_true (is_first_result m) h))) k.1)
-start_heard s owed d events body m Ready runs h k = told_stays s owed d events (events ++ took (FromServer s body) m ∷ []) (λ u. sent_given s s u body m events k.code (sym (given_behind s (to s owed) events) ∙ k.holds.given)) k
+start_heard s owed d events body m Initializing runs h k = (k.0, untold_stays s events (events ++ took (FromServer s body) m ∷ []) (sent_ungiven s s body m events (no_encoding m (and_true (is_first_result m) h))) k.1)
+start_heard s owed d events body m Ready runs h k = told_stays s owed d events (events ++ took (FromServer s body) m ∷ []) (sent_given s s body m events k.code (sym (given_behind s (to s owed) events) ∙ k.holds.given)) k
 start_heard s owed d events body m other runs h k = k
 
 -- the next body that a start is owed
@@ -142,23 +142,23 @@ module _ (settings : Settings) (events : List Event) (owed : List (List ℕ)) (g
 
   pub shared_quiet : (ev : Event) → touches_documents ev ≡ false → ((o : Open) → IsOwned settings events g o → parts o.editor ev ≡ false) → From → Goes ev
   shared_quiet ev q away h = shared_stays settings events (events ++ ev ∷ []) owed g s stage d (texts_stay settings g events ev (texts_untouched ev q)) (encoding_stays g events ev (encoding_untouched ev q))
-      (start_stays s owed d events (events ++ ev ∷ []) (λ u. sent_stays s u events ev (sent_untouched ev q)) stage) (owners ev away) h
+      (start_stays s owed d events (events ++ ev ∷ []) (sent_stays s events ev (sent_untouched ev q)) stage) (owners ev away) h
 
   -- a message of an editor that changes no documents
   pub shared_heard : (e : ℕ) (body : List ℕ) (m : Message) → changes_documents events e m ≡ false → From → Goes (took (FromEditor e body) m)
   shared_heard e body m q h = shared_stays settings events (events ++ took (FromEditor e body) m ∷ []) owed g s stage d (heard_texts settings g e body m events q) (encoding_stays g events (took (FromEditor e body) m) refl)
-      (start_stays s owed d events (events ++ took (FromEditor e body) m ∷ []) (λ u. sent_stays s u events (took (FromEditor e body) m) refl) stage)
-      (owners (took (FromEditor e body) m) (λ o k. unparted o.editor e events m (nat_eq e o.editor) refl k.1 q)) h
+      (start_stays s owed d events (events ++ took (FromEditor e body) m ∷ []) (sent_stays s events (took (FromEditor e body) m) refl) stage)
+      (owners (took (FromEditor e body) m) (λ o k. unparted o.editor e events m (nat_eq e o.editor) refl (owner_served settings events g o k) q)) h
 
   -- a body to a start that says nothing of documents, and goes on without a sync
   pub shared_notified : (n : ℕ) (body : List ℕ) (m : Message) → saying_of m ≡ nothing → is_synced m ≡ false → From → Goes (did (ToServer n body) m)
   shared_notified n body m silent aside h = shared_stays settings events (events ++ did (ToServer n body) m ∷ []) owed g s stage d (texts_stay settings g events (did (ToServer n body) m) aside) (encoding_stays g events (did (ToServer n body) m) refl)
-      (start_stays s owed d events (events ++ did (ToServer n body) m ∷ []) (λ u. sent_silent s n u body m events silent) stage) (owners (did (ToServer n body) m) (λ o k. refl)) h
+      (start_stays s owed d events (events ++ did (ToServer n body) m ∷ []) (sent_silent s n body m events silent) stage) (owners (did (ToServer n body) m) (λ o k. refl)) h
 
   -- a body to another start that tells of a document
   pub shared_beside : (n : ℕ) (body : List ℕ) → speaks (saying_of (message_of body)) ≡ true → nat_eq n s ≡ false → From → Goes (did (ToServer n body) (message_of body))
   shared_beside n body tells other h = shared_stays settings events (events ++ said (ToServer n body) ∷ []) owed g s stage d (texts_told settings g n events (body ∷ []) (tells, tt)) (encoding_stays g events (said (ToServer n body)) refl)
-      (start_stays s owed d events (events ++ said (ToServer n body) ∷ []) (λ u. sent_apart s n u body (message_of body) events other) stage) (owners (said (ToServer n body)) (λ o k. refl)) h
+      (start_stays s owed d events (events ++ said (ToServer n body) ∷ []) (sent_apart s n body (message_of body) events other) stage) (owners (said (ToServer n body)) (λ o k. refl)) h
 
   -- a message of another start, and one of its own that isn't its first result
   shared_from : (n : ℕ) (body : List ℕ) (m : Message) → (is_first_result m && is_initializing (life_of n events).stage) ≡ false → (StartTold stage s owed d events → StartTold stage s owed d (events ++ took (FromServer n body) m ∷ [])) → From → Goes (took (FromServer n body) m)
@@ -166,7 +166,7 @@ module _ (settings : Settings) (events : List Event) (owed : List (List ℕ)) (g
       (owners (took (FromServer n body) m) (λ o k. refl)) h
 
   pub shared_other : (n : ℕ) (body : List ℕ) (m : Message) → (is_first_result m && is_initializing (life_of n events).stage) ≡ false → nat_eq n s ≡ false → From → Goes (took (FromServer n body) m)
-  shared_other n body m later other h = shared_from n body m later (start_stays s owed d events (events ++ took (FromServer n body) m ∷ []) (λ u. sent_unheard s n u body m events other) stage) h
+  shared_other n body m later other h = shared_from n body m later (start_stays s owed d events (events ++ took (FromServer n body) m ∷ []) (sent_unheard s n body m events other) stage) h
 
   pub shared_own : (body : List ℕ) (m : Message) → (is_first_result m && is_initializing (life_of s events).stage) ≡ false → (life_of s events).stage ≡ stage → (stage ≡ Spawning → ⊥) → From → Goes (took (FromServer s body) m)
   shared_own body m later at runs h = shared_from s body m later (start_heard s owed d events body m stage runs (ap (λ k. is_first_result m && is_initializing k) (sym at) ∙ later)) h

@@ -28,7 +28,7 @@ use Rattle.mux_tables.specs.Documents.{DocumentsStand, Owed, SharedStands, Start
 use Rattle.mux_tables.specs.Notes.{NotesStand, has_left}
 use Rattle.mux_tables.specs.Stands.{LastStands, Stands, begun_at, number_in, of_life, phase_in}
 use Rattle.mux_tables.proofs.DocumentEvents.{heard_encoding, heard_texts, shared_heard, shared_other, shared_own, shared_quiet}
-use Rattle.mux_tables.proofs.DocumentFrames.{sent_stays, sent_unheard}
+use Rattle.mux_tables.proofs.DocumentFrames.{owner_served, sent_stays, sent_unheard}
 use Rattle.mux_tables.proofs.DocumentMoves.{Rest, documents_all, documents_last, founds_kept, quiet_documents, rest_quiet, starts_kept}
 use Rattle.mux_tables.proofs.Lasts.{apart, known}
 use Rattle.mux_tables.proofs.Placed.{groups_apart}
@@ -42,7 +42,7 @@ past_none (x ∷ xs) = past_none xs
 -- J1
 pub joined_documents : (settings : Settings) (owed : Owed) (t u : Tables) (events : List Event) (e : ℕ) → e ≡ length t.editors → u.lasts ≡ t.lasts → u.documents ≡ t.documents → u.versions ≡ t.versions → Stands settings t events
     → DocumentsStand settings owed t events → DocumentsStand settings owed u (events ++ took (Joined e) not_message ∷ [])
-joined_documents settings owed t u events e next ls ds vs st = quiet_documents settings owed t u events (took (Joined e) not_message) refl refl (ap (λ v. v.items) ls) (ap (λ v. v.items) ds) vs (λ g o k. ne_eqb e o.editor (λ q. never (sym k.1 ∙ absent o.editor (sym q ∙ next))))
+joined_documents settings owed t u events e next ls ds vs st = quiet_documents settings owed t u events (took (Joined e) not_message) refl refl (ap (λ v. v.items) ls) (ap (λ v. v.items) ds) vs (λ g o k. ne_eqb e o.editor (λ q. never (sym (owner_served settings events g o k) ∙ absent o.editor (sym q ∙ next))))
     (joined_left events e not_message (ap has_left (st.house.editors.phase e) ∙ ap (λ (o : Option Session). has_left (phase_in o)) (ap (slice_get t.editors) next ∙ past_none t.editors)))
   where
     absent : (n : ℕ) → n ≡ length t.editors → is_served (desk_of n events).phase ≡ false
@@ -59,7 +59,7 @@ rest_heard settings t events e body m q = record {
   encoding = λ g l. encoding_stays g events (took (FromEditor e body) m) refl;
   founds = founds_kept events (took (FromEditor e body) m) refl;
   starts = starts_kept events (took (FromEditor e body) m) refl;
-  sent = λ s l u. sent_stays s u events (took (FromEditor e body) m) refl;
+  sent = λ s l. sent_stays s events (took (FromEditor e body) m) refl;
   moments = λ g x n p at there. moment_stays x.life.start n events (took (FromEditor e body) m) refl;
   left = left_stays events (took (FromEditor e body) m) refl;
 }
@@ -138,7 +138,7 @@ rest_from settings t events n body m later old = record {
   encoding = λ g l. heard_encoding g n body m events later;
   founds = founds_kept events (took (FromServer n body) m) refl;
   starts = starts_kept events (took (FromServer n body) m) refl;
-  sent = λ s l u. sent_unheard s n u body m events (ne_eqb n s (λ q. absurd (omega (arith, q, l, old))));
+  sent = λ s l. sent_unheard s n body m events (ne_eqb n s (λ q. absurd (omega (arith, q, l, old))));
   moments = λ g x k p at there. moment_stays x.life.start k events (took (FromServer n body) m) refl;
   left = left_stays events (took (FromServer n body) m) refl;
 }

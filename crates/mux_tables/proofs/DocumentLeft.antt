@@ -27,7 +27,7 @@ use Rattle.editor_session.specs.Sessions.{absent, session_of}
 use Rattle.focus_switch.specs.Documents.{Documents}
 use Rattle.focus_switch.specs.document_table.specs.Rows.{uris_of}
 use Rattle.focus_switch.specs.Rows.{Step, close_next, leave_row}
-use Rattle.group_laws.specs.mux_model.specs.Documents.{held_at, sent_of, without_editor}
+use Rattle.group_laws.specs.mux_model.specs.Documents.{held_at, without_editor}
 use Rattle.group_words.specs.Houses.{home_of, is_home}
 use Rattle.group_laws.specs.group_rows.specs.Leaves as departures
 use Rattle.group_laws.specs.group_rows.specs.Texts.{encoding_of, texts_heard, texts_of}
@@ -40,7 +40,7 @@ use Rattle.mux_tables.specs.declared.tables.Start.{Start}
 use Rattle.mux_tables.specs.declared.tables.Tables.{Tables}
 use Rattle.mux_tables.specs.Documents.{AllTell, DocumentsStand, IsOwned, Leaves, Owed, SharedStands, StartTold, StepAt, StepFrom, leaving, nothing_owed, owes, to}
 use Rattle.mux_tables.specs.Stands.{IsLost, IsPlace, Stands, group_in, of_life, start_for}
-use Rattle.mux_tables.proofs.DocumentFrames.{all_owned, owner_stays, parts, sent_stays, shared_stays, start_stays, touches_sent, untold_stays}
+use Rattle.mux_tables.proofs.DocumentFrames.{SentSame, all_owned, owner_served, owner_stays, parts, sent_stays, shared_stays, start_stays, touches_sent, untold_stays}
 use Rattle.mux_tables.proofs.Noting.{asks_on, joins, left_stays, moment_stays}
 use Rattle.mux_tables.proofs.DocumentMoves.{Rest, documents_all, documents_at, documents_set, founds_kept, set_same, starts_kept}
 use Rattle.mux_tables.proofs.Lasts.{lost_ended}
@@ -57,7 +57,7 @@ kept_owners e P Q (o ∷ os) f h = go (nat_eq o.editor e) refl (kept_owners e P 
     go false k rest = (f o k h.0, rest)
 
 -- its own group
-module _ (settings : Settings) (events later : List Event) (e g s : ℕ) (d : Documents) (removed : texts_of settings g later ≡ without_editor e (texts_of settings g events)) (kept : encoding_of g later ≡ encoding_of g events) (same : (u : List ℕ) → sent_of s u later ≡ sent_of s u events)
+module _ (settings : Settings) (events later : List Event) (e g s : ℕ) (d : Documents) (removed : texts_of settings g later ≡ without_editor e (texts_of settings g events)) (kept : encoding_of g later ≡ encoding_of g events) (same : SentSame s events later)
     (owners : (o : Open) → nat_eq o.editor e ≡ false → IsOwned settings events g o → IsOwned settings later g o) (few : d.versions < 2 ^ 32) where
   abbrev bodies : List (List ℕ)
   bodies = leaving settings events g s e
@@ -86,8 +86,8 @@ module _ (settings : Settings) (events later : List Event) (e g s : ℕ) (d : Do
   no_start h = (leave_stays e d).start ∙ h
 
   pub left_shared : (stage : Stage) → (life_of s events).stage ≡ stage → SharedStands settings events [] g s stage d → LeftShared stage
-  left_shared Spawning at h = left_idle Spawning at refl h.start.0 (no_start h.start.0, untold_stays s [] d events later same h.start.1) h
-  left_shared Initializing at h = left_idle Initializing at refl h.start.0 (no_start h.start.0, untold_stays s [] d events later same h.start.1) h
+  left_shared Spawning at h = left_idle Spawning at refl h.start.0 (no_start h.start.0, untold_stays s events later same h.start.1) h
+  left_shared Initializing at h = left_idle Initializing at refl h.start.0 (no_start h.start.0, untold_stays s events later same h.start.1) h
   left_shared Unspawned at h = left_idle Unspawned at refl h.start (no_start h.start) h
   left_shared Stopping at h = left_idle Stopping at refl h.start (no_start h.start) h
   left_shared Ending at h = left_idle Ending at refl h.start (no_start h.start) h
@@ -101,7 +101,7 @@ module _ (settings : Settings) (events later : List Event) (e g s : ℕ) (d : Do
           code = h.start.code;
           tell = subst AllTell (sym is) (leave_speaks s e h.start.code d (λ u. held_at s u events) holds.start holds.known few holds.held h.texts.orderly h.texts.spelt);
           holds = subst (λ xs. HeldStands s h.start.code (leave_row e d).after (behind later xs)) all
-              (left_held settings g e d events later h.texts removed kept s h.start.code [] few tt holds (λ u. same u ∙ known_sent s u h.start.code events holds.given));
+              (left_held settings g e d events later h.texts removed kept s h.start.code [] few tt holds (λ u. same.sent u ∙ known_sent s u h.start.code events holds.given) same.counts);
         }) h,
         all,
       )
@@ -123,7 +123,7 @@ get_past (x ∷ xs) (suc g) h = let k = get_past xs g h in omega (arith, k)
 module _ (settings : Settings) (t u : Tables) (events later : List Event) (e : ℕ) (home : Option ℕ) (outs : List Out) (is : home_of settings e events ≡ home) (ls : u.lasts.items ≡ t.lasts.items) (vs : u.versions ≡ t.versions)
     (rest : Rest settings t events later) (st : Stands settings t events)
     (away : (j s : ℕ) (stage : Stage) (c : Documents) → is_home j home ≡ false → SharedStands settings events [] j s stage c → SharedStands settings later [] j s stage c)
-    (removed : (g : ℕ) → home ≡ Some g → texts_of settings g later ≡ without_editor e (texts_of settings g events)) (kept : (g : ℕ) → encoding_of g later ≡ encoding_of g events) (same : (s : ℕ) (u : List ℕ) → sent_of s u later ≡ sent_of s u events)
+    (removed : (g : ℕ) → home ≡ Some g → texts_of settings g later ≡ without_editor e (texts_of settings g events)) (kept : (g : ℕ) → encoding_of g later ≡ encoding_of g events) (same : (s : ℕ) → SentSame s events later)
     (owners : (g : ℕ) (o : Open) → nat_eq o.editor e ≡ false → IsOwned settings events g o → IsOwned settings later g o) where
   nobody : ((j : ℕ) (x : Start) → slice_get t.lasts.items j ≡ Some x → is_home x.life.group home ≡ false) → u.documents.items ≡ t.documents.items → DocumentsStand settings nothing_owed t events → DocumentsStand settings nothing_owed u later
   nobody none ds s = documents_all settings nothing_owed nothing_owed t u events later rest vs ls ds (λ j x c at h. away x.life.group x.life.start x.life.stage c (none j x at) h) s
@@ -208,7 +208,7 @@ module _ (settings : Settings) (t u : Tables) (events : List Event) (ev : Event)
       let none : AllByRecursion (λ (o : Open). nat_eq o.editor e ≡ false) c.opens = all_owned (IsOwned settings events j) (λ (o : Open). nat_eq o.editor e ≡ false) c.opens (λ o k. elsewhere settings events e j o (ap (is_home j) is ∙ off) k) h.owned in
       shared_stays settings events later [] j s stage c
       (leaves j ∙ (ap (without_editor e) h.texts.texts ∙ (ap (λ (os : List Open). record { turn = c.turn; opens = os }) (none_left e c.opens none) ∙ sym h.texts.texts)))
-      (encoding_stays j events ev encodes) (start_stays s [] c events later (λ w. sent_stays s w events ev sends) stage)
+      (encoding_stays j events ev encodes) (start_stays s [] c events later (sent_stays s events ev sends) stage)
       (λ k. both_owned (λ (o : Open). nat_eq o.editor e ≡ false) (IsOwned settings events j) (IsOwned settings later j) c.opens (owner j) none k) h
     where
       both_owned : (N P Q : Open → Type 0) (os : List Open) → ((o : Open) → N o → P o → Q o) → AllByRecursion N os → AllByRecursion P os → AllByRecursion Q os
@@ -221,13 +221,13 @@ module _ (settings : Settings) (t u : Tables) (events : List Event) (ev : Event)
     encoding = λ g l. encoding_stays g events ev encodes;
     founds = founds_kept events ev spawn;
     starts = starts_kept events ev spawn;
-    sent = λ s l w. sent_stays s w events ev sends;
+    sent = λ s l. sent_stays s events ev sends;
     moments = λ g x n p at there. moment_stays x.life.start n events ev (asks_unsent ev sends);
     left = left_stays events ev quits;
   }
 
   leave_documents : (place : Option ℕ) → IsPlace t.lasts.items home place → StepFrom (leave_row e) place t.documents.items outs u.documents.items → DocumentsStand settings nothing_owed t events → Leaves settings events e (home_of settings e events) (start_for settings e events) outs u later
-  leave_documents place placed left s = left_documents settings t u events later e home outs is ls vs rest st away (λ g own. leaves g) (λ g. encoding_stays g events ev encodes) (λ s w. sent_stays s w events ev sends) owner place placed left s
+  leave_documents place placed left s = left_documents settings t u events later e home outs is ls vs rest st away (λ g own. leaves g) (λ g. encoding_stays g events ev encodes) (λ s. sent_stays s events ev sends) owner place placed left s
 
   -- an editor that isn't served has no documents
   module _ (owed : Owed) (unserved : is_served (desk_of e events).phase ≡ false) where
@@ -236,7 +236,7 @@ module _ (settings : Settings) (t u : Tables) (events : List Event) (ev : Event)
       where
         go : (b : Bool) → nat_eq o.editor e ≡ b → b ≡ false
         go false q = refl
-        go true q = let w : o.editor ≡ e = grind (arith, nat_tests) in never (sym k.1 ∙ (ap (λ n. is_served (desk_of n events).phase) w ∙ unserved))
+        go true q = let w : o.editor ≡ e = grind (arith, nat_tests) in never (sym (owner_served settings events j o k) ∙ (ap (λ n. is_served (desk_of n events).phase) w ∙ unserved))
 
     none_of : (j : ℕ) (os : List Open) → AllByRecursion (IsOwned settings events j) os → AllByRecursion (λ (o : Open). nat_eq o.editor e ≡ false) os
     none_of j os h = all_owned (IsOwned settings events j) (λ (o : Open). nat_eq o.editor e ≡ false) os (nowhere j) h
@@ -244,7 +244,7 @@ module _ (settings : Settings) (t u : Tables) (events : List Event) (ev : Event)
     still : (j s : ℕ) (stage : Stage) (c : Documents) → SharedStands settings events (owed j) j s stage c → SharedStands settings later (owed j) j s stage c
     still j s stage c h = shared_stays settings events later (owed j) j s stage c
         (leaves j ∙ (ap (without_editor e) h.texts.texts ∙ (ap (λ (os : List Open). record { turn = c.turn; opens = os }) (none_left e c.opens (none_of j c.opens h.owned)) ∙ sym h.texts.texts)))
-        (encoding_stays j events ev encodes) (start_stays s (owed j) c events later (λ w. sent_stays s w events ev sends) stage)
+        (encoding_stays j events ev encodes) (start_stays s (owed j) c events later (sent_stays s events ev sends) stage)
         (λ k. all_owned (IsOwned settings events j) (IsOwned settings later j) c.opens (λ o q. owner j o (nowhere j o q) q) k) h
 
     no_uris : (os : List Open) → AllByRecursion (λ (o : Open). nat_eq o.editor e ≡ false) os → uris_of e os ≡ []
@@ -302,7 +302,7 @@ module _ (settings : Settings) (t u : Tables) (events : List Event) (e : ℕ) (b
   down_owner g o off k = owner_stays settings events g o (took (FromEditor e body) m) (ap (λ b. b && requests (codes "shutdown") m) (other_way o.editor e off)) k
 
   down_away : (j s : ℕ) (stage : Stage) (c : Documents) → is_home j home ≡ false → SharedStands settings events [] j s stage c → SharedStands settings down [] j s stage c
-  down_away j s stage c off h = shared_stays settings events down [] j s stage c (stays_there j off) (encoding_stays j events (took (FromEditor e body) m) refl) (start_stays s [] c events down (λ w. sent_stays s w events (took (FromEditor e body) m) refl) stage)
+  down_away j s stage c off h = shared_stays settings events down [] j s stage c (stays_there j off) (encoding_stays j events (took (FromEditor e body) m) refl) (start_stays s [] c events down (sent_stays s events (took (FromEditor e body) m) refl) stage)
       (all_owned (IsOwned settings events j) (IsOwned settings down j) c.opens (λ o k. down_owner j o (elsewhere settings events e j o (ap (is_home j) is ∙ off) k) k)) h
 
   down_removed : (g : ℕ) → home ≡ Some g → texts_of settings g down ≡ without_editor e (texts_of settings g events)
@@ -314,7 +314,7 @@ module _ (settings : Settings) (t u : Tables) (events : List Event) (e : ℕ) (b
     encoding = λ g l. encoding_stays g events (took (FromEditor e body) m) refl;
     founds = founds_kept events (took (FromEditor e body) m) refl;
     starts = starts_kept events (took (FromEditor e body) m) refl;
-    sent = λ s l w. sent_stays s w events (took (FromEditor e body) m) refl;
+    sent = λ s l. sent_stays s events (took (FromEditor e body) m) refl;
     moments = λ g x n p at there. moment_stays x.life.start n events (took (FromEditor e body) m) refl;
     left = left_stays events (took (FromEditor e body) m) refl;
   }
@@ -324,4 +324,4 @@ module _ (settings : Settings) (t u : Tables) (events : List Event) (e : ℕ) (b
       either g false x h = h
 
   pub shutdown_documents : (place : Option ℕ) → IsPlace t.lasts.items home place → StepFrom (leave_row e) place t.documents.items outs u.documents.items → DocumentsStand settings nothing_owed t events → Leaves settings events e (home_of settings e events) (start_for settings e events) outs u down
-  shutdown_documents place placed left s = left_documents settings t u events down e home outs is ls vs down_rest st down_away down_removed (λ g. encoding_stays g events (took (FromEditor e body) m) refl) (λ s w. sent_stays s w events (took (FromEditor e body) m) refl) down_owner place placed left s
+  shutdown_documents place placed left s = left_documents settings t u events down e home outs is ls vs down_rest st down_away down_removed (λ g. encoding_stays g events (took (FromEditor e body) m) refl) (λ s. sent_stays s events (took (FromEditor e body) m) refl) down_owner place placed left s

@@ -14,7 +14,6 @@ use Rattle.event_model.specs.Spawns.{start_behind, start_of, starts_behind, star
 use Rattle.event_model.proofs.Frames.{never, one_more}
 use Rattle.event_model.proofs.Places.{Same, same, other, compare, get_set_same, get_set_other, item_at, same_item}
 use Rattle.focus_switch.specs.Documents.{Documents}
-use Rattle.group_laws.specs.mux_model.specs.Documents.{sent_of}
 use Rattle.group_laws.specs.group_rows.specs.Answers.{moment_of}
 use Rattle.group_laws.specs.group_rows.specs.Texts.{encoding_of, texts_of}
 use Rattle.group_laws.specs.group_rows.proofs.Frames.{encoding_stays, texts_stay}
@@ -25,7 +24,7 @@ use Rattle.mux_tables.specs.declared.tables.Tables.{Tables}
 use Rattle.mux_tables.specs.Documents.{DocumentsStand, IsOwned, Owed, SharedStands}
 use Rattle.mux_tables.specs.Notes.{NotesStand, has_left}
 use Rattle.mux_tables.proofs.DocumentEvents.{encoding_untouched, sent_untouched, shared_quiet, texts_untouched, touches_documents}
-use Rattle.mux_tables.proofs.DocumentFrames.{parts, sent_stays}
+use Rattle.mux_tables.proofs.DocumentFrames.{SentSame, parts, sent_stays, untold_stays}
 use Rattle.mux_tables.proofs.Frames.{spawns, start_alone, starts_alone}
 use Rattle.mux_tables.proofs.Placed.{left_there, length_left, place_before}
 use Rattle.mux_tables.proofs.Noting.{asks_on, moment_stays, noted_stays}
@@ -36,7 +35,7 @@ pub record Rest (settings : Settings) (t : Tables) (events later : List Event) :
   pub encoding : (g : ℕ) → start_of g events ≡ None → encoding_of g later ≡ encoding_of g events
   pub founds : (g : ℕ) → start_of g later ≡ None → start_of g events ≡ None
   pub starts : (s : ℕ) → starts_of later ≤ s → starts_of events ≤ s
-  pub sent : (s : ℕ) → starts_of events ≤ s → (u : List ℕ) → sent_of s u later ≡ sent_of s u events
+  pub sent : (s : ℕ) → starts_of events ≤ s → SentSame s events later
   -- and of what was noted of the open requests
   pub moments : (g : ℕ) (x : Start) (n : ℕ) (p : Pending) → slice_get t.lasts.items g ≡ Some x → pending_of n x.ids.requests ≡ Some p → moment_of x.life.start n later ≡ moment_of x.life.start n events
   pub left : (e : ℕ) → has_left (desk_of e events).phase ≡ true → has_left (desk_of e later).phase ≡ true
@@ -60,7 +59,7 @@ module _ (settings : Settings) (owed after : Owed) (t u : Tables) (events later 
     each = each;
     notes = notes;
     none = λ g l. let k : start_of g events ≡ None = rest.founds g l in let w = s.none g k in (rest.texts g k w.0, rest.encoding g k ∙ w.1);
-    fresh = λ n l u. let k : starts_of events ≤ n = rest.starts n l in rest.sent n k u ∙ s.fresh n k u;
+    fresh = λ n l. let k : starts_of events ≤ n = rest.starts n l in untold_stays n events later (rest.sent n k) (s.fresh n k);
     versions = s.versions ∙ sym vs;
     range = subst (λ n. n < 2 ^ 32) (sym vs) s.range;
   }
@@ -107,7 +106,7 @@ rest_quiet settings t events ev q k l = record {
   encoding = λ g l. encoding_stays g events ev (encoding_untouched ev q);
   founds = founds_kept events ev k;
   starts = starts_kept events ev k;
-  sent = λ s l u. sent_stays s u events ev (sent_untouched ev q);
+  sent = λ s l. sent_stays s events ev (sent_untouched ev q);
   moments = λ g x n p at there. moment_stays x.life.start n events ev (asks_untouched ev q);
   left = l;
 }

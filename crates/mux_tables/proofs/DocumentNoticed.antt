@@ -1,18 +1,19 @@
 -- E12 to E14: an editor says something of a document: what is kept of it, and what the start is owed.
-use Rattle.std.proofs.Common.{◌≡◌, ℕ, ◌+◌, ◌<◌, ◌^◌, Bool, true, false, ◌&&◌, List, [], ◌∷◌, ◌++◌, nat_eq, codes, refl, sym, ap, ap₂, subst, ◌∙◌, append-nil, arith, if◌then◌else◌}
-use Rattle.std.specs.Prelude.{Option, Some, None, slice_get}
+use Rattle.std.proofs.Common.{◌≡◌, ℕ, ◌+◌, ◌<◌, ◌^◌, Bool, true, false, not, ◌&&◌, ◌||◌, List, [], ◌∷◌, ◌++◌, nat_eq, codes, refl, sym, ap, ap₂, subst, ◌∙◌, append-nil, arith, if◌then◌else◌}
+use Rattle.std.specs.Prelude.{Option, Some, None, bytes_eq, slice_get}
 use Rattle.std.specs.List.{AllByRecursion}
 use Rattle.std.specs.Option.{option_and_then, option_map, option_map_or}
 use Rattle.std.proofs.lemmas.Bool.{ne_eqb}
+use Rattle.std.proofs.lemmas.Slice.Eq.{bytes_eq-Decides}
 use Rattle.json_text.specs.Json.{Json}
 use Rattle.json_text.specs.Tree.{tree_of}
 use Rattle.mux_history.specs.declared.cause.Cause.TheVariants.{FromEditor}
 use Rattle.mux_history.specs.declared.out.Out.{Out}
 use Rattle.position_codec.specs.declared.Encoding.{Encoding}
-use Rattle.rpc_message.specs.Message.{message_in, message_of, notification}
+use Rattle.rpc_message.specs.Message.{Message, message_in, message_of, notification}
 use Rattle.document_model.specs.Opens.{Open, drop_open, is_open_at, put_open}
 use Rattle.document_model.specs.Orderly.{AllSpelt, Orderly}
-use Rattle.document_model.specs.Sayings.{Saying, opens, changes, closes, misshapen, nothing, saying_by, saying_of}
+use Rattle.document_model.specs.Sayings.{Saying, opens, changes, closes, misshapen, nothing, saying_by, saying_of, speaks}
 use Rattle.document_model.specs.Texts.{Texts, found, text_after, texts_behind}
 use Rattle.document_model.proofs.Orders.{orderly_behind}
 use Rattle.document_model.proofs.Spelt.{texts_spelt}
@@ -20,17 +21,20 @@ use Rattle.group_laws.specs.Follows.{texts_in}
 use Rattle.group_laws.proofs.Following.{change_silent, change_stays, change_texts}
 use Rattle.group_laws.proofs.Following.{close_silent, close_stays, close_texts, open_silent, open_stays, open_texts}
 use Rattle.group_laws.proofs.Following.{Stays}
+use Rattle.event_model.specs.declared.phase.Phase.{Phase}
+use Rattle.event_model.specs.declared.phase.Phase.TheVariants.{Absent, New, Waiting, Answered, Running, Down, Closed, Gone}
 use Rattle.event_model.specs.declared.stage.Stage.{Stage}
 use Rattle.event_model.specs.declared.stage.Stage.TheVariants.{Unspawned, Spawning, Initializing, Ready, Stopping, Ending, Ended}
 use Rattle.event_model.specs.Event.{Event, behind, heard, requests}
-use Rattle.event_model.specs.Phases.{desk_of, is_served}
+use Rattle.event_model.specs.Phases.{Desk, desk_behind, desk_hears, desk_of, is_running, is_served, makes_running}
 use Rattle.event_model.specs.Settings.{Settings}
 use Rattle.event_model.specs.Spawns.{start_of}
 use Rattle.event_model.specs.Stages.{Life, is_ready, life_of}
+use Rattle.event_model.proofs.Frames.{never, one_more}
 use Rattle.event_model.proofs.Places.{same_item}
 use Rattle.focus_switch.specs.Documents.{Documents}
 use Rattle.focus_switch.specs.Rows.{Step}
-use Rattle.group_laws.specs.mux_model.specs.Documents.{held_at, sent_of}
+use Rattle.group_laws.specs.mux_model.specs.Documents.{held_at}
 use Rattle.group_words.specs.Houses.{home_of, is_home}
 use Rattle.group_laws.specs.group_rows.specs.Rows as rows
 use Rattle.group_laws.specs.group_rows.specs.Texts.{encoding_of, texts_of}
@@ -42,7 +46,7 @@ use Rattle.mux_tables.specs.declared.tables.Start.{Start}
 use Rattle.mux_tables.specs.declared.tables.Tables.{Tables}
 use Rattle.mux_tables.specs.Documents.{AllTell, DocumentsStand, IsOwned, SharedStands, StartTold, StepAt, StepFrom, nothing_owed, noticing, owes, to}
 use Rattle.mux_tables.specs.Stands.{IsLost, IsPlace, LastStands, Stands, of_life}
-use Rattle.mux_tables.proofs.DocumentFrames.{all_owned, owner_stays, sent_stays, shared_stays, start_stays, untold_stays}
+use Rattle.mux_tables.proofs.DocumentFrames.{SentSame, all_owned, home_served, owner_stays, sent_stays, shared_stays, start_stays, untold_stays}
 use Rattle.mux_tables.proofs.DocumentLeft.{get_past}
 use Rattle.mux_tables.proofs.Noting.{left_stays, moment_stays}
 use Rattle.mux_tables.proofs.DocumentMoves.{Rest, documents_all, documents_at, documents_set, founds_kept, set_same, starts_kept}
@@ -68,8 +72,8 @@ drop_all P e u (o ∷ os) k = go (is_open_at e u o) (drop_all P e u os k.1)
     go true rest = k.1
     go false rest = (k.0, rest)
 
-texts_all : (P : Open → Type 0) (code : Option Encoding) (e : ℕ) (y : Saying) (x : Texts) → ((o : Open) → o.editor ≡ e → P o) → AllByRecursion P x.opens → AllByRecursion P (texts_behind code e y x).opens
-texts_all P code e (opens u l v t) x own k = put_all P (record { editor = e; uri = u; language = l; version = v; text = t; touched = x.turn }) x.opens (own _ refl) k
+texts_all : (P : Open → Type 0) (code : Option Encoding) (e : ℕ) (y : Saying) (x : Texts) → (speaks y ≡ true → (o : Open) → o.editor ≡ e → P o) → AllByRecursion P x.opens → AllByRecursion P (texts_behind code e y x).opens
+texts_all P code e (opens u l v t) x own k = put_all P (record { editor = e; uri = u; language = l; version = v; text = t; touched = x.turn }) x.opens (own refl _ refl) k
 texts_all P code e (closes u) x own k = drop_all P e u x.opens k
 texts_all P code e misshapen x own k = k
 texts_all P code e nothing x own k = k
@@ -77,7 +81,7 @@ texts_all P code e (changes u v cs) x own k = at_old (found e u x)
   where
     at_text : (o : Open) (t : Option (List ℕ)) → AllByRecursion P (option_map_or (λ (p : Open). record { turn = x.turn + 1; opens = put_open p x.opens }) (option_map (λ w. record { editor = e; uri = u; language = o.language; version = v; text = w; touched = x.turn }) t) x).opens
     at_text o None = k
-    at_text o (Some w) = put_all P (record { editor = e; uri = u; language = o.language; version = v; text = w; touched = x.turn }) x.opens (own _ refl) k
+    at_text o (Some w) = put_all P (record { editor = e; uri = u; language = o.language; version = v; text = w; touched = x.turn }) x.opens (own refl _ refl) k
 
     at_old : (o : Option Open) → AllByRecursion P (option_map_or (λ (p : Open). record { turn = x.turn + 1; opens = put_open p x.opens }) (option_and_then (λ (q : Open). option_map (λ w. record { editor = e; uri = u; language = q.language; version = v; text = w; touched = x.turn }) (text_after code cs q.text)) o) x).opens
     at_old None = k
@@ -104,6 +108,34 @@ idle_step e body d (closes u) says h = record { outs = close_silent e u d h; sta
 idle_step e body d misshapen says h = record { outs = refl; stays = record { start = refl; encoding = refl; versions = refl }; texts = refl }
 idle_step e body d nothing says h = record { outs = refl; stays = record { start = refl; encoding = refl; versions = refl }; texts = refl }
 
+-- a notification on a document makes an editor that is served run
+on_document : (m : Message) → speaks (saying_of m) ≡ true → (requests (codes "shutdown") m ≡ false) × (makes_running m ≡ true)
+on_document (notification method ps) h = (refl, ap not (other (bytes_eq (codes "exit") method) refl))
+  where
+    other : (b : Bool) → bytes_eq (codes "exit") method ≡ b → (b || false) ≡ false
+    other false k = refl
+    other true k = never (sym h ∙ subst (λ w. speaks (saying_by w ps) ≡ false) ((bytes_eq-Decides (codes "exit") method).0 k) refl)
+on_document other h = never (sym h)
+
+speaks_running : (p : Phase) (i body : List ℕ) (m : Message) → speaks (saying_of m) ≡ true → is_served p ≡ true → is_running (desk_hears p i body m).phase ≡ true
+speaks_running Answered i body m h k = go (requests (codes "shutdown") m) (on_document m h).0 (makes_running m) (on_document m h).1
+  where
+    go : (a : Bool) → a ≡ false → (b : Bool) → b ≡ true → is_running (if a then Down else if b then Running else Answered) ≡ true
+    go true x b y = never x
+    go false x true y = refl
+    go false x false y = never (sym y)
+speaks_running Running i body m h k = go (requests (codes "shutdown") m) (on_document m h).0
+  where
+    go : (a : Bool) → a ≡ false → is_running (if a then Down else Running) ≡ true
+    go true x = never x
+    go false x = refl
+speaks_running Absent i body m h k = never (sym k)
+speaks_running New i body m h k = never (sym k)
+speaks_running Waiting i body m h k = never (sym k)
+speaks_running Down i body m h k = never (sym k)
+speaks_running Closed i body m h k = never (sym k)
+speaks_running Gone i body m h k = never (sym k)
+
 module _ (settings : Settings) (events : List Event) (g s e : ℕ) (body method : List ℕ) (params : Option Json) (reads : message_of body ≡ notification method params) (home : home_of settings e events ≡ Some g) (served : is_served (desk_of e events).phase ≡ true) where
   abbrev later : List Event
   later = events ++ heard (FromEditor e body) ∷ []
@@ -124,11 +156,19 @@ module _ (settings : Settings) (events : List Event) (g s e : ℕ) (body method 
   and_off true = refl
   and_off false = refl
 
-  owner : (j : ℕ) (o : Open) → IsOwned settings events j o → IsOwned settings later j o
-  owner j o k = owner_stays settings events j o (heard (FromEditor e body)) (ap (λ m. nat_eq e o.editor && requests (codes "shutdown") m) reads ∙ and_off (nat_eq e o.editor)) k
+  unparted : (n : ℕ) → (nat_eq e n && requests (codes "shutdown") (message_of body)) ≡ false
+  unparted n = ap (λ m. nat_eq e n && requests (codes "shutdown") m) reads ∙ and_off (nat_eq e n)
 
-  new_owner : (o : Open) → o.editor ≡ e → IsOwned settings later g o
-  new_owner o is = owner g o (ap (λ n. home_of settings n events) is ∙ home, ap (λ n. is_served (desk_of n events).phase) is ∙ served)
+  owner : (j : ℕ) (o : Open) → IsOwned settings events j o → IsOwned settings later j o
+  owner j o k = owner_stays settings events j o (heard (FromEditor e body)) (unparted o.editor) k
+
+  -- an editor that says something of a document runs behind it
+  runs : speaks said ≡ true → is_running (desk_of e later).phase ≡ true
+  runs h = ap (λ (k : Desk). is_running k.phase) (one_more (desk_behind e) _ _ events (heard (FromEditor e body)) refl)
+      ∙ rw (itself e) (speaks_running (desk_of e events).phase (desk_of e events).initialize body (message_of body) (ap speaks says ∙ h) served)
+
+  new_owner : speaks said ≡ true → (o : Open) → o.editor ≡ e → IsOwned settings later g o
+  new_owner h o is = (ap (λ n. home_of settings n later) is ∙ (home_served settings events e (heard (FromEditor e body)) (unparted e) served ∙ home), ap (λ n. is_running (desk_of n later).phase) is ∙ runs h)
 
   -- the group of the editor
   module _ (d : Documents) (few : d.versions < 2 ^ 32) where
@@ -163,12 +203,12 @@ module _ (settings : Settings) (events : List Event) (g s e : ℕ) (body method 
     when_idle : (stage : Stage) → (life_of s events).stage ≡ stage → is_ready stage ≡ false → d.start ≡ None → StartTold stage s bodies step.after later → SharedStands settings events [] g s stage d → Noticed stage
     when_idle stage at off none start h = let empty : bodies ≡ [] = rw (ap is_ready at ∙ off) refl in (with_start stage (idle none).stays (idle none).texts start h, (idle none).outs ∙ sym (ap (to s) empty))
 
-    same : (u : List ℕ) → sent_of s u later ≡ sent_of s u events
-    same u = sent_stays s u events (heard (FromEditor e body)) refl
+    same : SentSame s events later
+    same = sent_stays s events (heard (FromEditor e body)) refl
 
     pub noticed_shared : (stage : Stage) → (life_of s events).stage ≡ stage → SharedStands settings events [] g s stage d → Noticed stage
-    noticed_shared Spawning at h = when_idle Spawning at refl h.start.0 (no_start h.start.0, untold_stays s [] d events later same h.start.1) h
-    noticed_shared Initializing at h = when_idle Initializing at refl h.start.0 (no_start h.start.0, untold_stays s [] d events later same h.start.1) h
+    noticed_shared Spawning at h = when_idle Spawning at refl h.start.0 (no_start h.start.0, untold_stays s events later same h.start.1) h
+    noticed_shared Initializing at h = when_idle Initializing at refl h.start.0 (no_start h.start.0, untold_stays s events later same h.start.1) h
     noticed_shared Unspawned at h = when_idle Unspawned at refl h.start (no_start h.start) h
     noticed_shared Stopping at h = when_idle Stopping at refl h.start (no_start h.start) h
     noticed_shared Ending at h = when_idle Ending at refl h.start (no_start h.start) h
@@ -193,7 +233,7 @@ module _ (settings : Settings) (events : List Event) (g s e : ℕ) (body method 
   not_home j off = texts_more settings j events (heard (FromEditor e body)) ∙ rw (ap (is_home j) home ∙ off) refl
 
   noticed_other : (j n : ℕ) (stage : Stage) (c : Documents) → nat_eq g j ≡ false → SharedStands settings events [] j n stage c → SharedStands settings later [] j n stage c
-  noticed_other j n stage c off h = shared_stays settings events later [] j n stage c (not_home j off) (encoding_stays j events (heard (FromEditor e body)) refl) (start_stays n [] c events later (λ u. sent_stays n u events (heard (FromEditor e body)) refl) stage)
+  noticed_other j n stage c off h = shared_stays settings events later [] j n stage c (not_home j off) (encoding_stays j events (heard (FromEditor e body)) refl) (start_stays n [] c events later (sent_stays n events (heard (FromEditor e body)) refl) stage)
       (λ k. all_owned (IsOwned settings events j) (IsOwned settings later j) c.opens (owner j) k) h
 
   noticed_rest : (t : Tables) → start_of g events ≡ Some s → Rest settings t events later
@@ -202,7 +242,7 @@ module _ (settings : Settings) (events : List Event) (g s e : ℕ) (body method 
     encoding = λ j l. encoding_stays j events (heard (FromEditor e body)) refl;
     founds = founds_kept events (heard (FromEditor e body)) refl;
     starts = starts_kept events (heard (FromEditor e body)) refl;
-    sent = λ n l u. sent_stays n u events (heard (FromEditor e body)) refl;
+    sent = λ n l. sent_stays n events (heard (FromEditor e body)) refl;
     moments = λ j x n p at there. moment_stays x.life.start n events (heard (FromEditor e body)) refl;
     left = left_stays events (heard (FromEditor e body)) refl;
   }

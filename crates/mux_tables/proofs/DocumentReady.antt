@@ -25,6 +25,9 @@ use Rattle.group_laws.specs.group_rows.specs.Rows as rows
 use Rattle.group_laws.specs.group_rows.specs.Texts.{encoding_of}
 use Rattle.group_laws.specs.group_rows.proofs.Frames.{encoding_more, texts_stay}
 use Rattle.group_laws.proofs.Beginning.{replay_speaks}
+use Rattle.group_laws.specs.Stands.{CountsStand}
+use Rattle.group_laws.proofs.Counting.{ready_counts}
+use Rattle.group_laws.proofs.Counts.{counts_more}
 use Rattle.group_laws.proofs.Entries.{all_told, held_same}
 use Rattle.group_laws.proofs.ReplayHeld.{ready_held}
 use Rattle.group_laws.proofs.Replaying.{ready_outs, ready_stays, ready_texts}
@@ -60,7 +63,7 @@ module _ (settings : Settings) (events : List Event) (g s : ℕ) (code : Encodin
     outs = ready_outs s code d h.texts.orderly.once
 
     heard : (u : List ℕ) → sent_of s u later ≡ record { encoding = Some code; held = None }
-    heard u = one_more (sent_behind s u) _ _ events (took (FromServer s body) m) (h.start.1 u) ∙ rw (itself s, gives) refl
+    heard u = one_more (sent_behind s u) _ _ events (took (FromServer s body) m) (h.start.1.none u) ∙ rw (itself s, gives) refl
 
     behind_all : (u : List ℕ) → sent_of s u (behind later (to s bodies)) ≡ record { encoding = Some code; held = told_outs (Some code) u None (to s bodies) }
     behind_all u = all_told s u code None bodies later (heard u)
@@ -75,6 +78,8 @@ module _ (settings : Settings) (events : List Event) (g s : ℕ) (code : Encodin
         given = sym (sent_encoding s [] (behind later (to s bodies))) ∙ ap (λ (x : Sent). x.encoding) (behind_all []);
         held = held_same after (λ u. told_outs (Some code) u None (ready_row s code d).outs) (λ u. held_at s u (behind later (to s bodies)))
             (λ u. ap (told_outs (Some code) u None) outs ∙ sym (ap (λ (x : Sent). x.held) (behind_all u))) (ready_held s code d h.texts.orderly.once h.texts.spelt);
+        counts = subst (λ xs. CountsStand s after (behind later xs)) outs
+            (ready_counts s code d later h.texts.spelt ((counts_more s events (took (FromServer s body) m) refl).sayings ∙ h.start.1.unsaid));
       };
     }
 
@@ -103,7 +108,7 @@ module _ (settings : Settings) (events : List Event) (g s : ℕ) (code : Encodin
 
   pub ready_other : (owed : List (List ℕ)) (j n : ℕ) (stage : Stage) (c : Documents) → nat_eq g j ≡ false → nat_eq s n ≡ false → SharedStands settings events owed j n stage c → SharedStands settings later owed j n stage c
   ready_other owed j n stage c off apart h = shared_stays settings events later owed j n stage c (texts_stay settings j events (took (FromServer s body) m) refl) (other_encoding j off)
-      (start_stays n owed c events later (λ u. sent_unheard n s u body m events apart) stage) (λ k. all_owned (IsOwned settings events j) (IsOwned settings later j) c.opens (λ o q. owner_stays settings events j o (took (FromServer s body) m) refl q) k) h
+      (start_stays n owed c events later (sent_unheard n s body m events apart) stage) (λ k. all_owned (IsOwned settings events j) (IsOwned settings later j) c.opens (λ o q. owner_stays settings events j o (took (FromServer s body) m) refl q) k) h
 
   pub ready_rest : (t : Tables) → start_of g events ≡ Some s → ((n : ℕ) → starts_of events ≤ n → nat_eq s n ≡ false) → Rest settings t events later
   ready_rest t starts fresh = record {
@@ -111,7 +116,7 @@ module _ (settings : Settings) (events : List Event) (g s : ℕ) (code : Encodin
     encoding = λ j l. other_encoding j (ne_eqb g j (λ q. some_none (sym starts ∙ (ap (λ k. start_of k events) q ∙ l))));
     founds = founds_kept events (took (FromServer s body) m) refl;
     starts = starts_kept events (took (FromServer s body) m) refl;
-    sent = λ n l u. sent_unheard n s u body m events (fresh n l);
+    sent = λ n l. sent_unheard n s body m events (fresh n l);
     moments = λ j x n p at there. moment_stays x.life.start n events (took (FromServer s body) m) refl;
     left = left_stays events (took (FromServer s body) m) refl;
   }

@@ -48,7 +48,7 @@ rest_notified settings t events n body m silent aside = record {
   encoding = λ g l. encoding_stays g events (did (ToServer n body) m) refl;
   founds = founds_kept events (did (ToServer n body) m) refl;
   starts = starts_kept events (did (ToServer n body) m) refl;
-  sent = λ s l u. sent_silent s n u body m events silent;
+  sent = λ s l. sent_silent s n body m events silent;
   moments = λ g x k p at there. moment_stays x.life.start k events (did (ToServer n body) m) (asks_aside n body m aside);
   left = left_stays events (did (ToServer n body) m) refl;
 }

@@ -41,7 +41,7 @@ module _ (settings : Settings) (owed : Owed) (t u : Tables) (events : List Event
     encoding = λ j l. encoding_stays j events ev refl;
     founds = λ j k. founded (nat_eq g j) (start_of j events) (sym (one_more (start_behind j) _ _ events ev refl) ∙ k);
     starts = λ s l. let long : starts_of later ≡ starts_of events + 1 = one_more starts_behind _ _ events ev refl in omega (arith, l, long);
-    sent = λ s l u. sent_stays s u events ev refl;
+    sent = λ s l. sent_stays s events ev refl;
     moments = λ j x n p at there. moment_stays x.life.start n events ev refl;
     left = left_stays events ev refl;
   }
@@ -54,7 +54,7 @@ module _ (settings : Settings) (owed : Owed) (t u : Tables) (events : List Event
   quiet j z c h = shared_quiet settings events (owed z.life.group) z.life.group z.life.start z.life.stage c ev refl (λ o k. refl) h
 
   new_untold : DocumentsStand settings owed t events → Untold n later
-  new_untold s = untold_stays n [] (no_documents 0) events later (λ u. sent_stays n u events ev refl) (s.fresh n (let count = st.origins.count in omega (arith, next, count)))
+  new_untold s = untold_stays n events later (sent_stays n events ev refl) (s.fresh n (let count = st.origins.count in omega (arith, next, count)))
 
   -- for a new group
   pub found_documents : (d : Documents) → start_of g events ≡ None → d ≡ no_documents t.versions → u.lasts.items ≡ t.lasts.items ++ y ∷ [] → y.ids.requests ≡ [] → u.documents.items ≡ t.documents.items ++ d ∷ [] → DocumentsStand settings owed t events → DocumentsStand settings owed u later

@@ -15,21 +15,24 @@ use Rattle.event_model.specs.Settings.{Settings}
 use Rattle.event_model.specs.Spawns.{starts_behind, start_behind, group_behind}
 use Rattle.event_model.specs.Stages.{Life, is_ready, life_behind, life_of, is_first_result, stage_hears, stage_told}
 use Rattle.event_model.proofs.Frames.{one_more, never}
+use Rattle.diagnostics_route.specs.declared.last_list.LastList.{LastList}
 use Rattle.editor_session.specs.declared.session.Session.{Session}
 use Rattle.group_table.specs.Tables as group_tables
 use Rattle.group_words.specs.Houses.{Meant, meant_behind, time_behind, time_of, meant_of, server_asked}
 use Rattle.group_words.specs.Rows.{result_behind, result_of}
 use Rattle.group_words.proofs.Frames.{touches_groups, names_home, groups_stay, home_stays, past_more}
 use Rattle.id_rewrite.specs.Tables.{Table}
-use Rattle.mux_tokens.proofs.Stays.{passes_by}
+use Rattle.mux_tokens.proofs.Stays.{is_notification, passes_by}
 use Rattle.mux_tables.specs.declared.tables.Start.{Start}
 use Rattle.group_laws.specs.group_rows.specs.Asks.{Asking, asked_behind, asker_of, asking_next, asking_of, idle_asking, next_ask, parks}
 use Rattle.group_laws.specs.group_rows.specs.Forwarded.{Forwarding, forwarding_behind, forwarding_of, forwards, moves_ids, numbered}
-use Rattle.mux_tables.specs.Stands.{EditorsStand, GroupsStand, OriginsStand, IdsAt, IdsStand, Part, of_life, of_ids, of_shown, PartStands, LastStands, ShownAt, of_stop, StopAt, of_asks, of_parked, of_live, AsksStay, LiveStay, OpenStay, is_answer, is_request}
+use Rattle.mux_tables.specs.Stands.{EditorsStand, GroupsStand, OriginsStand, IdsAt, IdsStand, Part, of_life, of_ids, of_shown, PartStands, LastStands, ShownAt, of_stop, StopAt, of_asks, of_parked, of_live, of_lists, AsksStay, ListsStay, LiveStay, OpenStay, is_answer, is_request}
 use Rattle.mux_tables.proofs.Asking.{asks_by, parked_by, told_asking, unanswered, unhanded, unwaited}
 use Rattle.mux_tables.proofs.Counted.{counted_same, next_more}
 use Rattle.mux_tables.proofs.Named.{goes_so, meant_by, named_by}
+use Rattle.mux_tables.proofs.Publishing.{lists_by_stay, silent_lists}
 use Rattle.mux_tables.proofs.Registering.{live_by_stay, silent_live}
+use Rattle.group_laws.specs.group_rows.specs.Lists.{lists_next, lists_of}
 use Rattle.group_laws.specs.group_rows.specs.Live.{live_next, live_of}
 use Rattle.group_laws.specs.group_rows.specs.Ticks.{stop_next, stop_of}
 use Rattle.group_laws.specs.registrations.specs.declared.registration.Registration.{Registration}
@@ -212,6 +215,10 @@ touches of_live (took (FromServer n body) m) = is_request m
 touches of_live (took (StartFailed n) m) = true
 touches of_live (took (ServerGone n) m) = true
 touches of_live other = false
+touches of_lists (took (FromServer n body) m) = is_notification m
+touches of_lists (took (StartFailed n) m) = true
+touches of_lists (took (ServerGone n) m) = true
+touches of_lists other = false
 
 hears_quiet : (g : Stage) (m : Message) → is_first_result m ≡ false → stage_hears g m ≡ g
 hears_quiet Initializing m h = rw h refl
@@ -381,6 +388,22 @@ live_quiet settings s events live other h = refl
 pub live_stay : (settings : Settings) (s : ℕ) (events : List Event) (ev : Event) → touches of_live ev ≡ false → LiveStay settings s events ev
 live_stay settings s events ev h = live_quiet settings s events (live_of settings s events) ev h
 
+-- its last lists
+lists_alone : (s : ℕ) (events : List Event) (lists : List LastList) (ev : Event) → names_start s ev ≡ false → lists_next s events lists ev ≡ lists
+lists_alone s events lists (took (FromServer n body) (notification method ps)) h = rw h refl
+lists_alone s events lists (took (StartFailed n) m) h = rw h refl
+lists_alone s events lists (took (ServerGone n) m) h = rw h refl
+lists_alone s events lists other h = refl
+
+lists_quiet : (s : ℕ) (events : List Event) (lists : List LastList) (ev : Event) → touches of_lists ev ≡ false → lists_next s events lists ev ≡ lists
+lists_quiet s events lists (took (FromServer n body) m) h = silent_lists s n events lists body m h
+lists_quiet s events lists (took (StartFailed n) m) h = never h
+lists_quiet s events lists (took (ServerGone n) m) h = never h
+lists_quiet s events lists other h = refl
+
+pub lists_stay : (s : ℕ) (events : List Event) (ev : Event) → touches of_lists ev ≡ false → ListsStay s events ev
+lists_stay s events ev h = lists_quiet s events (lists_of s events) ev h
+
 -- an event of another start, and an event of another kind
 ids_by : (limit s : ℕ) (t : Table) (events : List Event) (ev : Event) → SameForwarding (forwarding_behind s (forwarding_of s events) ev) (forwarding_of s events) → IdsStand limit s t events → IdsStand limit s t (events ++ ev ∷ [])
 ids_by limit s t events ev same i = subst (λ x. IdsAt limit x t) (sym (one_more (forwarding_behind s) _ _ events ev refl)) (record { next = same.next ∙ i.next; open_requests = same.open_requests ∙ i.open_requests; ends = i.ends; order = i.order })
@@ -396,6 +419,7 @@ part_apart of_stop settings limit x events ev h a s = stop_by settings limit x e
 part_apart of_asks settings limit x events ev h a s = asks_by settings limit x events ev a.asks s
 part_apart of_parked settings limit x events ev h a s = parked_by settings limit x events ev a s
 part_apart of_live settings limit x events ev h a s = live_by_stay settings limit x events ev (live_alone settings x.life.start events (live_of settings x.life.start events) ev h) s
+part_apart of_lists settings limit x events ev h a s = lists_by_stay settings limit x events ev (lists_alone x.life.start events (lists_of x.life.start events) ev h) s
 
 pub part_quiet : (p : Part) (settings : Settings) (limit : ℕ) (x : Start) (events : List Event) (ev : Event) → touches p ev ≡ false → PartStands p settings limit x events → PartStands p settings limit x (events ++ ev ∷ [])
 part_quiet of_life settings limit x events ev h s = one_more (life_behind x.life.start) _ _ events ev s ∙ life_quiet x.life.start _ ev h
@@ -405,6 +429,7 @@ part_quiet of_stop settings limit x events ev h s = stop_by settings limit x eve
 part_quiet of_asks settings limit x events ev h s = asks_by settings limit x events ev (open_stay settings x.life.start events ev h) s
 part_quiet of_parked settings limit x events ev h s = parked_by settings limit x events ev (asks_stay settings x.life.start events ev h) s
 part_quiet of_live settings limit x events ev h s = live_by_stay settings limit x events ev (live_stay settings x.life.start events ev h) s
+part_quiet of_lists settings limit x events ev h s = lists_by_stay settings limit x events ev (lists_stay x.life.start events ev h) s
 
 -- the last start of a group, where the event doesn't name it, and no start is spawned for the group
 pub last_stands : (settings : Settings) (limit : ℕ) (events : List Event) (ev : Event) (g : ℕ) (x : Start) → names_start x.life.start ev ≡ false → AsksStay settings x.life.start events ev → ((o : Option ℕ) → start_behind g o ev ≡ o) → LastStands settings limit events g x → LastStands settings limit (events ++ ev ∷ []) g x

@@ -45,6 +45,7 @@ pub mod DocumentReady
 pub mod Downs
 pub mod DocumentGroups
 pub mod DocumentNoticed
+pub mod DocumentAgreed
 pub mod DocumentAsked
 pub mod Answering
 pub mod DocumentNotes
@@ -55,7 +56,9 @@ pub mod Placed
 pub mod Waiting
 pub mod Parking
 pub mod Registering
+pub mod Publishing
 pub mod Registered
+pub mod Listed
 pub mod Creating
 pub mod Resuming
 pub mod DocumentResumed

@@ -21,11 +21,12 @@ use Rattle.mux_tables.specs.declared.tables.Tables.{Tables}
 use Rattle.mux_tables.specs.Stands.{HasOwnId, HaveOwnIds, IsFree, MayWait, NamesAt, ParkedAt, ParkedStand, ParkedStay, PartStands, Stands, is_early, number_in, of_life, of_parked}
 use Rattle.group_laws.specs.group_rows.specs.Created.{created_next, created_of}
 use Rattle.mux_tokens.specs.Stands.{CreatedStay}
-use Rattle.mux_tokens.proofs.Stays.{other_request}
+use Rattle.mux_tokens.proofs.Stays.{is_notification, other_request}
 use Rattle.mux_tables.proofs.TokenMoves.{heard_all, origins_stay, patient_creates}
 use Rattle.mux_tables.proofs.Apart.{id_flip}
 use Rattle.mux_tables.proofs.Asking.{asking_more, asks_more}
 use Rattle.mux_tables.proofs.Frames.{itself, open_stay}
+use Rattle.mux_tables.proofs.Publishing.{lists_by_stay, quiet_lists}
 use Rattle.mux_tables.proofs.Registering.{live_by_stay, other_live, patient_quiet}
 use Rattle.mux_tables.proofs.Served.{hears_answer, later_shown, server_moves}
 use Rattle.mux_tables.proofs.Starts.{read_here, read_same, start_at_place}
@@ -108,8 +109,9 @@ module _ (settings : Settings) (t u : Tables) (events : List Event) (g s : ℕ) 
   stays_created = ap (λ m. created_next settings s events (created_of settings s events) (took (FromServer s body) m)) says ∙ other_request settings s s events (created_of settings s events) body id method params (patient_creates method patient)
 
   pub park_moves : Stands settings t events → Stands settings u (events ++ took (FromServer s body) (message_of body) ∷ [])
-  park_moves st = server_moves settings t u events g s z body None z.life z.ids z.shown kept z.live at within read (λ h. h) (later_shown z.life.start z.life.stage z.shown _ body (message_of body) (no_result (is_early z.life.stage)))
-      (λ later asked h. h) waits (λ st h. live_by_stay settings t.requests z events ev (other_live settings z.life.start z.life.start events body method (message_of body) id params says (patient_quiet method patient)) h) refl refl (hears_answer z.life.stage (message_of body) (no_result (is_initializing z.life.stage))) (no_failure (is_initializing z.life.stage))
+  park_moves st = server_moves settings t u events g s z body None z.life z.ids z.shown kept z.live z.lists at within read (λ h. h) (later_shown z.life.start z.life.stage z.shown _ body (message_of body) (no_result (is_early z.life.stage)))
+      (λ later asked h. h) waits (λ st h. live_by_stay settings t.requests z events ev (other_live settings z.life.start z.life.start events body method (message_of body) id params says (patient_quiet method patient)) h)
+      (λ st h. lists_by_stay settings t.requests z events ev (quiet_lists z.life.start z.life.start events body (message_of body) (ap is_notification says)) h) refl refl (hears_answer z.life.stage (message_of body) (no_result (is_initializing z.life.stage))) (no_failure (is_initializing z.life.stage))
       (subst (λ m. NamesAt (answered_id m) None) (sym says) (λ n small. refl)) refl refl refl (λ o. o) set es gs now (origins_stay settings t.origins u.origins events (took (FromServer s body) (message_of body)) os (heard_all settings s events body (message_of body) stays_created)) r st
 
 -- the same, as the code has it

@@ -37,7 +37,7 @@ use Rattle.mux_tables.specs.declared.tables.Start.{Start}
 use Rattle.mux_tables.specs.declared.tables.Tables.{Tables}
 use Rattle.mux_tables.specs.Documents.{DocumentsStand, Owed}
 use Rattle.mux_tables.specs.Puts.{IsAtWork, IsNextAsk}
-use Rattle.mux_tables.specs.Stands.{AreApart, AsksAt, AsksStand, CountStands, EditorsStand, HasText, IsAtRest, IsOther, Part, of_life, of_ids, of_shown, of_stop, of_asks, of_parked, of_live, ParkedAt, ParkedStand, PartStands, Stands, WasAsked, is_beside, is_request, kept_ask, phase_in}
+use Rattle.mux_tables.specs.Stands.{AreApart, AsksAt, AsksStand, CountStands, EditorsStand, HasText, IsAtRest, IsOther, Part, of_life, of_ids, of_shown, of_stop, of_asks, of_parked, of_live, of_lists, ParkedAt, ParkedStand, PartStands, Stands, WasAsked, is_beside, is_request, kept_ask, phase_in}
 use Rattle.mux_tables.proofs.Apart.{id_flip}
 use Rattle.mux_tables.proofs.Asking.{asking_more, asks_later}
 use Rattle.mux_tables.proofs.Counted.{asked_more, next_more}
@@ -262,6 +262,7 @@ module _ (settings : Settings) (t u : Tables) (base : List Event) (xs : List Out
       part of_asks h = subst (λ (k : Stage). AsksAt k (before ++ ev ∷ []) (asks_of settings z.life.start (before ++ ev ∷ [])) kept) (sym ready) (stands (ready_asks z.life.stage before qs z.asks ready h))
       part of_parked h = subst (λ (k : Stage). ParkedAt k (asks_of settings z.life.start (before ++ ev ∷ [])) (parked_of settings z.life.start (before ++ ev ∷ [])) z.parked) (sym ready) (waits (ready_parked z.life.stage qs ps_now z.parked ready h))
       part of_live h = part_quiet of_live settings t.requests z before ev refl h
+      part of_lists h = part_quiet of_lists settings t.requests z before ev refl h
 
       moves : Some n ≡ sessions.next_ask (session_of t.editors e) → Stands settings t before → Stands settings u (before ++ ev ∷ [])
       moves is st = house_and_lasts settings t u before ev (λ m. refl) refl (origins_stay settings t.origins u.origins before ev os (λ m. called_stays settings m e before (created_of settings m before) text method (message_of text) (integer (decimal n)) ps says_it creates)) r

@@ -28,11 +28,12 @@ use Rattle.mux_tables.specs.declared.tables.Start.{Start}
 use Rattle.mux_tables.specs.declared.tables.Tables.{Tables}
 use Rattle.mux_tables.specs.Documents.{DocumentsStand, Owed}
 use Rattle.mux_tables.specs.Refusals.{of_editor, refusal, refusals}
-use Rattle.mux_tables.specs.Stands.{AreApart, AsksAt, AsksStand, HasText, IsFree, Part, of_life, of_ids, of_shown, of_stop, of_asks, of_parked, of_live, ParkedAt, ParkedStand, PartStands, Stands, kept_ask}
+use Rattle.mux_tables.specs.Stands.{AreApart, AsksAt, AsksStand, HasText, IsFree, Part, of_life, of_ids, of_shown, of_stop, of_asks, of_parked, of_live, of_lists, ParkedAt, ParkedStand, PartStands, Stands, kept_ask}
 use Rattle.mux_tables.proofs.Apart.{all_filter, less_apart, one_less, stand_filter}
 use Rattle.mux_tables.proofs.Asking.{asking_more, asks_later, none_gone, told_asking}
 use Rattle.mux_tables.proofs.Awaited.{told_stops}
 use Rattle.mux_tables.proofs.DocumentEvents.{shared_notified}
+use Rattle.mux_tables.proofs.DocumentFrames.{sent_at}
 use Rattle.mux_tables.proofs.DocumentMoves.{Rest, documents_all, documents_last}
 use Rattle.mux_tables.proofs.DocumentOwed.{number_there}
 use Rattle.mux_tables.proofs.DocumentSaid.{rest_notified}
@@ -98,6 +99,7 @@ module _ (settings : Settings) (t u : Tables) (base : List Event) (xs ys : List 
       part e none of_parked h = subst (λ k. ParkedAt k (asks_of settings z.life.start (here ++ ev ∷ [])) (parked_of settings z.life.start (here ++ ev ∷ [])) z.parked) (sym ready)
           (waits none (ready_parked z.life.stage (asks_of settings z.life.start here) (parked_of settings z.life.start here) z.parked ready h))
       part e none of_live h = part_quiet of_live settings t.requests z here ev refl h
+      part e none of_lists h = part_quiet of_lists settings t.requests z here ev refl h
 
 -- the tables in which these are kept of a group's last start
 abbrev pub keeping : Tables → ℕ → Start → List route.Ask → Tables
@@ -223,7 +225,7 @@ rest_same settings t events = record {
   encoding = λ g l. refl;
   founds = λ g h. h;
   starts = λ n h. h;
-  sent = λ n l u. refl;
+  sent = λ n l. sent_at n events events refl;
   moments = λ g x n p at there. refl;
   left = λ e h. h;
 }

@@ -36,11 +36,12 @@ use Rattle.mux_tables.proofs.Asking.{parked_by}
 use Rattle.mux_tables.proofs.Frames.{open_stay}
 use Rattle.group_laws.specs.group_rows.specs.Created.{created_next, created_of, is_creating, names_create}
 use Rattle.mux_tokens.specs.Stands.{CreatedStay}
-use Rattle.mux_tokens.proofs.Stays.{called_stays, other_request}
+use Rattle.mux_tokens.proofs.Stays.{called_stays, is_notification, other_request}
 use Rattle.mux_tables.proofs.TokenMoves.{heard_all, origins_stay}
 use Rattle.mux_tables.proofs.Moves.{house_moves}
 use Rattle.mux_tables.proofs.Parking.{impatient_stay}
 use Rattle.mux_tables.proofs.Putting.{asked_so, none_left}
+use Rattle.mux_tables.proofs.Publishing.{lists_by_stay, quiet_lists}
 use Rattle.mux_tables.proofs.Registering.{heard_live, ready_live}
 use Rattle.mux_tables.proofs.Said.{does_send, told_house}
 use Rattle.mux_tables.proofs.Served.{hears_answer, later_shown, server_moves}
@@ -85,10 +86,10 @@ module _ (settings : Settings) (t u : Tables) (events : List Event) (g s : ℕ) 
   stays = ap (λ m. created_next settings s events (created_of settings s events) (took (FromServer s body) m)) says ∙ other_request settings s s events (created_of settings s events) body id method params creates
 
   pub registered_moves : Stands settings t events → Stands settings u (events ++ took (FromServer s body) (message_of body) ∷ [])
-  registered_moves st = server_moves settings t u events g s z body None z.life z.ids z.shown z.parked kept at within read (λ h. h) (later_shown z.life.start z.life.stage z.shown _ body (message_of body) (no_result (is_early z.life.stage)))
+  registered_moves st = server_moves settings t u events g s z body None z.life z.ids z.shown z.parked kept z.lists at within read (λ h. h) (later_shown z.life.start z.life.stage z.shown _ body (message_of body) (no_result (is_early z.life.stage)))
       (λ later asked h. h)
       (λ st h. parked_by settings t.requests z events ev (record { asks = open_stay settings z.life.start events ev refl; parked = impatient_stay settings z.life.start events body method (message_of body) id params says quiet }) h)
-      (λ st h. registers st) refl refl (hears_answer z.life.stage (message_of body) (no_result (is_initializing z.life.stage))) (no_failure (is_initializing z.life.stage))
+      (λ st h. registers st) (λ st h. lists_by_stay settings t.requests z events ev (quiet_lists z.life.start z.life.start events body (message_of body) (ap is_notification says)) h) refl refl (hears_answer z.life.stage (message_of body) (no_result (is_initializing z.life.stage))) (no_failure (is_initializing z.life.stage))
       (subst (λ m. NamesAt (answered_id m) None) (sym says) (λ n small. refl)) refl refl refl (λ o. o) set es gs now (origins_stay settings t.origins u.origins events (took (FromServer s body) (message_of body)) os (heard_all settings s events body (message_of body) stays)) r st
 
 -- S6

@@ -24,7 +24,7 @@ use Rattle.group_laws.specs.group_rows.specs.Forwarded.{names}
 use Rattle.mux_tables.specs.declared.tables.Start.{Start}
 use Rattle.mux_tables.specs.declared.tables.Tables.{Tables}
 use Rattle.mux_tables.specs.Refusals.{Given, Left}
-use Rattle.mux_tables.specs.Stands.{AnswersOne, AreApart, AsksAt, AsksStand, HasText, IsFree, IsOther, NamesAsk, Part, of_life, of_ids, of_shown, of_stop, of_asks, of_parked, of_live, ParkedAt, PartStands, Stands, WasAsked, kept_ask}
+use Rattle.mux_tables.specs.Stands.{AnswersOne, AreApart, AsksAt, AsksStand, HasText, IsFree, IsOther, NamesAsk, Part, of_life, of_ids, of_shown, of_stop, of_asks, of_parked, of_live, of_lists, ParkedAt, PartStands, Stands, WasAsked, kept_ask}
 use Rattle.mux_tables.proofs.Apart.{all_filter, id_flip, stand_filter}
 use Rattle.mux_tables.proofs.Asking.{asking_more, asks_later, none_answered, parked_more}
 use Rattle.mux_tables.proofs.Frames.{part_quiet}
@@ -151,6 +151,7 @@ module _ (settings : Settings) (t u : Tables) (events : List Event) (g e : ℕ) 
       (subst (λ ps. ParkedAt z.life.stage (filter (λ a. not (is_seated e (answered_id (message_of body)) a)) (asks_of settings z.life.start events)) ps z.parked) (sym (parked_more settings z.life.start events ev refl))
       (parked_fewer z.life.stage (λ a. not (is_seated e (answered_id (message_of body)) a)) (asks_of settings z.life.start events) (parked_of settings z.life.start events) z.parked h))
   part of_live h = part_quiet of_live settings t.requests z events ev refl h
+  part of_lists h = part_quiet of_lists settings t.requests z events ev refl h
 
   pub replied_moves : places (desk_of e events).phase (message_of body) ≡ false → stops events e (message_of body) ≡ false → is_first_open settings.servers events e (message_of body) ≡ false → (desk_of e (events ++ ev ∷ [])).phase ≡ p
       → Stands settings t events → Stands settings u (events ++ ev ∷ [])

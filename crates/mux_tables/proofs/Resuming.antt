@@ -34,7 +34,7 @@ use Rattle.restart_replay.specs.Standings.{Standing}
 use Rattle.mux_tables.specs.declared.tables.Start.{Start}
 use Rattle.mux_tables.specs.declared.tables.Tables.{Tables}
 use Rattle.mux_tables.specs.Resumes.{Resuming, all_resumed, renumbered}
-use Rattle.mux_tables.specs.Stands.{AsksAt, AsksStand, AsksStay, IsWorking, MayWait, Part, of_life, of_ids, of_shown, of_stop, of_asks, of_parked, of_live, ParkedAt, ParkedStand, PartStands, Stands, WasAsked, is_request, kept_parked}
+use Rattle.mux_tables.specs.Stands.{AsksAt, AsksStand, AsksStay, IsWorking, MayWait, Part, of_life, of_ids, of_shown, of_stop, of_asks, of_parked, of_live, of_lists, ParkedAt, ParkedStand, PartStands, Stands, WasAsked, is_request, kept_parked}
 use Rattle.mux_tables.proofs.Asking.{asking_more, asks_later}
 use Rattle.mux_tables.proofs.Counted.{asked_more, next_more}
 use Rattle.mux_tables.proofs.DocumentMoves.{set_same}
@@ -174,6 +174,7 @@ module _ (settings : Settings) (t u : Tables) (base : List Event) (xs : List Out
     part of_asks h = subst (λ (k : Stage). AsksAt k (before ++ ev ∷ []) (asks_of settings z.life.start (before ++ ev ∷ [])) kept) (sym ready) (asks_stand (ready_asks z.life.stage before qs z.asks ready h))
     part of_parked h = subst (λ (k : Stage). ParkedAt k (asks_of settings z.life.start (before ++ ev ∷ [])) (parked_of settings z.life.start (before ++ ev ∷ [])) left) (sym ready) parked_stand
     part of_live h = part_quiet of_live settings t.requests z before ev refl h
+    part of_lists h = part_quiet of_lists settings t.requests z before ev refl h
 
     moves : Some n ≡ sessions.next_ask (session_of t.editors e) → Stands settings u (before ++ ev ∷ [])
     moves is = house_and_lasts settings t u before ev (λ m. refl) refl (origins_stay settings t.origins u.origins before ev os (λ m. called_stays settings m e before (created_of settings m before) text may.0 (message_of text) (integer (decimal n)) may.1 says_it (patient_creates may.0 may.3))) r

@@ -27,7 +27,7 @@ use Rattle.mux_tables.specs.declared.tables.Tables.{Tables}
 use Rattle.group_laws.specs.group_rows.specs.Forwarded.{forwarding_of, is_written, moves_ids}
 use Rattle.group_laws.specs.group_rows.specs.Ticks.{is_stopping, stop_of}
 use Rattle.group_words.specs.Houses.{time_of}
-use Rattle.mux_tables.specs.Stands.{AsksStay, Part, of_life, of_ids, of_shown, of_stop, of_asks, of_parked, of_live, PartStands, Sends, Stands, StopAt, forwarded_of, is_answer, number_in, unstopped}
+use Rattle.mux_tables.specs.Stands.{AsksStay, Part, of_life, of_ids, of_shown, of_stop, of_asks, of_parked, of_live, of_lists, PartStands, Sends, Stands, StopAt, forwarded_of, is_answer, number_in, unstopped}
 use Rattle.event_model.specs.Requests.{answered_id}
 use Rattle.group_laws.specs.group_rows.specs.Asks.{Ask, Parked, asks_of, is_under, parked_of, waits_under}
 use Rattle.mux_tables.proofs.Asking.{none_handed, told_asks, told_parked}
@@ -35,7 +35,7 @@ use Rattle.mux_tables.proofs.Frames.{asks_stay, groups_stand, itself, part_quiet
 use Rattle.mux_tables.proofs.IdMoves.{cancelled_ids, sent_as, sent_ids}
 use Rattle.mux_tables.proofs.Lasts.{known}
 use Rattle.mux_tables.proofs.Said.{does_send}
-use Rattle.mux_tables.proofs.Starts.{groups_kept, is_late, late_asks, late_live, late_parked, late_shown, no_stop, part_ids, part_life, read_here, start_at_place, start_moves, still_asks, still_ids, still_life, still_live, still_parked, still_shown, still_stop}
+use Rattle.mux_tables.proofs.Starts.{groups_kept, is_late, late_asks, late_lists, late_live, late_parked, late_shown, no_stop, part_ids, part_life, read_here, start_at_place, start_moves, still_asks, still_ids, still_life, still_lists, still_live, still_parked, still_shown, still_stop}
 use Rattle.mux_tables.proofs.TokenMoves.{same_created}
 use Rattle.mux_tables.proofs.Awaited.{Added, StopsMove, stop_added, stopping_less, told_stops}
 
@@ -83,6 +83,7 @@ unmoved_does settings t u xs ys base g s start z text at within read runs counts
     part of_asks h = told_asks settings z.life.stage z.life.start (behind base xs) text (message_of text) z.asks silent h
     part of_parked h = told_parked settings z.life.stage z.life.start (behind base xs) text (message_of text) z.parked silent h
     part of_live h = part_quiet of_live settings t.requests z (behind base xs) (said (ToServer z.life.start text)) refl h
+    part of_lists h = part_quiet of_lists settings t.requests z (behind base xs) (said (ToServer z.life.start text)) refl h
 
 -- nor any other
 pub notify_does : (settings : Settings) (t : Tables) (xs ys : List Out) (base : List Event) (g s start : ℕ) (z : Start) (text : List ℕ) → slice_get (map number_in t.lasts.items) g ≡ Some s → g < length t.lasts.items → z ≡ get_or t.lasts.items g z
@@ -125,6 +126,7 @@ forward_does settings t u xs ys base g s start e z ids pending text id work part
     part sends of_asks h = still_asks settings t.requests (behind base xs) (said (ToServer z.life.start text)) z (record z { ids = ids }) refl refl (ap is_answer says) h
     part sends of_parked h = still_parked settings t.requests (behind base xs) (said (ToServer z.life.start text)) z (record z { ids = ids }) refl refl (ap is_answer says) h
     part sends of_live h = still_live settings t.requests (behind base xs) (said (ToServer z.life.start text)) z (record z { ids = ids }) refl refl refl h
+    part sends of_lists h = still_lists settings t.requests (behind base xs) (said (ToServer z.life.start text)) z (record z { ids = ids }) refl refl refl h
 
 -- a cancel
 pub cancel_does : (settings : Settings) (t u : Tables) (xs ys : List Out) (base : List Event) (g s start n : ℕ) (z : Start) (ids : Table) (text method : List ℕ) (ps : Option Json) → slice_get (map number_in t.lasts.items) g ≡ Some s → g < length t.lasts.items → z ≡ get_or t.lasts.items g z
@@ -144,6 +146,7 @@ cancel_does settings t u xs ys base g s start n z ids text method ps at within r
     part st of_asks h = still_asks settings t.requests (behind base xs) (said (ToServer z.life.start text)) z (record z { ids = ids }) refl refl (ap is_answer says) h
     part st of_parked h = still_parked settings t.requests (behind base xs) (said (ToServer z.life.start text)) z (record z { ids = ids }) refl refl (ap is_answer says) h
     part st of_live h = still_live settings t.requests (behind base xs) (said (ToServer z.life.start text)) z (record z { ids = ids }) refl refl refl h
+    part st of_lists h = still_lists settings t.requests (behind base xs) (said (ToServer z.life.start text)) z (record z { ids = ids }) refl refl refl h
 
 -- the numbers that are kept, where one more goes to its place among them
 abbrev pub Adds : ℕ → Tables → Tables → Type 0
@@ -196,6 +199,7 @@ shut_does settings t u xs ys base g s start n z life text name ps at within read
     part st of_asks h = late_asks settings t.requests (behind base xs ++ said (ToServer z.life.start text) ∷ []) y (ap (λ (l : Standing). is_late l.stage) stops)
     part st of_parked h = late_parked settings t.requests (behind base xs ++ said (ToServer z.life.start text) ∷ []) y (ap (λ (l : Standing). is_late l.stage) stops)
     part st of_live h = late_live settings t.requests (behind base xs ++ said (ToServer z.life.start text) ∷ []) y (ap (λ (l : Standing). is_late l.stage) stops)
+    part st of_lists h = late_lists settings t.requests (behind base xs ++ said (ToServer z.life.start text) ∷ []) y (ap (λ (l : Standing). is_late l.stage) stops)
 
 ending : (g : Stage) → (g ≡ Ended → ⊥) → stage_ending g ≡ Ending
 ending Ended h = absurd (h refl)
@@ -229,3 +233,4 @@ end_does settings t u xs ys base g s start z life at within read runs ends cease
     part own of_asks h = late_asks settings t.requests (behind base xs ++ said (EndServer z.life.start) ∷ []) (record z { life = life; shown = None }) (ap (λ (l : Standing). is_late l.stage) ends)
     part own of_parked h = late_parked settings t.requests (behind base xs ++ said (EndServer z.life.start) ∷ []) (record z { life = life; shown = None }) (ap (λ (l : Standing). is_late l.stage) ends)
     part own of_live h = late_live settings t.requests (behind base xs ++ said (EndServer z.life.start) ∷ []) (record z { life = life; shown = None }) (ap (λ (l : Standing). is_late l.stage) ends)
+    part own of_lists h = late_lists settings t.requests (behind base xs ++ said (EndServer z.life.start) ∷ []) (record z { life = life; shown = None }) (ap (λ (l : Standing). is_late l.stage) ends)

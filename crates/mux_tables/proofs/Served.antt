@@ -26,9 +26,11 @@ use Rattle.mux_tables.specs.declared.tables.Tables.{Tables}
 use Rattle.ask_route.specs.declared.ask.Ask as route
 use Rattle.group_laws.specs.group_rows.specs.Forwarded.{Forwarding, forwarding_behind, forwarding_of, is_under}
 use Rattle.group_laws.specs.group_rows.specs.Asks.{Ask, asks_of, parked_of}
+use Rattle.diagnostics_route.specs.Lists.{Table as ListTable}
+use Rattle.group_laws.specs.group_rows.specs.Lists.{lists_of}
 use Rattle.group_laws.specs.group_rows.specs.Live.{live_of}
 use Rattle.group_laws.specs.registrations.specs.declared.registration.Registration.{Registration}
-use Rattle.mux_tables.specs.Stands.{AsksAt, Exits, IdsAt, NamesAt, Part, of_life, of_ids, of_shown, of_stop, of_asks, of_parked, of_live, LiveAt, LiveStay, ParkedAt, ParkedStay, PartStands, ShownAt, Stands, StopAt, begun_at, forwarded_as, is_early, is_request, number_in, unstopped}
+use Rattle.mux_tables.specs.Stands.{AsksAt, Exits, IdsAt, NamesAt, Part, of_life, of_ids, of_shown, of_stop, of_asks, of_parked, of_live, of_lists, ListsAt, ListsStay, LiveAt, LiveStay, ParkedAt, ParkedStay, PartStands, ShownAt, Stands, StopAt, begun_at, forwarded_as, is_early, is_request, number_in, unstopped}
 use Rattle.mux_tables.proofs.Asking.{begun_asks, begun_parked, first_asks, first_parked, parked_by}
 use Rattle.mux_tables.proofs.Exits.{lost_groups, refused_groups}
 use Rattle.mux_tables.proofs.Frames.{itself, groups_stand, names_editor, names_start, open_stay, part_quiet, result_quiet, spawns, stop_more, ticks}
@@ -41,8 +43,9 @@ use Rattle.mux_tokens.proofs.Standing.{over_moves as ended_tokens}
 use Rattle.mux_tokens.proofs.Stays.{passes_by, passes_stay}
 use Rattle.group_laws.specs.group_rows.specs.Created.{Created, created_next, created_of, no_created}
 use Rattle.mux_tables.proofs.TokenMoves.{CreatedMove, OriginsMove, first_error_tokens, first_result_tokens, origins_stay, same_created}
+use Rattle.mux_tables.proofs.Publishing.{begun_lists, error_tells, first_lists, lists_by_stay, result_tells}
 use Rattle.mux_tables.proofs.Registering.{begun_live, first_live, live_by_stay}
-use Rattle.mux_tables.proofs.Starts.{groups_kept, is_late, late_asks, late_live, late_parked, late_shown, no_stop, not_refused, part_ids, part_life, part_shown, read_back, read_here, start_at_place, start_moves, still_asks, still_ids, still_live, still_parked, still_shown, still_stop}
+use Rattle.mux_tables.proofs.Starts.{groups_kept, is_late, late_asks, late_lists, late_live, late_parked, late_shown, no_stop, not_refused, part_ids, part_life, part_shown, read_back, read_here, start_at_place, start_moves, still_asks, still_ids, still_lists, still_live, still_parked, still_shown, still_stop}
 use Rattle.mux_tables.proofs.Awaited.{StopsMove, hears_same, same_either, started_same, stopping_less, stops_kept}
 
 -- the program runs
@@ -107,6 +110,8 @@ started_moves settings t u events g s z life at within read is set es gs now os 
         (begun_parked z.life.stage z.life (λ n. asks_of settings n (events ++ took (Started z.life.start) not_message ∷ [])) (λ n. parked_of settings n (events ++ took (Started z.life.start) not_message ∷ [])) z.parked refl (part_quiet of_parked settings t.requests z events (took (Started z.life.start) not_message) refl h))
     part own of_live h = subst (λ (l : Standing). LiveAt l.stage (live_of settings l.start (events ++ took (Started z.life.start) not_message ∷ [])) z.live) (sym is)
         (begun_live z.life.stage z.life (λ n. live_of settings n (events ++ took (Started z.life.start) not_message ∷ [])) z.live refl (part_quiet of_live settings t.requests z events (took (Started z.life.start) not_message) refl h))
+    part own of_lists h = subst (λ (l : Standing). ListsAt l.stage (lists_of l.start (events ++ took (Started z.life.start) not_message ∷ [])) z.lists.lists) (sym is)
+        (begun_lists z.life.stage z.life (λ n. lists_of n (events ++ took (Started z.life.start) not_message ∷ [])) z.lists.lists refl (part_quiet of_lists settings t.requests z events (took (Started z.life.start) not_message) refl h))
 
 -- the start answers a request, or none
 same_table : (limit : ℕ) (x : Forwarding) (t u : Table) → u.requests ≡ t.requests → u.next ≡ t.next → u.limit ≡ t.limit → (IsInOrder t → IsInOrder u) → IdsAt limit x t → IdsAt limit x u
@@ -132,23 +137,24 @@ heard_stops : (t u : Tables) (events : List Event) (s : ℕ) (body : List ℕ) �
 heard_stops t u events s body os = stops_kept t u events (took (FromServer s body) (message_of body)) os refl
     (λ m. same_either (nat_eq s m) (record { stage = stage_hears (life_of m events).stage (message_of body); started = (life_of m events).started }) (life_of m events) (hears_same (life_of m events).stage (message_of body)))
 
-module _ (settings : Settings) (t u : Tables) (events : List Event) (g s : ℕ) (z : Start) (body : List ℕ) (n : Option ℕ) (life : Standing) (ids : Table) (shown : Option (List ℕ)) (parked : List route.Ask) (live : List Registration) (at : slice_get (map number_in t.lasts.items) g ≡ Some s) (within : g < length t.lasts.items) (read : z ≡ get_or t.lasts.items g z)
+module _ (settings : Settings) (t u : Tables) (events : List Event) (g s : ℕ) (z : Start) (body : List ℕ) (n : Option ℕ) (life : Standing) (ids : Table) (shown : Option (List ℕ)) (parked : List route.Ask) (live : List Registration) (lists : ListTable) (at : slice_get (map number_in t.lasts.items) g ≡ Some s) (within : g < length t.lasts.items) (read : z ≡ get_or t.lasts.items g z)
     (awaits : StopAt z.life.stage z.life.stopping (stop_of z.life.start events) → StopAt life.stage life.stopping (stop_of z.life.start events))
     (gives : ShownAt z.life.stage z.shown (result_of z.life.start events) → ShownAt life.stage shown (result_behind z.life.start (result_of z.life.start events) (took (FromServer z.life.start body) (message_of body))))
     (goes_on : (later : List Event) (asked : List Ask) → AsksAt z.life.stage later asked z.asks → AsksAt life.stage later asked z.asks)
     (waits : Stands settings t events → PartStands of_parked settings t.requests z events
     → ParkedAt life.stage (asks_of settings z.life.start (events ++ took (FromServer z.life.start body) (message_of body) ∷ [])) (parked_of settings z.life.start (events ++ took (FromServer z.life.start body) (message_of body) ∷ [])) parked)
     (registers : Stands settings t events → PartStands of_live settings t.requests z events → LiveAt life.stage (live_of settings z.life.start (events ++ took (FromServer z.life.start body) (message_of body) ∷ [])) live)
+    (publishes : Stands settings t events → PartStands of_lists settings t.requests z events → ListsAt life.stage (lists_of z.life.start (events ++ took (FromServer z.life.start body) (message_of body) ∷ [])) lists.lists)
     (own : life.start ≡ z.life.start) (group : life.group ≡ z.life.group) (hears : stage_hears z.life.stage (message_of body) ≡ life.stage) (refuses : (is_first_error (message_of body) && is_initializing z.life.stage) ≡ false) (named : NamesAt (answered_id (message_of body)) n)
     (taken : MatchOption n (ids.requests ≡ z.ids.requests) (λ k. ids.requests ≡ without k z.ids.requests)) (next : ids.next ≡ z.ids.next) (limit : ids.limit ≡ z.ids.limit) (order : IsInOrder z.ids → IsInOrder ids)
-    (set : u.lasts.items ≡ slice_set t.lasts.items g (record z { life = life; ids = ids; shown = shown; parked = parked; live = live })) (es : u.editors ≡ t.editors) (gs : u.groups ≡ t.groups) (now : u.time ≡ t.time) (os : OriginsMove settings t.origins u.origins events (took (FromServer s body) (message_of body))) (r : u.requests ≡ t.requests) where
+    (set : u.lasts.items ≡ slice_set t.lasts.items g (record z { life = life; ids = ids; shown = shown; parked = parked; live = live; lists = lists })) (es : u.editors ≡ t.editors) (gs : u.groups ≡ t.groups) (now : u.time ≡ t.time) (os : OriginsMove settings t.origins u.origins events (took (FromServer s body) (message_of body))) (r : u.requests ≡ t.requests) where
   pub server_moves : Stands settings t events → Stands settings u (events ++ took (FromServer s body) (message_of body) ∷ [])
   server_moves st = start_moves settings t u events (λ k. took (FromServer k body) (message_of body)) g s z y at within read set own group es now os.groups r (λ k. refl) (λ k. refl) (λ k. refl) (λ k m. refl)
       (λ k e h. groups_kept settings t.groups u.groups events (took (FromServer k body) (message_of body)) gs (not_refused settings t.groups events k body (message_of body) (ap (λ a. is_first_error (message_of body) && is_initializing a) (stage_seen settings t events g k z st here (e ∙ sym (start_at_place t.lasts.items g s z here at))) ∙ refuses)) h)
       (λ k e. heard_stops t u events k body os.stopping) (λ k e. subst (λ j. CreatedMove settings t u events (took (FromServer j body) (message_of body))) (sym e) os.created) (part st) st
     where
       y : Start
-      y = record z { life = life; ids = ids; shown = shown; parked = parked; live = live }
+      y = record z { life = life; ids = ids; shown = shown; parked = parked; live = live; lists = lists }
 
       here : slice_get t.lasts.items g ≡ Some z
       here = read_here t.lasts.items g z within read
@@ -164,6 +170,7 @@ module _ (settings : Settings) (t u : Tables) (events : List Event) (g s : ℕ) 
           (goes_on (events ++ took (FromServer z.life.start body) (message_of body) ∷ []) (asks_of settings z.life.start (events ++ took (FromServer z.life.start body) (message_of body) ∷ [])) (part_quiet of_asks settings t.requests z events (took (FromServer z.life.start body) (message_of body)) refl h))
       part st of_parked h = subst (λ k. ParkedAt life.stage (asks_of settings k (events ++ took (FromServer z.life.start body) (message_of body) ∷ [])) (parked_of settings k (events ++ took (FromServer z.life.start body) (message_of body) ∷ [])) parked) (sym own) (waits st h)
       part st of_live h = subst (λ k. LiveAt life.stage (live_of settings k (events ++ took (FromServer z.life.start body) (message_of body) ∷ [])) live) (sym own) (registers st h)
+      part st of_lists h = subst (λ k. ListsAt life.stage (lists_of k (events ++ took (FromServer z.life.start body) (message_of body) ∷ [])) lists.lists) (sym own) (publishes st h)
 
 -- what was given stays; one that is late keeps nothing
 later_given : (n : ℕ) (o : Option (List ℕ)) (body : List ℕ) (m : Message) → is_first_result m ≡ false → result_behind n o (took (FromServer n body) m) ≡ o
@@ -187,20 +194,22 @@ later_begun true other h = refl
 
 -- S5, and all else that isn't the answer to `initialize`
 pub answer_moves : (settings : Settings) (t u : Tables) (events : List Event) (g s : ℕ) (x z : Start) (body : List ℕ) (n : Option ℕ) (ids : Table) → slice_get t.lasts.items g ≡ Some x → slice_get (map number_in t.lasts.items) g ≡ Some s → g < length t.lasts.items → z ≡ get_or t.lasts.items g z
-    → (is_first_result (message_of body) && is_early x.life.stage) ≡ false → (is_first_error (message_of body) && is_initializing x.life.stage) ≡ false → ParkedStay settings s events (took (FromServer s body) (message_of body)) → LiveStay settings s events (took (FromServer s body) (message_of body)) → NamesAt (answered_id (message_of body)) n
+    → (is_first_result (message_of body) && is_early x.life.stage) ≡ false → (is_first_error (message_of body) && is_initializing x.life.stage) ≡ false → ParkedStay settings s events (took (FromServer s body) (message_of body)) → LiveStay settings s events (took (FromServer s body) (message_of body)) → ListsStay s events (took (FromServer s body) (message_of body)) → NamesAt (answered_id (message_of body)) n
     → MatchOption n (ids.requests ≡ z.ids.requests) (λ k. ids.requests ≡ without k z.ids.requests) → ids.next ≡ z.ids.next → ids.limit ≡ z.ids.limit → (IsInOrder z.ids → IsInOrder ids)
     → u.lasts.items ≡ slice_set t.lasts.items g (record z { ids = ids }) → u.editors ≡ t.editors → u.groups ≡ t.groups → u.time ≡ t.time → OriginsMove settings t.origins u.origins events (took (FromServer s body) (message_of body)) → u.requests ≡ t.requests
     → Stands settings t events → Stands settings u (events ++ took (FromServer s body) (message_of body) ∷ [])
-answer_moves settings t u events g s x z body n ids is at within read no_result no_failure still stays named taken next limit order set es gs now os r =
+answer_moves settings t u events g s x z body n ids is at within read no_result no_failure still stays keeps named taken next limit order set es gs now os r =
     let same : x ≡ z = same_item (sym is ∙ read_here t.lasts.items g z within read) in
     let later : (is_first_result (message_of body) && is_early z.life.stage) ≡ false = ap (λ (w : Start). is_first_result (message_of body) && is_early w.life.stage) (sym same) ∙ no_result in
-    server_moves settings t u events g s z body n z.life ids z.shown z.parked z.live at within read (λ h. h) (later_shown z.life.start z.life.stage z.shown (result_of z.life.start events) body (message_of body) later) (λ es asked h. h)
+    server_moves settings t u events g s z body n z.life ids z.shown z.parked z.live z.lists at within read (λ h. h) (later_shown z.life.start z.life.stage z.shown (result_of z.life.start events) body (message_of body) later) (λ es asked h. h)
     (λ st h. parked_by settings t.requests z events (took (FromServer z.life.start body) (message_of body)) (record {
       asks = open_stay settings z.life.start events (took (FromServer z.life.start body) (message_of body)) refl;
       parked = subst (λ k. ParkedStay settings k events (took (FromServer k body) (message_of body))) (sym (start_at_place t.lasts.items g s z (read_here t.lasts.items g z within read) at)) still;
     }) h)
     (λ st h. live_by_stay settings t.requests z events (took (FromServer z.life.start body) (message_of body))
-    (subst (λ k. LiveStay settings k events (took (FromServer k body) (message_of body))) (sym (start_at_place t.lasts.items g s z (read_here t.lasts.items g z within read) at)) stays) h) refl refl
+    (subst (λ k. LiveStay settings k events (took (FromServer k body) (message_of body))) (sym (start_at_place t.lasts.items g s z (read_here t.lasts.items g z within read) at)) stays) h)
+    (λ st h. lists_by_stay settings t.requests z events (took (FromServer z.life.start body) (message_of body))
+    (subst (λ k. ListsStay k events (took (FromServer k body) (message_of body))) (sym (start_at_place t.lasts.items g s z (read_here t.lasts.items g z within read) at)) keeps) h) refl refl
     (hears_answer z.life.stage (message_of body) (later_begun (is_first_result (message_of body)) z.life.stage later))
     (ap (λ (w : Start). is_first_error (message_of body) && is_initializing w.life.stage) (sym same) ∙ no_failure) named taken next limit order set es gs now os r
 
@@ -240,12 +249,14 @@ pub result_moves : (settings : Settings) (t u : Tables) (events : List Event) (g
     → u.lasts.items ≡ slice_set t.lasts.items g (record z { life = life; ids = ids; shown = Some shown }) → u.editors ≡ t.editors → u.groups ≡ t.groups → u.time ≡ t.time → u.origins ≡ t.origins → u.requests ≡ t.requests
     → Stands settings t events → Stands settings u (events ++ took (FromServer s body) (message_of body) ∷ [])
 result_moves settings t u events g s z body n life ids shown at within read stage first named shows is taken next limit order set es gs now os r =
-    server_moves settings t u events g s z body n life ids (Some shown) z.parked z.live at within read (λ _. subst (λ (l : Standing). StopAt l.stage l.stopping (stop_of z.life.start events)) (sym is) tt) (first_shown z.life.start z.life.stage z.shown (result_of z.life.start events) body shown (message_of body) life z.life is stage first shows)
+    server_moves settings t u events g s z body n life ids (Some shown) z.parked z.live z.lists at within read (λ _. subst (λ (l : Standing). StopAt l.stage l.stopping (stop_of z.life.start events)) (sym is) tt) (first_shown z.life.start z.life.stage z.shown (result_of z.life.start events) body shown (message_of body) life z.life is stage first shows)
     (λ es asked h. first_asks z.life.stage life z.life es asked z.asks is stage h)
     (λ st h. first_parked z.life.stage life z.life (asks_of settings z.life.start (events ++ took (FromServer z.life.start body) (message_of body) ∷ [])) (parked_of settings z.life.start (events ++ took (FromServer z.life.start body) (message_of body) ∷ [])) z.parked is stage
     (part_quiet of_parked settings t.requests z events (took (FromServer z.life.start body) (message_of body)) (result_asks (message_of body) first) h))
     (λ st h. first_live z.life.stage life z.life (live_of settings z.life.start (events ++ took (FromServer z.life.start body) (message_of body) ∷ [])) z.live is stage
     (part_quiet of_live settings t.requests z events (took (FromServer z.life.start body) (message_of body)) (result_asks (message_of body) first) h))
+    (λ st h. first_lists z.life.stage life z.life (lists_of z.life.start (events ++ took (FromServer z.life.start body) (message_of body) ∷ [])) z.lists.lists is stage
+    (part_quiet of_lists settings t.requests z events (took (FromServer z.life.start body) (message_of body)) (result_tells (message_of body) first) h))
     (ap (λ (l : Standing). l.start) is) (ap (λ (l : Standing). l.group) is)
     (rw (stage, first) refl ∙ ap (λ (l : Standing). l.stage) (sym is)) (no_error (message_of body) first (is_initializing z.life.stage)) named taken next limit order set es gs now (origins_stay settings t.origins u.origins events (took (FromServer s body) (message_of body)) os (λ m. first_result_tokens settings m s events (created_of settings m events) body (message_of body) first)) r
 
@@ -295,6 +306,7 @@ refusal_moves settings t u events g s z body n ids at within read stage refuses 
     part of_asks h = still_asks settings t.requests events (took (FromServer z.life.start body) (message_of body)) z y refl refl refl h
     part of_parked h = still_parked settings t.requests events (took (FromServer z.life.start body) (message_of body)) z y refl refl (error_asks (message_of body) refuses) h
     part of_live h = still_live settings t.requests events (took (FromServer z.life.start body) (message_of body)) z y refl refl (error_asks (message_of body) refuses) h
+    part of_lists h = still_lists settings t.requests events (took (FromServer z.life.start body) (message_of body)) z y refl refl (error_tells (message_of body) refuses) h
 
 -- X1 to X3
 module _ (settings : Settings) (t u : Tables) (events : List Event) (g s : ℕ) (z : Start) (ev : ℕ → Event) (at : slice_get (map number_in t.lasts.items) g ≡ Some s) (within : g < length t.lasts.items) (here : slice_get t.lasts.items g ≡ Some z) (x : Exits settings.limits.restarts t g z u)
@@ -324,6 +336,7 @@ module _ (settings : Settings) (t u : Tables) (events : List Event) (g s : ℕ) 
       part own of_asks h = late_asks settings t.requests (events ++ ev z.life.start ∷ []) x.start (ap (λ (l : Standing). is_late l.stage) x.life)
       part own of_parked h = late_parked settings t.requests (events ++ ev z.life.start ∷ []) x.start (ap (λ (l : Standing). is_late l.stage) x.life)
       part own of_live h = late_live settings t.requests (events ++ ev z.life.start ∷ []) x.start (ap (λ (l : Standing). is_late l.stage) x.life)
+      part own of_lists h = late_lists settings t.requests (events ++ ev z.life.start ∷ []) x.start (ap (λ (l : Standing). is_late l.stage) x.life)
 
 gone_clears : (limit n : ℕ) (f : Forwarding) (ids : Table) → ids.requests ≡ [] → ids.next ≡ 2 → ids.limit ≡ limit → IsInOrder ids → IdsAt limit (forwarding_behind n f (took (ServerGone n) not_message)) ids
 gone_clears limit n f ids r k l o = ended_ids limit n ids f not_message (r, k, l, o)

@@ -5,7 +5,7 @@ use Rattle.std.specs.Option.{option_map_or}
 use Rattle.std.proofs.lemmas.List.Concat.{flat_map-cons}
 use Rattle.document_model.specs.Opens.{Open, holds_own, is_open_at}
 use Rattle.document_model.proofs.Holders.{bytes_same, find_is}
-use Rattle.focus_switch.specs.declared.agreement.Agreement.TheVariants.{Agrees, Differs, NotOpen}
+use Rattle.document_model.specs.declared.agreement.Agreement.TheVariants.{Agrees, Differs, NotOpen}
 use Rattle.focus_switch.specs.declared.held.Held.{Held}
 use Rattle.focus_switch.specs.declared.version.DocumentVersion.{DocumentVersion}
 use Rattle.focus_switch.specs.Documents.{Documents, held_of, version_held}

@@ -12,7 +12,7 @@ use Rattle.document_model.specs.Texts.{no_texts}
 use Rattle.event_model.specs.declared.stage.Stage.{Stage}
 use Rattle.event_model.specs.declared.stage.Stage.TheVariants.{Spawning, Initializing, Ready}
 use Rattle.event_model.specs.Event.{Event, behind, requests}
-use Rattle.event_model.specs.Phases.{desk_of, is_served}
+use Rattle.event_model.specs.Phases.{desk_of, is_running, is_served}
 use Rattle.event_model.specs.Settings.{Settings}
 use Rattle.event_model.specs.Spawns.{start_of, starts_of}
 use Rattle.event_model.specs.Stages.{is_ready, life_of}
@@ -21,6 +21,7 @@ use Rattle.focus_switch.specs.Rows.{Step}
 use Rattle.group_laws.specs.mux_model.specs.Documents.{held_at, sent_of}
 use Rattle.group_words.specs.Houses.{home_of}
 use Rattle.group_laws.specs.group_rows.specs.Leaves.{leave_bodies}
+use Rattle.group_laws.specs.group_rows.specs.Lists.{sayings_of}
 use Rattle.group_laws.specs.group_rows.specs.Rows.{document_bodies, replay_bodies, sync_bodies}
 use Rattle.group_laws.specs.group_rows.specs.Texts.{encoding_of, texts_of}
 use Rattle.group_laws.specs.Stands.{HeldStands, TextsStand}
@@ -46,9 +47,10 @@ to s bodies = map (λ b. ToServer s b) bodies
 abbrev pub AllTell : List (List ℕ) → Type 0
 AllTell bodies = AllByRecursion (λ b. speaks (saying_of (message_of b)) ≡ true) bodies
 
--- no encoding was given by the start, and it has no document
-abbrev pub Untold : ℕ → List Event → Type 0
-Untold s events = (u : List ℕ) → sent_of s u events ≡ record { encoding = None; held = None }
+-- no encoding was given by the start, it has no document, and it was told of none
+pub record Untold (s : ℕ) (events : List Event) : Type 0 where
+  pub none : (u : List ℕ) → sent_of s u events ≡ record { encoding = None; held = None }
+  pub unsaid : sayings_of s events ≡ 0
 
 -- behind what it is owed, the start has what is kept of it
 pub record Told (s : ℕ) (owed : List (List ℕ)) (d : Documents) (events : List Event) : Type 0 where
@@ -63,9 +65,9 @@ StartTold Initializing s owed d events = (d.start ≡ None) × Untold s events
 StartTold Ready s owed d events = Told s owed d events
 StartTold other s owed d events = d.start ≡ None
 
--- a document is open at an editor of the group that is served
+-- a document is open at an editor of the group that runs
 abbrev pub IsOwned : Settings → List Event → ℕ → Open → Type 0
-IsOwned settings events g o = (home_of settings o.editor events ≡ Some g) × (is_served (desk_of o.editor events).phase ≡ true)
+IsOwned settings events g o = (home_of settings o.editor events ≡ Some g) × (is_running (desk_of o.editor events).phase ≡ true)
 
 -- one group, whose last start is s
 pub record SharedStands (settings : Settings) (events : List Event) (owed : List (List ℕ)) (g s : ℕ) (stage : Stage) (d : Documents) : Type 0 where

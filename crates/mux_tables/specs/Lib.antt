@@ -9,6 +9,7 @@ pub mod Resumes
 pub mod Puts
 pub mod Tokens
 pub use Rattle.ask_route
+pub use Rattle.diagnostics_route
 pub use Rattle.group_laws.specs.document_laws
 pub use Rattle.editor_session
 pub use Rattle.group_laws

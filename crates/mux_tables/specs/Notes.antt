@@ -6,8 +6,8 @@ use Rattle.event_model.specs.declared.phase.Phase.TheVariants.{Down, Closed, Gon
 use Rattle.event_model.specs.Event.{Event}
 use Rattle.event_model.specs.Phases.{desk_of}
 use Rattle.event_model.specs.Settings.{Settings}
-use Rattle.focus_switch.specs.declared.agreement.Agreement.{Agreement}
-use Rattle.focus_switch.specs.declared.agreement.Agreement.TheVariants.{Agrees}
+use Rattle.document_model.specs.declared.agreement.Agreement.{Agreement}
+use Rattle.document_model.specs.declared.agreement.Agreement.TheVariants.{Agrees}
 use Rattle.focus_switch.specs.declared.version.DocumentVersion.{DocumentVersion}
 use Rattle.focus_switch.specs.Documents.{Documents}
 use Rattle.focus_switch.specs.Rows.{agreement}

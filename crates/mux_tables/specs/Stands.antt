@@ -20,6 +20,8 @@ use Rattle.event_model.specs.Requests.{answered_id}
 use Rattle.event_model.specs.Settings.{Settings}
 use Rattle.event_model.specs.Spawns.{starts_of, start_of, group_of}
 use Rattle.event_model.specs.Stages.{life_of}
+use Rattle.diagnostics_route.specs.declared.last_list.LastList.{LastList}
+use Rattle.diagnostics_route.specs.Lists.{nothing}
 use Rattle.editor_session.specs.declared.session.Session.{Session}
 use Rattle.editor_session.specs.Sessions.{is_gone, is_of, numbers_of}
 use Rattle.group_table.specs.Tables as group_tables
@@ -38,6 +40,7 @@ use Rattle.mux_tables.specs.declared.tables.Tables.{Tables}
 use Rattle.mux_tables.specs.Names.{NamesStand}
 use Rattle.group_laws.specs.group_rows.specs.Asks.{Ask, Parked, asking_next, asking_of, asks_of, is_patient, is_seated, is_under, next_ask, parked_of}
 use Rattle.group_laws.specs.group_rows.specs.Forwarded.{Forwarded, Forwarding, forwarding_of, names}
+use Rattle.group_laws.specs.group_rows.specs.Lists.{lists_next, lists_of}
 use Rattle.group_laws.specs.group_rows.specs.Live.{live_next, live_of}
 use Rattle.group_laws.specs.group_rows.specs.Ticks.{stop_of, stopping_of}
 use Rattle.group_laws.specs.registrations.specs.declared.registration.Registration.{Registration}
@@ -206,9 +209,17 @@ LiveAt Initializing live kept = (live ≡ []) × (kept ≡ [])
 LiveAt Ready live kept = kept ≡ live
 LiveAt other live kept = Unit {0}
 
+-- the last lists of a start, as they are kept, by where it stands: before it is ready it has none
+abbrev pub ListsAt : Stage → List LastList → List LastList → Type 0
+ListsAt Unspawned lists kept = (lists ≡ []) × (kept ≡ [])
+ListsAt Spawning lists kept = (lists ≡ []) × (kept ≡ [])
+ListsAt Initializing lists kept = (lists ≡ []) × (kept ≡ [])
+ListsAt Ready lists kept = kept ≡ lists
+ListsAt other lists kept = Unit {0}
+
 -- the tables of one start; a further one is a name here, and a clause
 pub data Part : Type 0 where
-  of_life of_ids of_shown of_stop of_asks of_parked of_live : Part
+  of_life of_ids of_shown of_stop of_asks of_parked of_live of_lists : Part
 
 abbrev pub PartStands : Part → Settings → ℕ → Start → List Event → Type 0
 PartStands of_life settings limit x events = life_of x.life.start events ≡ record { stage = x.life.stage; started = x.started }
@@ -218,6 +229,7 @@ PartStands of_stop settings limit x events = StopAt x.life.stage x.life.stopping
 PartStands of_asks settings limit x events = AsksAt x.life.stage events (asks_of settings x.life.start events) x.asks
 PartStands of_parked settings limit x events = ParkedAt x.life.stage (asks_of settings x.life.start events) (parked_of settings x.life.start events) x.parked
 PartStands of_live settings limit x events = LiveAt x.life.stage (live_of settings x.life.start events) x.live
+PartStands of_lists settings limit x events = ListsAt x.life.stage (lists_of x.life.start events) x.lists.lists
 
 -- what is kept of the last start of group g stands for what the events say of it
 pub record LastStands (settings : Settings) (limit : ℕ) (events : List Event) (g : ℕ) (x : Start) : Type 0 where
@@ -228,7 +240,7 @@ pub record LastStands (settings : Settings) (limit : ℕ) (events : List Event) 
 
 -- the tables of a start that wasn't spawned
 abbrev pub blank : ℕ → ℕ → Start
-blank limit s = record { life = record { start = s; group = 0; stage = Unspawned; stopping = None }; started = false; ids = record { requests = []; next = 2; limit = limit; spare = 0 }; shown = None; asks = []; parked = []; live = [] }
+blank limit s = record { life = record { start = s; group = 0; stage = Unspawned; stopping = None }; started = false; ids = record { requests = []; next = 2; limit = limit; spare = 0 }; shown = None; asks = []; parked = []; live = []; lists = nothing }
 
 -- its number
 abbrev pub number_in : Start → ℕ
@@ -346,6 +358,10 @@ pub record AsksStay (settings : Settings) (s : ℕ) (events : List Event) (event
 -- and what is registered there
 abbrev pub LiveStay : Settings → ℕ → List Event → Event → Type 0
 LiveStay settings s events event = live_next settings s events (live_of settings s events) event ≡ live_of settings s events
+
+-- and its last lists
+abbrev pub ListsStay : ℕ → List Event → Event → Type 0
+ListsStay s events event = lists_next s events (lists_of s events) event ≡ lists_of s events
 
 -- no request of a start is at work that one editor answers, and no editor's message
 pub record IsAtRest (settings : Settings) (s : ℕ) (events : List Event) : Type 0 where

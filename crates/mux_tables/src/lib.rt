@@ -6,6 +6,7 @@ mod asks;
 mod created;
 mod documents;
 mod hears;
+mod last_lists;
 mod looks;
 mod notes;
 mod places;
@@ -23,6 +24,7 @@ mod tables;
 mod tokens;
 
 pub use ask_route;
+pub use diagnostics_route;
 pub use id_rewrite;
 pub use mux_tokens;
 pub use replies::Reply;

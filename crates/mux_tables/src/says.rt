@@ -33,6 +33,7 @@ use crate::requests::{keep, mark};
 use crate::stops::{begin_stop, end_stop};
 use crate::tables::{Start, Tables};
 use ask_route::Asks;
+use diagnostics_route::Lists;
 use event_model::Phase;
 use focus_switch::Shared;
 use group_laws::registrations::Live;
@@ -356,6 +357,7 @@ impl Tables {
         let asks = Asks::new(alloc);
         let parked = Asks::new(alloc);
         let live = Live::new(alloc);
+        let lists = Lists::new(alloc);
         let documents = Shared::new(alloc, self.versions);
         self.origins.groups.push(g)?;
         self.documents.push(documents)?;
@@ -367,6 +369,7 @@ impl Tables {
             asks,
             parked,
             live,
+            lists,
         })?;
         outs.push(Out::Spawn(s, g))?;
         Ok(())
@@ -390,6 +393,7 @@ impl Tables {
         let asks = Asks::new(alloc);
         let parked = Asks::new(alloc);
         let live = Live::new(alloc);
+        let lists = Lists::new(alloc);
         self.origins.groups.push(group)?;
         self.lasts[g] = Start {
             life,
@@ -399,6 +403,7 @@ impl Tables {
             asks,
             parked,
             live,
+            lists,
         };
         outs.push(Out::Spawn(s, group))?;
         Ok(())

@@ -18,7 +18,7 @@ ghost use Rattle.group_laws.specs.mux_model.specs.Documents.{encoding_by};
 ghost use Rattle.mux_tables.specs.Documents.{DocumentsStand, Owed, nothing_owed, owes, replaying, to};
 ghost use Rattle.group_laws.specs.group_rows.specs.Forwarded.{forwarding_of, is_under};
 ghost use Rattle.mux_tokens.specs.Stands.{CreatedStay};
-ghost use Rattle.mux_tables.specs.Stands.{Exits, LiveStay, NamesAt, ParkedStay, Stands, any_in, begun_at, forwarded_as, is_early, number_in, stage_in};
+ghost use Rattle.mux_tables.specs.Stands.{Exits, ListsStay, LiveStay, NamesAt, ParkedStay, Stands, any_in, begun_at, forwarded_as, is_early, number_in, stage_in};
 
 use crate::documents::{ready, remove, unready};
 use crate::requests::{answer, forget};
@@ -26,6 +26,7 @@ use crate::seats::lose;
 use crate::stops::end_stop;
 use crate::tables::Tables;
 use ask_route::Asks;
+use diagnostics_route::Lists;
 use event_model::Stage;
 use group_laws::registrations::Live;
 use id_rewrite::{IdTable, Pending};
@@ -156,6 +157,7 @@ impl Tables {
         let asks = Asks::new(alloc);
         let parked = Asks::new(alloc);
         let live = Live::new(alloc);
+        let lists = Lists::new(alloc);
         let last = &mut self.lasts[g];
         last.life.over();
         last.shown = None;
@@ -163,6 +165,7 @@ impl Tables {
         last.asks = asks;
         last.parked = parked;
         last.live = live;
+        last.lists = lists;
         end_stop(&mut self.origins.stopping, last.life.start());
         self.origins.created.end_start(last.life.start());
         Ok(())
@@ -233,6 +236,7 @@ impl Tables {
         let asks = Asks::new(alloc);
         let parked = Asks::new(alloc);
         let live = Live::new(alloc);
+        let lists = Lists::new(alloc);
         let last = &mut self.lasts[g];
         last.life.over();
         last.shown = None;
@@ -240,6 +244,7 @@ impl Tables {
         last.asks = asks;
         last.parked = parked;
         last.live = live;
+        last.lists = lists;
         end_stop(&mut self.origins.stopping, last.life.start());
         self.origins.created.end_start(last.life.start());
     }
@@ -287,8 +292,8 @@ impl Tables {
     }
 
     /// A message came from the group's last start that doesn't answer its `initialize`, by which nothing waits from now on, and which
-    /// changes nothing of what is registered: what was kept of the request that it answers, which isn't open any more. `n` is the number
-    /// that its id writes.
+    /// changes nothing of what is registered, nor of the last lists: what was kept of the request that it answers, which isn't open any
+    /// more. `n` is the number that its id writes.
     pub fn hear_answer(&mut self, g: usize, n: Option<u32>) -> Option<Pending>
         requires { g < length self.old.lasts.items }
         ensures requests { self.new.requests ≡ self.old.requests }
@@ -300,7 +305,7 @@ impl Tables {
             → (is_first_result (message_of body) && is_early x.life.stage) ≡ false
             → (is_first_error (message_of body) && is_initializing x.life.stage) ≡ false
             → ParkedStay settings s events (heard (FromServer s body)) → LiveStay settings s events (heard (FromServer s body))
-            → CreatedStay settings s events (heard (FromServer s body))
+            → ListsStay s events (heard (FromServer s body)) → CreatedStay settings s events (heard (FromServer s body))
             → NamesAt (answered_id (message_of body)) n
             → Stands settings self.old events → Stands settings self.new (events ++ heard (FromServer s body) ∷ []) }
         ensures documents { (settings : Settings) (owed : Owed) (events : List Event) (s : ℕ) (body : List ℕ) (x : Start)

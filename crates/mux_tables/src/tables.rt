@@ -5,6 +5,7 @@ ghost use Rattle.mux_tables.specs.Documents.{DocumentsStand, nothing_owed};
 ghost use Rattle.mux_tables.specs.Stands.{Stands};
 
 use ask_route::Asks;
+use diagnostics_route::Lists;
 use editor_session::Editors;
 use focus_switch::Shared;
 use group_laws::registrations::Live;
@@ -18,8 +19,8 @@ use text_pieces::PieceText;
 
 /// What is kept of the last start of one group: where it stands, whether its program ever ran, the requests that it has to
 /// answer, what editors are shown of the result of its `initialize`, where it gave one and isn't to end, what it asked of
-/// editors that didn't answer yet, what it asks of one as soon as an editor runs: all of these are parked, and what it registered
-/// and didn't take back.
+/// editors that didn't answer yet, what it asks of one as soon as an editor runs: all of these are parked, what it registered
+/// and didn't take back, and the last list of diagnostics of each document.
 #[derive(Drop)]
 pub struct Start {
     pub life: Life,
@@ -29,6 +30,7 @@ pub struct Start {
     pub asks: Asks,
     pub parked: Asks,
     pub live: Live,
+    pub lists: Lists,
 }
 
 /// What is kept of the starts, beside the last ones of groups.

@@ -177,7 +177,7 @@ module _ (settings : Settings) (before : List Event) (e : ℕ) (body : List ℕ)
   same_bodies versions f g all (o ∷ os) same = ap₂ (λ h rest. left versions e all h o ++ rest) (same o.uri) (same_bodies versions f g all os same)
 
   held_same : (s : ℕ) (u : List ℕ) → held_at s u heard_now ≡ held_at s u before
-  held_same s u = ap (λ (x : Sent). x.held) (sent_stays s u before (heard (FromEditor e body)) refl)
+  held_same s u = ap (λ (x : Sent). x.held) ((sent_stays s before (heard (FromEditor e body)) refl).sent u)
 
   stage_same : (s : ℕ) → (life_of s heard_now).stage ≡ (life_of s before).stage
   stage_same s = ap (λ (l : Life). l.stage) (one_more (life_behind s) _ _ before (heard (FromEditor e body)) refl)

@@ -46,7 +46,7 @@ result_told Down i id x h = refl
 result_told Closed i id x h = refl
 result_told Gone i id x h = refl
 
-notice_told : (p : Phase) (i method : List ℕ) (ps : Option Json) → phase_told p i (notification method ps) ≡ p
+pub notice_told : (p : Phase) (i method : List ℕ) (ps : Option Json) → phase_told p i (notification method ps) ≡ p
 notice_told Waiting i method ps = refl
 notice_told Absent i method ps = refl
 notice_told New i method ps = refl

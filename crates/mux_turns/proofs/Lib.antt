@@ -9,6 +9,7 @@ pub mod Departing
 pub mod Evictions
 pub mod Folders
 pub mod Joining
+pub mod Listed
 pub mod LiveTexts
 pub mod Keeping
 pub mod Lspmux

@@ -32,6 +32,7 @@ use Rattle.mux_tables.specs.declared.tables.Tables.{Tables}
 use Rattle.mux_tables.specs.Documents.{AllStand, DocumentsStand, IsOwned, Leaves, SharedStands, leaving, nothing_owed, owes}
 use Rattle.mux_tables.specs.Stands.{Stands, start_for}
 use Rattle.mux_tables.proofs.Placed.{KeptAt}
+use Rattle.mux_tables.proofs.DocumentFrames.{owner_served}
 use Rattle.mux_tables.proofs.DocumentMoves.{documents_at}
 use Rattle.mux_tables.proofs.DocumentOwed.{owes_nothing}
 use Rattle.mux_turns.proofs.Keeping.{keeps_error, refused_says}
@@ -43,7 +44,7 @@ unowned settings events e g (o ∷ os) off h = go (nat_eq o.editor e) refl (unow
   where
     go : (b : Bool) → nat_eq o.editor e ≡ b → filter (λ (p : Open). nat_eq p.editor e) os ≡ [] → (if b then o ∷ filter (λ (p : Open). nat_eq p.editor e) os else filter (λ (p : Open). nat_eq p.editor e) os) ≡ []
     go false q rest = rest
-    go true q rest = let same : o.editor ≡ e = eqb-true o.editor e q in never (sym h.0.1 ∙ ap (λ n. is_served (desk_of n events).phase) same ∙ off)
+    go true q rest = let same : o.editor ≡ e = eqb-true o.editor e q in never (sym (owner_served settings events g o h.0) ∙ ap (λ n. is_served (desk_of n events).phase) same ∙ off)
 
 module _ (settings : Settings) (t u : Tables) (events later : List Event) (e : ℕ) (outs : List Out) (st : Stands settings t events) (ds : DocumentsStand settings nothing_owed t events) (off : is_served (desk_of e events).phase ≡ false) where
   silent : (g s : ℕ) → start_of g events ≡ Some s → leaving settings events g s e ≡ []

@@ -25,7 +25,7 @@ returns-in-None-clause-does c = λ settings before body params read says served 
     let m = message_of body in
     let cancel = codes "$/cancelRequest" in
     let silent = subst (λ o. Names settings before e body params (map number_in c.args.tables.now.lasts.items) o) c.in-None.is (c.named-request.ensures.names settings before body cancel params read says known.asked st) in
-    let begun = c.in_ok-hear_running.ensures.begun settings before body served (notice_makes cancel params refl m says) (answers_none settings e m before (ap is_answer says)) (takes_none settings e m before (ap (requests (codes "shutdown")) says) (ap is_answer says)) (cancel_keeps before e body params says) first settled st ds in
+    let begun = c.in_ok-hear_running.ensures.begun settings before body served (notice_makes cancel params refl m says) (answers_none settings e m before (ap is_answer says)) (takes_none settings e m before (ap (requests (codes "shutdown")) says) (ap is_answer says)) (cancel_keeps before e body params says) first known.meant settled st ds in
     then_rest begun.done (does_alike (λ _. silent) does_nothing)
 
 pub returns-in_ok-pass_cancel-in-Some-clause-does : goal.returns-in_ok-pass_cancel-in-Some-clause-does
@@ -41,7 +41,7 @@ returns-in_ok-pass_cancel-in-Some-clause-does c = λ settings before body params
     let s = x.0.life.start in
     let y = same_kept unasked u.lasts.items t.lasts.items (sym c.in_ok-hear_running.ensures.rest) r.group x.0 x.1 in
     let there = number_there u.lasts.items r.group y.0 y.1.0 ∙ ap (λ (w : Start). Some (number_in w)) (sym y.1.1) in
-    let begun = c.in_ok-hear_running.ensures.begun settings before body served (notice_makes cancel params refl m says) (answers_none settings e m before (ap is_answer says)) (takes_none settings e m before (ap (requests (codes "shutdown")) says) (ap is_answer says)) (cancel_keeps before e body params says) first settled st ds in
+    let begun = c.in_ok-hear_running.ensures.begun settings before body served (notice_makes cancel params refl m says) (answers_none settings e m before (ap is_answer says)) (takes_none settings e m before (ap (requests (codes "shutdown")) says) (ap is_answer says)) (cancel_keeps before e body params says) first known.meant settled st ds in
     then_rest begun.done (does_alike (λ _. names.1 s (number_there t.lasts.items r.group x.0 x.1)) (c.in_ok-pass_cancel-in-Some.ensures.does settings (with_cause before (FromEditor e body)) body params names.0.0 s read says names.0.1 there))
 
 pub pass_cancel-requires : goal.pass_cancel-requires

@@ -50,7 +50,7 @@ returns-in_ok-reply-clause-does c = λ settings before body x read response serv
     let heard = c.in_ok-found.ensures.stands settings before body x here named taken (reply_unshut m response) one (takes_by_one settings before settled t st e x.life.group s m home last) (unplaced (desk_of e before).phase m served) (reply_stops before e m response)
     (old_unopened settings.servers before e m (not_new (desk_of e before).phase served)) (runs_now settings before e body served runs) st in
     let docs = c.in_ok-found.ensures.documents settings nothing_owed before body (reply_keeps before e m response) ds in
-    let begun = c.in_ok-begin.ensures.begun settings nothing_owed before body served runs begins first (can_begin settings before settled t e body st) heard docs in
+    let begun = c.in_ok-begin.ensures.begun settings nothing_owed before body served runs begins first (can_begin settings before meant settled t e body st ds) heard docs in
     let given = c.in_ok-found.ensures.ask settings before body x here ready named st in
     let handed = given_as (find (is_answered e (answered_id m)) (created_of settings s before).takings) c.in_ok-found.found.handed m c.is_result-accepts.result taken (c.in_ok-found.ensures.handed settings before body x here named st) in
     let fits = fits_behind settings e s base xs found (found_fits settings t before g e body x here ready st) (found_unwaited settings t before g e body x here ready st) (works_now settings before e body served runs s).asker begun.asks in
@@ -74,7 +74,7 @@ returns-else-ready-clause-does c = λ settings before body x read response serve
     let heard = c.in_ok-found.ensures.stands settings before body x here named taken (reply_unshut m response) one (takes_by_one settings before settled t st e x.life.group s m home last) (unplaced (desk_of e before).phase m served) (reply_stops before e m response)
     (old_unopened settings.servers before e m (not_new (desk_of e before).phase served)) (runs_now settings before e body served runs) st in
     let docs = c.in_ok-found.ensures.documents settings nothing_owed before body (reply_keeps before e m response) ds in
-    let begun = c.in_ok-begin.ensures.begun settings nothing_owed before body served runs (c.may_begin-begins.ensures settings before st) first (can_begin settings before settled t e body st) heard docs in
+    let begun = c.in_ok-begin.ensures.begun settings nothing_owed before body served runs (c.may_begin-begins.ensures settings before st) first (can_begin settings before meant settled t e body st ds) heard docs in
     then_rest begun.done (does_alike (λ _. unready_reply settings before e x.life.group s body home last (ap is_ready (kept_stage settings t before g x st here) ∙ stage)) does_nothing)
 
 pub reply-requires : goal.reply-requires

@@ -22,7 +22,7 @@ use Rattle.mux_editors.proofs.Serving.{request_keeps, request_makes}
 use Rattle.mux_editors.proofs.requests.take_request.Goals as goal
 
 pub returns-then-reserved-clause-does : goal.returns-then-reserved-clause-does
-returns-then-reserved-clause-does c = λ settings before body method id params read says other served first settled st ds.
+returns-then-reserved-clause-does c = λ settings before body method id params read says other served first meant settled st ds.
     let e = c.args.e in
     let m = message_of body in
     let base = with_cause before (FromEditor e body) in
@@ -30,24 +30,24 @@ returns-then-reserved-clause-does c = λ settings before body method id params r
     let xs = c.hear_running.new.outs in
     let serve = serves method (not_own method other) in
     let reserved = sym (c.in_ok-reserved.ensures body method id params read says) ∙ c.if-reserved.true in
-    let begun = c.in_ok-hear_running.ensures.begun settings before body served (request_makes method id params serve m says) (answers_none settings e m before (ap is_answer says)) (takes_none settings e m before (no_shutdown m (request_makes method id params serve m says)) (ap is_answer says)) (request_keeps method id params serve before e m says) first settled st ds in
+    let begun = c.in_ok-hear_running.ensures.begun settings before body served (request_makes method id params serve m says) (answers_none settings e m before (ap is_answer says)) (takes_none settings e m before (no_shutdown m (request_makes method id params serve m says)) (ap is_answer says)) (request_keeps method id params serve before e m says) first meant settled st ds in
     then_rest begun.done (all_does settings u u nothing_owed nothing_owed base xs c.refuse_reserved.new.outs
     (c.in_ok-refuse_reserved.ensures.does settings before base body method id params read says reserved) (λ _ d. c.in_ok-refuse_reserved.ensures.documents settings nothing_owed base d))
 
 pub returns-in_ok-refuse_request-in-None-clause-does : goal.returns-in_ok-refuse_request-in-None-clause-does
-returns-in_ok-refuse_request-in-None-clause-does c = λ settings before body method id params read says other served first settled st ds.
+returns-in_ok-refuse_request-in-None-clause-does c = λ settings before body method id params read says other served first meant settled st ds.
     let e = c.args.e in
     let m = message_of body in
     let base = with_cause before (FromEditor e body) in
     let u = c.hear_running.new.tables in
     let xs = c.hear_running.new.outs in
     let serve = serves method (not_own method other) in
-    let begun = c.in_ok-hear_running.ensures.begun settings before body served (request_makes method id params serve m says) (answers_none settings e m before (ap is_answer says)) (takes_none settings e m before (no_shutdown m (request_makes method id params serve m says)) (ap is_answer says)) (request_keeps method id params serve before e m says) first settled st ds in
+    let begun = c.in_ok-hear_running.ensures.begun settings before body served (request_makes method id params serve m says) (answers_none settings e m before (ap is_answer says)) (takes_none settings e m before (no_shutdown m (request_makes method id params serve m says)) (ap is_answer says)) (request_keeps method id params serve before e m says) first meant settled st ds in
     then_rest begun.done (all_does settings u u nothing_owed nothing_owed base xs c.refuse_request.new.outs
     (c.in_ok-refuse_request-in-None.ensures.does settings before base body method id params read says (c.in-None.ensures.refused settings before body (sym (c.in_ok-reserved.ensures body method id params read says) ∙ c.if-reserved.false) st)) (λ _ d. c.in_ok-refuse_request-in-None.ensures.documents settings nothing_owed base d))
 
 pub returns-in_ok-send_on-in-Some-clause-does : goal.returns-in_ok-send_on-in-Some-clause-does
-returns-in_ok-send_on-in-Some-clause-does c = λ settings before body method id params read says other served first settled st ds.
+returns-in_ok-send_on-in-Some-clause-does c = λ settings before body method id params read says other served first meant settled st ds.
     let e = c.args.e in
     let m = message_of body in
     let t = c.args.tables.now in
@@ -58,7 +58,7 @@ returns-in_ok-send_on-in-Some-clause-does c = λ settings before body method id 
     let y = same_kept unasked u.lasts.items t.lasts.items (sym c.in_ok-hear_running.ensures.rest) g x.0 x.1 in
     let s = x.0.life.start in
     let serve = serves method (not_own method other) in
-    let begun = c.in_ok-hear_running.ensures.begun settings before body served (request_makes method id params serve m says) (answers_none settings e m before (ap is_answer says)) (takes_none settings e m before (no_shutdown m (request_makes method id params serve m says)) (ap is_answer says)) (request_keeps method id params serve before e m says) first settled st ds in
+    let begun = c.in_ok-hear_running.ensures.begun settings before body served (request_makes method id params serve m says) (answers_none settings e m before (ap is_answer says)) (takes_none settings e m before (no_shutdown m (request_makes method id params serve m says)) (ap is_answer says)) (request_keeps method id params serve before e m says) first meant settled st ds in
     then_rest begun.done (does_alike (λ _. c.in-Some.ensures.goes settings before body s x.0 x.1 (number_there t.lasts.items g x.0 x.1) (sym (c.in_ok-reserved.ensures body method id params read says) ∙ c.if-reserved.false) st)
     (by_kept (λ n k. Does (λ k events. AllStand settings k events) (sync_row settings before n k e ⨾ forward k body) (with_cause before (FromEditor e body)) (u, nothing_owed) xs (c.send_on.new.tables, nothing_owed) c.send_on.new.outs) x.0 y.0 y.1.1
     (c.in_ok-send_on-in-Some.ensures.does settings before body method id params y.0.life.start read says other begun.asks (number_there u.lasts.items g y.0 y.1.0) y.0 y.1.0)))

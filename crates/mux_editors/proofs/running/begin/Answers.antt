@@ -9,6 +9,7 @@ use Rattle.mux_tables.specs.Documents.{AllStand}
 use Rattle.mux_turns.proofs.Departing.{behind_first}
 use Rattle.mux_editors.proofs.Beginning.{all_begun, home_late, rests_mid, runs_here, runs_late, runs_mid, silent_begun, small_mid, unasked_mid, works_here, works_late}
 use Rattle.mux_editors.proofs.Runs.{begins_row, runs_row, unready_run}
+use Rattle.mux_editors.proofs.Showing.{meant_here}
 use Rattle.mux_editors.proofs.running.begin.Goals as goal
 
 pub returns-then-not-begins-clause-begun : goal.returns-then-not-begins-clause-begun
@@ -45,8 +46,13 @@ returns-in_ok-resume-in-Some-clause-begun c = λ settings owed before body serve
     let offers = c.in_ok-offer_live-in-Some.ensures.does settings owed base x.0 here (runs_mid settings t u owed before e body xs ys first served runs begins st ds g x.0 x.1 ready home can zs told)
     (rests_mid settings t u owed before e body xs ys first served runs begins st ds g x.0 x.1 ready home can zs told) (unasked_mid settings t u owed before e body xs ys first served runs begins st ds g x.0 x.1 ready home can zs told)
     (small_mid settings t u owed before e body xs ys first served runs begins st ds g x.0 x.1 ready home can zs told) in
-    let offered = (offers.done known.stands).outs in
-    all_begun settings t u owed before e body xs ys first served runs begins st ds g x.0 x.1 ready home can zs told vs offered w v restored offers
-    (c.in_ok-resume-in-Some.ensures.does settings base x.0 (ap (λ ls. slice_get ls.items g) c.offer_live.ensures.lasts ∙ here) ready (runs_late settings t u owed before e body xs ys first served runs begins st ds g x.0 x.1 ready home can zs told vs offered)
-    (home_late settings t u owed before e body xs ys first served runs begins st ds g x.0 x.1 ready home can zs told vs offered) (works_late settings t u owed before e body xs ys first served runs begins st ds g x.0 x.1 ready home can zs told vs offered))
+    let behind_offers = offers.done known.stands in
+    let offered = behind_offers.outs in
+    let there = ap (λ ls. slice_get ls.items g) c.offer_live.ensures.lasts ∙ here in
+    let ws = c.show_all.new.outs in
+    let shows = c.in_ok-show_all-in-Some.ensures.does settings owed base x.0 there ready (meant_here before e body can.meant) in
+    let shown = (shows.done behind_offers.stands).outs in
+    all_begun settings t u owed before e body xs ys first served runs begins st ds g x.0 x.1 ready home can zs told vs offered ws shown w v restored offers shows
+    (c.in_ok-resume-in-Some.ensures.does settings base x.0 there ready (runs_late settings t u owed before e body xs ys first served runs begins st ds g x.0 x.1 ready home can zs told vs offered ws shown)
+    (home_late settings t u owed before e body xs ys first served runs begins st ds g x.0 x.1 ready home can zs told vs offered ws shown) (works_late settings t u owed before e body xs ys first served runs begins st ds g x.0 x.1 ready home can zs told vs offered ws shown))
     (λ d. c.in_ok-resume-in-Some.ensures.documents settings owed base d)

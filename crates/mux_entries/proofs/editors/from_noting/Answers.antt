@@ -25,7 +25,7 @@ returns-in_ok-take_passed-clause-does c = λ settings before body method params 
     let stays : bytes_eq (codes "exit") method ≡ false = ap (notifies (codes "exit")) (sym says) ∙ (sym (c.is_exit.ensures body read) ∙ c.if-is_exit.false) in
     let going : goes_on (class_of method Editor true) ≡ true = sym (c.goes_on.ensures body method params read says) ∙ c.if-goes_on.true in
     done_alike (λ k events. AllStand settings k events) (alike_behind (alike_then (is_second refl stays) (is_first refl going)))
-    (c.in_ok-take_passed.ensures.does settings before body method params read says going served first settled st ds)
+    (c.in_ok-take_passed.ensures.does settings before body method params read says going served first known.meant settled st ds)
 
 pub returns-in_ok-take_cancel-clause-does : goal.returns-in_ok-take_cancel-clause-does
 returns-in_ok-take_cancel-clause-does c = λ settings before body method params read says served first known settled st ds.
@@ -42,7 +42,7 @@ returns-in_ok-take_work_cancel-clause-does c = λ settings before body method pa
     let other : bytes_eq (codes "$/cancelRequest") method ≡ false = ap (notifies (codes "$/cancelRequest")) (sym says) ∙ (sym (c.is_cancel.ensures body read) ∙ c.if-is_cancel.false) in
     let works : bytes_eq (codes "window/workDoneProgress/cancel") method ≡ true = ap (notifies (codes "window/workDoneProgress/cancel")) (sym says) ∙ (sym (c.cancels_work.ensures body read) ∙ c.if-cancels_work.true) in
     done_alike (λ k events. AllStand settings k events) (alike_behind (alike_then (is_second refl stays) (alike_then (is_second refl off) (alike_then (is_second refl other) (is_first refl works)))))
-    (c.in_ok-take_work_cancel.ensures.does settings before body params read (says ∙ ap (λ w. notification w params) (sym ((bytes_eq-Decides (codes "window/workDoneProgress/cancel") method).0 works))) served first settled st ds)
+    (c.in_ok-take_work_cancel.ensures.does settings before body params read (says ∙ ap (λ w. notification w params) (sym ((bytes_eq-Decides (codes "window/workDoneProgress/cancel") method).0 works))) served first known.meant settled st ds)
 
 pub returns-in_ok-take_notice-clause-does : goal.returns-in_ok-take_notice-clause-does
 returns-in_ok-take_notice-clause-does c = λ settings before body method params read says served first known settled st ds.
@@ -53,4 +53,4 @@ returns-in_ok-take_notice-clause-does c = λ settings before body method params 
     let other : bytes_eq (codes "$/cancelRequest") method ≡ false = ap (notifies (codes "$/cancelRequest")) (sym says) ∙ (sym (c.is_cancel.ensures body read) ∙ c.if-is_cancel.false) in
     let idle : bytes_eq (codes "window/workDoneProgress/cancel") method ≡ false = ap (notifies (codes "window/workDoneProgress/cancel")) (sym says) ∙ (sym (c.cancels_work.ensures body read) ∙ c.if-cancels_work.false) in
     done_alike (λ k events. AllStand settings k events) (alike_behind (alike_then (is_second refl stays) (alike_then (is_second refl off) (alike_then (is_second refl other) (is_second refl idle)))))
-    (c.in_ok-take_notice.ensures.does settings before body method params seat.group seat.start read says stays served seat.home seat.last first settled st ds)
+    (c.in_ok-take_notice.ensures.does settings before body method params seat.group seat.start read says stays served seat.home seat.last first known.meant settled st ds)

@@ -18,7 +18,7 @@ returns-in_ok-from_asking-in-Request-clause-does c = λ settings before body rea
     let asks = asks_by_sort m (c.sort.ensures body read ∙ ap (λ x. Some x) c.in-Request.is) in
     let sort = standard_built asks.id asks.method asks.params (unasked_when p m asks.id asks.method asks.params asks.is (served_there p serves) none) (ap built_from_editor (sym asks.is) ∙ built) in
     done_alike (λ k events. AllStand settings k events) (served settings before e body (request asks.id asks.method asks.params) asks.is serves (read_well c.args.message.now body read) single none)
-    (c.in_ok-from_asking-in-Request.ensures.does settings before body asks.method asks.id asks.params read asks.is sort serves first settled st ds)
+    (c.in_ok-from_asking-in-Request.ensures.does settings before body asks.method asks.id asks.params read asks.is sort serves first known.meant settled st ds)
 
 pub returns-in_ok-from_noting-in-Notification-clause-does : goal.returns-in_ok-from_noting-in-Notification-clause-does
 returns-in_ok-from_noting-in-Notification-clause-does c = λ settings before body read serves first known settled built single none st ds.

@@ -9,6 +9,7 @@ use Rattle.mux_entries.proofs.EditorRows.{asks_by_sort, done_alike, done_quietly
 use Rattle.mux_entries.proofs.Questions.{no_request}
 use Rattle.mux_entries.proofs.Said.{hasty_here, other_row, stage_here}
 use Rattle.mux_starts.proofs.Uncreated.{unready_creates}
+use Rattle.mux_starts.proofs.Unlisted.{unready_unlisted}
 use Rattle.mux_entries.proofs.servers.take_other.Goals as goal
 
 pub returns-in_ok-take_hasty-in-Request-clause-does : goal.returns-in_ok-take_hasty-in-Request-clause-does
@@ -29,4 +30,4 @@ returns-in_default-clause-does c = λ settings before body s read first at run o
     let stage = stage_here settings t before c.args.g s x.0 x.1 at st ∙ c.requires.stage x.0 x.1 in
     let unasked = not_request m c.sort.result (c.sort.ensures body read) c.in_default.not-Request in
     done_quietly (λ k events. AllStand settings k events) first
-    (c.hear_quietly.ensures.does settings before body s (no_request m unasked) (unready_creates settings before s body (ap is_ready stage)) other refused (c.answered_number.ensures body read) (other_row settings s before body m (life_of s before).stage stage other refused unasked) at run st ds)
+    (c.hear_quietly.ensures.does settings before body s (no_request m unasked) (unready_creates settings before s body (ap is_ready stage)) (unready_unlisted before s body (ap is_ready stage)) other refused (c.answered_number.ensures body read) (other_row settings s before body m (life_of s before).stage stage other refused unasked) at run st ds)

@@ -8,6 +8,7 @@ use Rattle.mux_entries.proofs.EditorRows.{asks_by_sort, done_alike, notes_by_sor
 use Rattle.mux_entries.proofs.Said.{answer_here, asked, stage_here}
 use Rattle.mux_entries.proofs.Questions.{asks_here, built_here, no_request}
 use Rattle.mux_starts.proofs.Uncreated.{answers_create}
+use Rattle.mux_starts.proofs.Unlisted.{answers_unlisted}
 use Rattle.mux_entries.proofs.servers.take_ready.Goals as goal
 
 pub returns-in_ok-take_question-in-Request-clause-does : goal.returns-in_ok-take_question-in-Request-clause-does
@@ -28,7 +29,7 @@ returns-in_ok-take_telling-in-Notification-clause-does c = λ settings before bo
     let stage = stage_here settings t before c.args.g s x.0 x.1 at st ∙ ready in
     let notes = notes_by_sort (message_of body) (c.sort.ensures body read ∙ ap (λ k. Some k) c.in-Notification.is) in
     done_alike (λ k events. AllStand settings k events) (asks_here settings before s body (notification notes.method notes.params) stage notes.is)
-    (c.in_ok-take_telling-in-Notification.ensures.does settings before body notes.method notes.params s x.0 read notes.is (built_here settings before s body (notification notes.method notes.params) stage notes.is built) first settled x.1 ready at st ds)
+    (c.in_ok-take_telling-in-Notification.ensures.does settings before body notes.method notes.params s x.0 read notes.is (built_here settings before s body (notification notes.method notes.params) stage notes.is built) first known settled x.1 ready at st ds)
 
 pub returns-in_ok-take_answer-in-Result-clause-does : goal.returns-in_ok-take_answer-in-Result-clause-does
 returns-in_ok-take_answer-in-Result-clause-does c = λ settings before body s read first at known settled built st ds.
@@ -40,4 +41,4 @@ returns-in_ok-take_answer-in-Result-clause-does c = λ settings before body s re
     let unasked = unasking m c.sort.result (c.sort.ensures body read) c.in-Result.is in
     let unnoted = unnoting m c.sort.result (c.sort.ensures body read) c.in-Result.is in
     done_alike (λ k events. AllStand settings k events) (answer_here settings before s body stage unasked unnoted)
-    (c.in_ok-take_answer-in-Result.ensures.does settings before body s x.0 read (no_request m unasked) (answers_create settings before s body (no_request m unasked) unnoted) first x.1 ready at (asked before s m known.asked) known.meant st ds)
+    (c.in_ok-take_answer-in-Result.ensures.does settings before body s x.0 read (no_request m unasked) (answers_create settings before s body (no_request m unasked) unnoted) (answers_unlisted before s body unnoted) first x.1 ready at (asked before s m known.asked) known.meant st ds)

@@ -7,23 +7,30 @@ use Rattle.mux_starts.specs.mux_tables.specs.Documents.{AllStand}
 use Rattle.mux_entries.proofs.EditorRows.{done_alike}
 use Rattle.mux_entries.proofs.Questions.{all_run, broadcasts}
 use Rattle.group_rows.specs.Created.{names_progress}
+use Rattle.group_rows.specs.Lists.{names_list}
 use Rattle.mux_entries.proofs.servers.take_telling.Goals as goal
 
 pub returns-in_ok-take_recall-in-Cancel-clause-does : goal.returns-in_ok-take_recall-in-Cancel-clause-does
-returns-in_ok-take_recall-in-Cancel-clause-does c = λ settings before body method params s x read says built first settled here ready at st ds.
+returns-in_ok-take_recall-in-Cancel-clause-does c = λ settings before body method params s x read says built first known settled here ready at st ds.
     let kind = sym (c.told_class.ensures body method params read says) ∙ c.in-Cancel.is in
     done_alike (λ k events. AllStand settings k events) (alike (ap (notified_row settings s before body params) kind))
-    (c.in_ok-take_recall-in-Cancel.ensures.does settings before body method params s x read says (ap names_progress kind) (all_run settings before s settled) first here ready at st ds)
+    (c.in_ok-take_recall-in-Cancel.ensures.does settings before body method params s x read says (ap names_progress kind) (ap names_list kind) (all_run settings before s settled) first here ready at st ds)
 
 pub returns-in_ok-take_progress-in-Progress-clause-does : goal.returns-in_ok-take_progress-in-Progress-clause-does
-returns-in_ok-take_progress-in-Progress-clause-does c = λ settings before body method params s x read says built first settled here ready at st ds.
+returns-in_ok-take_progress-in-Progress-clause-does c = λ settings before body method params s x read says built first known settled here ready at st ds.
     let kind = sym (c.told_class.ensures body method params read says) ∙ c.in-Progress.is in
     done_alike (λ k events. AllStand settings k events) (alike (ap (notified_row settings s before body params) kind))
     (c.in_ok-take_progress-in-Progress.ensures.does settings before body method params s x read says (ap names_progress kind) first here ready at st ds)
 
-pub returns-in_ok-take_broadcast-in_default-clause-does : goal.returns-in_ok-take_broadcast-in_default-clause-does
-returns-in_ok-take_broadcast-in_default-clause-does c = λ settings before body method params s x read says built first settled here ready at st ds.
-    let is = c.told_class.ensures body method params read says in
-    let kind = sym is ∙ broadcasts c.told_class.result c.in_default.not-Cancel c.in_default.not-Progress (ap built_telling is ∙ built) in
+pub returns-in_ok-take_list-in-Diagnostics-clause-does : goal.returns-in_ok-take_list-in-Diagnostics-clause-does
+returns-in_ok-take_list-in-Diagnostics-clause-does c = λ settings before body method params s x read says built first known settled here ready at st ds.
+    let kind = sym (c.told_class.ensures body method params read says) ∙ c.in-Diagnostics.is in
     done_alike (λ k events. AllStand settings k events) (alike (ap (notified_row settings s before body params) kind))
-    (c.in_ok-take_broadcast-in_default.ensures.does settings before body method params s x read says (ap names_progress kind) first here ready at st ds)
+    (c.in_ok-take_list-in-Diagnostics.ensures.does settings before body method params s x read says (ap names_list kind) first here ready at known.meant st ds)
+
+pub returns-in_ok-take_broadcast-in_default-clause-does : goal.returns-in_ok-take_broadcast-in_default-clause-does
+returns-in_ok-take_broadcast-in_default-clause-does c = λ settings before body method params s x read says built first known settled here ready at st ds.
+    let is = c.told_class.ensures body method params read says in
+    let kind = sym is ∙ broadcasts c.told_class.result c.in_default.not-Cancel c.in_default.not-Progress c.in_default.not-Diagnostics (ap built_telling is ∙ built) in
+    done_alike (λ k events. AllStand settings k events) (alike (ap (notified_row settings s before body params) kind))
+    (c.in_ok-take_broadcast-in_default.ensures.does settings before body method params s x read says (ap names_progress kind) (ap names_list kind) first here ready at st ds)

@@ -13,6 +13,7 @@ use Rattle.mux_turns.proofs.Matched.{not_early, not_first, not_spawning, whole_e
 use Rattle.mux_starts.proofs.Parking.{hasty, other_keeps, single_other}
 use Rattle.mux_starts.proofs.Singles.{puts_one, runs_here, still}
 use Rattle.mux_starts.proofs.Uncreated.{other_creates, single_creates}
+use Rattle.mux_starts.proofs.Unlisted.{asks_unlisted}
 use Rattle.mux_starts.proofs.applied.take_edit.Goals as goal
 
 pub ask_edit-requires-clause-editor : goal.ask_edit-requires-clause-editor
@@ -28,7 +29,7 @@ returns-clause-does c = λ settings before body method id params s x read says o
     let xs = c.args.outs.now in
     let ys = c.ask_edit.new.outs in
     let stay = hasty settings before s body id method params says off in
-    let moved = c.hear_answer.ensures.moves settings before s body x here at (not_early (is_first_result m) x.life.stage ready) (not_first (is_first_error m) x.life.stage ready) stay (other_keeps settings before s body id method params says (single_other method one)) (other_creates settings before s body id method params says (single_creates method one)) (asked_named m id method params says) st in
+    let moved = c.hear_answer.ensures.moves settings before s body x here at (not_early (is_first_result m) x.life.stage ready) (not_first (is_first_error m) x.life.stage ready) stay (other_keeps settings before s body id method params says (single_other method one)) (asks_unlisted before s body id method params says) (other_creates settings before s body id method params says (single_creates method one)) (asked_named m id method params says) st in
     let docs = c.hear_answer.ensures.documents settings nothing_owed before s body x here at (not_first (is_first_result m) x.life.stage ready) (λ e. not_spawning x.life.stage ready e) st ds in
     let y = still t u c.args.g s x here at ready c.hear_answer.ensures.starts c.hear_answer.ensures.stages in
     let there = ap (λ ns. slice_get ns c.args.g) c.hear_answer.ensures.starts ∙ at in

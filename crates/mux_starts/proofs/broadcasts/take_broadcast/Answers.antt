@@ -17,10 +17,11 @@ use Rattle.mux_starts.proofs.Early.{noticed_named}
 use Rattle.mux_starts.proofs.Parking.{noticed, noticed_keeps}
 use Rattle.mux_turns.proofs.Matched.{not_early, not_first, not_spawning, whole_entry}
 use Rattle.mux_starts.proofs.Uncreated.{other_tells}
+use Rattle.mux_starts.proofs.Unlisted.{tells_unlisted}
 use Rattle.mux_starts.proofs.broadcasts.take_broadcast.Goals as goal
 
 pub returns-clause-does : goal.returns-clause-does
-returns-clause-does c = λ settings before body method params s x read says untelling first here ready at st ds.
+returns-clause-does c = λ settings before body method params s x read says untelling unlisting first here ready at st ds.
     let g = c.args.g in
     let m = message_of body in
     let base = with_cause before (FromServer s body) in
@@ -30,7 +31,7 @@ returns-clause-does c = λ settings before body method params s x read says unte
     let is = c.bytes.ensures.bytes ∙ read.bytes_are in
     let those = c.deref.ensures.value ∙ (c.in_ok-numbers.ensures.those settings before st ∙ ap (λ h. running_in settings h before) (c.group_number-group.ensures x here)) in
     let named = noticed_named m method params says in
-    let moved = c.hear_answer.ensures.moves settings before s body x here at (not_early (is_first_result m) x.life.stage ready) (not_first (is_first_error m) x.life.stage ready) (noticed settings before s body method params says) (noticed_keeps settings before s body method params says) (other_tells settings before s body method params says untelling) named st in
+    let moved = c.hear_answer.ensures.moves settings before s body x here at (not_early (is_first_result m) x.life.stage ready) (not_first (is_first_error m) x.life.stage ready) (noticed settings before s body method params says) (noticed_keeps settings before s body method params says) (tells_unlisted before s body method params says unlisting) (other_tells settings before s body method params says untelling) named st in
     let docs = c.hear_answer.ensures.documents settings nothing_owed before s body x here at (not_first (is_first_result m) x.life.stage ready) (λ e. not_spawning x.life.stage ready e) st ds in
     let sent = subst (λ w. Does (λ k events. AllStand settings k events) (each (broadcast w) (running_in settings x.life.group before)) base (u, nothing_owed) xs (u, nothing_owed) ys) is
     (subst (λ ns. Does (λ k events. AllStand settings k events) (each (broadcast c.bytes.result.now) ns) base (u, nothing_owed) xs (u, nothing_owed) ys) those

@@ -24,6 +24,7 @@ use Rattle.mux_starts.proofs.Offered.{asks_all, made_by, refused_row}
 use Rattle.mux_starts.proofs.Parking.{hasty, other_keeps}
 use Rattle.mux_starts.proofs.Singles.{fresh_here}
 use Rattle.mux_starts.proofs.Uncreated.{refused_creates}
+use Rattle.mux_starts.proofs.Unlisted.{asks_unlisted}
 use Rattle.mux_starts.proofs.creates.take_create.Goals as goal
 
 pub offer_each-requires-clause-editors : goal.offer_each-requires-clause-editors
@@ -40,7 +41,7 @@ returns-in-None-clause-does c = λ settings before body method id params s x rea
     let own = start_at_place t.lasts.items c.args.g s x here at in
     let none = subst (λ n. created_token body (created_of settings n before) ≡ None) own (subst (Creates body (created_of settings x.life.start before)) c.in-None.is (c.in_ok-found.ensures settings before body method id params x read says here st)) in
     let stay = hasty settings before s body id method params says (ap may_wait class) in
-    let moved = c.hear_answer.ensures.moves settings before s body x here at (not_early (is_first_result m) x.life.stage ready) (not_first (is_first_error m) x.life.stage ready) stay (other_keeps settings before s body id method params says (ap changes_live class)) (refused_creates settings before s body id method params says none) (asked_named m id method params says) st in
+    let moved = c.hear_answer.ensures.moves settings before s body x here at (not_early (is_first_result m) x.life.stage ready) (not_first (is_first_error m) x.life.stage ready) stay (other_keeps settings before s body id method params says (ap changes_live class)) (asks_unlisted before s body id method params says) (refused_creates settings before s body id method params says none) (asked_named m id method params says) st in
     let docs = c.hear_answer.ensures.documents settings nothing_owed before s body x here at (not_first (is_first_result m) x.life.stage ready) (λ e. not_spawning x.life.stage ready e) st ds in
     whole_entry (λ k events. AllStand settings k events) (create_row settings before x.life.group s body) base (u, nothing_owed) (u, nothing_owed) xs ys first (moved, docs)
     (does_alike (λ _. refused_row settings before x.life.group s body none)

@@ -16,6 +16,7 @@ use Rattle.mux_turns.proofs.Rows.{is_first, is_second}
 use Rattle.mux_starts.proofs.Parking.{unready, unready_keeps}
 use Rattle.mux_starts.proofs.Stopped.{is_late, late_begun, late_moved, late_runs, late_spawned, last_life}
 use Rattle.mux_starts.proofs.Uncreated.{unready_creates}
+use Rattle.mux_starts.proofs.Unlisted.{unready_unlisted}
 use Rattle.mux_starts.proofs.ends.take_stopping.Goals as goal
 
 pub returns-then-not-answers-clause-does : goal.returns-then-not-answers-clause-does
@@ -27,7 +28,7 @@ returns-then-not-answers-clause-does c = λ settings before body s read first at
     let stage = x.0.life.stage in
     let named = c.answered_number-n.ensures body read in
     let unheard = ap (λ (l : Life). is_ready l.stage) (last_life settings t before c.args.g s x.0 x.1 at st) ∙ ap is_ready (c.requires.stopping x.0 x.1) in
-    let heard = c.hear_answer.ensures.moves settings before s body x.0 x.1 at (late_begun (is_first_result m) stage late) (late_moved (is_first_error m) stage late) (unready settings before s body unheard) (unready_keeps settings before s body unheard) (unready_creates settings before s body unheard) named st in
+    let heard = c.hear_answer.ensures.moves settings before s body x.0 x.1 at (late_begun (is_first_result m) stage late) (late_moved (is_first_error m) stage late) (unready settings before s body unheard) (unready_keeps settings before s body unheard) (unready_unlisted before s body unheard) (unready_creates settings before s body unheard) named st in
     let docs = c.hear_answer.ensures.documents settings nothing_owed before s body x.0 x.1 at (late_moved (is_first_result m) stage late) (late_spawned stage late) st ds in
     let off = sym (c.answers_shutdown-answers.ensures settings before s m at counted named st) ∙ c.if-not-answers.true in
     whole_entry (λ k events. AllStand settings k events) (stopping_row s before m) (with_cause before (FromServer s body)) (c.hear_answer.new.self, nothing_owed) (c.hear_answer.new.self, nothing_owed) c.args.outs.now c.args.outs.now first (heard, docs)
@@ -47,7 +48,7 @@ returns-clause-does c = λ settings before body s read first at counted st ds.
     let stage = x.0.life.stage in
     let named = c.answered_number-n.ensures body read in
     let unheard = ap (λ (l : Life). is_ready l.stage) (last_life settings t before c.args.g s x.0 x.1 at st) ∙ ap is_ready (c.requires.stopping x.0 x.1) in
-    let heard = c.hear_answer.ensures.moves settings before s body x.0 x.1 at (late_begun (is_first_result m) stage late) (late_moved (is_first_error m) stage late) (unready settings before s body unheard) (unready_keeps settings before s body unheard) (unready_creates settings before s body unheard) named st in
+    let heard = c.hear_answer.ensures.moves settings before s body x.0 x.1 at (late_begun (is_first_result m) stage late) (late_moved (is_first_error m) stage late) (unready settings before s body unheard) (unready_keeps settings before s body unheard) (unready_unlisted before s body unheard) (unready_creates settings before s body unheard) named st in
     let docs = c.hear_answer.ensures.documents settings nothing_owed before s body x.0 x.1 at (late_moved (is_first_result m) stage late) (late_spawned stage late) st ds in
     let on = sym (c.answers_shutdown-answers.ensures settings before s m at counted named st) ∙ c.if-not-answers.false in
     let base = with_cause before (FromServer s body) in

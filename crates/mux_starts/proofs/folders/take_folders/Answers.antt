@@ -25,6 +25,7 @@ use Rattle.mux_turns.proofs.Matched.{not_early, not_first, not_spawning, whole_e
 use Rattle.mux_starts.proofs.Parking.{hasty, other_keeps}
 use Rattle.mux_starts.proofs.Singles.{fresh_here, lists_one, none_under}
 use Rattle.mux_starts.proofs.Uncreated.{other_creates}
+use Rattle.mux_starts.proofs.Unlisted.{asks_unlisted}
 use Rattle.mux_starts.proofs.folders.take_folders.Goals as goal
 
 pub returns-in-None-clause-does : goal.returns-in-None-clause-does
@@ -34,7 +35,7 @@ returns-in-None-clause-does c = λ settings before body method id params s x rea
     let u = c.hear_answer.new.self in
     let xs = c.args.outs.now in
     let stay = hasty settings before s body id method params says off in
-    let moved = c.hear_answer.ensures.moves settings before s body x here at (not_early (is_first_result m) x.life.stage ready) (not_first (is_first_error m) x.life.stage ready) stay (other_keeps settings before s body id method params says other) (other_creates settings before s body id method params says uncreating) (asked_named m id method params says) st in
+    let moved = c.hear_answer.ensures.moves settings before s body x here at (not_early (is_first_result m) x.life.stage ready) (not_first (is_first_error m) x.life.stage ready) stay (other_keeps settings before s body id method params says other) (asks_unlisted before s body id method params says) (other_creates settings before s body id method params says uncreating) (asked_named m id method params says) st in
     let docs = c.hear_answer.ensures.documents settings nothing_owed before s body x here at (not_first (is_first_result m) x.life.stage ready) (λ e. not_spawning x.life.stage ready e) st ds in
     let none = answer_none (λ (k : Kept). ok_text (id_bytes body) (folders_text k.key.folders)) (slice_get (groups_of settings before) x.life.group) (sym c.in-None.is ∙ c.in_ok-answer.ensures settings before body x read here settled st) in
     whole_entry (λ k events. AllStand settings k events) (folders_row settings before x.life.group s body) base (u, nothing_owed) (u, nothing_owed) xs xs first (moved, docs)
@@ -49,7 +50,7 @@ returns-in_ok-respond-in-Some-clause-does c = λ settings before body method id 
     let ys = c.respond.new.outs in
     let text = c.in-Some.text in
     let stay = hasty settings before s body id method params says off in
-    let moved = c.hear_answer.ensures.moves settings before s body x here at (not_early (is_first_result m) x.life.stage ready) (not_first (is_first_error m) x.life.stage ready) stay (other_keeps settings before s body id method params says other) (other_creates settings before s body id method params says uncreating) (asked_named m id method params says) st in
+    let moved = c.hear_answer.ensures.moves settings before s body x here at (not_early (is_first_result m) x.life.stage ready) (not_first (is_first_error m) x.life.stage ready) stay (other_keeps settings before s body id method params says other) (asks_unlisted before s body id method params says) (other_creates settings before s body id method params says uncreating) (asked_named m id method params says) st in
     let docs = c.hear_answer.ensures.documents settings nothing_owed before s body x here at (not_first (is_first_result m) x.life.stage ready) (λ e. not_spawning x.life.stage ready e) st ds in
     let kept = answer_some (λ (k : Kept). ok_text (id_bytes body) (folders_text k.key.folders)) (slice_get (groups_of settings before) x.life.group) text (sym c.in-Some.is ∙ c.in_ok-answer.ensures settings before body x read here settled st) in
     let one = lists_one text body method id params says kept.0 (get_all IsWritten (groups_of settings before) x.life.group kept.0 known.written kept.1) kept.2 in

@@ -20,6 +20,7 @@ use Rattle.mux_turns.proofs.Matched.{whole_entry}
 use Rattle.mux_starts.proofs.Parking.{unready, unready_keeps}
 use Rattle.mux_starts.proofs.Stopped.{last_life}
 use Rattle.mux_starts.proofs.Uncreated.{unready_creates}
+use Rattle.mux_starts.proofs.Unlisted.{unready_unlisted}
 use Rattle.mux_starts.proofs.hasty.take_hasty.Goals as goal
 
 pub returns-clause-does : goal.returns-clause-does
@@ -33,7 +34,7 @@ returns-clause-does c = λ settings before body method id params s read says fir
     let x = item_at t.lasts.items g c.requires.group in
     let stage = x.0.life.stage in
     let unheard = ap (λ (l : Life). is_ready l.stage) (last_life settings t before g s x.0 x.1 at st) ∙ ap is_ready (c.requires.stage x.0 x.1) in
-    let heard = c.hear_answer.ensures.moves settings before s body x.0 x.1 at (asked_first m id method params says (is_early stage)) (asked_error m id method params says (is_initializing stage)) (unready settings before s body unheard) (unready_keeps settings before s body unheard) (unready_creates settings before s body unheard) (asked_named m id method params says) st in
+    let heard = c.hear_answer.ensures.moves settings before s body x.0 x.1 at (asked_first m id method params says (is_early stage)) (asked_error m id method params says (is_initializing stage)) (unready settings before s body unheard) (unready_keeps settings before s body unheard) (unready_unlisted before s body unheard) (unready_creates settings before s body unheard) (asked_named m id method params says) st in
     let docs = c.hear_answer.ensures.documents settings nothing_owed before s body x.0 x.1 at (asked_first m id method params says (is_initializing stage)) (λ is. let clash : Initializing ≡ Spawning = sym (c.requires.stage x.0 x.1) ∙ is in cc) st ds in
     let q = hasty_quiet c.in_ok-text.text body method id params says (c.in_ok-text.ensures body method id params read says) in
     whole_entry (λ k events. AllStand settings k events) (hasty_row s body (request id method params)) base (u, nothing_owed) (u, nothing_owed) xs c.notify.new.outs first (heard, docs)

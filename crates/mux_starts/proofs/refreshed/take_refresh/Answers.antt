@@ -23,6 +23,7 @@ use Rattle.mux_starts.proofs.Parking.{hasty, many_hasty, other_keeps}
 use Rattle.mux_starts.proofs.Refreshing.{answered_keeps, kept_all}
 use Rattle.mux_starts.proofs.Singles.{all_running, fresh_here, grants_one, none_under, rests_all, runs_here}
 use Rattle.mux_starts.proofs.Uncreated.{other_creates}
+use Rattle.mux_starts.proofs.Unlisted.{asks_unlisted}
 use Rattle.mux_starts.proofs.refreshed.take_refresh.Goals as goal
 
 pub ask_all-requires : goal.ask_all-requires
@@ -42,7 +43,7 @@ returns-clause-does c = λ settings before body method id params s x read says m
     let k = grants_one text body method id params says is in
     let those = c.deref.ensures.value ∙ (c.in_ok-numbers.ensures.those settings before st ∙ ap (λ h. running_in settings h before) (c.group_number-group.ensures x here)) in
     let stay = hasty settings before s body id method params says (many_hasty method many) in
-    let moved = c.hear_answer.ensures.moves settings before s body x here at (not_early (is_first_result m) x.life.stage ready) (not_first (is_first_error m) x.life.stage ready) stay (other_keeps settings before s body id method params says other) (other_creates settings before s body id method params says uncreating) (asked_named m id method params says) st in
+    let moved = c.hear_answer.ensures.moves settings before s body x here at (not_early (is_first_result m) x.life.stage ready) (not_first (is_first_error m) x.life.stage ready) stay (other_keeps settings before s body id method params says other) (asks_unlisted before s body id method params says) (other_creates settings before s body id method params says uncreating) (asked_named m id method params says) st in
     let docs = c.hear_answer.ensures.documents settings nothing_owed before s body x here at (not_first (is_first_result m) x.life.stage ready) (λ e. not_spawning x.life.stage ready e) st ds in
     let open_none = none_under text id (asking_of settings s (behind base xs)) k.answers (fresh_here settings before s body xs first id stay fresh) in
     let granted = all_does settings u u nothing_owed nothing_owed base xs ys

@@ -21,6 +21,7 @@ use Rattle.mux_starts.proofs.Parking.{hasty}
 use Rattle.mux_starts.proofs.Registering.{kept_row}
 use Rattle.mux_starts.proofs.Singles.{fresh_here}
 use Rattle.mux_starts.proofs.Uncreated.{other_creates}
+use Rattle.mux_starts.proofs.Unlisted.{asks_unlisted}
 use Rattle.mux_starts.proofs.registered.take_unregister.Goals as goal
 
 pub take_back-requires-clause-editors : goal.take_back-requires-clause-editors
@@ -35,7 +36,7 @@ returns-in-None-clause-does c = λ settings before body method id params s x rea
     let ys = c.decline.new.outs in
     let none = ap (option_and_then (if_live (live_of settings s before))) (sym (c.in_ok-found.ensures body read) ∙ ap (option_map (λ v. v.items)) c.in-None.is) in
     let stay = hasty settings before s body id method params says (ap may_wait class) in
-    let moved = c.hear_answer.ensures.moves settings before s body x here at (not_early (is_first_result m) x.life.stage ready) (not_first (is_first_error m) x.life.stage ready) stay (kept_live settings s s before body method m id params says class none) (other_creates settings before s body id method params says (ap names_create class)) (asked_named m id method params says) st in
+    let moved = c.hear_answer.ensures.moves settings before s body x here at (not_early (is_first_result m) x.life.stage ready) (not_first (is_first_error m) x.life.stage ready) stay (kept_live settings s s before body method m id params says class none) (asks_unlisted before s body id method params says) (other_creates settings before s body id method params says (ap names_create class)) (asked_named m id method params says) st in
     let docs = c.hear_answer.ensures.documents settings nothing_owed before s body x here at (not_first (is_first_result m) x.life.stage ready) (λ e. not_spawning x.life.stage ready e) st ds in
     whole_entry (λ k events. AllStand settings k events) (unregister_row settings before x.life.group s body) base (u, nothing_owed) (u, nothing_owed) xs ys first (moved, docs)
     (does_alike (λ _. kept_row settings before x.life.group s body none)

@@ -13,6 +13,7 @@ use Rattle.mux_turns.proofs.Matched.{not_early, not_first, not_spawning, whole_e
 use Rattle.mux_starts.proofs.Parking.{attended, other_keeps, single_other}
 use Rattle.mux_starts.proofs.Singles.{puts_one, runs_here, still}
 use Rattle.mux_starts.proofs.Uncreated.{other_creates, single_creates}
+use Rattle.mux_starts.proofs.Unlisted.{asks_unlisted}
 use Rattle.mux_starts.proofs.single.ask_alone.Goals as goal
 
 pub put-requires-clause-editor : goal.put-requires-clause-editor
@@ -28,7 +29,7 @@ returns-clause-does c = λ settings before body method id params s x read says o
     let xs = c.args.outs.now in
     let ys = c.put.new.outs in
     let stay = attended settings before s body id method params says attends in
-    let moved = c.hear_answer.ensures.moves settings before s body x here at (not_early (is_first_result m) x.life.stage ready) (not_first (is_first_error m) x.life.stage ready) stay (other_keeps settings before s body id method params says (single_other method one)) (other_creates settings before s body id method params says (single_creates method one)) (asked_named m id method params says) st in
+    let moved = c.hear_answer.ensures.moves settings before s body x here at (not_early (is_first_result m) x.life.stage ready) (not_first (is_first_error m) x.life.stage ready) stay (other_keeps settings before s body id method params says (single_other method one)) (asks_unlisted before s body id method params says) (other_creates settings before s body id method params says (single_creates method one)) (asked_named m id method params says) st in
     let docs = c.hear_answer.ensures.documents settings nothing_owed before s body x here at (not_first (is_first_result m) x.life.stage ready) (λ e. not_spawning x.life.stage ready e) st ds in
     let y = still c.args.tables.now u c.args.g s x here at ready c.hear_answer.ensures.starts c.hear_answer.ensures.stages in
     whole_entry (λ k events. AllStand settings k events) (ask body e) base (u, nothing_owed) (v, nothing_owed) xs ys first (moved, docs)

@@ -20,6 +20,7 @@ use Rattle.mux_turns.proofs.Matched.{done_alike, not_early, not_first, not_spawn
 use Rattle.mux_starts.proofs.Parking.{hasty, other_keeps, single_other}
 use Rattle.mux_starts.proofs.Singles.{all_running, focus_has, fresh_here}
 use Rattle.mux_starts.proofs.Uncreated.{other_creates, single_creates}
+use Rattle.mux_starts.proofs.Unlisted.{asks_unlisted}
 use Rattle.mux_starts.proofs.single.take_focused.Goals as goal
 
 pub ask_in_focus-requires-clause-editor : goal.ask_in_focus-requires-clause-editor
@@ -33,7 +34,7 @@ returns-in_ok-deny-in-None-clause-does c = λ settings before body method id par
     let xs = c.args.outs.now in
     let ys = c.deny.new.outs in
     let stay = hasty settings before s body id method params says off in
-    let moved = c.hear_answer.ensures.moves settings before s body x here at (not_early (is_first_result m) x.life.stage ready) (not_first (is_first_error m) x.life.stage ready) stay (other_keeps settings before s body id method params says (single_other method one)) (other_creates settings before s body id method params says (single_creates method one)) (asked_named m id method params says) st in
+    let moved = c.hear_answer.ensures.moves settings before s body x here at (not_early (is_first_result m) x.life.stage ready) (not_first (is_first_error m) x.life.stage ready) stay (other_keeps settings before s body id method params says (single_other method one)) (asks_unlisted before s body id method params says) (other_creates settings before s body id method params says (single_creates method one)) (asked_named m id method params says) st in
     let docs = c.hear_answer.ensures.documents settings nothing_owed before s body x here at (not_first (is_first_result m) x.life.stage ready) (λ e. not_spawning x.life.stage ready e) st ds in
     let none = sym (c.in_ok-focus.ensures.focus settings before s x here at st) ∙ c.in-None.is in
     whole_entry (λ k events. AllStand settings k events) (focused_row settings before x.life.group s body method) base (u, nothing_owed) (u, nothing_owed) xs ys first (moved, docs)

@@ -16,8 +16,8 @@ pub returns-clause-stages : goal.returns-clause-stages
 returns-clause-stages c = stages_stay c.args.self.now.lasts.items c.args.g c.index_mut-last.result.now (record c.index_mut-last.result.now { ids = c.answer.new.ids }) c.requires c.index_mut-last.ensures.value refl
 
 pub returns-clause-moves : goal.returns-clause-moves
-returns-clause-moves c = λ settings events s body x is at result error still stays rests named st.
-    answer_moves settings c.args.self.now _ events c.args.g s x c.index_mut-last.result.now body c.args.n c.answer.new.ids is at c.requires c.index_mut-last.ensures.value result error still stays named c.answer.ensures.requests c.answer.ensures.next c.answer.ensures.limit c.answer.ensures.order refl refl refl refl
+returns-clause-moves c = λ settings events s body x is at result error still stays keeps rests named st.
+    answer_moves settings c.args.self.now _ events c.args.g s x c.index_mut-last.result.now body c.args.n c.answer.new.ids is at c.requires c.index_mut-last.ensures.value result error still stays keeps named c.answer.ensures.requests c.answer.ensures.next c.answer.ensures.limit c.answer.ensures.order refl refl refl refl
     (origins_stay settings c.args.self.now.origins c.args.self.now.origins events (heard (FromServer s body)) refl (heard_all settings s events body (message_of body) rests)) refl st
 
 pub returns-clause-found : goal.returns-clause-found

@@ -1,0 +1,11 @@
+-- How many notifications on documents a start was sent.
+use Rattle.std.proofs.Common.{◌∙◌, sym}
+use Rattle.mux_tables.proofs.DocumentAgreed.{sayings_here}
+use Rattle.mux_tables.proofs.Listed.{got, got_none, stored}
+use Rattle.mux_tables.proofs.tables.Tables.notices_sent.Goals as goal
+
+pub returns-in-Some : goal.returns-in-Some
+returns-in-Some c = λ settings events x at ready ds. c.sent.ensures ∙ sym (sayings_here settings c.args.self.now events c.args.g x c.in-Some.shared.now at (got c.args.self.now.documents.items c.deref.result.now c.args.g c.in-Some.shared.now c.deref.ensures.value c.in-Some.ensures.lookup.0 c.in-Some.ensures.lookup.1) ready ds)
+
+pub returns-in-None : goal.returns-in-None
+returns-in-None c = λ settings events x at ready ds. absurd (stored settings c.args.self.now events c.args.g x at ds (got_none c.args.self.now.documents.items c.deref.result.now c.args.g c.deref.ensures.value c.in-None.ensures.lookup.0))
