@@ -31,3 +31,8 @@ pub use Rattle.registrations.specs.mux_members
 pub use Rattle.registrations.specs.mux_model
 pub use Rattle.registrations
 pub use Rattle.response_route
+pub mod Earlier
+pub mod ExitRows
+pub mod SlowRows
+pub mod StopRows
+pub mod Waiting

@@ -1,10 +1,10 @@
--- The routing table over several editors and groups, in part: J1, J2, E2 to E5, E7 to E10, E11, E12 to E17, E19, S1, S2 with X4, S3, S4, S5 with V1 and V2, S6 to S12 with V3, S13 to S15, L2, X1 to X3 of groups that live no more, and X5 to X7.
-use Rattle.std.specs.Prelude.{ℕ, Bool, true, false, ◌&&◌, ◌||◌, List, [], ◌∷◌, ◌++◌, filter, flat_map, codes, nat_eq, nat_lt, bytes_eq, if◌then◌else◌}
+-- The routing table over several editors and groups.
+use Rattle.std.specs.Prelude.{ℕ, Bool, true, false, not, ◌&&◌, ◌||◌, List, [], ◌∷◌, ◌++◌, filter, flat_map, codes, nat_eq, nat_lt, bytes_eq, if◌then◌else◌}
 use Rattle.std.specs.Prelude.{Option, Some, None, slice_get}
 use Rattle.std.specs.List.{list_any}
 use Rattle.std.specs.Option.{option_map_or}
 use Rattle.mux_history.specs.declared.cause.Cause.{Cause}
-use Rattle.mux_history.specs.declared.cause.Cause.TheVariants.{FromEditor, EditorGone, Started, FromServer, Tick}
+use Rattle.mux_history.specs.declared.cause.Cause.TheVariants.{Joined, FromEditor, EditorGone, Started, StartFailed, FromServer, ServerGone, Drained, Tick}
 use Rattle.mux_history.specs.declared.out.Out.{Out}
 use Rattle.mux_history.specs.declared.out.Out.TheVariants.{ToEditor, ToServer, CloseEditor, EndServer}
 use Rattle.json_text.specs.Json.{Json}
@@ -40,14 +40,19 @@ use Rattle.group_rows.specs.Answers.{answer_row}
 use Rattle.group_rows.specs.AskRows.{notified_row, question_row, response_row, run_row}
 use Rattle.group_rows.specs.Cancelling.{cancelling_row}
 use Rattle.group_rows.specs.CreatedRows.{work_row}
+use Rattle.group_rows.specs.Earlier.{configuration_of, differs, given_of}
 use Rattle.group_rows.specs.Ends.{answers_shutdown, exit_server}
+use Rattle.group_rows.specs.ExitRows.{exit_row, members_in}
 use Rattle.group_rows.specs.Forwarded.{forwarding_of}
 use Rattle.group_rows.specs.Leaves.{leave_row}
 use Rattle.group_rows.specs.ListRows.{show_opened}
+use Rattle.group_rows.specs.SlowRows.{slow_row}
 use Rattle.group_rows.specs.Status.{items_of, status_text}
+use Rattle.group_rows.specs.StopRows.{joined_row, stop_row}
 use Rattle.group_rows.specs.Texts.{encoding_of, texts_of}
 use Rattle.group_rows.specs.Ticks.{tick_row}
 use Rattle.group_rows.specs.Tokens.{forwarded_text, reserves}
+use Rattle.group_rows.specs.Waiting.{Held, cancelled_text, held_named, held_of, is_held_of, may_wait, refuse_held, refuse_waiting}
 
 abbrev pub answer_error : ℕ → List ℕ → Code → Row
 answer_error e body code = send (ToEditor e (error_text (id_bytes body) code))
@@ -94,8 +99,15 @@ can_ask settings s events = is_ready (life_of s events).stage && nat_lt (forward
 abbrev pub sync_row : Settings → List Event → ℕ → ℕ → ℕ → Row
 sync_row settings before g s e = to_start s (sync_bodies settings.limits.versions (λ u. held_at s u before) e (texts_of settings g before).opens)
 
+abbrev pub ask_ready : Settings → List Event → ℕ → List ℕ → ℕ → ℕ → Row
+ask_ready settings before e body g s = choose (can_ask settings s before) (sync_row settings before g s e ⨾ forward s body) (answer_error e body request_failed)
+
+-- a request that meets a start that isn't ready waits, as long as that may take no more than it should
+abbrev pub hold : Settings → List Event → ℕ → List ℕ → ℕ → Row
+hold settings before e body g = choose (may_wait body (filter (is_held_of e) (held_of settings g before))) nothing (answer_error e body request_failed)
+
 abbrev pub request_at : Settings → List Event → ℕ → List ℕ → ℕ → ℕ → Row
-request_at settings before e body g s = choose (can_ask settings s before) (sync_row settings before g s e ⨾ forward s body) (answer_error e body request_failed)
+request_at settings before e body g s = choose (is_ready (life_of s before).stage) (ask_ready settings before e body g s) (hold settings before e body g)
 
 abbrev pub request_row : Settings → List Event → ℕ → List ℕ → Row
 request_row settings before e body = choose (reserves (params_of body)) (answer_error e body invalid_params) (on (home_of settings e before) (answer_error e body request_failed)
@@ -122,7 +134,7 @@ closing_row settings before e = send (CloseEditor e) ⨾ leave_row settings befo
 
 -- E9: `shutdown` is answered, and the editor leaves
 abbrev pub shutdown_row : Settings → List Event → ℕ → List ℕ → Row
-shutdown_row settings before e body = send (ToEditor e (ok_text (id_bytes body) (codes "null"))) ⨾ leave_row settings before e
+shutdown_row settings before e body = on (home_of settings e before) nothing (λ g. refuse_waiting settings g before e) ⨾ (send (ToEditor e (ok_text (id_bytes body) (codes "null"))) ⨾ leave_row settings before e)
 
 -- E8: what a request that isn't taken is answered with; a second `initialize` is an invalid one
 abbrev pub wrong_code : List ℕ → Code → Code
@@ -149,10 +161,17 @@ served_request settings before e body method = choose (is_misplaced method) (ans
     (choose (bytes_eq (codes "shutdown") method) (shutdown_row settings before e body) (request_row settings before e body))
 
 -- E9, and E11 to E17; E15: what speaks of no document and doesn't go on gives nothing
+-- E11: a request that waits is answered; another one is cancelled where it went
+abbrev pub cancel_held : Held → Row
+cancel_held h = send (ToEditor h.editor (cancelled_text (id_bytes h.body)))
+
+abbrev pub cancel_row : Settings → List Event → ℕ → List ℕ → Option Json → Row
+cancel_row settings before e body params = on (home_of settings e before) nothing (λ g. on (held_named e params (held_of settings g before)) (cancelling_row settings before e body params) cancel_held)
+
 abbrev pub served_notice : Settings → List Event → ℕ → List ℕ → List ℕ → Option Json → Row
 served_notice settings before e body method params = choose (bytes_eq (codes "exit") method) (closing_row settings before e)
     (choose (goes_on (class_of method Editor true)) (notice_row settings before e body)
-    (choose (bytes_eq (codes "$/cancelRequest") method) (cancelling_row settings before e body params)
+    (choose (bytes_eq (codes "$/cancelRequest") method) (cancel_row settings before e body params)
     (choose (bytes_eq (codes "window/workDoneProgress/cancel") method) (work_row settings before e body params) (document_row settings before e body (saying_by method params)))))
 
 abbrev pub served_row : Settings → List Event → ℕ → List ℕ → Message → Row
@@ -190,16 +209,16 @@ named_row e body None = answer_error e body invalid_params
 abbrev pub open_row : Settings → List Event → ℕ → List ℕ → Message → Row
 open_row settings before e body m = choose (is_first_open settings.servers before e m) (named_row e body (server_asked settings.servers body)) (answer_error e body invalid_request)
 
--- E4 and E5: a request of the multiplexer's own, in any phase
+-- E4 to E6: a request of the multiplexer's own, in any phase
 abbrev pub names_lspmux : List ℕ → Bool
-names_lspmux method = bytes_eq (codes "lspmux/open") method || bytes_eq (codes "lspmux/status") method
+names_lspmux method = bytes_eq (codes "lspmux/open") method || (bytes_eq (codes "lspmux/status") method || bytes_eq (codes "lspmux/stop") method)
 
 abbrev pub asks_lspmux : Message → Bool
 asks_lspmux (request id method params) = names_lspmux method
 asks_lspmux other = false
 
 abbrev pub lspmux_row : Settings → List Event → ℕ → List ℕ → Message → Row
-lspmux_row settings before e body m = choose (requests (codes "lspmux/open") m) (open_row settings before e body m) (status_row settings before e body)
+lspmux_row settings before e body m = choose (requests (codes "lspmux/open") m) (open_row settings before e body m) (choose (requests (codes "lspmux/stop") m) (stop_row settings before e body) (status_row settings before e body))
 
 abbrev pub told_row : Settings → List Event → ℕ → List ℕ → Message → Phase → Row
 told_row settings before e body m phase = choose (is_there phase && asks_lspmux m) (lspmux_row settings before e body m) (taken_row settings before e body m phase)
@@ -218,9 +237,36 @@ welcome body e = look (λ events. send (ToEditor e (ok_text (id_bytes (desk_of e
 abbrev pub waiting_in : Settings → ℕ → List Event → List ℕ
 waiting_in settings g events = editors_in is_waiting g (λ e. home_of settings e events) events
 
+-- where it isn't what an earlier start of the group gave, editors that were answered are refused what waits, and their links are to be ended
+abbrev pub is_answered : Phase → Bool
+is_answered phase = is_begun phase && not (is_waiting phase)
+
+abbrev pub part : Settings → ℕ → ℕ → Row
+part settings g e = look (λ events. refuse_waiting settings g events e) ⨾ send (CloseEditor e)
+
+abbrev pub answered_in : Settings → ℕ → List Event → List ℕ
+answered_in settings g events = editors_in is_answered g (λ e. home_of settings e events) events
+
+abbrev pub part_all : Settings → List Event → List ℕ → ℕ → Row
+part_all settings before body g = choose (differs (given_of g before) body) (each (part settings g) (answered_in settings g before)) nothing
+
+-- it is told of the group's configuration, and of each document that is open
+abbrev pub tell_configuration : Settings → List Event → ℕ → ℕ → Row
+tell_configuration settings before g s = on (configuration_of settings g before) nothing (λ body. send (ToServer s body))
+
+abbrev pub replay : Settings → ℕ → ℕ → Row
+replay settings g s = look (λ events. to_start s (replay_bodies [] (texts_of settings g events).opens (texts_of settings g events).opens))
+
+-- what waits is sent, each behind a sync of its editor's texts, as long as a number is left
+abbrev pub send_held : Settings → ℕ → ℕ → Held → Row
+send_held settings g s h = look (λ events. choose (nat_lt (forwarding_of s events).next settings.limits.requests) (sync_row settings events g s h.editor ⨾ forward s h.body) (refuse_held h))
+
+abbrev pub send_waiting : Settings → ℕ → ℕ → Row
+send_waiting settings g s = look (λ events. each (send_held settings g s) (held_of settings g events))
+
 abbrev pub result_in : Settings → List Event → ℕ → List ℕ → ℕ → Row
 result_in settings before s body g =
-    send (ToServer s initialized_text) ⨾ (to_start s (replay_bodies [] (texts_of settings g before).opens (texts_of settings g before).opens) ⨾ look (λ events. each (welcome body) (waiting_in settings g events)))
+    part_all settings before body g ⨾ (send (ToServer s initialized_text) ⨾ (tell_configuration settings before g s ⨾ (replay settings g s ⨾ (look (λ events. each (welcome body) (waiting_in settings g events)) ⨾ send_waiting settings g s))))
 
 abbrev pub first_result : Settings → List Event → ℕ → List ℕ → Row
 first_result settings before s body = on (group_of s before) nothing (result_in settings before s body)
@@ -229,16 +275,9 @@ first_result settings before s body = on (group_of s before) nothing (result_in 
 abbrev pub refusal : List ℕ → ℕ → Row
 refusal body e = look (λ events. send (ToEditor e (with_id_text body (id_bytes (desk_of e events).initialize)))) ⨾ send (CloseEditor e)
 
--- the editors of a group
-abbrev pub members_in : Settings → ℕ → List Event → List ℕ
-members_in settings g events = editors_in is_begun g (λ e. home_of settings e events) events
-
-abbrev pub close_all : List ℕ → Row
-close_all es = each (λ e. send (CloseEditor e)) es
-
--- behind the refusals none waits
+-- behind the refusals none waits for its `initialize`
 abbrev pub refused_in : Settings → ℕ → List ℕ → ℕ → Row
-refused_in settings s body g = look (λ events. each (refusal body) (waiting_in settings g events)) ⨾ (look (λ events. close_all (members_in settings g events)) ⨾ send (EndServer s))
+refused_in settings s body g = look (λ events. each (refusal body) (waiting_in settings g events)) ⨾ (look (λ events. each (part settings g) (members_in settings g events)) ⨾ send (EndServer s))
 
 abbrev pub refused_row : Settings → List Event → ℕ → List ℕ → Row
 refused_row settings before s body = on (group_of s before) nothing (refused_in settings s body)
@@ -279,17 +318,20 @@ started settings s before other = nothing
 abbrev pub gone_row : Settings → List Event → ℕ → Phase → Row
 gone_row settings before e phase = choose (is_served phase) (leave_row settings before e) nothing
 
--- J1 and X6 give nothing, as each cause without a row of its own does
+-- X6 gives nothing
 abbrev pub row_of : Settings → List Event → Cause → Row
 row_of settings before (FromEditor e body) = from_editor settings before e body (message_of body) (desk_of e before).phase
 row_of settings before (EditorGone e why) = gone_row settings before e (desk_of e before).phase
 row_of settings before (FromServer s body) = from_server settings s before body (message_of body) (life_of s before).stage
 row_of settings before (Started s) = started settings s before (life_of s before).stage
+row_of settings before (Joined e) = joined_row before e
+row_of settings before (StartFailed s) = exit_row settings before s
+row_of settings before (ServerGone s) = exit_row settings before s
 row_of settings before (Tick t) = tick_row settings before t
-row_of settings before other = nothing
+row_of settings before (Drained e k) = nothing
 
 abbrev pub outs_of : Settings → List Event → Cause → List Out
-outs_of settings before cause = outs (row_of settings before cause) (with_cause before cause)
+outs_of settings before cause = outs (row_of settings before cause ⨾ slow_row settings) (with_cause before cause)
 
 -- the outs of each of these causes in turn, behind these events
 abbrev pub outs_from : Settings → List Event → List Cause → List (List Out)
