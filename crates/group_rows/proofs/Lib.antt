@@ -22,3 +22,4 @@ pub mod CreatedKept
 pub mod WorkedLists
 pub mod ListTexts
 pub mod ListsKept
+pub mod WorkedLoss

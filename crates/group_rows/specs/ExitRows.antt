@@ -107,5 +107,5 @@ exit_in settings before s g x = choose x.live
     ⨾ (each (lose_start settings before s) (running_in settings g before)
     ⨾ choose (starts_again settings before g x) (spawn g) (each (turn_out settings g) (members_in settings g before)))) nothing
 
-abbrev pub exit_row : Settings → List Event → ℕ → Row
-exit_row settings before s = on (group_of s before) nothing (λ g. on (slice_get (groups_of settings before) g) nothing (exit_in settings before s g))
+abbrev pub lost_row : Settings → List Event → ℕ → Row
+lost_row settings before s = on (group_of s before) nothing (λ g. on (slice_get (groups_of settings before) g) nothing (exit_in settings before s g))

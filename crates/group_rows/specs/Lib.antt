@@ -25,6 +25,7 @@ pub mod CreatedRows
 pub mod Lists
 pub mod ListRows
 pub mod ListsExample
+pub mod LossExample
 pub use Rattle.diagnostics_route
 pub use Rattle.group_words
 pub use Rattle.registrations.specs.mux_members

@@ -42,7 +42,7 @@ use Rattle.group_rows.specs.Cancelling.{cancelling_row}
 use Rattle.group_rows.specs.CreatedRows.{work_row}
 use Rattle.group_rows.specs.Earlier.{configuration_of, differs, given_of}
 use Rattle.group_rows.specs.Ends.{answers_shutdown, exit_server}
-use Rattle.group_rows.specs.ExitRows.{exit_row, members_in}
+use Rattle.group_rows.specs.ExitRows.{lost_row, members_in}
 use Rattle.group_rows.specs.Forwarded.{forwarding_of}
 use Rattle.group_rows.specs.Leaves.{leave_row}
 use Rattle.group_rows.specs.ListRows.{show_opened}
@@ -325,8 +325,8 @@ row_of settings before (EditorGone e why) = gone_row settings before e (desk_of 
 row_of settings before (FromServer s body) = from_server settings s before body (message_of body) (life_of s before).stage
 row_of settings before (Started s) = started settings s before (life_of s before).stage
 row_of settings before (Joined e) = joined_row before e
-row_of settings before (StartFailed s) = exit_row settings before s
-row_of settings before (ServerGone s) = exit_row settings before s
+row_of settings before (StartFailed s) = lost_row settings before s
+row_of settings before (ServerGone s) = lost_row settings before s
 row_of settings before (Tick t) = tick_row settings before t
 row_of settings before (Drained e k) = nothing
 
