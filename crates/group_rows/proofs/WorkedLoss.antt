@@ -36,7 +36,7 @@ a_request_waits : all_outs held_back ≡ held_back_outs
 unfolding computes url_on_literals message_of named no_name_twice is_integer member_bytes with_id_text id_edits escape_byte digits own_request own_notification goes_nowhere editor_request editor_notification is_focused is_refresh server_notification server_request chars
 a_request_waits = refl
 
-few_bytes : Settings
+abbrev few_bytes : Settings
 few_bytes = record { limits = record (with_groups 8).limits { backlog = 1024 }; servers = (with_groups 8).servers; default = 0 }
 
 a_slow_editor_is_closed : flat_map (λ xs. xs) (outs_from few_bytes [] slow) ≡ slow_outs
