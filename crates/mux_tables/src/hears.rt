@@ -120,14 +120,14 @@ impl Tables {
     // A group that lives and lost its last editor is idle from now on.
     fn empty_group(&mut self, g: u64, was: bool) -> Result<(), Memory>
         ensures editors { self.new.editors ≡ self.old.editors }
-        ensures time { self.new.time ≡ self.old.time }
+        ensures course { self.new.course ≡ self.old.course }
         ensures lasts { self.new.lasts ≡ self.old.lasts }
         ensures origins { self.new.origins ≡ self.old.origins }
         ensures documents { self.new.documents ≡ self.old.documents }
         ensures requests { self.new.requests ≡ self.old.requests }
         ensures versions { self.new.versions ≡ self.old.versions }
         ensures groups { OnOk result (self.new.groups
-            ≡ with_groups (emptied (Some g) was (stays_in self.old.editors) self.old.time self.old.groups.groups) self.old.groups) }
+            ≡ with_groups (emptied (Some g) was (stays_in self.old.editors) self.old.course.time self.old.groups.groups) self.old.groups) }
     {
         if !was {
             return Ok(());
@@ -139,21 +139,21 @@ impl Tables {
         if left.len() > 0 {
             return Ok(());
         }
-        self.groups.idle(g, self.time);
+        self.groups.idle(g, self.course.time);
         Ok(())
     }
 
     // The same of a group that an editor may have been placed in.
     pub fn empty(&mut self, home: Option<u64>, was: bool) -> Result<(), Memory>
         ensures editors { self.new.editors ≡ self.old.editors }
-        ensures time { self.new.time ≡ self.old.time }
+        ensures course { self.new.course ≡ self.old.course }
         ensures lasts { self.new.lasts ≡ self.old.lasts }
         ensures origins { self.new.origins ≡ self.old.origins }
         ensures documents { self.new.documents ≡ self.old.documents }
         ensures requests { self.new.requests ≡ self.old.requests }
         ensures versions { self.new.versions ≡ self.old.versions }
         ensures groups { OnOk result (self.new.groups
-            ≡ with_groups (emptied home was (stays_in self.old.editors) self.old.time self.old.groups.groups) self.old.groups) }
+            ≡ with_groups (emptied home was (stays_in self.old.editors) self.old.course.time self.old.groups.groups) self.old.groups) }
     {
         match home {
             None => Ok(()),
@@ -265,6 +265,7 @@ impl Tables {
         let live = self.groups.live_groups()?;
         end_all(&mut self.groups, &live);
         self.editors.set(e, phase);
+        self.course.stopped = true;
         Ok(live)
     }
 
@@ -279,10 +280,10 @@ impl Tables {
         ensures documents { (settings : Settings) (owed : Owed) (events : List Event) → DocumentsStand settings owed self.old events
             → OnOk result (DocumentsStand settings owed self.new (events ++ heard (Tick now) ∷ [])) }
     {
-        let now = later(self.time, now);
+        let now = later(self.course.time, now);
         let due = self.groups.due(now)?;
         end_all(&mut self.groups, &due);
-        self.time = now;
+        self.course.time = now;
         Ok(due)
     }
 }

@@ -306,7 +306,7 @@ impl Tables {
             → message_of text ≡ message.request name (codes "shutdown") ps
             → DocumentsStand settings owed self.old (behind base outs.old) → OnOk result (DocumentsStand settings owed self.new (behind base outs.new)) }
     {
-        let now = self.time;
+        let now = self.course.time;
         unready(&mut self.documents, g);
         let last = &mut self.lasts[g];
         last.life.stop(n, now);

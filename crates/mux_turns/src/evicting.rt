@@ -4,7 +4,7 @@ ghost use Rattle.event_model.specs.declared.stage.Stage.TheVariants.{Ready};
 ghost use Rattle.event_model.specs.Does.{Does};
 ghost use Rattle.event_model.specs.Event.{Event, behind};
 ghost use Rattle.event_model.specs.Requests.{next_number};
-ghost use Rattle.event_model.specs.Row.{look};
+ghost use Rattle.event_model.specs.Row.{each, look};
 ghost use Rattle.event_model.specs.Settings.{Settings};
 ghost use Rattle.event_model.specs.Stages.{life_of};
 ghost use Rattle.group_facts.specs.Facts.{Numbered};
@@ -108,6 +108,25 @@ pub fn evict(tables: &mut Tables, alloc: Global, outs: &mut Outs, g: u64) -> Res
             Ok(())
         }
     }
+}
+
+/// E6 and X7: these groups end, one after the other.
+pub fn end_groups(
+    tables: &mut Tables,
+    alloc: Global,
+    outs: &mut Outs,
+    groups: &[u64],
+) -> Result<(), Memory>
+    ensures requests { tables.new.requests ≡ tables.old.requests }
+    ensures versions { tables.new.versions ≡ tables.old.versions }
+    ensures does { (settings : Settings) (base : List Event) → Numbered (behind base outs.old)
+        → OnOk result (Does (λ k events. AllStand settings k events)
+        (each end_group groups.now) base (tables.old, nothing_owed) outs.old (tables.new, nothing_owed) outs.new) }
+{
+    for g in groups {
+        evict(tables, alloc, outs, *g)?;
+    }
+    Ok(())
 }
 
 /// E7: this group ends, and a start is spawned for the new group, which has the next number.

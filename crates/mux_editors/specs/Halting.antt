@@ -1,0 +1,24 @@
+-- The middle of a stop of all.
+use Rattle.std.specs.Prelude.{ℕ, List, ◌×◌}
+use Rattle.rpc_message.specs.Message.{Id}
+use Rattle.rpc_message.specs.ValueTexts.{IsIdText}
+use Rattle.mux_history.specs.declared.out.Out.TheVariants.{ToEditor}
+use Rattle.event_model.specs.Event.{Event}
+use Rattle.event_model.specs.Row.{Row, send}
+use Rattle.event_model.specs.Settings.{Settings}
+use Rattle.mux_tables.specs.declared.tables.Tables.{Tables}
+use Rattle.mux_tables.specs.Documents.{DocumentsStand, Owed}
+use Rattle.mux_tables.specs.Stands.{Stands}
+use Rattle.rpc_message.specs.Texts.{error_text, request_failed}
+
+-- the text of an id
+abbrev pub IsNamed : List ℕ → Type 0
+IsNamed bytes = (id : Id) × IsIdText id bytes
+
+-- what is open under this id at an editor fails
+abbrev pub refuse_id : ℕ → List ℕ → Row
+refuse_id e id = send (ToEditor e (error_text id request_failed))
+
+-- editors are closed that don't leave: the tables stand, whatever starts are owed for their documents
+abbrev pub Halts : Settings → Tables → List Event → Type 0
+Halts settings t events = Stands settings t events × ((owed : Owed) × DocumentsStand settings owed t events)
