@@ -1,7 +1,6 @@
 -- A stop, worked out by the checker.
 use Rattle.std.proofs.Common.{◌≡◌, refl}
 use Rattle.std.specs.Fmt.{digits}
-use Rattle.std.specs.Str.{chars}
 use Rattle.url.proofs.OnLiterals.{url_on_literals}
 use Rattle.json.specs.Print.{escape_byte}
 use Rattle.json_text.specs.Computes.{computes}
