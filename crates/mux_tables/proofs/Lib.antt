@@ -29,6 +29,7 @@ pub mod Served
 pub mod Leaves
 pub mod Ends
 pub mod Exits
+pub mod Halted
 pub mod Heard
 pub mod DocumentBegins
 pub mod DocumentFrames
