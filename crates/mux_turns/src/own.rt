@@ -11,5 +11,5 @@ use rpc_message::Message;
 pub fn asks_lspmux(message: &Message) -> bool
     ensures { (body : List ℕ) → IsRead message.now body → result ≡ asks_lspmux (message_of body) }
 {
-    is_open(message) || is_status(message) || is_stop(message)
+    is_open(message) || (is_status(message) || is_stop(message))
 }
