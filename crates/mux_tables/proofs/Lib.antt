@@ -30,6 +30,7 @@ pub mod Leaves
 pub mod Ends
 pub mod Exits
 pub mod Halted
+pub mod OpenIds
 pub mod Heard
 pub mod DocumentBegins
 pub mod DocumentFrames

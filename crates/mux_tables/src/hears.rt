@@ -7,6 +7,7 @@ ghost use Rattle.event_model.specs.Phases.{desk_of, is_served};
 ghost use Rattle.event_model.specs.Settings.{Settings};
 ghost use Rattle.group_table.specs.Tables.{Inside, declared_text, with_groups};
 ghost use Rattle.group_laws.specs.group_rows.specs.Ticks.{due_of};
+ghost use Rattle.group_words.specs.Placing.{all_from, is_live};
 ghost use Rattle.group_words.specs.Houses.{declared_for, emptied, groups_of, home_of, is_first_open, key_for, placed_for, places, server_asked, stops};
 ghost use Rattle.mux_history.specs.declared.cause.Cause.TheVariants.{EditorGone, FromEditor, Joined, Tick};
 ghost use Rattle.mux_history.specs.declared.cause.Why.{Why};
@@ -254,6 +255,12 @@ impl Tables {
     pub fn hear_stop(&mut self, e: u64, phase: Phase) -> Result<Vec<u64>, Memory>
         requires editor { e < length self.old.editors }
         requires joined { phase ≢ Absent }
+        ensures count { OnOk result (length self.new.editors ≡ length self.old.editors) }
+        ensures requests { self.new.requests ≡ self.old.requests }
+        ensures versions { self.new.versions ≡ self.old.versions }
+        ensures lasts { self.new.lasts ≡ self.old.lasts }
+        ensures live { (settings : Settings) (events : List Event) → Stands settings self.old events
+            → IfOk result (λ live. live.items ≡ all_from 0 is_live (groups_of settings events)) }
         ensures stands { (settings : Settings) (events : List Event) (body : List ℕ) → Stands settings self.old events
             → places (desk_of e events).phase (message_of body) ≡ false → stops events e (message_of body) ≡ true
             → (desk_of e (events ++ heard (FromEditor e body) ∷ [])).phase ≡ phase
