@@ -3,11 +3,12 @@ ghost use Rattle.std.specs.Prelude.{◌≡◌, ◌<◌, ℕ, List, [], map, Some
 ghost use Rattle.std.specs.List.{All, AllByRecursion};
 ghost use Rattle.event_model.specs.Does.{Does, Done};
 ghost use Rattle.event_model.specs.Event.{Event, behind, with_cause};
+ghost use Rattle.event_model.specs.Phases.{is_waiting};
 ghost use Rattle.event_model.specs.Row.{each};
 ghost use Rattle.event_model.specs.Settings.{Settings};
 ghost use Rattle.group_rows.specs.StopRows.{close_each, lose_requests, refuse_initialize, refuse_open, stop_row};
 ghost use Rattle.group_words.specs.Houses.{stops};
-ghost use Rattle.mux_editors.specs.Halting.{Halts, IsNamed, refuse_id};
+ghost use Rattle.mux_editors.specs.Halting.{AllHoused, Halts, IsNamed, refuse_id};
 ghost use Rattle.mux_history.specs.declared.cause.Cause.TheVariants.{FromEditor};
 ghost use Rattle.mux_tables.specs.Documents.{AllStand, DocumentsStand, Owed, nothing_owed};
 ghost use Rattle.mux_tables.specs.Halts.{ids_at};
@@ -46,6 +47,13 @@ fn refuse_id(
     Ok(())
 }
 
+// It waits for the answer to its `initialize`.
+fn is_waiting(phase: Phase) -> bool
+    ensures { result ≡ is_waiting phase }
+{
+    matches!(phase, Phase::Waiting)
+}
+
 // Its `initialize` does, where it waits.
 fn refuse_initialize(
     tables: &Tables,
@@ -54,12 +62,12 @@ fn refuse_initialize(
     e: u64,
 ) -> Result<(), Memory>
     requires { e < length tables.now.editors }
-    ensures does { (settings : Settings) (base : List Event) → AllAsking (behind base outs.old)
+    ensures does { (settings : Settings) (base : List Event) → AllAsking (behind base outs.old) → AllHoused settings (behind base outs.old)
         → OnOk result (Does (λ t events. Stands settings t events) (refuse_initialize e) base tables.now outs.old tables.now outs.new) }
     ensures documents { (settings : Settings) (owed : Owed) (base : List Event) → DocumentsStand settings owed tables.now (behind base outs.old)
         → OnOk result (DocumentsStand settings owed tables.now (behind base outs.new)) }
 {
-    if tables.phase(e) != Phase::Waiting {
+    if !is_waiting(tables.phase(e)) {
         return Ok(());
     }
     match tables.initialize_id(e) {
@@ -120,7 +128,7 @@ fn refuse_each(
 ) -> Result<(), Memory>
     requires { All (λ e. e < length tables.now.editors) editors.now }
     ensures does { (settings : Settings) (before base : List Event) (k : ℕ) (body : List ℕ) → Stands settings tables.now (with_cause before (FromEditor k body))
-        → stops before k (message_of body) ≡ true → AllForwarded before → AllAsking (behind base outs.old)
+        → stops before k (message_of body) ≡ true → AllForwarded before → AllAsking (behind base outs.old) → AllHoused settings (behind base outs.old)
         → OnOk result (Does (λ t events. Stands settings t events) (each (refuse_open settings before) editors.now) base
         tables.now outs.old tables.now outs.new) }
     ensures documents { (settings : Settings) (owed : Owed) (base : List Event) → DocumentsStand settings owed tables.now (behind base outs.old)
