@@ -1,5 +1,6 @@
 -- E6: what is open at an editor fails.
-use Rattle.std.proofs.Common.{◌≡◌, ℕ, true, false, List, ◌++◌, refl, ap, sym, subst, ◌∙◌}
+use Rattle.std.proofs.Common.{◌≡◌, ℕ, zero, suc, ◌<◌, Bool, true, false, List, [], ◌∷◌, ◌++◌, filter, map, length, get_or, nat_eq, if◌then◌else◌, refl, ap, ap₂, sym, subst, ◌∙◌, arith}
+use Rattle.std.specs.List.{AllByRecursion}
 use Rattle.std.specs.Prelude.{Option, None, Some, slice_get}
 use Rattle.mux_history.specs.declared.out.Out.{Out}
 use Rattle.mux_history.specs.declared.out.Out.TheVariants.{ToEditor}
@@ -9,20 +10,26 @@ use Rattle.rpc_message.specs.Texts.{error_text, request_failed}
 use Rattle.rpc_message.proofs.Ids.{request_id_bytes}
 use Rattle.event_model.specs.declared.phase.Phase.{Phase}
 use Rattle.event_model.specs.declared.phase.Phase.TheVariants.{Waiting}
-use Rattle.event_model.specs.Does.{Does}
-use Rattle.event_model.specs.Event.{Event, behind}
+use Rattle.event_model.specs.Does.{Alike, Does}
+use Rattle.event_model.specs.Event.{Event, behind, said}
 use Rattle.event_model.specs.Phases.{desk_of, is_waiting}
-use Rattle.event_model.specs.Row.{Row, choose, each, nothing, send}
+use Rattle.event_model.specs.Row.{Row, choose, each, nothing, on, outs, send}
 use Rattle.event_model.specs.Settings.{Settings}
-use Rattle.event_model.proofs.Turns.{does_false, does_knowing, does_look, does_nothing, does_true}
-use Rattle.group_rows.specs.StopRows.{refuse_initialize}
+use Rattle.event_model.specs.Spawns.{start_of}
+use Rattle.group_words.specs.Houses.{home_of}
+use Rattle.event_model.proofs.Turns.{alike, alike_then, does_alike, does_false, does_knowing, does_look, does_nothing, does_true}
+use Rattle.group_rows.specs.Forwarded.{Forwarded, forwarding_of, is_of}
+use Rattle.group_rows.specs.StopRows.{lose_request, lose_requests, refuse_initialize}
 use Rattle.mux_tables.specs.declared.tables.Tables.{Tables}
 use Rattle.mux_tables.specs.Documents.{AllStand, DocumentsStand, Owed}
+use Rattle.mux_tables.specs.Halts.{ids_at}
 use Rattle.mux_tables.specs.Names.{id_in}
-use Rattle.mux_tables.specs.Stands.{Stands}
+use Rattle.mux_tables.specs.Stands.{IsLost, Rise, Stands, forwarded_of, of_ids}
 use Rattle.mux_turns.specs.Welcomes.{AllAsking}
+use Rattle.mux_turns.specs.group_facts.specs.Facts.{AllForwarded, IsForwarded}
 use Rattle.mux_turns.specs.mux_facts.proofs.Table.{waiting_is}
-use Rattle.mux_editors.specs.Halting.{AllHoused, Halts, IsNamed, refuse_id}
+use Rattle.mux_turns.specs.mux_facts.proofs.Words.{number_same}
+use Rattle.mux_editors.specs.Halting.{AllHoused, Halts, IsNamed, Stays, lose_from, refuse_id}
 
 none_some : {A : Type 0} {x : A} → ◌≡◌ {A = Option A} None (Some x) → ⊥
 none_some e = cc
@@ -58,7 +65,7 @@ module _ (settings : Settings) (t : Tables) (base : List Event) (xs ys : List Ou
       let at : desk.phase ≡ Waiting = waiting_is desk.phase (waits st) in
       let same : id ≡ id_bytes desk.initialize = some_same (sym is ∙ kept settings t base xs e housed st (waits st)) in
       let asks = asking e at in
-      let named : IsNamed id = (asks.name, subst (λ w. IsIdText asks.name w) (sym same) (request_id_bytes asks.name desk.initialize asks.method asks.params asks.says)) in
+      let named : IsNamed id = (asks.name, subst (λ w. IsIdText asks.name w) (sym same) (request_id_bytes desk.initialize asks.name asks.method asks.params asks.says)) in
       does_look (λ _. ap (λ b. choose b (send (ToEditor e (error_text (id_bytes desk.initialize) request_failed))) nothing) (waits st))
       (does_true (subst (λ w. Does (λ t events. Stands settings t events) (send (ToEditor e (error_text w request_failed))) base t xs t ys) same (d named))))
 
@@ -70,3 +77,67 @@ module _ (settings : Settings) (t u : Tables) (base : List Event) (xs ys : List 
 
   pub halts_each : ((owed : Owed) → Does (λ k events. AllStand settings k events) row base (t, owed) xs (u, owed) ys) → Does (λ t events. Halts settings t events) row base t xs u ys
   halts_each f = record { done = λ k. let d = f k.1.0 in let one = d.done (k.0, k.1.1) in record { outs = one.outs; stands = (one.stands.0, (k.1.0, one.stands.1)) } }
+
+-- what a start has to answer
+pub named_at : (ids : List (List ℕ)) (i : ℕ) (d : List ℕ) → i < length ids → AllByRecursion IsNamed ids → IsNamed (get_or ids i d)
+named_at [] i d l h = absurd (omega arith)
+named_at (x ∷ xs) zero d l h = h.0
+named_at (x ∷ xs) (suc i) d l h = named_at xs i d (omega arith) h.1
+
+pub loses_all : (settings : Settings) (t : Tables) (base : List Event) (xs ys : List Out) (e s : ℕ) (ids : List (List ℕ)) → AllByRecursion IsNamed (ids_at e (forwarding_of s (behind base xs)).open_requests)
+    → (Stands settings t (behind base xs) → ids ≡ ids_at e (forwarding_of s (behind base xs)).open_requests) → (AllByRecursion IsNamed ids → Does (λ t events. Stands settings t events) (each (refuse_id e) ids) base t xs t ys)
+    → Does (λ t events. Stands settings t events) (each (refuse_id e) (ids_at e (forwarding_of s (behind base xs)).open_requests)) base t xs t ys
+loses_all settings t base xs ys e s ids named is d = does_knowing (λ st.
+    subst (λ ws. Does (λ t events. Stands settings t events) (each (refuse_id e) ws) base t xs t ys) (is st) (d (subst (AllByRecursion IsNamed) (sym (is st)) named)))
+
+-- each is an editor's own
+own_rows : (e : ℕ) (fs : List Forwarded) → Alike (each lose_request (filter (is_of e) fs)) (each (refuse_id e) (ids_at e fs))
+own_rows e [] = alike refl
+own_rows e (f ∷ fs) = go (nat_eq f.editor e) refl
+  where
+    go : (b : Bool) → nat_eq f.editor e ≡ b → Alike (each lose_request (if b then f ∷ filter (is_of e) fs else filter (is_of e) fs)) (each (refuse_id e) (map (λ (f : Forwarded). f.id) (if b then f ∷ filter (is_of e) fs else filter (is_of e) fs)))
+    go true mine = record { sends = λ events.
+        let own : f.editor ≡ e = number_same f.editor e mine in
+        ap₂ (λ x ws. x ∷ ws) (ap (λ n. ToEditor n (error_text f.id request_failed)) own)
+        (ap (λ n. outs (each lose_request (filter (is_of e) fs)) (events ++ said (ToEditor n (error_text f.id request_failed)) ∷ [])) own ∙ (own_rows e fs).sends (events ++ said (ToEditor e (error_text f.id request_failed)) ∷ [])) }
+    go false off = own_rows e fs
+
+named_all : (events : List Event) (e : ℕ) (fs : List Forwarded) → AllByRecursion (IsForwarded events) fs → AllByRecursion IsNamed (ids_at e fs)
+named_all events e [] h = tt
+named_all events e (f ∷ fs) h = go (nat_eq f.editor e)
+  where
+    go : (b : Bool) → AllByRecursion IsNamed (map (λ (f : Forwarded). f.id) (if b then f ∷ filter (is_of e) fs else filter (is_of e) fs))
+    go true = (((h.0).id, (h.0).text), named_all events e fs h.1)
+    go false = named_all events e fs h.1
+
+-- the start of its group
+module _ (settings : Settings) (t : Tables) (before base : List Event) (xs : List Out) (home e : ℕ) (stays : Stays settings before (behind base xs)) where
+  abbrev Loses : List Out → Type 0
+  Loses ys = Does (λ t events. Stands settings t events) (lose_from before e (start_of home before)) base t xs t ys
+
+  pub loses_lost : (Rise 0 t.lasts.items → IsLost home t.lasts.items) → Loses xs
+  loses_lost lost = does_knowing (λ st. by_start (start_of home before) refl st)
+    where
+      by_start : (o : Option ℕ) → start_of home before ≡ o → Stands settings t (behind base xs) → Does (λ t events. Stands settings t events) (lose_from before e o) base t xs t xs
+      by_start None is st = does_alike (λ _. alike refl) does_nothing
+      by_start (Some s) is st =
+          let gone = st.lasts.lost home s (lost st.lasts.rise) (stays.start home ∙ is) in
+          let ids = (gone.stands).parts of_ids in
+          let none : (forwarding_of s before).open_requests ≡ [] = sym (stays.open_requests s) ∙ (ap (λ n. (forwarding_of n (behind base xs)).open_requests) (sym gone.number) ∙ (ids.open_requests ∙ ap (map forwarded_of) gone.answered)) in
+          does_alike (λ _. alike (ap (λ fs. each lose_request (filter (is_of e) fs)) none)) does_nothing
+
+module _ (settings : Settings) (t : Tables) (before base : List Event) (xs ys : List Out) (home e s : ℕ) (stays : Stays settings before (behind base xs)) (forwarded : AllForwarded before) where
+  pub loses_some : (Stands settings t (behind base xs) → start_of home (behind base xs) ≡ Some s)
+      → (AllByRecursion IsNamed (ids_at e (forwarding_of s (behind base xs)).open_requests) → Does (λ t events. Stands settings t events) (each (refuse_id e) (ids_at e (forwarding_of s (behind base xs)).open_requests)) base t xs t ys)
+      → Does (λ t events. Stands settings t events) (lose_from before e (start_of home before)) base t xs t ys
+  loses_some at d = does_alike (λ st. alike_then (alike (ap (lose_from before e) (sym (stays.start home) ∙ at st)))
+      (alike_then (own_rows e (forwarding_of s before).open_requests) (alike (ap (λ fs. each (refuse_id e) (ids_at e fs)) (sym (stays.open_requests s))))))
+      (d (subst (λ fs. AllByRecursion IsNamed (ids_at e fs)) (sym (stays.open_requests s)) (named_all before e (forwarding_of s before).open_requests (forwarded s))))
+
+module _ (settings : Settings) (t : Tables) (before base : List Event) (xs : List Out) (e : ℕ) where
+  pub loses_homeless : Stays settings before (behind base xs) → (Stands settings t (behind base xs) → home_of settings e (behind base xs) ≡ None) → Does (λ t events. Stands settings t events) (lose_requests settings before e) base t xs t xs
+  loses_homeless stays none = does_alike (λ st. alike (ap (λ o. on o nothing (λ g. lose_from before e (start_of g before))) (sym (stays.home e) ∙ none st))) does_nothing
+
+pub loses_home : (settings : Settings) (t : Tables) (before base : List Event) (xs ys : List Out) (e home : ℕ) → Stays settings before (behind base xs) → (Stands settings t (behind base xs) → home_of settings e (behind base xs) ≡ Some home)
+    → Does (λ t events. Stands settings t events) (lose_from before e (start_of home before)) base t xs t ys → Does (λ t events. Stands settings t events) (lose_requests settings before e) base t xs t ys
+loses_home settings t before base xs ys e home stays at d = does_alike (λ st. alike (ap (λ o. on o nothing (λ g. lose_from before e (start_of g before))) (sym (stays.home e) ∙ at st))) d

@@ -6,9 +6,10 @@ ghost use Rattle.event_model.specs.Event.{Event, behind, with_cause};
 ghost use Rattle.event_model.specs.Phases.{is_waiting};
 ghost use Rattle.event_model.specs.Row.{each};
 ghost use Rattle.event_model.specs.Settings.{Settings};
+ghost use Rattle.event_model.specs.Spawns.{start_of};
 ghost use Rattle.group_rows.specs.StopRows.{close_each, lose_requests, refuse_initialize, refuse_open, stop_row};
 ghost use Rattle.group_words.specs.Houses.{stops};
-ghost use Rattle.mux_editors.specs.Halting.{AllHoused, Halts, IsNamed, refuse_id};
+ghost use Rattle.mux_editors.specs.Halting.{AllHoused, Halts, IsNamed, Stays, lose_from, refuse_id};
 ghost use Rattle.mux_history.specs.declared.cause.Cause.TheVariants.{FromEditor};
 ghost use Rattle.mux_tables.specs.Documents.{AllStand, DocumentsStand, Owed, nothing_owed};
 ghost use Rattle.mux_tables.specs.Halts.{ids_at};
@@ -102,18 +103,40 @@ fn lose_at(
     Ok(())
 }
 
-// Where its group has such a start.
+// Where its group, which has this number, has such a start.
+fn lose_in(
+    tables: &Tables,
+    alloc: Global,
+    outs: &mut Outs,
+    home: u64,
+    e: u64,
+) -> Result<(), Memory>
+    ensures does { (settings : Settings) (before base : List Event) → Stays settings before (behind base outs.old) → AllForwarded before
+        → OnOk result (Does (λ t events. Stands settings t events) (lose_from before e (start_of home before)) base tables.now outs.old tables.now outs.new) }
+    ensures documents { (settings : Settings) (owed : Owed) (base : List Event) → DocumentsStand settings owed tables.now (behind base outs.old)
+        → OnOk result (DocumentsStand settings owed tables.now (behind base outs.new)) }
+{
+    match tables.place_of(home) {
+        None => Ok(()),
+        Some(g) => {
+            lose_at(tables, alloc, outs, g, e)?;
+            Ok(())
+        }
+    }
+}
+
+// Where it is in a group.
 fn lose_requests(tables: &Tables, alloc: Global, outs: &mut Outs, e: u64) -> Result<(), Memory>
-    ensures does { (settings : Settings) (before base : List Event) (k : ℕ) (body : List ℕ) → Stands settings tables.now (with_cause before (FromEditor k body))
-        → stops before k (message_of body) ≡ true → AllForwarded before
+    requires { e < length tables.now.editors }
+    ensures does { (settings : Settings) (before base : List Event) → Stays settings before (behind base outs.old) → AllForwarded before
         → OnOk result (Does (λ t events. Stands settings t events) (lose_requests settings before e) base tables.now outs.old tables.now outs.new) }
     ensures documents { (settings : Settings) (owed : Owed) (base : List Event) → DocumentsStand settings owed tables.now (behind base outs.old)
         → OnOk result (DocumentsStand settings owed tables.now (behind base outs.new)) }
 {
-    match tables.place(e) {
+    match tables.editors.group(e) {
         None => Ok(()),
-        Some(g) => {
-            lose_at(tables, alloc, outs, g, e)?;
+        Some(home) => {
+            lose_in(tables, alloc, outs, home, e)?;
             Ok(())
         }
     }
@@ -127,8 +150,8 @@ fn refuse_each(
     editors: &[u64],
 ) -> Result<(), Memory>
     requires { All (λ e. e < length tables.now.editors) editors.now }
-    ensures does { (settings : Settings) (before base : List Event) (k : ℕ) (body : List ℕ) → Stands settings tables.now (with_cause before (FromEditor k body))
-        → stops before k (message_of body) ≡ true → AllForwarded before → AllAsking (behind base outs.old) → AllHoused settings (behind base outs.old)
+    ensures does { (settings : Settings) (before base : List Event) → Stays settings before (behind base outs.old) → AllForwarded before
+        → AllAsking (behind base outs.old) → AllHoused settings (behind base outs.old)
         → OnOk result (Does (λ t events. Stands settings t events) (each (refuse_open settings before) editors.now) base
         tables.now outs.old tables.now outs.new) }
     ensures documents { (settings : Settings) (owed : Owed) (base : List Event) → DocumentsStand settings owed tables.now (behind base outs.old)
