@@ -1,10 +1,10 @@
 -- E6: what is open at an editor fails.
-use Rattle.std.proofs.Common.{◌≡◌, ℕ, zero, suc, ◌<◌, Bool, true, false, List, [], ◌∷◌, ◌++◌, filter, map, length, get_or, nat_eq, if◌then◌else◌, refl, ap, ap₂, sym, subst, ◌∙◌, arith}
+use Rattle.std.proofs.Common.{◌≡◌, ℕ, zero, suc, ◌<◌, Bool, true, false, List, [], ◌∷◌, ◌++◌, filter, map, length, get_or, nat_eq, if◌then◌else◌, refl, ap, ap₂, sym, subst, append-nil, ◌∙◌, ◌×◌, arith}
 use Rattle.std.specs.List.{AllByRecursion}
 use Rattle.std.specs.Prelude.{Option, None, Some, slice_get}
 use Rattle.mux_history.specs.declared.out.Out.{Out}
 use Rattle.mux_history.specs.declared.out.Out.TheVariants.{ToEditor}
-use Rattle.rpc_message.specs.Message.{id_bytes}
+use Rattle.rpc_message.specs.Message.{Message, id_bytes, message_of}
 use Rattle.rpc_message.specs.ValueTexts.{IsIdText}
 use Rattle.rpc_message.specs.Texts.{error_text, request_failed}
 use Rattle.rpc_message.proofs.Ids.{request_id_bytes}
@@ -12,14 +12,16 @@ use Rattle.event_model.specs.declared.phase.Phase.{Phase}
 use Rattle.event_model.specs.declared.phase.Phase.TheVariants.{Waiting}
 use Rattle.event_model.specs.Does.{Alike, Does}
 use Rattle.event_model.specs.Event.{Event, behind, said}
-use Rattle.event_model.specs.Phases.{desk_of, is_waiting}
+use Rattle.event_model.specs.Phases.{Desk, desk_behind, desk_of, is_waiting, phase_told}
+use Rattle.event_model.proofs.Frames.{one_more}
+use Rattle.group_words.proofs.Frames.{home_more}
 use Rattle.event_model.specs.Row.{Row, choose, each, nothing, on, outs, send}
 use Rattle.event_model.specs.Settings.{Settings}
-use Rattle.event_model.specs.Spawns.{start_of}
+use Rattle.event_model.specs.Spawns.{start_behind, start_of}
 use Rattle.group_words.specs.Houses.{home_of}
-use Rattle.event_model.proofs.Turns.{alike, alike_then, does_alike, does_false, does_knowing, does_look, does_nothing, does_true}
-use Rattle.group_rows.specs.Forwarded.{Forwarded, forwarding_of, is_of}
-use Rattle.group_rows.specs.StopRows.{lose_request, lose_requests, refuse_initialize}
+use Rattle.event_model.proofs.Turns.{alike, alike_then, behind_more, does_alike, does_false, does_knowing, does_look, does_nothing, does_then, does_true}
+use Rattle.group_rows.specs.Forwarded.{Forwarded, Forwarding, forwarding_behind, forwarding_of, is_of}
+use Rattle.group_rows.specs.StopRows.{lose_request, lose_requests, refuse_initialize, refuse_open}
 use Rattle.mux_tables.specs.declared.tables.Tables.{Tables}
 use Rattle.mux_tables.specs.Documents.{AllStand, DocumentsStand, Owed}
 use Rattle.mux_tables.specs.Halts.{ids_at}
@@ -29,7 +31,7 @@ use Rattle.mux_turns.specs.Welcomes.{AllAsking}
 use Rattle.mux_turns.specs.group_facts.specs.Facts.{AllForwarded, IsForwarded}
 use Rattle.mux_turns.specs.mux_facts.proofs.Table.{waiting_is}
 use Rattle.mux_turns.specs.mux_facts.proofs.Words.{number_same}
-use Rattle.mux_editors.specs.Halting.{AllHoused, Halts, IsNamed, Stays, lose_from, refuse_id}
+use Rattle.mux_editors.specs.Halting.{AllHoused, Halts, IsNamed, Refusing, Stays, lose_from, refuse_id}
 
 none_some : {A : Type 0} {x : A} → ◌≡◌ {A = Option A} None (Some x) → ⊥
 none_some e = cc
@@ -141,3 +143,82 @@ module _ (settings : Settings) (t : Tables) (before base : List Event) (xs : Lis
 pub loses_home : (settings : Settings) (t : Tables) (before base : List Event) (xs ys : List Out) (e home : ℕ) → Stays settings before (behind base xs) → (Stands settings t (behind base xs) → home_of settings e (behind base xs) ≡ Some home)
     → Does (λ t events. Stands settings t events) (lose_from before e (start_of home before)) base t xs t ys → Does (λ t events. Stands settings t events) (lose_requests settings before e) base t xs t ys
 loses_home settings t before base xs ys e home stays at d = does_alike (λ st. alike (ap (λ o. on o nothing (λ g. lose_from before e (start_of g before))) (sym (stays.home e) ∙ at st))) d
+
+-- Bodies to editors
+
+abbrev IsTold : Out → Type 0
+IsTold (ToEditor e body) = Unit {0}
+IsTold other = ⊥
+
+all_join : (xs ys : List Out) → AllByRecursion IsTold xs → AllByRecursion IsTold ys → AllByRecursion IsTold (xs ++ ys)
+all_join [] ys h k = k
+all_join (x ∷ xs) ys h k = (h.0, all_join xs ys h.1 k)
+
+lost_told : (fs : List Forwarded) (events : List Event) → AllByRecursion IsTold (outs (each lose_request fs) events)
+lost_told [] events = tt
+lost_told (f ∷ fs) events = (tt, lost_told fs (events ++ said (ToEditor f.editor (error_text f.id request_failed)) ∷ []))
+
+from_told : (before : List Event) (e : ℕ) (start : Option ℕ) (events : List Event) → AllByRecursion IsTold (outs (lose_from before e start) events)
+from_told before e None events = tt
+from_told before e (Some s) events = lost_told (filter (is_of e) (forwarding_of s before).open_requests) events
+
+lose_told : (settings : Settings) (before : List Event) (e : ℕ) (events : List Event) → AllByRecursion IsTold (outs (lose_requests settings before e) events)
+lose_told settings before e events = go (home_of settings e before)
+  where
+    go : (o : Option ℕ) → AllByRecursion IsTold (outs (on o nothing (λ g. lose_from before e (start_of g before))) events)
+    go None = tt
+    go (Some g) = from_told before e (start_of g before) events
+
+first_told : (e : ℕ) (events : List Event) → AllByRecursion IsTold (outs (refuse_initialize e) events)
+first_told e events = go (is_waiting (desk_of e events).phase)
+  where
+    go : (b : Bool) → AllByRecursion IsTold (outs (choose b (send (ToEditor e (error_text (id_bytes (desk_of e events).initialize) request_failed))) nothing) events)
+    go true = (tt, tt)
+    go false = tt
+
+open_told : (settings : Settings) (before : List Event) (e : ℕ) (events : List Event) → AllByRecursion IsTold (outs (refuse_open settings before e) events)
+open_told settings before e events = all_join (outs (refuse_initialize e) events) _ (first_told e events) (lose_told settings before e (behind events (outs (refuse_initialize e) events)))
+
+told_waits : (p : Phase) (i : List ℕ) (m : Message) → phase_told p i m ≡ Waiting → p ≡ Waiting
+told_waits Waiting i m h = refl
+told_waits other i m h = h
+
+module _ (settings : Settings) (before now : List Event) (k : ℕ) (body : List ℕ) (r : Refusing settings before now) where
+  abbrev ev : Event
+  ev = said (ToEditor k body)
+
+  told_desk : (e : ℕ) → (desk_of e (now ++ ev ∷ [])).phase ≡ Waiting → ((desk_of e now).phase ≡ Waiting) × ((desk_of e (now ++ ev ∷ [])).initialize ≡ (desk_of e now).initialize)
+  told_desk e at = go (nat_eq k e) (sym (ap (λ (d : Desk). d.phase) (one_more (desk_behind e) _ _ now ev refl)) ∙ at) (one_more (desk_behind e) _ _ now ev refl)
+    where
+      go : (b : Bool) → (if b then record { phase = phase_told (desk_of e now).phase (desk_of e now).initialize (message_of body); initialize = (desk_of e now).initialize } else desk_of e now).phase ≡ Waiting
+          → desk_of e (now ++ ev ∷ []) ≡ (if b then record { phase = phase_told (desk_of e now).phase (desk_of e now).initialize (message_of body); initialize = (desk_of e now).initialize } else desk_of e now)
+          → ((desk_of e now).phase ≡ Waiting) × ((desk_of e (now ++ ev ∷ [])).initialize ≡ (desk_of e now).initialize)
+      go true h is = (told_waits (desk_of e now).phase (desk_of e now).initialize (message_of body) h, ap (λ (d : Desk). d.initialize) is)
+      go false h is = (h, ap (λ (d : Desk). d.initialize) is)
+
+  told_refusing : Refusing settings before (now ++ ev ∷ [])
+  told_refusing = record {
+    stays = record {
+      home = λ e. home_more settings e now ev ∙ r.stays.home e;
+      start = λ g. one_more (start_behind g) _ _ now ev refl ∙ r.stays.start g;
+      open_requests = λ s. ap (λ (f : Forwarding). f.open_requests) (one_more (forwarding_behind s) _ _ now ev refl) ∙ r.stays.open_requests s;
+    };
+    asking = λ e at. let d = told_desk e at in let asks = r.asking e d.0 in record { name = asks.name; method = asks.method; params = asks.params; says = ap message_of d.1 ∙ asks.says };
+    housed = λ e at. let home = r.housed e (told_desk e at).0 in (home.0, home_more settings e now ev ∙ home.1);
+  }
+
+still_refusing : (settings : Settings) (before now : List Event) (xs : List Out) → AllByRecursion IsTold xs → Refusing settings before now → Refusing settings before (behind now xs)
+still_refusing settings before now [] h r = subst (Refusing settings before) (sym (append-nil now)) r
+still_refusing settings before now (ToEditor k body ∷ xs) h r = subst (Refusing settings before) (sym (behind_more now (ToEditor k body ∷ []) xs)) (still_refusing settings before (now ++ said (ToEditor k body) ∷ []) xs h.1 (told_refusing settings before now k body r))
+still_refusing settings before now (other ∷ xs) h r = absurd h.0
+
+pub refusing_on : (settings : Settings) (t : Tables) (before base : List Event) (xs ys : List Out) {row : Row} → ((events : List Event) → AllByRecursion IsTold (outs row events)) → Does (λ t events. Stands settings t events) row base t xs t ys → Stands settings t (behind base xs)
+    → Refusing settings before (behind base xs) → Refusing settings before (behind base ys)
+refusing_on settings t before base xs ys {row} told d st r = subst (Refusing settings before) (sym (ap (behind base) (d.done st).outs ∙ behind_more base xs (outs row (behind base xs)))) (still_refusing settings before (behind base xs) (outs row (behind base xs)) (told (behind base xs)) r)
+
+pub opens_refused : (settings : Settings) (t : Tables) (before base : List Event) (xs ys zs : List Out) (e : ℕ) → Refusing settings before (behind base xs) → Does (λ t events. Stands settings t events) (refuse_initialize e) base t xs t ys
+    → (Refusing settings before (behind base ys) → Does (λ t events. Stands settings t events) (lose_requests settings before e) base t ys t zs) → Does (λ t events. Stands settings t events) (refuse_open settings before e) base t xs t zs
+opens_refused settings t before base xs ys zs e r one two = does_knowing (λ st. does_then one (two (refusing_on settings t before base xs ys (first_told e) one st r)))
+
+pub refusing_next : (settings : Settings) (t : Tables) (before base : List Event) (xs ys : List Out) (e : ℕ) → Refusing settings before (behind base xs) → Stands settings t (behind base xs) → Does (λ t events. Stands settings t events) (refuse_open settings before e) base t xs t ys → Refusing settings before (behind base ys)
+refusing_next settings t before base xs ys e r st d = refusing_on settings t before base xs ys (open_told settings before e) d st r

@@ -15,6 +15,7 @@ use Rattle.group_rows.specs.StopRows.{lose_request}
 use Rattle.mux_tables.specs.declared.tables.Tables.{Tables}
 use Rattle.mux_tables.specs.Documents.{DocumentsStand, Owed}
 use Rattle.mux_tables.specs.Stands.{Stands}
+use Rattle.mux_turns.specs.Welcomes.{AllAsking}
 use Rattle.rpc_message.specs.Texts.{error_text, request_failed}
 
 -- the text of an id
@@ -38,6 +39,12 @@ pub record Stays (settings : Settings) (before now : List Event) : Type 0 where
   pub home : (e : ℕ) → home_of settings e now ≡ home_of settings e before
   pub start : (g : ℕ) → start_of g now ≡ start_of g before
   pub open_requests : (s : ℕ) → (forwarding_of s now).open_requests ≡ (forwarding_of s before).open_requests
+
+-- and what is known of those that wait
+pub record Refusing (settings : Settings) (before now : List Event) : Type 0 where
+  pub stays : Stays settings before now
+  pub asking : AllAsking now
+  pub housed : AllHoused settings now
 
 -- editors are closed that don't leave: the tables stand, whatever starts are owed for their documents
 abbrev pub Halts : Settings → Tables → List Event → Type 0

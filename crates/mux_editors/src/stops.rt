@@ -9,7 +9,7 @@ ghost use Rattle.event_model.specs.Settings.{Settings};
 ghost use Rattle.event_model.specs.Spawns.{start_of};
 ghost use Rattle.group_rows.specs.StopRows.{close_each, lose_requests, refuse_initialize, refuse_open, stop_row};
 ghost use Rattle.group_words.specs.Houses.{stops};
-ghost use Rattle.mux_editors.specs.Halting.{AllHoused, Halts, IsNamed, Stays, lose_from, refuse_id};
+ghost use Rattle.mux_editors.specs.Halting.{AllHoused, Halts, IsNamed, Refusing, Stays, lose_from, refuse_id};
 ghost use Rattle.mux_history.specs.declared.cause.Cause.TheVariants.{FromEditor};
 ghost use Rattle.mux_tables.specs.Documents.{AllStand, DocumentsStand, Owed, nothing_owed};
 ghost use Rattle.mux_tables.specs.Halts.{ids_at};
@@ -142,7 +142,20 @@ fn lose_requests(tables: &Tables, alloc: Global, outs: &mut Outs, e: u64) -> Res
     }
 }
 
-// What is open at each of these editors fails, editor by editor.
+// What is open at an editor fails.
+fn refuse_open(tables: &Tables, alloc: Global, outs: &mut Outs, e: u64) -> Result<(), Memory>
+    requires { e < length tables.now.editors }
+    ensures does { (settings : Settings) (before base : List Event) → AllForwarded before → Refusing settings before (behind base outs.old)
+        → OnOk result (Does (λ t events. Stands settings t events) (refuse_open settings before e) base tables.now outs.old tables.now outs.new) }
+    ensures documents { (settings : Settings) (owed : Owed) (base : List Event) → DocumentsStand settings owed tables.now (behind base outs.old)
+        → OnOk result (DocumentsStand settings owed tables.now (behind base outs.new)) }
+{
+    refuse_initialize(tables, alloc, outs, e)?;
+    lose_requests(tables, alloc, outs, e)?;
+    Ok(())
+}
+
+// What is open at each of these editors does, editor by editor.
 fn refuse_each(
     tables: &Tables,
     alloc: Global,
@@ -150,16 +163,14 @@ fn refuse_each(
     editors: &[u64],
 ) -> Result<(), Memory>
     requires { All (λ e. e < length tables.now.editors) editors.now }
-    ensures does { (settings : Settings) (before base : List Event) → Stays settings before (behind base outs.old) → AllForwarded before
-        → AllAsking (behind base outs.old) → AllHoused settings (behind base outs.old)
+    ensures does { (settings : Settings) (before base : List Event) → AllForwarded before → Refusing settings before (behind base outs.old)
         → OnOk result (Does (λ t events. Stands settings t events) (each (refuse_open settings before) editors.now) base
         tables.now outs.old tables.now outs.new) }
     ensures documents { (settings : Settings) (owed : Owed) (base : List Event) → DocumentsStand settings owed tables.now (behind base outs.old)
         → OnOk result (DocumentsStand settings owed tables.now (behind base outs.new)) }
 {
     for e in editors {
-        refuse_initialize(tables, alloc, outs, *e)?;
-        lose_requests(tables, alloc, outs, *e)?;
+        refuse_open(tables, alloc, outs, *e)?;
     }
     Ok(())
 }
