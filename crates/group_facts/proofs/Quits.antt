@@ -1,0 +1,53 @@
+-- A stop, one event further, and what holds while an editor is there.
+use Rattle.std.proofs.Common.{◌≡◌, ℕ, Bool, true, false, List, [], ◌∷◌, ◌++◌, if◌then◌else◌, refl, sym, ◌∙◌, ap}
+use Rattle.mux_history.specs.declared.cause.Cause.TheVariants.{FromEditor}
+use Rattle.event_model.specs.Event.{Event, heard, took, with_cause}
+use Rattle.event_model.specs.Phases.{desk_of, is_there}
+use Rattle.event_model.proofs.Frames.{never}
+use Rattle.rpc_message.specs.Message.{message_of}
+use Rattle.group_words.specs.Houses.{stops}
+use Rattle.group_words.proofs.Frames.{past_more}
+use Rattle.group_rows.specs.StopRows.{stopped, stopped_next}
+use Rattle.group_facts.specs.Facts.{AllForwarded, Quit}
+
+pub stopped_more : (events : List Event) (event : Event) → stopped (events ++ event ∷ []) ≡ stopped_next events (stopped events) event
+stopped_more events event = past_more stopped_next [] false events event
+
+was_on : (b c : Bool) → (if b then true else c) ≡ false → c ≡ false
+was_on true c h = never h
+was_on false c h = h
+
+still_off : (b c : Bool) → c ≡ true → (if b then true else c) ≡ true
+still_off true c h = refl
+still_off false c h = h
+
+next_back : (events : List Event) (event : Event) → stopped_next events (stopped events) event ≡ false → stopped events ≡ false
+next_back events (took (FromEditor e body) m) h = was_on (stops events e m) (stopped events) h
+next_back events other h = h
+
+next_on : (events : List Event) (event : Event) → stopped events ≡ true → stopped_next events (stopped events) event ≡ true
+next_on events (took (FromEditor e body) m) h = still_off (stops events e m) (stopped events) h
+next_on events other h = h
+
+-- what isn't stopped wasn't before
+pub stopped_back : (events : List Event) (event : Event) → stopped (events ++ event ∷ []) ≡ false → stopped events ≡ false
+stopped_back events event h = next_back events event (sym (stopped_more events event) ∙ h)
+
+-- and what is stopped stays so
+pub stopped_on : (events : List Event) (event : Event) → stopped events ≡ true → stopped (events ++ event ∷ []) ≡ true
+stopped_on events event h = stopped_more events event ∙ next_on events event h
+
+-- behind the message that stops all
+pub stopped_now : (events : List Event) (e : ℕ) (body : List ℕ) → stops events e (message_of body) ≡ true → stopped (with_cause events (FromEditor e body)) ≡ true
+stopped_now events e body stop = stopped_more events (heard (FromEditor e body)) ∙ ap (λ b. if b then true else stopped events) stop
+
+-- while an editor is there nothing is stopped
+pub not_stopped : (events : List Event) → Quit events → (e : ℕ) → is_there (desk_of e events).phase ≡ true → stopped events ≡ false
+not_stopped events quit e there = go (stopped events) refl
+  where
+    go : (b : Bool) → stopped events ≡ b → b ≡ false
+    go true over = never (sym there ∙ quit over e)
+    go false on = refl
+
+pub asked_while : (events : List Event) → (stopped events ≡ false → AllForwarded events) → Quit events → (e : ℕ) → is_there (desk_of e events).phase ≡ true → AllForwarded events
+asked_while events asked quit e there = asked (not_stopped events quit e there)
