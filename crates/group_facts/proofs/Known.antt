@@ -29,7 +29,7 @@ use Rattle.mux_facts.proofs.Words.{number_same}
 use Rattle.group_words.specs.Houses.{groups_of}
 use Rattle.group_rows.specs.Forwarded.{Forwarding, forwarding_of}
 use Rattle.group_rows.specs.Rows.{outs_of}
-use Rattle.group_rows.specs.StopRows.{stopped}
+use Rattle.group_rows.specs.StopRows.{stopped as is_stopped}
 use Rattle.group_rows.proofs.Versions.{meant_heard, meant_more, meant_said}
 use Rattle.group_facts.specs.Built.{built_behind}
 use Rattle.group_facts.specs.Legal.{Legal, LegalFrom}
@@ -112,7 +112,7 @@ module _ (settings : Settings) where
       untold = untold_said settings events (ToEditor n body) a f d (λ s. tt) h.untold;
       bounded = bounded_said settings events (ToEditor n body) a f d (λ s. tt) h.bounded;
       editors = editors.to_editor events n body h.editors;
-      asked = λ on. let off : stopped events ≡ false = stopped_back events (said (ToEditor n body)) on in asked_told settings before cause events n body why off (h.asked off);
+      asked = λ on. let off : is_stopped events ≡ false = stopped_back events (said (ToEditor n body)) on in asked_told settings before cause events n body why off (h.asked off);
       apart = apart_said events (ToEditor n body) (λ s. refl) h.apart;
       asks = asks_told settings events n body before cause why h.asks;
       housed = housed_did settings events (ToEditor n body) refl (λ s. refl) h.housed;
@@ -250,7 +250,7 @@ module _ (settings : Settings) where
     entry_keeps before cause fits built h =
         let last : Here before cause (behind (with_cause before cause) (outs_of settings before cause)) = reasons_keep (λ events out. Why settings before cause events out) (Here before cause) (here_did before cause h built)
         (with_cause before cause) (outs_of settings before cause) (reasons settings range before h cause built).why (here_took before cause fits built h) in
-        record { base = last.base; steady = (last.mid).steady; tied = tied_rests settings before cause fits (h.steady).starts (h.steady).unbegun (h.steady).housed (h.base).written (last.mid).tied; waiting = waiting_rests settings before cause (h.steady).editors h.quit (last.mid).waiting; quit = quit_rests settings before cause h.quit }
+        record { base = last.base; steady = (last.mid).steady; tied = tied_rests settings before cause fits (h.steady).starts (h.steady).unbegun (h.steady).housed (h.base).written (last.mid).tied; waiting = waiting_rests settings before cause (h.steady).editors (last.mid).waiting; quit = quit_rests settings before cause (h.steady).editors h.quit }
 
     pub no_facts : Facts settings []
     no_facts = record {

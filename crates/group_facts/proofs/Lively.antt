@@ -49,8 +49,9 @@ use Rattle.group_facts.proofs.Housed.{group_more}
 use Rattle.group_facts.proofs.Known.{Here, here_did, here_took}
 use Rattle.group_facts.proofs.LiveGroups.{IsFair, busy_apart, busy_emptied, busy_ended, busy_own, busy_placed, lives_busy, lives_changed, lives_emptied, lives_ended, lives_placed, placed_fair}
 use Rattle.group_facts.proofs.Numbered.{no_shutdown}
-use Rattle.group_facts.proofs.PutOut.{begun_closed, begun_told, put_out_ends, unplaced_closed, unplaced_told}
+use Rattle.group_facts.proofs.PutOut.{begun_closed, begun_told, unplaced_closed, unplaced_told}
 use Rattle.group_facts.proofs.RequestRow.{either_desk}
+use Rattle.group_facts.proofs.StopEntry.{put_out_ends}
 use Rattle.group_facts.proofs.Table.{reasons}
 use Rattle.group_facts.proofs.Waiting.{new_is}
 use Rattle.group_facts.proofs.Numbers.{response_asks}

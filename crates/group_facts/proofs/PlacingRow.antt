@@ -39,7 +39,7 @@ use Rattle.group_words.specs.Rows.{answer_with, end_group, end_start, initialize
 use Rattle.group_facts.specs.Lively.{IsDying, lives_at}
 use Rattle.group_facts.proofs.GroupEnds.{start_ends}
 use Rattle.group_facts.proofs.LiveGroups.{IsFair, over_at, placed_fair}
-use Rattle.group_facts.specs.Facts.{Bounded, IsPlain, IsWaiting, Plain, is_parting, is_up, turned_away}
+use Rattle.group_facts.specs.Facts.{Bounded, IsPlain, IsWaiting, Plain, is_parting, is_put_out, is_up, turned_away}
 use Rattle.group_facts.proofs.RequestRow.{R, asked, desk_taken, either_desk}
 use Rattle.group_facts.specs.Why.{turns_away, welcomes}
 

@@ -1,7 +1,9 @@
 -- A stop, one event further, and what holds while an editor is there.
-use Rattle.std.proofs.Common.{◌≡◌, ℕ, Bool, true, false, List, [], ◌∷◌, ◌++◌, if◌then◌else◌, refl, sym, ◌∙◌, ap}
+use Rattle.std.proofs.Common.{◌≡◌, ℕ, Bool, true, false, ◌||◌, List, [], ◌∷◌, ◌++◌, if◌then◌else◌, ◌⊎◌, inl, inr, refl, sym, ◌∙◌, ap}
 use Rattle.mux_history.specs.declared.cause.Cause.TheVariants.{FromEditor}
-use Rattle.event_model.specs.Event.{Event, heard, took, with_cause}
+use Rattle.mux_history.specs.declared.out.Out.{Out}
+use Rattle.mux_history.specs.declared.out.Out.TheVariants.{ToEditor, ToServer, Spawn, CloseEditor, EndServer}
+use Rattle.event_model.specs.Event.{Event, heard, said, took, with_cause}
 use Rattle.event_model.specs.Phases.{desk_of, is_there}
 use Rattle.event_model.proofs.Frames.{never}
 use Rattle.rpc_message.specs.Message.{message_of}
@@ -37,9 +39,21 @@ stopped_back events event h = next_back events event (sym (stopped_more events e
 pub stopped_on : (events : List Event) (event : Event) → stopped events ≡ true → stopped (events ++ event ∷ []) ≡ true
 stopped_on events event h = stopped_more events event ∙ next_on events event h
 
+-- an out leaves it
+pub stopped_did : (events : List Event) (out : Out) → stopped (events ++ said out ∷ []) ≡ stopped events
+stopped_did events (ToEditor e body) = stopped_more events (said (ToEditor e body))
+stopped_did events (ToServer s body) = stopped_more events (said (ToServer s body))
+stopped_did events (Spawn s g) = stopped_more events (said (Spawn s g))
+stopped_did events (CloseEditor e) = stopped_more events (said (CloseEditor e))
+stopped_did events (EndServer s) = stopped_more events (said (EndServer s))
+
 -- behind the message that stops all
 pub stopped_now : (events : List Event) (e : ℕ) (body : List ℕ) → stops events e (message_of body) ≡ true → stopped (with_cause events (FromEditor e body)) ≡ true
 stopped_now events e body stop = stopped_more events (heard (FromEditor e body)) ∙ ap (λ b. if b then true else stopped events) stop
+
+pub one_of : (a b : Bool) → (a || b) ≡ true → (a ≡ true) ⊎ (b ≡ true)
+one_of true b h = inl refl
+one_of false b h = inr h
 
 -- while an editor is there nothing is stopped
 pub not_stopped : (events : List Event) → Quit events → (e : ℕ) → is_there (desk_of e events).phase ≡ true → stopped events ≡ false

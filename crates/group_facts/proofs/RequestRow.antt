@@ -143,7 +143,7 @@ module _ (settings : Settings) (before : List Event) (e : ℕ) (body : List ℕ)
 
     -- its own `initialize` is open under another id, where it waits
     module _ (other : requests (codes "initialize") (message_of body) ≡ false) (fresh : (desk_of e before).phase ≡ Waiting → is_open id (open_of e before) ≡ false) (waiting : AllWaiting before) where
-      waited : (desk_of e asked).phase ≡ Waiting → (desk_of e before).phase ≡ Waiting
+      pub waited : (desk_of e asked).phase ≡ Waiting → (desk_of e before).phase ≡ Waiting
       waited at = hears_waiting (desk_of e before).phase (desk_of e before).initialize body (message_of body) other (ap (λ (d : Desk). d.phase) (sym desk_taken) ∙ at)
 
       pub beside : (desk_of e asked).phase ≡ Waiting → IsBeside asked e id

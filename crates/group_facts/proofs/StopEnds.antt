@@ -43,6 +43,12 @@ over_all zero (x ∷ xs) = go x.live refl
     go false over = over
 over_all (suc g) (x ∷ xs) = over_all g xs
 
+-- an out to an editor, or the end of its link
+abbrev pub IsOnLink : Out → Type 0
+IsOnLink (ToEditor e text) = Unit {0}
+IsOnLink (CloseEditor e) = Unit {0}
+IsOnLink other = ⊥
+
 module _ (settings : Settings) (range : settings.limits.requests < 2 ^ 32) (before : List Event) (cause : Cause) (stays : (s : ℕ) → moves before cause s ≡ false) (bounded : Bounded settings before) where
   abbrev R : List Event → Out → Type 0
   R events out = Why settings before cause events out
@@ -103,12 +109,6 @@ module _ (settings : Settings) (range : settings.limits.requests < 2 ^ 32) (befo
       go : (s : ℕ) (b : Bool) → nat_eq n s ≡ b → (life_of s (events ++ said (EndServer n) ∷ [])).stage ≡ Ready → Clean (events ++ said (EndServer n) ∷ []) s
       go s true same ready = absurd (ending_not (life_of s events).stage (sym (stage_by s true same) ∙ ready))
       go s false other ready = clean_apart events (EndServer n) s (stage_by s false other) (number_more s events (said (EndServer n))) other (k.untouched s) ready
-
-  -- an out to an editor, or the end of its link
-  abbrev pub IsOnLink : Out → Type 0
-  IsOnLink (ToEditor e text) = Unit {0}
-  IsOnLink (CloseEditor e) = Unit {0}
-  IsOnLink other = ⊥
 
   pub over_linked : (events : List Event) (out : Out) → IsOnLink out → AllOver events → AllOver (events ++ said out ∷ [])
   over_linked events (ToEditor e text) is k = over_told e text events k

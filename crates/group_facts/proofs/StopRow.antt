@@ -137,16 +137,16 @@ module _ (settings : Settings) (before : List Event) (n : ℕ) (body : List ℕ)
 
   -- Editor by editor
 
-  record IsTurned (e : ℕ) (events : List Event) : Type 0 where
-    id : Id
-    waiting : IsWaiting events e id
-    turned : turned_away settings before (FromEditor n body) e ≡ true
+  pub record IsTurned (e : ℕ) (events : List Event) : Type 0 where
+    pub id : Id
+    pub waiting : IsWaiting events e id
+    pub turned : turned_away settings before (FromEditor n body) e ≡ true
 
-  record IsRefusing (e : ℕ) (events : List Event) : Type 0 where
-    over : stopped events ≡ true
-    there : is_there (desk_of e events).phase ≡ true
-    turned : is_waiting (desk_of e events).phase ≡ true → IsTurned e events
-    askers : (s : ℕ) → AllByRecursion (IsForwarded events) (filter (is_of e) (forwarding_of s before).open_requests)
+  pub record IsRefusing (e : ℕ) (events : List Event) : Type 0 where
+    pub over : stopped events ≡ true
+    pub there : is_there (desk_of e events).phase ≡ true
+    pub turned : is_waiting (desk_of e events).phase ≡ true → IsTurned e events
+    pub askers : (s : ℕ) → AllByRecursion (IsForwarded events) (filter (is_of e) (forwarding_of s before).open_requests)
 
   abbrev first_text : ℕ → List Event → List ℕ
   first_text e events = error_text (id_bytes (desk_of e events).initialize) request_failed
@@ -169,7 +169,7 @@ module _ (settings : Settings) (before : List Event) (n : ℕ) (body : List ℕ)
         first : Because R events (refuse_initialize e)
         first = by_look (by_choose (λ waits. let w : IsTurned e events = h.turned waits in by_send (turns_away (record { id = w.id; x = error_tree request_failed; waiting = w.waiting; turned = w.turned; says = first_says e events w }))) (λ late. by_nothing))
 
-        abbrev either : Bool → List Out
+        either : Bool → List Out
         either b = outs (choose b (send (ToEditor e (first_text e events))) nothing) events
 
         first_outs : (b : Bool) → outs (refuse_initialize e) events ≡ either (is_waiting (desk_of e events).phase)
@@ -242,9 +242,9 @@ module _ (settings : Settings) (before : List Event) (n : ℕ) (body : List ℕ)
 
   -- The links
 
-  record IsClosing (e : ℕ) (events : List Event) : Type 0 where
-    out : is_put_out settings before (FromEditor n body) e ≡ true
-    there : is_there (desk_of e events).phase ≡ true
+  pub record IsClosing (e : ℕ) (events : List Event) : Type 0 where
+    pub out : is_put_out settings before (FromEditor n body) e ≡ true
+    pub there : is_there (desk_of e events).phase ≡ true
 
   closing_still : (k e : ℕ) (events : List Event) → nat_eq k e ≡ false → IsClosing e events → IsClosing e (events ++ said (CloseEditor k) ∷ [])
   closing_still k e events other h = record {

@@ -1,10 +1,10 @@
 -- The routing table over several editors and groups, walked once: each out of every row has its reason.
-use Rattle.std.proofs.Common.{◌≡◌, ℕ, true, false, ◌&&◌, ◌||◌, List, codes, bytes_eq, Option, refl, sym, ◌∙◌, ap, append-nil, not, subst, Bool}
+use Rattle.std.proofs.Common.{◌≡◌, ℕ, true, false, ◌&&◌, ◌||◌, List, codes, bytes_eq, Option, refl, sym, ◌∙◌, ap, ap₂, append-nil, not, subst, Bool}
 use Rattle.std.proofs.lemmas.Bool.{and_parts}
 use Rattle.std.proofs.lemmas.Slice.Eq.{bytes_eq-Decides}
 use Rattle.json_text.specs.Json.{Json}
 use Rattle.mux_history.specs.declared.cause.Cause.{Cause}
-use Rattle.mux_history.specs.declared.cause.Cause.TheVariants.{FromEditor, EditorGone, Started, FromServer, Tick}
+use Rattle.mux_history.specs.declared.cause.Cause.TheVariants.{Joined, FromEditor, EditorGone, Started, FromServer, Tick}
 use Rattle.rpc_message.specs.Message.{Message, request, notification, result, error, not_json, not_message, Id, message_of, result_bytes}
 use Rattle.rpc_message.specs.Texts.{error_tree, invalid_request}
 use Rattle.event_model.specs.declared.phase.Phase.{Phase}
@@ -25,12 +25,12 @@ use Rattle.mux_facts.proofs.Bodies.{malformed_says}
 use Rattle.event_model.proofs.Frames.{never}
 use Rattle.mux_facts.proofs.Reasons.{Because, by_nothing, by_send, by_choose, by_then}
 use Rattle.mux_facts.proofs.Why.{is_early}
-use Rattle.group_words.specs.Houses.{is_doubled}
+use Rattle.group_words.specs.Houses.{is_doubled, stops}
 use Rattle.group_words.specs.Rows.{shown_of}
 use Rattle.group_rows.specs.AskRows.{run_row}
 use Rattle.group_rows.specs.Rows.{asks_lspmux, closing_row, down_row, early_code, early_row, exit_row, from_editor, lspmux_row, message_row, row_of, served_notice, served_request, served_row, taken_row, wrong_code}
 use Rattle.group_facts.specs.Built.{built_behind, built_early, built_from_server, is_shown_whole}
-use Rattle.group_facts.specs.Facts.{IsAlone, is_parting, leaves}
+use Rattle.group_facts.specs.Facts.{AllForwarded, IsAlone, is_parting, leaves}
 use Rattle.group_facts.proofs.AskingRows.{response_why}
 use Rattle.group_facts.proofs.AnswerRows.{server_why, start_why}
 use Rattle.group_facts.proofs.Apart.{alone_by, alone_early}
@@ -43,10 +43,13 @@ use Rattle.group_facts.proofs.Moved.{row_moved}
 use Rattle.group_facts.proofs.NoticeRow.{notice_why}
 use Rattle.group_facts.proofs.PartingRows.{closing_why, gone_why, or_second, shutdown_why}
 use Rattle.group_facts.proofs.PlacingRow.{initialize_why}
+use Rattle.group_facts.proofs.Quits.{asked_while}
 use Rattle.group_facts.proofs.RequestRow.{R, asked, early_new, early_waiting, late_refused, not_own, open_why, request_why, status_why}
 use Rattle.group_facts.proofs.Resuming.{run_questions, run_why, stays_there}
 use Rattle.group_facts.proofs.SharedRows.{off_first}
 use Rattle.group_facts.proofs.Still.{still_served}
+use Rattle.group_facts.proofs.StopRow.{joined_why}
+use Rattle.group_facts.proofs.StopWhy.{stop_why}
 use Rattle.group_facts.proofs.TickRow.{tick_why}
 use Rattle.group_facts.proofs.WorkRow.{work_why}
 use Rattle.group_facts.specs.Why.{Why, rejects}
@@ -153,7 +156,7 @@ module _ (settings : Settings) (range : InRange settings) (before : List Event) 
   lspmux_why (request id method params) says there asks single = by_choose
       (λ names. open_why settings before e body id method params says there alone_here other fresh facts.waiting (request id method params))
       (λ others. by_choose
-      (λ stop. stop_why settings range before facts e body (stops_all stop) (null_why settings before e body id method params says there alone_here other fresh facts.waiting))
+      (λ stop. stop_why settings range before (facts.steady).bounded (facts.steady).apart facts.waiting (asked_here there) e body id method params says there alone_here other fresh (stops_all stop))
       (λ tells. status_why settings before e body id method params says there alone_here other fresh facts.waiting))
     where
       stops_all : requests (codes "lspmux/stop") (request id method params) ≡ true → stops before e (message_of body) ≡ true

@@ -242,13 +242,17 @@ is_in settings before s e = option_map_or (λ g. is_home g (home_of settings e b
 abbrev pub Quit : List Event → Type 0
 Quit events = stopped events ≡ true → (e : ℕ) → is_there (desk_of e events).phase ≡ false
 
--- an editor that waits and that this cause turns away: the daemon has too many groups (E7), the start for which it waits refuses its `initialize` (S3), or all is stopped (E6)
+-- the daemon has too many groups for an editor that comes (E7)
 abbrev pub is_too_many : Placed → Bool
 is_too_many TooMany = true
 is_too_many other = false
 
+abbrev pub is_crowded : Settings → List Event → ℕ → List ℕ → ℕ → Bool
+is_crowded settings before n body e = nat_eq n e && (places (desk_of n before).phase (message_of body) && is_too_many (placed_for settings before n body (groups_of settings before)))
+
+-- an editor that waits and that this cause turns away: the daemon has too many groups (E7), the start for which it waits refuses its `initialize` (S3), or all is stopped (E6)
 abbrev pub turned_away : Settings → List Event → Cause → ℕ → Bool
-turned_away settings before (FromEditor n body) e = (nat_eq n e && (places (desk_of n before).phase (message_of body) && is_too_many (placed_for settings before n body (groups_of settings before)))) || (stops before n (message_of body) && is_waiting (desk_of e before).phase)
+turned_away settings before (FromEditor n body) e = is_crowded settings before n body e || (stops before n (message_of body) && is_waiting (desk_of e before).phase)
 turned_away settings before (FromServer s body) e = is_refusing before s (message_of body) && (is_waiting (desk_of e before).phase && is_in settings before s e)
 turned_away settings before other e = false
 

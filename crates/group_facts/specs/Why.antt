@@ -55,7 +55,7 @@ use Rattle.group_rows.specs.Leaves.{cancel_text}
 use Rattle.group_rows.specs.Lists.{agreement_at, lists_of, sayings_of, version_at}
 use Rattle.group_rows.specs.Live.{is_registering, live_of, register_text, taken_back, unregister_text}
 use Rattle.group_rows.specs.Rows.{sync_bodies}
-use Rattle.group_rows.specs.StopRows.{stopped}
+use Rattle.group_rows.specs.StopRows.{stopped as is_stopped}
 use Rattle.group_rows.specs.Texts.{texts_of}
 use Rattle.group_rows.specs.Tokens.{forwarded_text, is_told, is_worked, listens, mark_text, marked_text, own_token, reserves, work_mark}
 use Rattle.group_facts.specs.Built.{is_left}
@@ -345,7 +345,7 @@ pub record IsLoss (before : List Event) (cause : Cause) (events : List Event) (e
   pub x : Json
   pub from : cause ≡ FromEditor editor asked
   pub stop : stops before editor (message_of asked) ≡ true
-  pub over : stopped events ≡ true
+  pub over : is_stopped events ≡ true
   pub there : is_there (desk_of e events).phase ≡ true
   pub late : is_early (desk_of e events).phase ≡ false
   pub waits : is_open id (open_of e events) ≡ true
