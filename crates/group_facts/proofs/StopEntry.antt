@@ -48,7 +48,7 @@ there_closed other = refl
 pub there_outs : (e : ℕ) (events : List Event) (xs : List Out) → is_there (desk_of e (behind events xs)).phase ≡ true → is_there (desk_of e events).phase ≡ true
 there_outs e = outs_tested is_there there_told there_closed e
 
-there_heard : (phase : Phase) (initialize body : List ℕ) (m : Message) → is_there (desk_hears phase initialize body m).phase ≡ true → is_there phase ≡ true
+pub there_heard : (phase : Phase) (initialize body : List ℕ) (m : Message) → is_there (desk_hears phase initialize body m).phase ≡ true → is_there phase ≡ true
 there_heard New initialize body m h = refl
 there_heard Waiting initialize body m h = refl
 there_heard Answered initialize body m h = refl
@@ -231,6 +231,16 @@ module _ (settings : Settings) (before : List Event) (absent : Editors before) (
   quit_rests (ServerGone s) h e = still_none (ServerGone s) (was_stopped (ServerGone s) h) (λ i is. cc) e
   quit_rests (Drained n k) h e = still_none (Drained n k) (was_stopped (Drained n k) h) (λ i is. cc) e
   quit_rests (Tick t) h e = still_none (Tick t) (was_stopped (Tick t) h) (λ i is. cc) e
+
+pub begun_there : (phase : Phase) → is_begun phase ≡ true → is_there phase ≡ true
+begun_there Waiting h = refl
+begun_there Answered h = refl
+begun_there Running h = refl
+begun_there Down h = refl
+begun_there Absent h = h
+begun_there New h = refl
+begun_there Closed h = h
+begun_there Gone h = h
 
 -- Whose link another one's doing ends is in no group behind the entry
 
