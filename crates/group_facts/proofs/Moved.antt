@@ -32,6 +32,7 @@ use Rattle.group_rows.specs.Forwarded.{Forwarded, Forwarding}
 use Rattle.group_facts.specs.Facts.{IsAlone, IsWaiting, is_early}
 use Rattle.group_facts.specs.Lively.{lives_at}
 use Rattle.group_rows.specs.Tokens.{forwarded_text}
+use Rattle.group_facts.proofs.Quits.{running_stops}
 use Rattle.group_facts.specs.Why.{IsBehindSync, IsBeside, IsQuestion, Showing, Telling, Turn, Why, WhyToEditor, WhyToServer, answers, asks, asks_something, begins, cancels, exits, forwarded, greeted, greets, is_uncancelled, notes, of_held, of_request, of_token, passes, recalls, refuses, calls, rejects, resolves, responds, resumes, shuts, spreads, stays, tells, turns_away, versions_at, welcomes, cancels_work, progresses, begins_by, comes, opened_by, shows, loses}
 use Rattle.group_rows.proofs.Versions.{AllMeant, meant_heard, meant_more}
 use Rattle.group_facts.proofs.Same.{IsBody, Same, same_agreement, same_behind, same_held, same_questions, same_version}
@@ -52,22 +53,6 @@ running_fine (result id r) h = refl
 running_fine (error id r) h = refl
 running_fine not_json h = never (sym h)
 running_fine not_message h = never (sym h)
-
--- what stops all makes none run
-running_stops : (m : Message) → makes_running m ≡ true → requests (codes "lspmux/stop") m ≡ false
-running_stops (request id method params) h = go (bytes_eq (codes "shutdown") method) (bytes_eq (codes "lspmux/open") method) (bytes_eq (codes "lspmux/status") method) (bytes_eq (codes "lspmux/stop") method) h
-  where
-    go : (a b c d : Bool) → not (a || (b || (c || d))) ≡ true → d ≡ false
-    go false false false false h = refl
-    go false false false true h = never (sym h)
-    go false false true d h = never (sym h)
-    go false true c d h = never (sym h)
-    go true b c d h = never (sym h)
-running_stops (notification method params) h = refl
-running_stops (result id r) h = refl
-running_stops (error id r) h = refl
-running_stops not_json h = refl
-running_stops not_message h = refl
 
 module _ (settings : Settings) (before : List Event) (e : ℕ) (body : List ℕ) (runs : makes_running (message_of body) ≡ true) (idle : is_running (desk_of e before).phase ≡ false) (questions : List Out) (asked : AllByRecursion (IsQuestion e) questions) where
   abbrev cause : Cause

@@ -1,13 +1,13 @@
 -- A stop, one event further, and what holds while an editor is there.
-use Rattle.std.proofs.Common.{◌≡◌, ℕ, Bool, true, false, ◌||◌, List, [], ◌∷◌, ◌++◌, if◌then◌else◌, ◌⊎◌, inl, inr, refl, sym, ◌∙◌, ap}
+use Rattle.std.proofs.Common.{◌≡◌, ℕ, Bool, true, false, not, ◌&&◌, ◌||◌, bytes_eq, codes, List, [], ◌∷◌, ◌++◌, if◌then◌else◌, ◌⊎◌, inl, inr, refl, sym, ◌∙◌, ap}
 use Rattle.mux_history.specs.declared.cause.Cause.TheVariants.{FromEditor}
 use Rattle.mux_history.specs.declared.out.Out.{Out}
 use Rattle.mux_history.specs.declared.out.Out.TheVariants.{ToEditor, ToServer, Spawn, CloseEditor, EndServer}
-use Rattle.event_model.specs.Event.{Event, heard, said, took, with_cause}
-use Rattle.event_model.specs.Phases.{desk_of, is_there}
+use Rattle.event_model.specs.Event.{Event, heard, requests, said, took, with_cause}
+use Rattle.event_model.specs.Phases.{desk_of, is_begun, is_there, makes_running}
 use Rattle.event_model.proofs.Frames.{never}
-use Rattle.rpc_message.specs.Message.{message_of}
-use Rattle.group_words.specs.Houses.{stops}
+use Rattle.rpc_message.specs.Message.{Message, request, notification, result, error, not_json, not_message, message_of}
+use Rattle.group_words.specs.Houses.{is_doubled, stops}
 use Rattle.group_words.proofs.Frames.{past_more}
 use Rattle.group_rows.specs.StopRows.{stopped, stopped_next}
 use Rattle.group_facts.specs.Facts.{AllForwarded, Quit}
@@ -65,3 +65,22 @@ not_stopped events quit e there = go (stopped events) refl
 
 pub asked_while : (events : List Event) → (stopped events ≡ false → AllForwarded events) → Quit events → (e : ℕ) → is_there (desk_of e events).phase ≡ true → AllForwarded events
 asked_while events asked quit e there = asked (not_stopped events quit e there)
+
+-- what stops all makes none run
+pub running_stops : (m : Message) → makes_running m ≡ true → requests (codes "lspmux/stop") m ≡ false
+running_stops (request id method params) h = go (bytes_eq (codes "shutdown") method) (bytes_eq (codes "lspmux/open") method) (bytes_eq (codes "lspmux/status") method) (bytes_eq (codes "lspmux/stop") method) h
+  where
+    go : (a b c d : Bool) → not (a || (b || (c || d))) ≡ true → d ≡ false
+    go false false false false h = refl
+    go false false false true h = never (sym h)
+    go false false true d h = never (sym h)
+    go false true c d h = never (sym h)
+    go true b c d h = never (sym h)
+running_stops (notification method params) h = refl
+running_stops (result id r) h = refl
+running_stops (error id r) h = refl
+running_stops not_json h = refl
+running_stops not_message h = refl
+
+pub running_goes_on : (before : List Event) (e : ℕ) (m : Message) → makes_running m ≡ true → stops before e m ≡ false
+running_goes_on before e m runs = ap (λ b. b && (is_there (desk_of e before).phase && not (is_begun (desk_of e before).phase && is_doubled before e m))) (running_stops m runs)

@@ -12,7 +12,8 @@ use Rattle.rpc_message.specs.Texts.{ok_text}
 use Rattle.event_model.specs.declared.phase.Phase.{Phase}
 use Rattle.event_model.specs.declared.phase.Phase.TheVariants.{Absent, New, Waiting, Answered, Running, Down, Closed, Gone}
 use Rattle.event_model.specs.Event.{Event, behind, heard, requests, said, with_cause}
-use Rattle.event_model.specs.Phases.{Desk, desk_hears, desk_of, editors_of, is_begun, is_there, phase_closed, phase_told}
+use Rattle.event_model.specs.Phases.{Desk, desk_hears, desk_of, editors_of, has_id, is_begun, is_there, phase_closed, phase_told}
+use Rattle.std.specs.Prelude.{None, Some}
 use Rattle.event_model.specs.Row.{choose, each, nothing, outs, send}
 use Rattle.event_model.specs.Settings.{Settings}
 use Rattle.event_model.proofs.Frames.{never}
@@ -57,6 +58,41 @@ there_heard Down initialize body m h = refl
 there_heard Absent initialize body m h = h
 there_heard Closed initialize body m h = h
 there_heard Gone initialize body m h = h
+
+abbrev pub is_absent : Phase → Bool
+is_absent Absent = true
+is_absent _ = false
+
+waiting_present : (initialize : List ℕ) (m : Message) → is_absent (phase_told Waiting initialize m) ≡ false
+waiting_present initialize (result (Some id) r) = go (has_id id (message_of initialize))
+  where
+    go : (b : Bool) → is_absent (if b then Answered else Waiting) ≡ false
+    go true = refl
+    go false = refl
+waiting_present initialize (result None r) = refl
+waiting_present initialize (error id x) = refl
+waiting_present initialize (request id method params) = refl
+waiting_present initialize (notification method params) = refl
+waiting_present initialize not_json = refl
+waiting_present initialize not_message = refl
+
+absent_told : (phase : Phase) (initialize : List ℕ) (m : Message) → is_absent (phase_told phase initialize m) ≡ true → is_absent phase ≡ true
+absent_told Waiting initialize m h = never (sym h ∙ waiting_present initialize m)
+absent_told Absent initialize m h = h
+absent_told New initialize m h = h
+absent_told Answered initialize m h = h
+absent_told Running initialize m h = h
+absent_told Down initialize m h = h
+absent_told Closed initialize m h = h
+absent_told Gone initialize m h = h
+
+absent_closed : (phase : Phase) → is_absent (phase_closed phase) ≡ false
+absent_closed Gone = refl
+absent_closed other = refl
+
+there_present : (phase : Phase) → is_there phase ≡ true → is_absent phase ≡ false
+there_present Absent h = sym h
+there_present other h = refl
 
 -- Links that are to be ended
 
@@ -152,6 +188,14 @@ module _ (settings : Settings) (before : List Event) (n : ℕ) (body : List ℕ)
       where
         below : is_there (desk_of e before).phase ≡ true → e < 0 + editors_of before
         below was = let known : editors_of before ≤ e → ⊥ = λ le. never (sym was ∙ ap is_there (absent e le)) in omega (arith, known)
+
+    -- one that was there had joined
+    pub none_absent : (e : ℕ) → is_there (desk_of e now).phase ≡ true → is_absent (desk_of e later).phase ≡ false
+    none_absent e there = go (is_absent (desk_of e later).phase) refl
+      where
+        go : (b : Bool) → is_absent (desk_of e later).phase ≡ b → b ≡ false
+        go true gone = never (sym (outs_tested is_absent absent_told absent_closed e now (outs_of settings before (FromEditor n body)) gone) ∙ there_present (desk_of e now).phase there)
+        go false present = refl
 
     pub none_there : (e : ℕ) → is_there (desk_of e later).phase ≡ false
     none_there e = go (is_there (desk_of e later).phase) refl
