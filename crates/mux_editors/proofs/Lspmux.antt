@@ -129,9 +129,9 @@ module _ (before : List Event) (e : ℕ) (body : List ℕ) (asks : asks_lspmux (
   own_placed = ap (places (desk_of e before).phase) k.is ∙ (ap (λ b. is_new (desk_of e before).phase && b) (by_names (λ m. bytes_eq (codes "initialize") m ≡ false) k.method refl refl refl k.own) ∙ and_off (is_new (desk_of e before).phase))
 
   pub own_stops : requests (codes "lspmux/stop") (message_of body) ≡ false → stops before e (message_of body) ≡ false
-  own_stops goes = ap (λ b. b && (is_there (desk_of e before).phase && not (is_doubled before e (message_of body)))) goes
+  own_stops goes = ap (λ b. b && (is_there (desk_of e before).phase && not (is_begun (desk_of e before).phase && is_doubled before e (message_of body)))) goes
 
-  pub doubled_stops : is_doubled before e (message_of body) ≡ true → stops before e (message_of body) ≡ false
+  pub doubled_stops : (is_begun (desk_of e before).phase && is_doubled before e (message_of body)) ≡ true → stops before e (message_of body) ≡ false
   doubled_stops doubled = ap (λ b. requests (codes "lspmux/stop") (message_of body) && (is_there (desk_of e before).phase && not b)) doubled
       ∙ (ap (λ b. requests (codes "lspmux/stop") (message_of body) && b) (and_off (is_there (desk_of e before).phase)) ∙ and_off (requests (codes "lspmux/stop") (message_of body)))
 

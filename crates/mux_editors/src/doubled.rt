@@ -1,5 +1,5 @@
 //! E3: requests of an editor under an id that is open.
-ghost use Rattle.std.specs.Prelude.{◌≡◌, ◌<◌, ℕ, List, [], Option, false, true, codes, length, OnOk};
+ghost use Rattle.std.specs.Prelude.{◌≡◌, ◌<◌, ◌&&◌, ℕ, List, [], Option, false, true, codes, length, OnOk};
 ghost use Rattle.event_model.specs.Does.{Done};
 ghost use Rattle.event_model.specs.Event.{Event, requests, with_cause};
 ghost use Rattle.event_model.specs.Phases.{desk_of, is_begun, is_served};
@@ -97,7 +97,7 @@ pub fn take_doubled_own(
     ensures requests { tables.new.requests ≡ tables.old.requests }
     ensures versions { tables.new.versions ≡ tables.old.versions }
     ensures does { (settings : Settings) (before : List Event) (body : List ℕ) → asks_lspmux (message_of body) ≡ true
-        → is_begun (desk_of e before).phase ≡ true → is_doubled before e (message_of body) ≡ true → outs.old ≡ []
+        → (is_begun (desk_of e before).phase && is_doubled before e (message_of body)) ≡ true → outs.old ≡ []
         → Stands settings tables.old before → DocumentsStand settings nothing_owed tables.old before
         → OnOk result (Done (λ k events. AllStand settings k events) (closing_row settings before e)
         (with_cause before (FromEditor e body)) [] (tables.new, nothing_owed) outs.new) }

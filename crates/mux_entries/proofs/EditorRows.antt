@@ -26,9 +26,7 @@ use Rattle.event_model.proofs.Turns.{alike, alike_then, does_nothing}
 use Rattle.mux_model.specs.Rows.{malformed_row}
 use Rattle.group_words.specs.Rows.{initialize_row}
 use Rattle.group_words.specs.Houses.{is_doubled, stops}
-use Rattle.event_model.specs.Requests.{is_open, open_of}
 use Rattle.group_rows.specs.StopRows.{stop_row}
-use Rattle.mux_starts.specs.group_facts.specs.Settled.{Settled}
 use Rattle.group_rows.specs.AskRows.{response_row}
 use Rattle.mux_starts.specs.mux_facts.specs.Allowed.{is_response}
 use Rattle.group_rows.specs.Rows.{asks_lspmux, closing_row, down_row, early_row, exit_row, from_editor, lspmux_row, open_row, row_of, served_row, status_row, taken_row}
@@ -191,29 +189,8 @@ module _ (settings : Settings) (before : List Event) (e : ℕ) (body : List ℕ)
   halts h k = alike_then (is_second refl h) (is_first refl k)
 
   -- it stops all, where its editor is there and it is under no id that is open
-  pub stops_all : Settled settings before → requests (codes "lspmux/stop") (message_of body) ≡ true → is_there (desk_of e before).phase ≡ true → (is_begun (desk_of e before).phase && is_doubled before e (message_of body)) ≡ false → stops before e (message_of body) ≡ true
-  stops_all settled asks there single = rw (asks, there, undoubled (desk_of e before).phase refl) refl
-    where
-      none : (ids : List Id) (m : Message) → ids ≡ [] → ids ≡ open_of e before → is_doubled before e m ≡ false
-      none ids (request id method params) empty is = ap (is_open id) (sym is ∙ empty)
-      none ids (notification method params) empty is = refl
-      none ids (result id r) empty is = refl
-      none ids (error id x) empty is = refl
-      none ids not_json empty is = refl
-      none ids not_message empty is = refl
-
-      begun : is_begun (desk_of e before).phase ≡ true → is_doubled before e (message_of body) ≡ false
-      begun h = ap (λ b. b && is_doubled before e (message_of body)) (sym h) ∙ single
-
-      undoubled : (p : Phase) → (desk_of e before).phase ≡ p → is_doubled before e (message_of body) ≡ false
-      undoubled New at = none (open_of e before) (message_of body) (settled.unasked e at) refl
-      undoubled Waiting at = begun (ap is_begun at)
-      undoubled Answered at = begun (ap is_begun at)
-      undoubled Running at = begun (ap is_begun at)
-      undoubled Down at = begun (ap is_begun at)
-      undoubled Absent at = absurd (let k : is_there Absent ≡ true = ap is_there (sym at) ∙ there in cc)
-      undoubled Closed at = absurd (let k : is_there Closed ≡ true = ap is_there (sym at) ∙ there in cc)
-      undoubled Gone at = absurd (let k : is_there Gone ≡ true = ap is_there (sym at) ∙ there in cc)
+  pub stops_all : requests (codes "lspmux/stop") (message_of body) ≡ true → is_there (desk_of e before).phase ≡ true → (is_begun (desk_of e before).phase && is_doubled before e (message_of body)) ≡ false → stops before e (message_of body) ≡ true
+  stops_all asks there single = rw (asks, there, single) refl
 
   -- E3
   pub closes : is_malformed (message_of body) ≡ false → (is_begun (desk_of e before).phase && is_doubled before e (message_of body)) ≡ true → Alike row (closing_row settings before e)

@@ -5,7 +5,7 @@ use Rattle.std.proofs.lemmas.Slice.Eq.{bytes_eq-Decides}
 use Rattle.mux_history.specs.declared.cause.Cause.TheVariants.{FromEditor}
 use Rattle.rpc_message.specs.Message.{Message, request}
 use Rattle.event_model.specs.Event.{Event, requests, took}
-use Rattle.event_model.specs.Phases.{desk_of, is_there}
+use Rattle.event_model.specs.Phases.{desk_of, is_begun, is_there}
 use Rattle.event_model.proofs.Frames.{never}
 use Rattle.group_words.specs.Houses.{is_doubled, stops}
 use Rattle.group_words.proofs.Frames.{past_more}
@@ -36,4 +36,4 @@ no_stop (request id method ps) h = ap (bytes_eq (codes "lspmux/stop")) (sym ((by
 no_stop rest h = never (sym h)
 
 pub initialize_goes : (events : List Event) (e : ℕ) (m : Message) → requests (codes "initialize") m ≡ true → stops events e m ≡ false
-initialize_goes events e m h = ap (λ b. b && (is_there (desk_of e events).phase && not (is_doubled events e m))) (no_stop m h)
+initialize_goes events e m h = ap (λ b. b && (is_there (desk_of e events).phase && not (is_begun (desk_of e events).phase && is_doubled events e m))) (no_stop m h)

@@ -301,7 +301,7 @@ module _ (settings : Settings) (t u : Tables) (events : List Event) (e : ℕ) (b
       (ap (λ b. is_new (desk_of e events).phase && b) (no_first (message_of body) asks) ∙ and_off (is_new (desk_of e events).phase))
       (now_new ∙ sym (stands_new s.house.editors))
       refl refl refl (λ w. meant_first settings t.editors events e body l o is first) (answers_none settings e (message_of body) events (asks_silent (codes "lspmux/open") (message_of body) asks))
-      gs (ap (λ (c : Course). c.stopped) now) (ap (λ b. b && (is_there (desk_of e events).phase && not (is_doubled events e (message_of body)))) (no_stop (message_of body) asks)) s
+      gs (ap (λ (c : Course). c.stopped) now) (ap (λ b. b && (is_there (desk_of e events).phase && not (is_begun (desk_of e events).phase && is_doubled events e (message_of body)))) (no_stop (message_of body) asks)) s
 
 -- X6: no table speaks of bytes that were written
 pub drained_moves : (settings : Settings) (t : Tables) (events : List Event) (e k : ℕ) → Stands settings t events → Stands settings t (events ++ heard (Drained e k) ∷ [])

@@ -17,7 +17,7 @@ returns-in_ok-take_stop-clause-does c = λ settings before body read asks server
     let other = sym (c.is_open.ensures body read) ∙ c.if-is_open.false in
     let names = sym (c.is_stop.ensures body read) ∙ c.if-is_stop.true in
     done_alike (λ k events. AllStand settings k events) (halts settings before c.args.e body other names)
-    (c.in_ok-take_stop.ensures.does settings before body read (stops_all settings before c.args.e body settled names there single) first known settled st ds)
+    (c.in_ok-take_stop.ensures.does settings before body read (stops_all settings before c.args.e body names there single) first known settled st ds)
 
 pub returns-in_ok-take_status-clause-does : goal.returns-in_ok-take_status-clause-does
 returns-in_ok-take_status-clause-does c = λ settings before body read asks servers first known settled there single st ds.
