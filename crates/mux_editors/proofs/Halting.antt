@@ -98,10 +98,12 @@ own_rows e [] = alike refl
 own_rows e (f ∷ fs) = go (nat_eq f.editor e) refl
   where
     go : (b : Bool) → nat_eq f.editor e ≡ b → Alike (each lose_request (if b then f ∷ filter (is_of e) fs else filter (is_of e) fs)) (each (refuse_id e) (map (λ (f : Forwarded). f.id) (if b then f ∷ filter (is_of e) fs else filter (is_of e) fs)))
-    go true mine = record { sends = λ events.
-        let own : f.editor ≡ e = number_same f.editor e mine in
-        ap₂ (λ x ws. x ∷ ws) (ap (λ n. ToEditor n (error_text f.id request_failed)) own)
-        (ap (λ n. outs (each lose_request (filter (is_of e) fs)) (events ++ said (ToEditor n (error_text f.id request_failed)) ∷ [])) own ∙ (own_rows e fs).sends (events ++ said (ToEditor e (error_text f.id request_failed)) ∷ [])) }
+    go true mine = record {
+      sends = λ events.
+          let own : f.editor ≡ e = number_same f.editor e mine in
+          ap₂ (λ x ws. x ∷ ws) (ap (λ n. ToEditor n (error_text f.id request_failed)) own)
+          (ap (λ n. outs (each lose_request (filter (is_of e) fs)) (events ++ said (ToEditor n (error_text f.id request_failed)) ∷ [])) own ∙ (own_rows e fs).sends (events ++ said (ToEditor e (error_text f.id request_failed)) ∷ []));
+    }
     go false off = own_rows e fs
 
 named_all : (events : List Event) (e : ℕ) (fs : List Forwarded) → AllByRecursion (IsForwarded events) fs → AllByRecursion IsNamed (ids_at e fs)

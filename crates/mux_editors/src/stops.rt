@@ -56,12 +56,7 @@ fn is_waiting(phase: Phase) -> bool
 }
 
 // Its `initialize` does, where it waits.
-fn refuse_initialize(
-    tables: &Tables,
-    alloc: Global,
-    outs: &mut Outs,
-    e: u64,
-) -> Result<(), Memory>
+fn refuse_initialize(tables: &Tables, alloc: Global, outs: &mut Outs, e: u64) -> Result<(), Memory>
     requires { e < length tables.now.editors }
     ensures does { (settings : Settings) (base : List Event) → AllAsking (behind base outs.old) → AllHoused settings (behind base outs.old)
         → OnOk result (Does (λ t events. Stands settings t events) (refuse_initialize e) base tables.now outs.old tables.now outs.new) }
@@ -81,13 +76,7 @@ fn refuse_initialize(
 }
 
 // So do those of its requests that the last start of its group, which is in this place, has to answer.
-fn lose_at(
-    tables: &Tables,
-    alloc: Global,
-    outs: &mut Outs,
-    g: usize,
-    e: u64,
-) -> Result<(), Memory>
+fn lose_at(tables: &Tables, alloc: Global, outs: &mut Outs, g: usize, e: u64) -> Result<(), Memory>
     requires { g < length tables.now.lasts.items }
     ensures does { (settings : Settings) (base : List Event) (s : ℕ) → slice_get (map number_in tables.now.lasts.items) g ≡ Some s
         → AllByRecursion IsNamed (ids_at e (forwarding_of s (behind base outs.old)).open_requests)
@@ -104,13 +93,7 @@ fn lose_at(
 }
 
 // Where its group, which has this number, has such a start.
-fn lose_in(
-    tables: &Tables,
-    alloc: Global,
-    outs: &mut Outs,
-    home: u64,
-    e: u64,
-) -> Result<(), Memory>
+fn lose_in(tables: &Tables, alloc: Global, outs: &mut Outs, home: u64, e: u64) -> Result<(), Memory>
     ensures does { (settings : Settings) (before base : List Event) → Stays settings before (behind base outs.old) → AllForwarded before
         → OnOk result (Does (λ t events. Stands settings t events) (lose_from before e (start_of home before)) base tables.now outs.old tables.now outs.new) }
     ensures documents { (settings : Settings) (owed : Owed) (base : List Event) → DocumentsStand settings owed tables.now (behind base outs.old)

@@ -31,10 +31,7 @@ pub const STOPPED: [(&str, &str); 12] = [
         "ed 3 {\"jsonrpc\":\"2.0\",\"id\":0,\"method\":\"lspmux/stop\"}\n",
         "",
     ),
-    (
-        "sv 0 {\"jsonrpc\":\"2.0\",\"id\":2,\"result\":null}\n",
-        "",
-    ),
+    ("sv 0 {\"jsonrpc\":\"2.0\",\"id\":2,\"result\":null}\n", ""),
     (
         "sv 0 {\"jsonrpc\":\"2.0\",\"id\":4,\"result\":null}\n",
         ">sv 0 {\"jsonrpc\":\"2.0\",\"method\":\"exit\"}\n>end 0\n",
