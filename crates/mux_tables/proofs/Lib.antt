@@ -42,6 +42,7 @@ pub mod DocumentHeard
 pub mod DocumentSaid
 pub mod DocumentSpawned
 pub mod DocumentOwed
+pub mod DocumentOwing
 pub mod DocumentLeft
 pub mod DocumentReady
 pub mod Downs

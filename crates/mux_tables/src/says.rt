@@ -1,5 +1,5 @@
 // What each out does to the tables.
-ghost use Rattle.std.specs.Prelude.{◌≡◌, ◌≢◌, ◌<◌, ◌≤◌, ◌^◌, ◌++◌, ◌∷◌, [], ℕ, List, map, Option, Some, false, true, length, IfOk, OnOk, codes, bytes_eq, slice_get, nat_eq};
+ghost use Rattle.std.specs.Prelude.{◌≡◌, ◌≢◌, ◌×◌, ◌<◌, ◌≤◌, ◌^◌, ◌++◌, ◌∷◌, [], ℕ, List, map, Option, Some, false, true, length, IfOk, OnOk, codes, bytes_eq, slice_get, nat_eq};
 ghost use Rattle.std.specs.List.{AllByRecursion};
 ghost use Rattle.event_model.specs.declared.stage.Stage.TheVariants.{Ended, Ready};
 ghost use Rattle.event_model.specs.Does.{Does};
@@ -101,6 +101,9 @@ impl Tables {
             → DocumentsStand settings nothing_owed self.old (behind base outs.old)
             → IfOk result (λ owed. Leaves settings (behind base outs.old) e (home_of settings e (behind base outs.old))
             (start_for settings e (behind base outs.old)) owed self.new (behind base outs.new)) }
+        ensures owing { (settings : Settings) (owing : Owed) (base : List Event) → Stands settings self.old (behind base outs.old)
+            → DocumentsStand settings owing self.old (behind base outs.old)
+            → OnOk result ((later : Owed) × DocumentsStand settings later self.new (behind base outs.new)) }
         ensures unserved { (settings : Settings) (owing : Owed) (base : List Event) → Stands settings self.old (behind base outs.old)
             → is_served (desk_of e (behind base outs.old)).phase ≡ false → DocumentsStand settings owing self.old (behind base outs.old)
             → IfOk result (λ owed. (owed ≡ []) × DocumentsStand settings owing self.new (behind base outs.new)) }
