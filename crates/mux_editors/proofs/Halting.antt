@@ -1,5 +1,5 @@
 -- E6: what is open at an editor fails.
-use Rattle.std.proofs.Common.{◌≡◌, ℕ, zero, suc, ◌<◌, Bool, true, false, List, [], ◌∷◌, ◌++◌, filter, map, length, get_or, nat_eq, if◌then◌else◌, refl, ap, ap₂, sym, subst, append-nil, ◌∙◌, ◌×◌, arith}
+use Rattle.std.proofs.Common.{◌≡◌, ℕ, zero, suc, ◌<◌, Bool, true, false, List, [], ◌∷◌, ◌++◌, filter, map, length, get_or, nat_eq, if◌then◌else◌, refl, ap, ap₂, sym, subst, append-nil, ◌∙◌, arith}
 use Rattle.std.specs.List.{AllByRecursion}
 use Rattle.std.specs.Prelude.{Option, None, Some, slice_get}
 use Rattle.mux_history.specs.declared.out.Out.{Out}
@@ -76,6 +76,10 @@ module _ (settings : Settings) (t u : Tables) (base : List Event) (xs ys : List 
   pub halts_does : Does (λ t events. Stands settings t events) row base t xs u ys → ((owed : Owed) → DocumentsStand settings owed t (behind base xs) → DocumentsStand settings owed u (behind base ys))
       → Does (λ t events. Halts settings t events) row base t xs u ys
   halts_does d go = record { done = λ k. let one = d.done k.0 in record { outs = one.outs; stands = (one.stands, (k.1.0, go k.1.0 k.1.1)) } }
+
+  pub halts_closed : Does (λ t events. Stands settings t events) row base t xs u ys → ((owed : Owed) → Stands settings t (behind base xs) → DocumentsStand settings owed t (behind base xs) → (later : Owed) × DocumentsStand settings later u (behind base ys))
+      → Does (λ t events. Halts settings t events) row base t xs u ys
+  halts_closed d go = record { done = λ k. let one = d.done k.0 in record { outs = one.outs; stands = (one.stands, go k.1.0 k.0 k.1.1) } }
 
   pub halts_each : ((owed : Owed) → Does (λ k events. AllStand settings k events) row base (t, owed) xs (u, owed) ys) → Does (λ t events. Halts settings t events) row base t xs u ys
   halts_each f = record { done = λ k. let d = f k.1.0 in let one = d.done (k.0, k.1.1) in record { outs = one.outs; stands = (one.stands.0, (k.1.0, one.stands.1)) } }

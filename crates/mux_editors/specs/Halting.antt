@@ -1,5 +1,5 @@
 -- The middle of a stop of all.
-use Rattle.std.specs.Prelude.{◌≡◌, ℕ, List, Option, Some, filter, ◌×◌}
+use Rattle.std.specs.Prelude.{◌≡◌, ℕ, List, Option, Some, filter}
 use Rattle.rpc_message.specs.Message.{Id}
 use Rattle.rpc_message.specs.ValueTexts.{IsIdText}
 use Rattle.mux_history.specs.declared.out.Out.TheVariants.{ToEditor}

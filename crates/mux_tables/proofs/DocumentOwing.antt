@@ -1,5 +1,5 @@
 -- E6: an editor is closed while starts are owed bodies already: there is what each is owed behind it.
-use Rattle.std.proofs.Common.{◌≡◌, ◌×◌, ℕ, ◌<◌, ◌^◌, Bool, true, false, List, [], ◌∷◌, ◌++◌, nat_eq, refl, sym, ap, subst, ◌∙◌, append-nil, arith, length, if◌then◌else◌}
+use Rattle.std.proofs.Common.{◌≡◌, ℕ, ◌<◌, ◌^◌, Bool, true, false, List, [], ◌∷◌, ◌++◌, nat_eq, refl, sym, ap, subst, ◌∙◌, append-nil, arith, length, if◌then◌else◌}
 use Rattle.std.specs.Prelude.{Option, Some, None, slice_get}
 use Rattle.std.specs.List.{AllByRecursion}
 use Rattle.std.proofs.lemmas.Bool.{ne_eqb}
@@ -103,7 +103,6 @@ pub closed_owing : (settings : Settings) (owed : Owed) (t u : Tables) (base : Li
     → u.lasts ≡ t.lasts → u.versions ≡ t.versions → StepFrom (leave_row e) place t.documents.items outs u.documents.items → ys ≡ xs ++ CloseEditor e ∷ []
     → Stands settings t (behind base xs) → DocumentsStand settings owed t (behind base xs) → (later : Owed) × DocumentsStand settings later u (behind base ys)
 closed_owing settings owed t u base xs ys e home place outs l is placed ls vs left said_so st s =
-    let events = behind base xs in
     let go = from place placed left in
     (go.0, subst (DocumentsStand settings go.0 u) (sym (ap (behind base) said_so ∙ behind_more base xs (CloseEditor e ∷ []))) go.1)
   where

@@ -1,5 +1,5 @@
 // What each out does to the tables.
-ghost use Rattle.std.specs.Prelude.{◌≡◌, ◌≢◌, ◌×◌, ◌<◌, ◌≤◌, ◌^◌, ◌++◌, ◌∷◌, [], ℕ, List, map, Option, Some, false, true, length, IfOk, OnOk, codes, bytes_eq, slice_get, nat_eq};
+ghost use Rattle.std.specs.Prelude.{◌≡◌, ◌≢◌, ◌<◌, ◌≤◌, ◌^◌, ◌++◌, ◌∷◌, [], ℕ, List, map, Option, Some, false, true, length, IfOk, OnOk, codes, bytes_eq, slice_get, nat_eq};
 ghost use Rattle.std.specs.List.{AllByRecursion};
 ghost use Rattle.event_model.specs.declared.stage.Stage.TheVariants.{Ended, Ready};
 ghost use Rattle.event_model.specs.Does.{Does};

@@ -5,7 +5,7 @@ use Rattle.std.proofs.lemmas.Bool.Decides.{nat_tests}
 use Rattle.json_text.specs.Json.{Json}
 use Rattle.mux_history.specs.declared.cause.Cause.TheVariants.{FromEditor, Tick}
 use Rattle.mux_history.specs.declared.out.Out.{Out}
-use Rattle.mux_history.specs.declared.out.Out.TheVariants.{ToServer, EndServer}
+use Rattle.mux_history.specs.declared.out.Out.TheVariants.{ToEditor, ToServer, CloseEditor, EndServer}
 use Rattle.rpc_message.specs.Message.{Id, integer, message_of, request}
 use Rattle.rpc_message.specs.Texts.{request_text}
 use Rattle.event_model.specs.declared.stage.Stage.{Stage}
@@ -153,3 +153,10 @@ numbered_heard before e body = numbered_quiet before (heard (FromEditor e body))
 
 pub numbered_ticked : (before : List Event) (t : ℕ) → Numbered before → Numbered (with_cause before (Tick t))
 numbered_ticked before t = numbered_quiet before (heard (Tick t)) (λ s l. refl) (λ s n. refl) (λ s f. refl)
+
+-- nor do bodies to editors, and ends of their links
+pub numbered_told : (before : List Event) (e : ℕ) (body : List ℕ) → Numbered before → Numbered (before ++ said (ToEditor e body) ∷ [])
+numbered_told before e body = numbered_quiet before (said (ToEditor e body)) (λ s l. refl) (λ s n. refl) (λ s f. refl)
+
+pub numbered_closed : (before : List Event) (e : ℕ) → Numbered before → Numbered (before ++ said (CloseEditor e) ∷ [])
+numbered_closed before e = numbered_quiet before (said (CloseEditor e)) (λ s l. refl) (λ s n. refl) (λ s f. refl)
