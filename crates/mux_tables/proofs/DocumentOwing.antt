@@ -82,12 +82,14 @@ module _ (settings : Settings) (events later : List Event) (e g s : ℕ) (owed :
       let sent = sent_behind_same s (to s owed) events later same in
       let gone = texts_told settings g s later owed tell ∙ (removed ∙ ap (without_editor e) (sym (texts_told settings g s events owed tell))) in
       let code_kept = encoding_told g s later owed ∙ (kept ∙ sym (encoding_told g s events owed)) in
-      let held : HeldStands s code (leave_row e d).after (behind mid (leave_row e d).outs) = left_held settings g e d was mid texts gone code_kept s code [] few tt holds (λ u. sent.sent u ∙ known_sent s u code was holds.given) sent.counts in
-      (raw, owing_with Ready (owed ++ raw) (record {
-        code = code;
-        tell = tell_both owed raw tell (leave_speaks s e code d (λ u. held_at s u was) holds.start holds.known few holds.held h.texts.orderly h.texts.spelt);
-        holds = subst (HeldStands s code (leave_row e d).after) (ap (behind mid) outs ∙ (sym (behind_more later (to s owed) (to s raw)) ∙ ap (behind later) (sym (to_both s owed raw)))) held;
-      }) h)
+      let held : HeldStands s code (leave_row e d).after (behind mid (leave_row e d).outs) = left_held settings g e d was mid texts gone code_kept s code [] few tt holds (λ u. sent.sent u ∙ known_sent s u code was holds.given) sent.counts in (
+        raw,
+        owing_with Ready (owed ++ raw) (record {
+          code = code;
+          tell = tell_both owed raw tell (leave_speaks s e code d (λ u. held_at s u was) holds.start holds.known few holds.held h.texts.orderly h.texts.spelt);
+          holds = subst (HeldStands s code (leave_row e d).after) (ap (behind mid) outs ∙ (sym (behind_more later (to s owed) (to s raw)) ∙ ap (behind later) (sym (to_both s owed raw)))) held;
+        }) h,
+      )
 
 -- what a start is owed behind it
 abbrev with_more : ℕ → List (List ℕ) → Owed → Owed
@@ -99,43 +101,47 @@ more_here g more owed = rw (itself g) refl
 more_there : (g n : ℕ) (more : List (List ℕ)) (owed : Owed) → (n ≡ g → ⊥) → with_more g more owed n ≡ owed n
 more_there g n more owed h = rw (ne_eqb g n (λ q. h (sym q))) refl
 
-pub closed_owing : (settings : Settings) (owed : Owed) (t u : Tables) (base : List Event) (xs ys : List Out) (e : ℕ) (home place : Option ℕ) (outs : List Out) → e < length t.editors → home ≡ (session_of t.editors e).group → IsPlace t.lasts.items home place
-    → u.lasts ≡ t.lasts → u.versions ≡ t.versions → StepFrom (leave_row e) place t.documents.items outs u.documents.items → ys ≡ xs ++ CloseEditor e ∷ []
-    → Stands settings t (behind base xs) → DocumentsStand settings owed t (behind base xs) → (later : Owed) × DocumentsStand settings later u (behind base ys)
-closed_owing settings owed t u base xs ys e home place outs l is placed ls vs left said_so st s =
-    let go = from place placed left in
-    (go.0, subst (DocumentsStand settings go.0 u) (sym (ap (behind base) said_so ∙ behind_more base xs (CloseEditor e ∷ []))) go.1)
-  where
-    abbrev events : List Event
-    events = behind base xs
+module _ (settings : Settings) (owed : Owed) (t u : Tables) (events : List Event) (e : ℕ) (home : Option ℕ) (outs : List Out) (l : e < length t.editors) (is : home ≡ (session_of t.editors e).group) (ls : u.lasts ≡ t.lasts) (vs : u.versions ≡ t.versions)
+    (st : Stands settings t events) (s : DocumentsStand settings owed t events) where
+  abbrev later : List Event
+  later = events ++ said (CloseEditor e) ∷ []
 
-    abbrev later : List Event
-    later = events ++ said (CloseEditor e) ∷ []
-
-    from : (place : Option ℕ) → IsPlace t.lasts.items home place → StepFrom (leave_row e) place t.documents.items outs u.documents.items → (after : Owed) × DocumentsStand settings after u later
-    from None placed left = (owed, documents_all settings owed owed t u events later (closed_rest settings t events e) vs (ap (λ v. v.items) ls) left.1
-        (λ j x c at h. closed_away settings t events e home owed l is st x.life.group x.life.start x.life.stage c (nowhere j x at) h) s)
-      where
-        nowhere : (j : ℕ) (x : Start) → slice_get t.lasts.items j ≡ Some x → is_home x.life.group home ≡ false
-        nowhere j x at = by_home home refl
-          where
-            by_home : (o : Option ℕ) → home ≡ o → is_home x.life.group o ≡ false
-            by_home None own = refl
-            by_home (Some g) own = ne_eqb g x.life.group (λ q. placed g own st.lasts.rise j x at (sym q))
-    from (Some i) placed left =
-        let x = item_at t.lasts.items i placed.0 in
-        let z = x.0 in
-        let g = z.life.group in
-        let own : home ≡ Some g = placed.1 z x.1 in
-        let d = documents_at settings owed t events i z x.1 s in
-        let moved : StepAt (leave_row e) i (Some d.0) t.documents.items outs u.documents.items = subst (λ o. StepAt (leave_row e) i o t.documents.items outs u.documents.items) d.1 left in
-        let was : SharedStands settings events (owed g) g z.life.start z.life.stage d.0 = s.each i z d.0 x.1 d.1 in
-        let few : d.0.versions < 2 ^ 32 = subst (λ n. n < 2 ^ 32) (sym (was.versions ∙ s.versions)) s.range in
-        let parts = closed_parts settings events e g z.life.start in
-        let go = left_owing settings events later e g z.life.start (owed g) d.0 parts.removed parts.kept parts.same parts.owners few z.life.stage was in
-        (with_more g go.0 owed, documents_set settings owed (with_more g go.0 owed) t u events later (closed_rest settings t events e) vs i z z d.0 (leave_row e d.0).after x.1 d.1 (ap (λ v. v.items) ls ∙ sym (set_same t.lasts.items i z x.1)) moved.1 (λ k. k)
+  from : (place : Option ℕ) → IsPlace t.lasts.items home place → StepFrom (leave_row e) place t.documents.items outs u.documents.items → (after : Owed) × DocumentsStand settings after u later
+  from None placed left = (
+    owed,
+    documents_all settings owed owed t u events later (closed_rest settings t events e) vs (ap (λ v. v.items) ls) left.1
+        (λ j x c at h. closed_away settings t events e home owed l is st x.life.group x.life.start x.life.stage c (nowhere j x at) h) s,
+  )
+    where
+      nowhere : (j : ℕ) (x : Start) → slice_get t.lasts.items j ≡ Some x → is_home x.life.group home ≡ false
+      nowhere j x at = by_home home refl
+        where
+          by_home : (o : Option ℕ) → home ≡ o → is_home x.life.group o ≡ false
+          by_home None own = refl
+          by_home (Some g) own = ne_eqb g x.life.group (λ q. placed g own st.lasts.rise j x at (sym q))
+  from (Some i) placed left =
+      let x = item_at t.lasts.items i placed.0 in
+      let z = x.0 in
+      let g = z.life.group in
+      let own : home ≡ Some g = placed.1 z x.1 in
+      let d = documents_at settings owed t events i z x.1 s in
+      let moved : StepAt (leave_row e) i (Some d.0) t.documents.items outs u.documents.items = subst (λ o. StepAt (leave_row e) i o t.documents.items outs u.documents.items) d.1 left in
+      let was : SharedStands settings events (owed g) g z.life.start z.life.stage d.0 = s.each i z d.0 x.1 d.1 in
+      let few : d.0.versions < 2 ^ 32 = subst (λ n. n < 2 ^ 32) (sym (was.versions ∙ s.versions)) s.range in
+      let parts = closed_parts settings events e g z.life.start in
+      let go = left_owing settings events later e g z.life.start (owed g) d.0 parts.removed parts.kept parts.same parts.owners few z.life.stage was in (
+        with_more g go.0 owed,
+        documents_set settings owed (with_more g go.0 owed) t u events later (closed_rest settings t events e) vs i z z d.0 (leave_row e d.0).after x.1 d.1 (ap (λ v. v.items) ls ∙ sym (set_same t.lasts.items i z x.1)) moved.1 (λ k. k)
             (λ _. subst (λ w. SharedStands settings later w g z.life.start z.life.stage (leave_row e d.0).after) (sym (more_here g go.0 owed)) go.1)
             (λ j y c off there h.
             let far = groups_apart t.lasts.items i j z y st.lasts.rise x.1 there off in
             subst (λ w. SharedStands settings later w y.life.group y.life.start y.life.stage c) (sym (more_there g y.life.group go.0 owed far))
-            (closed_away settings t events e home owed l is st y.life.group y.life.start y.life.stage c (ap (is_home y.life.group) own ∙ ne_eqb g y.life.group (λ q. far (sym q))) h)) s)
+            (closed_away settings t events e home owed l is st y.life.group y.life.start y.life.stage c (ap (is_home y.life.group) own ∙ ne_eqb g y.life.group (λ q. far (sym q))) h)) s,
+      )
+
+pub closed_owing : (settings : Settings) (owed : Owed) (t u : Tables) (base : List Event) (xs ys : List Out) (e : ℕ) (home place : Option ℕ) (outs : List Out) → e < length t.editors → home ≡ (session_of t.editors e).group → IsPlace t.lasts.items home place
+    → u.lasts ≡ t.lasts → u.versions ≡ t.versions → StepFrom (leave_row e) place t.documents.items outs u.documents.items → ys ≡ xs ++ CloseEditor e ∷ []
+    → Stands settings t (behind base xs) → DocumentsStand settings owed t (behind base xs) → (later : Owed) × DocumentsStand settings later u (behind base ys)
+closed_owing settings owed t u base xs ys e home place outs l is placed ls vs left said_so st s =
+    let go = from settings owed t u (behind base xs) e home outs l is ls vs st s place placed left in
+    (go.0, subst (DocumentsStand settings go.0 u) (sym (ap (behind base) said_so ∙ behind_more base xs (CloseEditor e ∷ []))) go.1)
