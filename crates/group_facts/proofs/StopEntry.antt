@@ -242,7 +242,7 @@ there_caused before (ServerGone s) e joins h = sym (ap (λ (d : Desk). is_there 
 there_caused before (Drained n k) e joins h = sym (ap (λ (d : Desk). is_there d.phase) (desk_more e before (heard (Drained n k)))) ∙ h
 there_caused before (Tick t) e joins h = sym (ap (λ (d : Desk). is_there d.phase) (desk_more e before (heard (Tick t)))) ∙ h
 
-stopped_outs : (events : List Event) (xs : List Out) → stopped (behind events xs) ≡ stopped events
+pub stopped_outs : (events : List Event) (xs : List Out) → stopped (behind events xs) ≡ stopped events
 stopped_outs events [] = ap stopped (append-nil events)
 stopped_outs events (x ∷ xs) = ap stopped (sym (append_assoc events (said x ∷ []) (map said xs))) ∙ stopped_outs (events ++ said x ∷ []) xs ∙ stopped_did events x
 

@@ -48,7 +48,7 @@ use Rattle.group_rows.proofs.LiveTexts.{again_written, live_written, register_sa
 use Rattle.group_facts.specs.Built.{built_behind}
 use Rattle.group_facts.specs.Facts.{IsParked}
 use Rattle.group_facts.specs.Settled.{Settled}
-use Rattle.group_facts.specs.Why.{Calling, IsCall, IsChange, IsRestoring, Why, WhyToEditor, answers, asks, asks_something, calls, creates, displaces, enrols, passes, progresses, recalls, refuses, rejects, releases, restores, resumes, revives, shows, spreads, turns_away, welcomes}
+use Rattle.group_facts.specs.Why.{Calling, IsCall, IsChange, IsRestoring, Why, WhyToEditor, answers, asks, asks_something, calls, creates, displaces, enrols, passes, progresses, recalls, refuses, rejects, releases, restores, resumes, revives, shows, spreads, turns_away, welcomes, loses}
 use Rattle.group_facts.proofs.Asks.{is_question, response_asks_none}
 use Rattle.group_facts.proofs.Begun.{all_outs, leave_by}
 use Rattle.group_facts.proofs.Facts.{Facts}
@@ -271,6 +271,7 @@ module _ (settings : Settings) (range : InRange settings) (before : List Event) 
   origin events n body (resumes w) a = never (sym (asking_makes events n body a) ∙ (ap makes w.says ∙ off_creating w.method w.patient))
   origin events n body (rejects w) a = never (sym (asking_makes events n body a) ∙ ap makes w.says)
   origin events n body (refuses w) a = never (sym (asking_makes events n body a) ∙ ap makes w.says)
+  origin events n body (loses w) a = never (sym (asking_makes events n body a) ∙ ap makes w.says)
   origin events n body (answers w) a = never (sym (asking_makes events n body a) ∙ ap makes w.says)
   origin events n body (turns_away w) a = never (sym (asking_makes events n body a) ∙ ap makes w.says)
   origin events n body (welcomes w) a = never (sym (asking_makes events n body a) ∙ ap makes w.says)
@@ -287,6 +288,7 @@ module _ (settings : Settings) (range : InRange settings) (before : List Event) 
   asked_runs events n body (resumes w) a = never (sym (asking_makes events n body a) ∙ (ap makes w.says ∙ off_creating w.method w.patient))
   asked_runs events n body (rejects w) a = never (sym (asking_makes events n body a) ∙ ap makes w.says)
   asked_runs events n body (refuses w) a = never (sym (asking_makes events n body a) ∙ ap makes w.says)
+  asked_runs events n body (loses w) a = never (sym (asking_makes events n body a) ∙ ap makes w.says)
   asked_runs events n body (answers w) a = never (sym (asking_makes events n body a) ∙ ap makes w.says)
   asked_runs events n body (turns_away w) a = never (sym (asking_makes events n body a) ∙ ap makes w.says)
   asked_runs events n body (welcomes w) a = never (sym (asking_makes events n body a) ∙ ap makes w.says)
