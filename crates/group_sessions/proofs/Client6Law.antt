@@ -141,7 +141,7 @@ module _ (settings : Settings) (range : InRange settings) (before : List Event) 
         of_editor asked k.method given request token k.asks (found_is (IsTold events) (is_told before (named_of (codes "token") given)) request (forwarding_of s before).open_requests (kept s asked given k goes) found) own editor bytes
       where
         there : is_there (desk_of request.editor before).phase ≡ true
-        there = listens_there (desk_of request.editor before).phase (and_parts (listens (desk_of request.editor before).phase) _ (find_true (is_told before (named_of (codes "token") given)) (forwarding_of s before).open_requests request found)).0
+        there = listens_there (desk_of request.editor before).phase (and_parts (is_some (own_token (named_of (codes "token") given) request)) (listens (desk_of request.editor before).phase) (find_true (is_told before (named_of (codes "token") given)) (forwarding_of s before).open_requests request found)).1
 
         goes : stopped events ≡ false
         goes = ap stopped at.place ∙ (stopped_outs (with_cause before cause) at.outs ∙ (ap (λ c. stopped (with_cause before c)) k.from ∙ (stopped_more before (heard (FromServer s asked)) ∙ not_stopped before facts.quit request.editor there)))
