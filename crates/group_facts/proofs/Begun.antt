@@ -376,10 +376,10 @@ module _ (settings : Settings) (before : List Event) where
   quiet_lost [] events = by_nothing
   quiet_lost (f ∷ fs) events = by_then (by_send tt) (quiet_lost fs (behind events (outs (lose_request f) events)))
 
-  quiet_refusals : (es : List ℕ) (events : List Event) → Quiet events (each (refuse_open settings before) es)
-  quiet_refusals [] events = by_nothing
-  quiet_refusals (e ∷ es) events = by_then (by_then (by_look (by_choose (λ waits. by_send tt) (λ late. by_nothing))) (losing (behind events (outs (refuse_initialize e) events))))
-      (quiet_refusals es (behind events (outs (refuse_open settings before e) events)))
+  quiet_open_refused : (es : List ℕ) (events : List Event) → Quiet events (each (refuse_open settings before) es)
+  quiet_open_refused [] events = by_nothing
+  quiet_open_refused (e ∷ es) events = by_then (by_then (by_look (by_choose (λ waits. by_send tt) (λ late. by_nothing))) (losing (behind events (outs (refuse_initialize e) events))))
+      (quiet_open_refused es (behind events (outs (refuse_open settings before e) events)))
     where
       at_group : (places : List Event) (g : ℕ) → Quiet places (on (start_of g before) nothing (λ s. each lose_request (filter (is_of e) (forwarding_of s before).open_requests)))
       at_group places g = by_on (λ none. by_nothing) (λ s start. quiet_lost (filter (is_of e) (forwarding_of s before).open_requests) places)
@@ -392,7 +392,7 @@ module _ (settings : Settings) (before : List Event) where
   quiet_links (e ∷ es) events = by_then (by_send tt) (quiet_links es (behind events (CloseEditor e ∷ [])))
 
   quiet_stop : (e : ℕ) (body : List ℕ) (events : List Event) → Quiet events (stop_row settings before e body)
-  quiet_stop e body events = by_then (by_send tt) (by_then (quiet_refusals (there_in before) _) (by_then (quiet_links (there_in before) _) (quiet_ends (all_from 0 is_live (groups_of settings before)) _)))
+  quiet_stop e body events = by_then (by_send tt) (by_then (quiet_open_refused (there_in before) _) (by_then (quiet_links (there_in before) _) (quiet_ends (all_from 0 is_live (groups_of settings before)) _)))
 
   quiet_joined : (e : ℕ) (events : List Event) → Quiet events (joined_row before e)
   quiet_joined e events = by_choose (λ over. by_send tt) (λ goes. by_nothing)

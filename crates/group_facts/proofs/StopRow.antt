@@ -48,13 +48,17 @@ Differ (f ∷ fs) = AllByRecursion (Apart2 f) fs × Differ fs
 
 above_differ : (s e : ℕ) (f : Forwarded) (low next : ℕ) (fs : List Forwarded) → f.editor ≡ e → f.number < low → Rising low next fs → AllByRecursion (λ (g : Forwarded). g.editor ≡ e) fs → AllByRecursion (OneRequest s f s) fs → AllByRecursion (Apart2 f) fs
 above_differ s e f low next [] mine below rises editors one = tt
-above_differ s e f low next (g ∷ fs) mine below rises editors one = (λ id text other. let same : g.number ≡ f.number = (one.0 id (editors.0 ∙ sym mine) text other).1 in let least : low ≤ g.number = rises.0 in omega (arith, same, least, below),
-    above_differ s e f (g.number + 1) next fs mine (let least : low ≤ g.number = rises.0 in omega (arith, least, below)) rises.1 editors.1 one.1)
+above_differ s e f low next (g ∷ fs) mine below rises editors one = (
+  λ id text other. let same : g.number ≡ f.number = (one.0 id (editors.0 ∙ sym mine) text other).1 in let least : low ≤ g.number = rises.0 in omega (arith, same, least, below),
+  above_differ s e f (g.number + 1) next fs mine (let least : low ≤ g.number = rises.0 in omega (arith, least, below)) rises.1 editors.1 one.1,
+)
 
 pub differ_of : (s e low next : ℕ) (fs : List Forwarded) → Rising low next fs → AllByRecursion (λ (f : Forwarded). f.editor ≡ e) fs → AllByRecursion (λ f. AllByRecursion (OneRequest s f s) fs) fs → Differ fs
 differ_of s e low next [] rises editors one = tt
-differ_of s e low next (f ∷ fs) rises editors one = (above_differ s e f (f.number + 1) next fs editors.0 (omega arith) rises.1 editors.1 (one.0).1,
-    differ_of s e (f.number + 1) next fs rises.1 editors.1 (all_of (λ (g : Forwarded). AllByRecursion (OneRequest s g s) (f ∷ fs)) (λ (g : Forwarded). AllByRecursion (OneRequest s g s) fs) (λ g k. k.1) fs one.1))
+differ_of s e low next (f ∷ fs) rises editors one = (
+  above_differ s e f (f.number + 1) next fs editors.0 (omega arith) rises.1 editors.1 (one.0).1,
+  differ_of s e (f.number + 1) next fs rises.1 editors.1 (all_of (λ (g : Forwarded). AllByRecursion (OneRequest s g s) (f ∷ fs)) (λ (g : Forwarded). AllByRecursion (OneRequest s g s) fs) (λ g k. k.1) fs one.1),
+)
 
 -- Phases
 
