@@ -50,7 +50,7 @@ use Rattle.group_rows.specs.Live.{live_of, register_text, unregister_text}
 use Rattle.group_rows.specs.LiveRows.{accept, call, has_some, registering, restore, unregister_any}
 use Rattle.group_rows.specs.Cancelling.{cancelling_at, cancelling_row}
 use Rattle.group_rows.specs.Forwarded.{Forwarded, forwarding_of, is_of}
-use Rattle.group_rows.specs.StopRows.{close_each, joined_row, lose_request, refuse_open, stop_row, there_in}
+use Rattle.group_rows.specs.StopRows.{close_each, joined_row, lose_request, lose_requests, refuse_initialize, refuse_open, stop_row, there_in}
 use Rattle.group_rows.specs.diagnostics_route.specs.declared.last_list.LastList.{LastList}
 use Rattle.group_rows.specs.ListRows.{list_row, show, show_full, show_opened}
 use Rattle.group_rows.specs.diagnostics_route.specs.Published.{published}
@@ -376,17 +376,23 @@ module _ (settings : Settings) (before : List Event) where
   quiet_lost [] events = by_nothing
   quiet_lost (f ∷ fs) events = by_then (by_send tt) (quiet_lost fs (behind events (outs (lose_request f) events)))
 
-  quiet_refused : (es : List ℕ) (events : List Event) → Quiet events (each (refuse_open settings before) es)
-  quiet_refused [] events = by_nothing
-  quiet_refused (e ∷ es) events = by_then (by_then (by_look (by_choose (λ waits. by_send tt) (λ late. by_nothing)))
-      (by_on (λ none. by_nothing) (λ g home. by_on (λ none. by_nothing) (λ s start. quiet_lost (filter (is_of e) (forwarding_of s before).open_requests) _)))) (quiet_refused es _)
+  quiet_open_refused : (es : List ℕ) (events : List Event) → Quiet events (each (refuse_open settings before) es)
+  quiet_open_refused [] events = by_nothing
+  quiet_open_refused (e ∷ es) events = by_then (by_then (by_look (by_choose (λ waits. by_send tt) (λ late. by_nothing))) (losing (behind events (outs (refuse_initialize e) events))))
+      (quiet_open_refused es (behind events (outs (refuse_open settings before e) events)))
+    where
+      at_group : (places : List Event) (g : ℕ) → Quiet places (on (start_of g before) nothing (λ s. each lose_request (filter (is_of e) (forwarding_of s before).open_requests)))
+      at_group places g = by_on (λ none. by_nothing) (λ s start. quiet_lost (filter (is_of e) (forwarding_of s before).open_requests) places)
 
-  quiet_closes : (es : List ℕ) (events : List Event) → Quiet events (close_each es)
-  quiet_closes [] events = by_nothing
-  quiet_closes (e ∷ es) events = by_then (by_send tt) (quiet_closes es (behind events (CloseEditor e ∷ [])))
+      losing : (places : List Event) → Quiet places (lose_requests settings before e)
+      losing places = by_on (λ none. by_nothing) (λ g home. at_group places g)
+
+  quiet_links : (es : List ℕ) (events : List Event) → Quiet events (close_each es)
+  quiet_links [] events = by_nothing
+  quiet_links (e ∷ es) events = by_then (by_send tt) (quiet_links es (behind events (CloseEditor e ∷ [])))
 
   quiet_stop : (e : ℕ) (body : List ℕ) (events : List Event) → Quiet events (stop_row settings before e body)
-  quiet_stop e body events = by_then (by_send tt) (by_then (quiet_refused (there_in before) _) (by_then (quiet_closes (there_in before) _) (quiet_ends (all_from 0 is_live (groups_of settings before)) _)))
+  quiet_stop e body events = by_then (by_send tt) (by_then (quiet_open_refused (there_in before) _) (by_then (quiet_links (there_in before) _) (quiet_ends (all_from 0 is_live (groups_of settings before)) _)))
 
   quiet_joined : (e : ℕ) (events : List Event) → Quiet events (joined_row before e)
   quiet_joined e events = by_choose (λ over. by_send tt) (λ goes. by_nothing)

@@ -28,7 +28,7 @@ use Rattle.group_rows.specs.Rows.{closing_row, from_editor, lspmux_row, outs_of,
 use Rattle.group_rows.specs.StopRows.{close_each, refuse_open, stop_row, stopped, stopped_next, there_in}
 use Rattle.group_facts.specs.Facts.{Quit, is_put_out}
 use Rattle.group_facts.proofs.PutOut.{named_in, outs_tested, refused_ends}
-use Rattle.group_facts.proofs.Quits.{stopped_did, stopped_more}
+use Rattle.group_facts.proofs.Quits.{stopped_back, stopped_did, stopped_more, stopped_now}
 
 -- Phases
 
@@ -224,27 +224,38 @@ module _ (settings : Settings) (before : List Event) (n : ℕ) (over : stopped b
 -- Behind each later entry
 
 there_caused : (before : List Event) (cause : Cause) (e : ℕ) → ((n : ℕ) → cause ≡ Joined n → ⊥) → is_there (desk_of e (with_cause before cause)).phase ≡ true → is_there (desk_of e before).phase ≡ true
-there_caused before (Joined n) e no h = absurd (no n refl)
-there_caused before (FromEditor n body) e no h = go (nat_eq n e) (sym (ap (λ (d : Desk). is_there d.phase) (desk_more e before (heard (FromEditor n body)))) ∙ h)
+there_caused before (Joined n) e joins h = absurd (joins n refl)
+there_caused before (FromEditor n body) e joins h = go (nat_eq n e) (sym (ap (λ (d : Desk). is_there d.phase) (desk_more e before (heard (FromEditor n body)))) ∙ h)
   where
     go : (b : Bool) → is_there (if b then desk_hears (desk_of e before).phase (desk_of e before).initialize body (message_of body) else desk_of e before).phase ≡ true → is_there (desk_of e before).phase ≡ true
     go true k = there_heard (desk_of e before).phase (desk_of e before).initialize body (message_of body) k
     go false k = k
-there_caused before (EditorGone n why) e no h = go (nat_eq n e) (sym (ap (λ (d : Desk). is_there d.phase) (desk_more e before (heard (EditorGone n why)))) ∙ h)
+there_caused before (EditorGone n why) e joins h = go (nat_eq n e) (sym (ap (λ (d : Desk). is_there d.phase) (desk_more e before (heard (EditorGone n why)))) ∙ h)
   where
     go : (b : Bool) → is_there (if b then record { phase = Gone; initialize = (desk_of e before).initialize } else desk_of e before).phase ≡ true → is_there (desk_of e before).phase ≡ true
     go true k = absurd (cc)
     go false k = k
-there_caused before (Started s) e no h = sym (ap (λ (d : Desk). is_there d.phase) (desk_more e before (heard (Started s)))) ∙ h
-there_caused before (StartFailed s) e no h = sym (ap (λ (d : Desk). is_there d.phase) (desk_more e before (heard (StartFailed s)))) ∙ h
-there_caused before (FromServer s body) e no h = sym (ap (λ (d : Desk). is_there d.phase) (desk_more e before (heard (FromServer s body)))) ∙ h
-there_caused before (ServerGone s) e no h = sym (ap (λ (d : Desk). is_there d.phase) (desk_more e before (heard (ServerGone s)))) ∙ h
-there_caused before (Drained n k) e no h = sym (ap (λ (d : Desk). is_there d.phase) (desk_more e before (heard (Drained n k)))) ∙ h
-there_caused before (Tick t) e no h = sym (ap (λ (d : Desk). is_there d.phase) (desk_more e before (heard (Tick t)))) ∙ h
+there_caused before (Started s) e joins h = sym (ap (λ (d : Desk). is_there d.phase) (desk_more e before (heard (Started s)))) ∙ h
+there_caused before (StartFailed s) e joins h = sym (ap (λ (d : Desk). is_there d.phase) (desk_more e before (heard (StartFailed s)))) ∙ h
+there_caused before (FromServer s body) e joins h = sym (ap (λ (d : Desk). is_there d.phase) (desk_more e before (heard (FromServer s body)))) ∙ h
+there_caused before (ServerGone s) e joins h = sym (ap (λ (d : Desk). is_there d.phase) (desk_more e before (heard (ServerGone s)))) ∙ h
+there_caused before (Drained n k) e joins h = sym (ap (λ (d : Desk). is_there d.phase) (desk_more e before (heard (Drained n k)))) ∙ h
+there_caused before (Tick t) e joins h = sym (ap (λ (d : Desk). is_there d.phase) (desk_more e before (heard (Tick t)))) ∙ h
 
-stopped_outs : (events : List Event) (xs : List Out) → stopped (behind events xs) ≡ stopped events
+pub stopped_outs : (events : List Event) (xs : List Out) → stopped (behind events xs) ≡ stopped events
 stopped_outs events [] = ap stopped (append-nil events)
 stopped_outs events (x ∷ xs) = ap stopped (sym (append_assoc events (said x ∷ []) (map said xs))) ∙ stopped_outs (events ++ said x ∷ []) xs ∙ stopped_did events x
+
+-- what isn't stopped behind an entry wasn't before it, nor was it by its message
+pub before_on : (before : List Event) (cause : Cause) (xs : List Out) → stopped (behind (with_cause before cause) xs) ≡ false → stopped before ≡ false
+before_on before cause xs h = stopped_back before (heard cause) (sym (stopped_outs (with_cause before cause) xs) ∙ h)
+
+pub unstopped : (before : List Event) (n : ℕ) (body : List ℕ) (xs : List Out) → stopped (behind (with_cause before (FromEditor n body)) xs) ≡ false → stops before n (message_of body) ≡ false
+unstopped before n body xs h = go (stops before n (message_of body)) refl
+  where
+    go : (b : Bool) → stops before n (message_of body) ≡ b → b ≡ false
+    go true stop = never (sym (stopped_now before n body stop) ∙ (sym (stopped_outs (with_cause before (FromEditor n body)) xs) ∙ h))
+    go false on = refl
 
 module _ (settings : Settings) (before : List Event) (absent : Editors before) (quit : Quit before) where
   abbrev After : Cause → List Event
@@ -252,10 +263,10 @@ module _ (settings : Settings) (before : List Event) (absent : Editors before) (
 
   -- it was stopped before
   still_none : (cause : Cause) → stopped before ≡ true → ((n : ℕ) → cause ≡ Joined n → ⊥) → (e : ℕ) → is_there (desk_of e (After cause)).phase ≡ false
-  still_none cause over no e = go (is_there (desk_of e (After cause)).phase) refl
+  still_none cause over joins e = go (is_there (desk_of e (After cause)).phase) refl
     where
       go : (b : Bool) → is_there (desk_of e (After cause)).phase ≡ b → b ≡ false
-      go true here = never (sym (there_caused before cause e no (there_outs e (with_cause before cause) (outs_of settings before cause) here)) ∙ quit over e)
+      go true here = never (sym (there_caused before cause e joins (there_outs e (with_cause before cause) (outs_of settings before cause) here)) ∙ quit over e)
       go false gone = refl
 
   was_stopped : (cause : Cause) → stopped (After cause) ≡ true → stopped_next before (stopped before) (heard cause) ≡ true

@@ -48,13 +48,17 @@ Differ (f ∷ fs) = AllByRecursion (Apart2 f) fs × Differ fs
 
 above_differ : (s e : ℕ) (f : Forwarded) (low next : ℕ) (fs : List Forwarded) → f.editor ≡ e → f.number < low → Rising low next fs → AllByRecursion (λ (g : Forwarded). g.editor ≡ e) fs → AllByRecursion (OneRequest s f s) fs → AllByRecursion (Apart2 f) fs
 above_differ s e f low next [] mine below rises editors one = tt
-above_differ s e f low next (g ∷ fs) mine below rises editors one = (λ id text other. let same : g.number ≡ f.number = (one.0 id (editors.0 ∙ sym mine) text other).1 in let least : low ≤ g.number = rises.0 in omega (arith, same, least, below),
-    above_differ s e f (g.number + 1) next fs mine (let least : low ≤ g.number = rises.0 in omega (arith, least, below)) rises.1 editors.1 one.1)
+above_differ s e f low next (g ∷ fs) mine below rises editors one = (
+  λ id text other. let same : g.number ≡ f.number = (one.0 id (editors.0 ∙ sym mine) text other).1 in let least : low ≤ g.number = rises.0 in omega (arith, same, least, below),
+  above_differ s e f (g.number + 1) next fs mine (let least : low ≤ g.number = rises.0 in omega (arith, least, below)) rises.1 editors.1 one.1,
+)
 
 pub differ_of : (s e low next : ℕ) (fs : List Forwarded) → Rising low next fs → AllByRecursion (λ (f : Forwarded). f.editor ≡ e) fs → AllByRecursion (λ f. AllByRecursion (OneRequest s f s) fs) fs → Differ fs
 differ_of s e low next [] rises editors one = tt
-differ_of s e low next (f ∷ fs) rises editors one = (above_differ s e f (f.number + 1) next fs editors.0 (omega arith) rises.1 editors.1 (one.0).1,
-    differ_of s e (f.number + 1) next fs rises.1 editors.1 (all_of (λ (g : Forwarded). AllByRecursion (OneRequest s g s) (f ∷ fs)) (λ (g : Forwarded). AllByRecursion (OneRequest s g s) fs) (λ g k. k.1) fs one.1))
+differ_of s e low next (f ∷ fs) rises editors one = (
+  above_differ s e f (f.number + 1) next fs editors.0 (omega arith) rises.1 editors.1 (one.0).1,
+  differ_of s e (f.number + 1) next fs rises.1 editors.1 (all_of (λ (g : Forwarded). AllByRecursion (OneRequest s g s) (f ∷ fs)) (λ (g : Forwarded). AllByRecursion (OneRequest s g s) fs) (λ g k. k.1) fs one.1),
+)
 
 -- Phases
 
@@ -156,7 +160,10 @@ module _ (settings : Settings) (before : List Event) (n : ℕ) (body : List ℕ)
 
   module _ (differ : (e s : ℕ) → Differ (filter (is_of e) (forwarding_of s before).open_requests)) (own : (e s : ℕ) → AllByRecursion (λ (f : Forwarded). f.editor ≡ e) (filter (is_of e) (forwarding_of s before).open_requests)) where
     losing : (e : ℕ) (events : List Event) → stopped events ≡ true → is_there (desk_of e events).phase ≡ true → ((s : ℕ) → AllByRecursion (IsForwarded events) (filter (is_of e) (forwarding_of s before).open_requests)) → Because R events (lose_requests settings before e)
-    losing e events over there askers = by_on (λ none. by_nothing) (λ g home. by_on (λ none. by_nothing) (λ s start. lose_all e (filter (is_of e) (forwarding_of s before).open_requests) events (own e s) (differ e s) (record { over = over; there = there; askers = askers s })))
+    losing e events over there askers = by_on (λ none. by_nothing) (λ g home. at_group g)
+      where
+        at_group : (g : ℕ) → Because R events (on (start_of g before) nothing (λ s. each lose_request (filter (is_of e) (forwarding_of s before).open_requests)))
+        at_group g = by_on (λ none. by_nothing) (λ s start. lose_all e (filter (is_of e) (forwarding_of s before).open_requests) events (own e s) (differ e s) (record { over = over; there = there; askers = askers s }))
 
     -- one that waits has sent on nothing
     none_waiting : (e : ℕ) (events later : List Event) (fs : List Forwarded) → (desk_of e events).phase ≡ Waiting → AllByRecursion (λ (f : Forwarded). f.editor ≡ e) fs → AllByRecursion (IsForwarded events) fs → AllByRecursion (IsForwarded later) fs
@@ -195,8 +202,13 @@ module _ (settings : Settings) (before : List Event) (n : ℕ) (body : List ℕ)
     only_lost e (f ∷ fs) events editors = by_then (by_send editors.0) (only_lost e fs (events ++ said (ToEditor f.editor (lost_text f)) ∷ []) editors.1)
 
     only_own : (e : ℕ) (events : List Event) → Because (λ places out. IsOnly e out) events (refuse_open settings before e)
-    only_own e events = by_then (by_look (by_choose (λ waits. by_send refl) (λ late. by_nothing)))
-        (by_on (λ none. by_nothing) (λ g home. by_on (λ none. by_nothing) (λ s start. only_lost e (filter (is_of e) (forwarding_of s before).open_requests) _ (own e s))))
+    only_own e events = by_then (by_look (by_choose (λ waits. by_send refl) (λ late. by_nothing))) (only_losing (behind events (outs (refuse_initialize e) events)))
+      where
+        at_group : (places : List Event) (g : ℕ) → Because (λ places out. IsOnly e out) places (on (start_of g before) nothing (λ s. each lose_request (filter (is_of e) (forwarding_of s before).open_requests)))
+        at_group places g = by_on (λ none. by_nothing) (λ s start. only_lost e (filter (is_of e) (forwarding_of s before).open_requests) places (own e s))
+
+        only_losing : (places : List Event) → Because (λ places out. IsOnly e out) places (lose_requests settings before e)
+        only_losing places = by_on (λ none. by_nothing) (λ g home. at_group places g)
 
     desk_other : (e k : ℕ) (events : List Event) (text : List ℕ) → nat_eq k e ≡ false → desk_of e (events ++ said (ToEditor k text) ∷ []) ≡ desk_of e events
     desk_other e k events text other = desk_more e events (said (ToEditor k text)) ∙ desk_untold e k text (desk_of e events) other

@@ -19,8 +19,9 @@ use Rattle.event_model.specs.Event.{Event, behind, heard, requests, said, with_c
 use Rattle.event_model.specs.Parts.{is_of_server, server_part}
 use Rattle.event_model.specs.Phases.{Desk, desk_hears, desk_of, has_id, is_begun, is_new, is_there, is_waiting, phase_told}
 use Rattle.event_model.specs.Requests.{answered_id, is_open, open_of, with_request, without}
-use Rattle.event_model.specs.Row.{Row, each, outs, send}
+use Rattle.event_model.specs.Row.{Row, each, nothing, on, outs, send}
 use Rattle.event_model.specs.Settings.{Settings}
+use Rattle.event_model.specs.Spawns.{start_of}
 use Rattle.event_model.specs.Stages.{Life, life_of}
 use Rattle.mux_facts.specs.Ranges.{InRange}
 use Rattle.mux_facts.proofs.Asked.{either_late, hears_open}
@@ -38,7 +39,7 @@ use Rattle.group_words.specs.Placing.{all_from, end_where, is_live, with_editor}
 use Rattle.group_words.specs.Rows.{end_group}
 use Rattle.group_words.proofs.Frames.{groups_more}
 use Rattle.group_rows.specs.Forwarded.{Forwarded, forwarding_of, is_of}
-use Rattle.group_rows.specs.StopRows.{close_each, lose_request, refuse_open, stop_row, there_in}
+use Rattle.group_rows.specs.StopRows.{close_each, lose_request, lose_requests, refuse_initialize, refuse_open, stop_row, there_in}
 use Rattle.group_facts.specs.Facts.{AllForwarded, Apart, Bounded, IsAlone, IsForwarded, OneRequest, is_early, turned_away}
 use Rattle.group_facts.specs.Lively.{lives_at}
 use Rattle.group_facts.specs.Why.{IsBeside, Why}
@@ -98,8 +99,14 @@ bodies_lost (f ∷ fs) events = by_then (by_send tt) (bodies_lost fs _)
 
 bodies_refused : (settings : Settings) (before : List Event) (es : List ℕ) (events : List Event) → Because (λ places out. IsBody out) events (each (refuse_open settings before) es)
 bodies_refused settings before [] events = by_nothing
-bodies_refused settings before (e ∷ es) events = by_then (by_then (by_look (by_choose (λ waits. by_send tt) (λ late. by_nothing)))
-    (by_on (λ none. by_nothing) (λ g home. by_on (λ none. by_nothing) (λ s start. bodies_lost (filter (is_of e) (forwarding_of s before).open_requests) _)))) (bodies_refused settings before es _)
+bodies_refused settings before (e ∷ es) events = by_then (by_then (by_look (by_choose (λ waits. by_send tt) (λ late. by_nothing))) (losing (behind events (outs (refuse_initialize e) events))))
+    (bodies_refused settings before es (behind events (outs (refuse_open settings before e) events)))
+  where
+    at_group : (places : List Event) (g : ℕ) → Because (λ places out. IsBody out) places (on (start_of g before) nothing (λ s. each lose_request (filter (is_of e) (forwarding_of s before).open_requests)))
+    at_group places g = by_on (λ none. by_nothing) (λ s start. bodies_lost (filter (is_of e) (forwarding_of s before).open_requests) places)
+
+    losing : (places : List Event) → Because (λ places out. IsBody out) places (lose_requests settings before e)
+    losing places = by_on (λ none. by_nothing) (λ g home. at_group places g)
 
 links_closed : (es : List ℕ) (events : List Event) → Because (λ places out. IsOnLink out) events (close_each es)
 links_closed [] events = by_nothing
