@@ -1,16 +1,16 @@
 -- E6: what is open at an editor fails.
-use Rattle.std.proofs.Common.{◌≡◌, ℕ, zero, suc, ◌<◌, Bool, true, false, List, [], ◌∷◌, ◌++◌, filter, map, length, get_or, nat_eq, if◌then◌else◌, refl, ap, ap₂, sym, subst, append-nil, ◌∙◌, arith}
+use Rattle.std.proofs.Common.{◌≡◌, ℕ, zero, suc, ◌<◌, Bool, true, false, List, [], ◌∷◌, ◌++◌, filter, map, length, get_or, nat_eq, codes, if◌then◌else◌, refl, ap, ap₂, sym, subst, append-nil, ◌∙◌, arith}
 use Rattle.std.specs.List.{AllByRecursion}
 use Rattle.std.specs.Prelude.{Option, None, Some, slice_get}
 use Rattle.mux_history.specs.declared.out.Out.{Out}
 use Rattle.mux_history.specs.declared.out.Out.TheVariants.{ToEditor}
 use Rattle.rpc_message.specs.Message.{Message, id_bytes, message_of}
 use Rattle.rpc_message.specs.ValueTexts.{IsIdText}
-use Rattle.rpc_message.specs.Texts.{error_text, request_failed}
+use Rattle.rpc_message.specs.Texts.{error_text, ok_text, request_failed}
 use Rattle.rpc_message.proofs.Ids.{request_id_bytes}
 use Rattle.event_model.specs.declared.phase.Phase.{Phase}
 use Rattle.event_model.specs.declared.phase.Phase.TheVariants.{Waiting}
-use Rattle.event_model.specs.Does.{Alike, Does}
+use Rattle.event_model.specs.Does.{Alike, Does, Done}
 use Rattle.event_model.specs.Event.{Event, behind, said}
 use Rattle.event_model.specs.Phases.{Desk, desk_behind, desk_of, is_waiting, phase_told}
 use Rattle.event_model.proofs.Frames.{one_more}
@@ -18,12 +18,19 @@ use Rattle.group_words.proofs.Frames.{home_more}
 use Rattle.event_model.specs.Row.{Row, choose, each, nothing, on, outs, send}
 use Rattle.event_model.specs.Settings.{Settings}
 use Rattle.event_model.specs.Spawns.{start_behind, start_of}
-use Rattle.group_words.specs.Houses.{home_of}
-use Rattle.event_model.proofs.Turns.{alike, alike_then, behind_more, does_alike, does_false, does_knowing, does_look, does_nothing, does_then, does_true}
+use Rattle.event_model.specs.declared.stage.Stage.{Stage}
+use Rattle.event_model.specs.declared.stage.Stage.TheVariants.{Unspawned, Spawning, Initializing, Ready, Stopping, Ending, Ended}
+use Rattle.event_model.specs.Stages.{is_ready}
+use Rattle.focus_switch.specs.Documents.{Documents}
+use Rattle.group_words.specs.Houses.{groups_of, home_of}
+use Rattle.group_words.specs.Placing.{all_from, is_live}
+use Rattle.group_words.specs.Rows.{end_group}
+use Rattle.event_model.proofs.Turns.{alike, alike_then, behind_more, does_alike, does_entry, does_false, does_knowing, does_look, does_nothing, does_then, does_true}
 use Rattle.group_rows.specs.Forwarded.{Forwarded, Forwarding, forwarding_behind, forwarding_of, is_of}
-use Rattle.group_rows.specs.StopRows.{lose_request, lose_requests, refuse_initialize, refuse_open}
+use Rattle.group_rows.specs.StopRows.{close_each, lose_request, lose_requests, refuse_initialize, refuse_open, stop_row, there_in}
 use Rattle.mux_tables.specs.declared.tables.Tables.{Tables}
-use Rattle.mux_tables.specs.Documents.{AllStand, DocumentsStand, Owed}
+use Rattle.mux_tables.specs.declared.tables.Start.{Start}
+use Rattle.mux_tables.specs.Documents.{AllStand, DocumentsStand, Owed, StartTold, nothing_owed}
 use Rattle.mux_tables.specs.Halts.{ids_at}
 use Rattle.mux_tables.specs.Names.{id_in}
 use Rattle.mux_tables.specs.Stands.{IsLost, Rise, Stands, forwarded_of, of_ids}
@@ -228,3 +235,42 @@ opens_refused settings t before base xs ys zs e r one two = does_knowing (λ st.
 
 pub refusing_next : (settings : Settings) (t : Tables) (before base : List Event) (xs ys : List Out) (e : ℕ) → Refusing settings before (behind base xs) → Stands settings t (behind base xs) → Does (λ t events. Stands settings t events) (refuse_open settings before e) base t xs t ys → Refusing settings before (behind base ys)
 refusing_next settings t before base xs ys e r st d = refusing_on settings t before base xs ys (open_told settings before e) d st r
+
+-- No start is ready any more: nothing is owed
+
+unowed : (stage : Stage) (s : ℕ) (owed : List (List ℕ)) (d : Documents) (events : List Event) → is_ready stage ≡ false → StartTold stage s owed d events → StartTold stage s [] d events
+unowed Ready s owed d events h k = absurd (cc)
+unowed Spawning s owed d events h k = k
+unowed Initializing s owed d events h k = k
+unowed Unspawned s owed d events h k = k
+unowed Stopping s owed d events h k = k
+unowed Ending s owed d events h k = k
+unowed Ended s owed d events h k = k
+
+unready_quiet : (settings : Settings) (owed : Owed) (t : Tables) (events : List Event) → ((g : ℕ) (x : Start) → slice_get t.lasts.items g ≡ Some x → is_ready x.life.stage ≡ false) → DocumentsStand settings owed t events → DocumentsStand settings nothing_owed t events
+unready_quiet settings owed t events none ds = record {
+  count = ds.count;
+  each = λ g x d at has. let h = ds.each g x d at has in record { texts = h.texts; versions = h.versions; owned = h.owned; start = unowed x.life.stage x.life.start (owed x.life.group) d events (none g x at) h.start };
+  none = ds.none;
+  fresh = ds.fresh;
+  notes = ds.notes;
+  versions = ds.versions;
+  range = ds.range;
+}
+
+-- the whole entry, where no start is ready behind it
+pub stops_done : (settings : Settings) (before base : List Event) (e : ℕ) (body : List ℕ) (t u v : Tables) (xs told refused closed ys : List Out) (there live : List ℕ) → xs ≡ [] → Stands settings t base → DocumentsStand settings nothing_owed t base
+    → there ≡ there_in before → live ≡ all_from 0 is_live (groups_of settings before)
+    → Does (λ t events. Halts settings t events) (send (ToEditor e (ok_text (id_bytes body) (codes "null")))) base t xs t told
+    → Does (λ t events. Halts settings t events) (each (refuse_open settings before) there) base t told t refused
+    → Does (λ t events. Halts settings t events) (close_each there) base t refused u closed
+    → Does (λ t events. Halts settings t events) (each end_group live) base u closed v ys
+    → (Stands settings v (behind base ys) → (g : ℕ) (x : Start) → slice_get v.lasts.items g ≡ Some x → is_ready x.life.stage ≡ false)
+    → Done (λ k events. AllStand settings k events) (stop_row settings before e body) base [] (v, nothing_owed) ys
+stops_done settings before base e body t u v xs told refused closed ys there live first st ds those alive tells refuses closes ends none =
+    let one = subst (λ ws. Does (λ t events. Halts settings t events) (send (ToEditor e (ok_text (id_bytes body) (codes "null")))) base t ws t told) first tells in
+    let two = subst (λ es. Does (λ t events. Halts settings t events) (each (refuse_open settings before) es) base t told t refused) those refuses in
+    let three = subst (λ es. Does (λ t events. Halts settings t events) (close_each es) base t refused u closed) those closes in
+    let four = subst (λ gs. Does (λ t events. Halts settings t events) (each end_group gs) base u closed v ys) alive ends in
+    let done = does_entry {Stands = λ t events. Halts settings t events} {row = stop_row settings before e body} (st, (nothing_owed, ds)) (does_then one (does_then two (does_then three four))) in
+    record { outs = done.outs; stands = (done.stands.0, unready_quiet settings done.stands.1.0 v (behind base ys) (none done.stands.0) done.stands.1.1) }
