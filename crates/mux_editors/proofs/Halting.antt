@@ -18,10 +18,7 @@ use Rattle.group_words.proofs.Frames.{home_more}
 use Rattle.event_model.specs.Row.{Row, choose, each, nothing, on, outs, send}
 use Rattle.event_model.specs.Settings.{Settings}
 use Rattle.event_model.specs.Spawns.{start_behind, start_of}
-use Rattle.event_model.specs.declared.stage.Stage.{Stage}
-use Rattle.event_model.specs.declared.stage.Stage.TheVariants.{Unspawned, Spawning, Initializing, Ready, Stopping, Ending, Ended}
 use Rattle.event_model.specs.Stages.{is_ready}
-use Rattle.focus_switch.specs.Documents.{Documents}
 use Rattle.group_words.specs.Houses.{groups_of, home_of}
 use Rattle.group_words.specs.Placing.{all_from, is_live}
 use Rattle.group_words.specs.Rows.{end_group}
@@ -30,10 +27,11 @@ use Rattle.group_rows.specs.Forwarded.{Forwarded, Forwarding, forwarding_behind,
 use Rattle.group_rows.specs.StopRows.{close_each, lose_request, lose_requests, refuse_initialize, refuse_open, stop_row, there_in}
 use Rattle.mux_tables.specs.declared.tables.Tables.{Tables}
 use Rattle.mux_tables.specs.declared.tables.Start.{Start}
-use Rattle.mux_tables.specs.Documents.{AllStand, DocumentsStand, Owed, StartTold, nothing_owed}
+use Rattle.mux_tables.specs.Documents.{AllStand, DocumentsStand, Owed, nothing_owed}
 use Rattle.mux_tables.specs.Halts.{ids_at}
 use Rattle.mux_tables.specs.Names.{id_in}
 use Rattle.mux_tables.specs.Stands.{IsLost, Rise, Stands, forwarded_of, of_ids}
+use Rattle.mux_tables.proofs.DocumentOwing.{unready_quiet}
 use Rattle.mux_turns.specs.Welcomes.{AllAsking}
 use Rattle.mux_turns.specs.group_facts.specs.Facts.{AllForwarded, IsForwarded}
 use Rattle.mux_turns.specs.mux_facts.proofs.Table.{waiting_is}
@@ -235,28 +233,6 @@ opens_refused settings t before base xs ys zs e r one two = does_knowing (λ st.
 
 pub refusing_next : (settings : Settings) (t : Tables) (before base : List Event) (xs ys : List Out) (e : ℕ) → Refusing settings before (behind base xs) → Stands settings t (behind base xs) → Does (λ t events. Stands settings t events) (refuse_open settings before e) base t xs t ys → Refusing settings before (behind base ys)
 refusing_next settings t before base xs ys e r st d = refusing_on settings t before base xs ys (open_told settings before e) d st r
-
--- No start is ready any more: nothing is owed
-
-unowed : (stage : Stage) (s : ℕ) (owed : List (List ℕ)) (d : Documents) (events : List Event) → is_ready stage ≡ false → StartTold stage s owed d events → StartTold stage s [] d events
-unowed Ready s owed d events h k = absurd (cc)
-unowed Spawning s owed d events h k = k
-unowed Initializing s owed d events h k = k
-unowed Unspawned s owed d events h k = k
-unowed Stopping s owed d events h k = k
-unowed Ending s owed d events h k = k
-unowed Ended s owed d events h k = k
-
-unready_quiet : (settings : Settings) (owed : Owed) (t : Tables) (events : List Event) → ((g : ℕ) (x : Start) → slice_get t.lasts.items g ≡ Some x → is_ready x.life.stage ≡ false) → DocumentsStand settings owed t events → DocumentsStand settings nothing_owed t events
-unready_quiet settings owed t events none ds = record {
-  count = ds.count;
-  each = λ g x d at has. let h = ds.each g x d at has in record { texts = h.texts; versions = h.versions; owned = h.owned; start = unowed x.life.stage x.life.start (owed x.life.group) d events (none g x at) h.start };
-  none = ds.none;
-  fresh = ds.fresh;
-  notes = ds.notes;
-  versions = ds.versions;
-  range = ds.range;
-}
 
 -- the whole entry, where no start is ready behind it
 pub stops_done : (settings : Settings) (before base : List Event) (e : ℕ) (body : List ℕ) (t u v : Tables) (xs told refused closed ys : List Out) (there live : List ℕ) → xs ≡ [] → Stands settings t base → DocumentsStand settings nothing_owed t base

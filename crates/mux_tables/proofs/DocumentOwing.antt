@@ -9,6 +9,7 @@ use Rattle.event_model.specs.declared.stage.Stage.{Stage}
 use Rattle.event_model.specs.declared.stage.Stage.TheVariants.{Unspawned, Spawning, Initializing, Ready, Stopping, Ending, Ended}
 use Rattle.event_model.specs.Event.{Event, behind, said}
 use Rattle.event_model.specs.Settings.{Settings}
+use Rattle.event_model.specs.Stages.{is_ready}
 use Rattle.event_model.proofs.Places.{item_at}
 use Rattle.event_model.proofs.Turns.{behind_more}
 use Rattle.document_model.specs.Texts.{Open, Texts}
@@ -25,7 +26,7 @@ use Rattle.group_laws.proofs.Left.{left_held}
 use Rattle.group_words.specs.Houses.{home_of, is_home}
 use Rattle.mux_tables.specs.declared.tables.Start.{Start}
 use Rattle.mux_tables.specs.declared.tables.Tables.{Tables}
-use Rattle.mux_tables.specs.Documents.{AllTell, DocumentsStand, IsOwned, Owed, SharedStands, StartTold, StepAt, StepFrom, to}
+use Rattle.mux_tables.specs.Documents.{AllTell, DocumentsStand, IsOwned, Owed, SharedStands, StartTold, StepAt, StepFrom, nothing_owed, to}
 use Rattle.mux_tables.specs.Stands.{IsPlace, Stands}
 use Rattle.mux_tables.proofs.DocumentFrames.{SentSame, sent_behind_same, untold_stays}
 use Rattle.mux_tables.proofs.DocumentLeft.{closed_away, closed_rest, kept_owners}
@@ -145,3 +146,25 @@ pub closed_owing : (settings : Settings) (owed : Owed) (t u : Tables) (base : Li
 closed_owing settings owed t u base xs ys e home place outs l is placed ls vs left said_so st s =
     let go = from settings owed t u (behind base xs) e home outs l is ls vs st s place placed left in
     (go.0, subst (DocumentsStand settings go.0 u) (sym (ap (behind base) said_so ∙ behind_more base xs (CloseEditor e ∷ []))) go.1)
+
+-- No start is ready any more: nothing is owed
+
+unowed : (stage : Stage) (s : ℕ) (owed : List (List ℕ)) (d : Documents) (events : List Event) → is_ready stage ≡ false → StartTold stage s owed d events → StartTold stage s [] d events
+unowed Ready s owed d events h k = absurd (cc)
+unowed Spawning s owed d events h k = k
+unowed Initializing s owed d events h k = k
+unowed Unspawned s owed d events h k = k
+unowed Stopping s owed d events h k = k
+unowed Ending s owed d events h k = k
+unowed Ended s owed d events h k = k
+
+pub unready_quiet : (settings : Settings) (owed : Owed) (t : Tables) (events : List Event) → ((g : ℕ) (x : Start) → slice_get t.lasts.items g ≡ Some x → is_ready x.life.stage ≡ false) → DocumentsStand settings owed t events → DocumentsStand settings nothing_owed t events
+unready_quiet settings owed t events none ds = record {
+  count = ds.count;
+  each = λ g x d at has. let h = ds.each g x d at has in record { texts = h.texts; versions = h.versions; owned = h.owned; start = unowed x.life.stage x.life.start (owed x.life.group) d events (none g x at) h.start };
+  none = ds.none;
+  fresh = ds.fresh;
+  notes = ds.notes;
+  versions = ds.versions;
+  range = ds.range;
+}
