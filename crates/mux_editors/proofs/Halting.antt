@@ -1,7 +1,9 @@
 -- E6: what is open at an editor fails.
-use Rattle.std.proofs.Common.{◌≡◌, ℕ, zero, suc, ◌<◌, Bool, true, false, List, [], ◌∷◌, ◌++◌, filter, map, length, get_or, nat_eq, codes, if◌then◌else◌, refl, ap, ap₂, sym, subst, append-nil, ◌∙◌, arith}
+use Rattle.std.proofs.Common.{◌≡◌, ℕ, zero, suc, ◌<◌, Bool, true, false, ◌&&◌, List, [], ◌∷◌, ◌++◌, filter, map, length, get_or, nat_eq, codes, if◌then◌else◌, refl, ap, ap₂, sym, subst, append-nil, ◌∙◌, arith}
 use Rattle.std.specs.List.{AllByRecursion}
 use Rattle.std.specs.Prelude.{Option, None, Some, slice_get}
+use Rattle.std.proofs.lemmas.Bool.{and_parts}
+use Rattle.mux_history.specs.declared.cause.Cause.TheVariants.{FromEditor}
 use Rattle.mux_history.specs.declared.out.Out.{Out}
 use Rattle.mux_history.specs.declared.out.Out.TheVariants.{ToEditor}
 use Rattle.rpc_message.specs.Message.{Message, id_bytes, message_of}
@@ -11,19 +13,20 @@ use Rattle.rpc_message.proofs.Ids.{request_id_bytes}
 use Rattle.event_model.specs.declared.phase.Phase.{Phase}
 use Rattle.event_model.specs.declared.phase.Phase.TheVariants.{Waiting}
 use Rattle.event_model.specs.Does.{Alike, Does, Done}
-use Rattle.event_model.specs.Event.{Event, behind, said}
-use Rattle.event_model.specs.Phases.{Desk, desk_behind, desk_of, is_waiting, phase_told}
+use Rattle.event_model.specs.Event.{Event, behind, heard, requests, said}
+use Rattle.event_model.specs.Phases.{Desk, desk_behind, desk_of, is_waiting, needs_server, phase_told}
 use Rattle.event_model.proofs.Frames.{one_more}
 use Rattle.group_words.proofs.Frames.{home_more}
 use Rattle.event_model.specs.Row.{Row, choose, each, nothing, on, outs, send}
 use Rattle.event_model.specs.Settings.{Settings}
 use Rattle.event_model.specs.Spawns.{start_behind, start_of}
 use Rattle.event_model.specs.Stages.{is_ready}
-use Rattle.group_words.specs.Houses.{groups_of, home_of}
+use Rattle.group_words.specs.Houses.{groups_of, home_of, stops}
 use Rattle.group_words.specs.Placing.{all_from, is_live}
 use Rattle.group_words.specs.Rows.{end_group}
 use Rattle.event_model.proofs.Turns.{alike, alike_then, behind_more, does_alike, does_entry, does_false, does_knowing, does_look, does_nothing, does_then, does_true}
 use Rattle.group_rows.specs.Forwarded.{Forwarded, Forwarding, forwarding_behind, forwarding_of, is_of}
+use Rattle.group_rows.specs.Rows.{asks_lspmux}
 use Rattle.group_rows.specs.StopRows.{close_each, lose_request, lose_requests, refuse_initialize, refuse_open, stop_row, there_in}
 use Rattle.mux_tables.specs.declared.tables.Tables.{Tables}
 use Rattle.mux_tables.specs.declared.tables.Start.{Start}
@@ -33,9 +36,11 @@ use Rattle.mux_tables.specs.Names.{id_in}
 use Rattle.mux_tables.specs.Stands.{IsLost, Rise, Stands, forwarded_of, of_ids}
 use Rattle.mux_tables.proofs.DocumentOwing.{unready_quiet}
 use Rattle.mux_turns.specs.Welcomes.{AllAsking}
-use Rattle.mux_turns.specs.group_facts.specs.Facts.{AllForwarded, IsForwarded}
+use Rattle.mux_turns.specs.group_facts.specs.Facts.{AllForwarded, IsForwarded, WaitingAsked}
+use Rattle.mux_turns.specs.group_facts.specs.Settled.{IsSeated}
 use Rattle.mux_turns.specs.mux_facts.proofs.Table.{waiting_is}
 use Rattle.mux_turns.specs.mux_facts.proofs.Words.{number_same}
+use Rattle.mux_editors.proofs.Lspmux.{desk_stays, own_placed, own_stays, stop_asks}
 use Rattle.mux_editors.specs.Halting.{AllHoused, Halts, IsNamed, Refusing, Stays, lose_from, refuse_id}
 
 none_some : {A : Type 0} {x : A} → ◌≡◌ {A = Option A} None (Some x) → ⊥
@@ -250,3 +255,45 @@ stops_done settings before base e body t u v xs told refused closed ys there liv
     let four = subst (λ gs. Does (λ t events. Halts settings t events) (each end_group gs) base u closed v ys) alive ends in
     let done = does_entry {Stands = λ t events. Halts settings t events} {row = stop_row settings before e body} (st, (nothing_owed, ds)) (does_then one (does_then two (does_then three four))) in
     record { outs = done.outs; stands = (done.stands.0, unready_quiet settings done.stands.1.0 v (behind base ys) (none done.stands.0) done.stands.1.1) }
+
+-- Behind the message that stops all, before anything is said
+
+and_off : (a : Bool) → (a && false) ≡ false
+and_off true = refl
+and_off false = refl
+
+module _ (settings : Settings) (before : List Event) (k : ℕ) (body : List ℕ) (stop : stops before k (message_of body) ≡ true) where
+  abbrev stopping : Event
+  stopping = heard (FromEditor k body)
+
+  own : asks_lspmux (message_of body) ≡ true
+  own = stop_asks (message_of body) (and_parts (requests (codes "lspmux/stop") (message_of body)) _ stop).0
+
+  heard_desk : (e : ℕ) → (desk_of e (before ++ stopping ∷ [])).phase ≡ Waiting → ((desk_of e before).phase ≡ Waiting) × ((desk_of e (before ++ stopping ∷ [])).initialize ≡ (desk_of e before).initialize)
+  heard_desk e at = go (nat_eq k e) refl
+    where
+      go : (b : Bool) → nat_eq k e ≡ b → ((desk_of e before).phase ≡ Waiting) × ((desk_of e (before ++ stopping ∷ [])).initialize ≡ (desk_of e before).initialize)
+      go true same =
+          let is : k ≡ e = number_same k e same in
+          let was : (desk_of k before).phase ≡ Waiting = sym (own_stays before k body own) ∙ subst (λ n. (desk_of n (before ++ stopping ∷ [])).phase ≡ Waiting) (sym is) at in
+          subst (λ n. ((desk_of n before).phase ≡ Waiting) × ((desk_of n (before ++ stopping ∷ [])).initialize ≡ (desk_of n before).initialize)) is (was, desk_stays before k body own was)
+      go false off =
+          let apart : desk_of e (before ++ stopping ∷ []) ≡ desk_of e before = one_more (desk_behind e) _ _ before stopping refl ∙ rw off refl in
+          (ap (λ (d : Desk). d.phase) (sym apart) ∙ at, ap (λ (d : Desk). d.initialize) apart)
+
+  pub refusing_heard : WaitingAsked before → ((e : ℕ) → needs_server (desk_of e before).phase ≡ true → IsSeated settings before e) → Refusing settings before (before ++ stopping ∷ [])
+  refusing_heard waiting seated = record {
+    stays = record {
+      home = still_home;
+      start = λ g. one_more (start_behind g) _ _ before stopping refl;
+      open_requests = λ s. ap (λ (f : Forwarding). f.open_requests) (one_more (forwarding_behind s) _ _ before stopping refl);
+    };
+    asking = λ e at.
+        let was = heard_desk e at in
+        let asks = waiting e was.0 in
+        record { name = asks.0; method = codes "initialize"; params = (asks.1).params; says = ap message_of was.1 ∙ (asks.1).asks };
+    housed = λ e at. let seat = seated e (ap needs_server (heard_desk e at).0) in (seat.group, still_home e ∙ seat.home);
+  }
+    where
+      still_home : (e : ℕ) → home_of settings e (before ++ stopping ∷ []) ≡ home_of settings e before
+      still_home e = home_more settings e before stopping ∙ rw (own_placed before k body own, and_off (nat_eq k e)) refl

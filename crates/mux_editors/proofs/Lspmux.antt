@@ -151,7 +151,7 @@ module _ (before : List Event) (e : ℕ) (body : List ℕ) (asks : asks_lspmux (
   or_off true h = h
   or_off false h = refl
 
-  desk_stays : (desk_of e before).phase ≡ Waiting → (desk_of e (with_cause before (FromEditor e body))).initialize ≡ (desk_of e before).initialize
+  pub desk_stays : (desk_of e before).phase ≡ Waiting → (desk_of e (with_cause before (FromEditor e body))).initialize ≡ (desk_of e before).initialize
   desk_stays at = ap (λ (d : Desk). d.initialize) (one_more (desk_behind e) _ _ before (heard (FromEditor e body)) refl) ∙ rw (itself e) (ap (λ p. (desk_hears p (desk_of e before).initialize body (message_of body)).initialize) at)
 
   pub own_others : (settings : Settings) → (is_begun (desk_of e before).phase && is_doubled before e (message_of body)) ≡ false → Settled settings before
