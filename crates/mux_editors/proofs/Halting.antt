@@ -5,7 +5,7 @@ use Rattle.std.specs.Prelude.{Option, None, Some, slice_get}
 use Rattle.std.proofs.lemmas.Bool.{and_parts}
 use Rattle.mux_history.specs.declared.cause.Cause.TheVariants.{FromEditor}
 use Rattle.mux_history.specs.declared.out.Out.{Out}
-use Rattle.mux_history.specs.declared.out.Out.TheVariants.{ToEditor}
+use Rattle.mux_history.specs.declared.out.Out.TheVariants.{CloseEditor, ToEditor}
 use Rattle.rpc_message.specs.Message.{Message, id_bytes, message_of}
 use Rattle.rpc_message.specs.ValueTexts.{IsIdText}
 use Rattle.rpc_message.specs.Texts.{error_text, ok_text, request_failed}
@@ -35,8 +35,9 @@ use Rattle.mux_tables.specs.Halts.{ids_at}
 use Rattle.mux_tables.specs.Names.{id_in}
 use Rattle.mux_tables.specs.Stands.{IsLost, Rise, Stands, forwarded_of, of_ids}
 use Rattle.mux_tables.proofs.DocumentOwing.{unready_quiet}
+use Rattle.mux_turns.proofs.Evictions.{numbered_closed, numbered_told}
 use Rattle.mux_turns.specs.Welcomes.{AllAsking}
-use Rattle.mux_turns.specs.group_facts.specs.Facts.{AllForwarded, IsForwarded, WaitingAsked}
+use Rattle.mux_turns.specs.group_facts.specs.Facts.{AllForwarded, IsForwarded, Numbered, WaitingAsked}
 use Rattle.mux_turns.specs.group_facts.specs.Settled.{IsSeated}
 use Rattle.mux_turns.specs.mux_facts.proofs.Table.{waiting_is}
 use Rattle.mux_turns.specs.mux_facts.proofs.Words.{number_same}
@@ -297,3 +298,33 @@ module _ (settings : Settings) (before : List Event) (k : ℕ) (body : List ℕ)
     where
       still_home : (e : ℕ) → home_of settings e (before ++ stopping ∷ []) ≡ home_of settings e before
       still_home e = home_more settings e before stopping ∙ rw (own_placed before k body own, and_off (nat_eq k e)) refl
+
+-- Bodies to editors and ends of their links leave the numbers of starts alone
+
+abbrev IsAside : Out → Type 0
+IsAside (ToEditor e body) = Unit {0}
+IsAside (CloseEditor e) = Unit {0}
+IsAside other = ⊥
+
+pub numbered_asides : (xs : List Out) (events : List Event) → AllByRecursion IsAside xs → Numbered events → Numbered (behind events xs)
+numbered_asides [] events h k = subst Numbered (sym (append-nil events)) k
+numbered_asides (ToEditor e body ∷ xs) events h k = subst Numbered (sym (behind_more events (ToEditor e body ∷ []) xs)) (numbered_asides xs (events ++ said (ToEditor e body) ∷ []) h.1 (numbered_told events e body k))
+numbered_asides (CloseEditor e ∷ xs) events h k = subst Numbered (sym (behind_more events (CloseEditor e ∷ []) xs)) (numbered_asides xs (events ++ said (CloseEditor e) ∷ []) h.1 (numbered_closed events e k))
+numbered_asides (other ∷ xs) events h k = absurd h.0
+
+pub closes_aside : (es : List ℕ) (events : List Event) → AllByRecursion IsAside (outs (close_each es) events)
+closes_aside [] events = tt
+closes_aside (e ∷ es) events = (tt, closes_aside es (events ++ said (CloseEditor e) ∷ []))
+
+told_aside : (xs : List Out) → AllByRecursion IsTold xs → AllByRecursion IsAside xs
+told_aside [] h = tt
+told_aside (ToEditor e body ∷ xs) h = (tt, told_aside xs h.1)
+told_aside (other ∷ xs) h = absurd h.0
+
+aside_join : (xs ys : List Out) → AllByRecursion IsAside xs → AllByRecursion IsAside ys → AllByRecursion IsAside (xs ++ ys)
+aside_join [] ys h k = k
+aside_join (x ∷ xs) ys h k = (h.0, aside_join xs ys h.1 k)
+
+pub refuses_aside : (settings : Settings) (before : List Event) (es : List ℕ) (events : List Event) → AllByRecursion IsAside (outs (each (refuse_open settings before) es) events)
+refuses_aside settings before [] events = tt
+refuses_aside settings before (e ∷ es) events = aside_join (outs (refuse_open settings before e) events) _ (told_aside _ (open_told settings before e events)) (refuses_aside settings before es (behind events (outs (refuse_open settings before e) events)))
