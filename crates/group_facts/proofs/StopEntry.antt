@@ -1,5 +1,5 @@
 -- E6 and J1: behind a stop no editor is there, and so behind each later entry.
-use Rattle.std.proofs.Common.{◌≡◌, ℕ, zero, suc, ◌+◌, ◌<◌, ◌≤◌, Bool, true, false, not, ◌&&◌, ◌||◌, List, [], ◌∷◌, ◌++◌, map, nat_eq, bytes_eq, codes, if◌then◌else◌, refl, sym, ◌∙◌, ap, subst, append_assoc, append-nil, arith}
+use Rattle.std.proofs.Common.{◌≡◌, ℕ, ◌+◌, ◌<◌, ◌≤◌, Bool, true, false, not, ◌&&◌, ◌||◌, List, [], ◌∷◌, ◌++◌, map, nat_eq, bytes_eq, codes, if◌then◌else◌, refl, sym, ◌∙◌, ap, subst, append_assoc, append-nil, arith}
 use Rattle.std.specs.List.{list_any}
 use Rattle.std.proofs.lemmas.Bool.{and_parts}
 use Rattle.std.proofs.lemmas.Slice.Eq.{bytes_eq-Decides}
@@ -11,7 +11,7 @@ use Rattle.rpc_message.specs.Message.{Message, request, notification, result, er
 use Rattle.rpc_message.specs.Texts.{ok_text}
 use Rattle.event_model.specs.declared.phase.Phase.{Phase}
 use Rattle.event_model.specs.declared.phase.Phase.TheVariants.{Absent, New, Waiting, Answered, Running, Down, Closed, Gone}
-use Rattle.event_model.specs.Event.{Event, behind, heard, requests, said, with_cause}
+use Rattle.event_model.specs.Event.{Event, behind, heard, said, with_cause}
 use Rattle.event_model.specs.Phases.{Desk, desk_hears, desk_of, editors_of, has_id, is_begun, is_there, phase_closed, phase_told}
 use Rattle.std.specs.Prelude.{None, Some}
 use Rattle.event_model.specs.Row.{choose, each, nothing, outs, send}
@@ -20,7 +20,6 @@ use Rattle.event_model.proofs.Frames.{never}
 use Rattle.mux_facts.proofs.Editors.{Editors}
 use Rattle.mux_facts.proofs.Folds.{desk_more}
 use Rattle.mux_facts.proofs.Keeps.{behind_both}
-use Rattle.mux_facts.proofs.Words.{number_same}
 use Rattle.group_words.specs.Houses.{groups_of, is_doubled, stops}
 use Rattle.group_words.specs.Placing.{all_from, is_live}
 use Rattle.group_words.specs.Rows.{end_group}

@@ -1,5 +1,5 @@
 -- E6 and J1: why each out of a stop is sent.
-use Rattle.std.proofs.Common.{◌≡◌, ℕ, zero, suc, ◌+◌, ◌<◌, ◌≤◌, ◌^◌, Bool, true, false, cond, ◌&&◌, ◌||◌, List, [], ◌∷◌, ◌++◌, filter, nat_eq, codes, if◌then◌else◌, Option, None, Some, refl, sym, ◌∙◌, ap, ap₂, subst, append-nil, arith}
+use Rattle.std.proofs.Common.{◌≡◌, ℕ, ◌+◌, ◌<◌, ◌≤◌, Bool, true, false, cond, ◌&&◌, ◌||◌, List, [], ◌∷◌, ◌++◌, filter, nat_eq, codes, if◌then◌else◌, Option, Some, refl, sym, ◌∙◌, ap, ap₂, subst, append-nil, arith}
 use Rattle.std.specs.List.{AllByRecursion}
 use Rattle.json_text.specs.Json.{Json}
 use Rattle.mux_history.specs.declared.cause.Cause.TheVariants.{FromEditor, Joined}
@@ -14,20 +14,19 @@ use Rattle.event_model.specs.declared.phase.Phase.TheVariants.{New, Waiting}
 use Rattle.event_model.specs.Event.{Event, behind, heard, said, with_cause}
 use Rattle.event_model.specs.Phases.{Desk, desk_of, editors_of, is_there, is_waiting, phase_closed, phase_told}
 use Rattle.event_model.specs.Requests.{answered_id, is_open, open_of, without}
-use Rattle.event_model.specs.Row.{Row, choose, each, nothing, on, outs, send}
+use Rattle.event_model.specs.Row.{choose, each, nothing, on, outs, send}
 use Rattle.event_model.specs.Settings.{Settings}
 use Rattle.event_model.specs.Spawns.{start_of}
-use Rattle.event_model.proofs.Frames.{never}
 use Rattle.mux_facts.proofs.Bodies.{refusal_says}
 use Rattle.mux_facts.proofs.Folds.{desk_more, opens_more}
 use Rattle.mux_facts.proofs.Late.{error_told}
 use Rattle.mux_facts.proofs.Lists.{all_of}
 use Rattle.mux_facts.proofs.Reasons.{Because, by_choose, by_look, by_nothing, by_on, by_send, by_then, reasons_keep}
 use Rattle.mux_facts.proofs.Rising.{by_rising}
-use Rattle.mux_facts.proofs.Table.{desk_untold, waiting_is}
+use Rattle.mux_facts.proofs.Table.{desk_untold}
 use Rattle.mux_facts.proofs.Waits.{late_not}
-use Rattle.mux_facts.proofs.Words.{id_same, number_same, same_number, still_open}
-use Rattle.group_words.specs.Houses.{home_of, stops}
+use Rattle.mux_facts.proofs.Words.{id_same, same_number, still_open}
+use Rattle.group_words.specs.Houses.{stops}
 use Rattle.group_rows.specs.Forwarded.{Forwarded, forwarding_of, is_of}
 use Rattle.group_rows.specs.StopRows.{close_each, joined_row, lose_request, lose_requests, refuse_initialize, refuse_open, stopped, there_in}
 use Rattle.group_rows.proofs.Stops.{range_below}
@@ -35,7 +34,7 @@ use Rattle.group_facts.specs.Facts.{IsForwarded, IsWaiting, OneRequest, is_early
 use Rattle.group_facts.specs.Why.{Why, loses, turns_away}
 use Rattle.group_facts.proofs.Forwards.{zip_all}
 use Rattle.group_facts.proofs.Quits.{stopped_on}
-use Rattle.group_facts.proofs.Sent.{Rising, rising_from}
+use Rattle.group_facts.proofs.Sent.{Rising}
 
 -- Requests of one editor that are open at one start have different ids
 

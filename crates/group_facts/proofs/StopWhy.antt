@@ -14,19 +14,17 @@ use Rattle.rpc_message.specs.Texts.{ok_text}
 use Rattle.rpc_message.specs.ValueTexts.{IsIdText}
 use Rattle.event_model.specs.declared.phase.Phase.{Phase}
 use Rattle.event_model.specs.declared.phase.Phase.TheVariants.{Absent, New, Waiting, Answered, Running, Down, Closed, Gone}
-use Rattle.event_model.specs.declared.stage.Stage.TheVariants.{Ready}
 use Rattle.event_model.specs.Event.{Event, behind, heard, requests, said, with_cause}
 use Rattle.event_model.specs.Parts.{is_of_server, server_part}
-use Rattle.event_model.specs.Phases.{Desk, desk_hears, desk_of, has_id, is_begun, is_new, is_there, is_waiting, phase_told}
+use Rattle.event_model.specs.Phases.{Desk, desk_hears, desk_of, has_id, is_new, is_there, is_waiting, phase_told}
 use Rattle.event_model.specs.Requests.{answered_id, is_open, open_of, with_request, without}
-use Rattle.event_model.specs.Row.{Row, each, nothing, on, outs, send}
+use Rattle.event_model.specs.Row.{each, nothing, on, outs}
 use Rattle.event_model.specs.Settings.{Settings}
 use Rattle.event_model.specs.Spawns.{start_of}
-use Rattle.event_model.specs.Stages.{Life, life_of}
+use Rattle.event_model.specs.Stages.{Life}
 use Rattle.mux_facts.specs.Ranges.{InRange}
 use Rattle.mux_facts.proofs.Asked.{either_late, hears_open}
 use Rattle.mux_facts.proofs.Folds.{desk_more, life_more, number_more, opens_more}
-use Rattle.mux_facts.proofs.Keeps.{behind_nothing}
 use Rattle.mux_facts.proofs.Late.{hears_late, told_late}
 use Rattle.mux_facts.proofs.Lists.{all_filtered}
 use Rattle.mux_facts.proofs.Reasons.{Because, by_choose, by_look, by_nothing, by_on, by_send, by_then, reasons_keep}
@@ -36,7 +34,6 @@ use Rattle.mux_facts.proofs.Words.{id_same, number_same, same_number, still_open
 use Rattle.group_words.specs.declared.kept.Kept.{Kept}
 use Rattle.group_words.specs.Houses.{declared_for, groups_of, key_for, placed_for, places, stops}
 use Rattle.group_words.specs.Placing.{all_from, end_where, is_live, with_editor}
-use Rattle.group_words.specs.Rows.{end_group}
 use Rattle.group_words.proofs.Frames.{groups_more}
 use Rattle.group_rows.specs.Forwarded.{Forwarded, forwarding_of, is_of}
 use Rattle.group_rows.specs.StopRows.{close_each, lose_request, lose_requests, refuse_initialize, refuse_open, stop_row, there_in}

@@ -1,5 +1,5 @@
 -- Each editor that waits has its `initialize` open, but for one that is turned away in the entry at hand.
-use Rattle.std.proofs.Common.{◌≡◌, ℕ, Bool, true, false, ◌&&◌, List, [], ◌∷◌, ◌++◌, nat_eq, codes, if◌then◌else◌, None, Some, ◌||◌, ◌⊎◌, inl, inr, refl, sym, ◌∙◌, ap, subst, subst₂, append_assoc}
+use Rattle.std.proofs.Common.{◌≡◌, ℕ, Bool, true, false, ◌&&◌, List, [], ◌∷◌, ◌++◌, nat_eq, codes, if◌then◌else◌, None, Some, ◌⊎◌, inl, inr, refl, sym, ◌∙◌, ap, subst, subst₂, append_assoc}
 use Rattle.std.proofs.lemmas.Bool.{and_parts}
 use Rattle.std.proofs.lemmas.Slice.Eq.{bytes_eq-Decides}
 use Rattle.json_text.specs.Json.{Json}
@@ -12,7 +12,7 @@ use Rattle.rpc_message.specs.Texts.{error_text, request_failed}
 use Rattle.event_model.specs.declared.phase.Phase.{Phase}
 use Rattle.event_model.specs.declared.phase.Phase.TheVariants.{Absent, New, Waiting, Answered, Running, Down, Closed, Gone}
 use Rattle.event_model.specs.Event.{Event, said, behind, with_cause, requests}
-use Rattle.event_model.specs.Phases.{Desk, desk_of, desk_behind, has_id, is_begun, is_malformed, is_new, is_there, is_waiting, phase_closed, phase_told}
+use Rattle.event_model.specs.Phases.{Desk, desk_of, desk_behind, has_id, is_begun, is_malformed, is_new, is_waiting, phase_closed, phase_told}
 use Rattle.event_model.specs.Requests.{answered_id, open_behind, open_of, without}
 use Rattle.event_model.specs.Settings.{Settings}
 use Rattle.event_model.proofs.Frames.{never}
