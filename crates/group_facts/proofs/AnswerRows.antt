@@ -105,12 +105,12 @@ module _ (settings : Settings) (range : InRange settings) (before : List Event) 
   abbrev text_for : Forwarded → List ℕ
   text_for f = answer_text (own_version settings before s f) body f.id
 
-  response_why : AllForwarded before → Apart before → AllMeant before → Because R now (answer_row settings s before body (message_of body))
+  response_why : ((e : ℕ) → is_there (desk_of e before).phase ≡ true → AllForwarded before) → Apart before → AllMeant before → Because R now (answer_row settings s before body (message_of body))
   response_why all apart meant = by_on (λ none. by_nothing) (λ f found. by_choose (λ there. by_send (passes (passing f found there))) (λ gone. by_nothing))
     where
       passing : (f : Forwarded) → find (answered_by (answered_id (message_of body))) (forwarding_of s before).open_requests ≡ Some f → is_there (desk_of f.editor before).phase ≡ true → IsPassing settings before (FromServer s body) now f.editor (text_for f)
       passing f found there =
-          let k : IsAsker before f.editor f.id = found_is (IsForwarded before) (answered_by (answered_id (message_of body))) f (forwarding_of s before).open_requests (all s) found in
+          let k : IsAsker before f.editor f.id = found_is (IsForwarded before) (answered_by (answered_id (message_of body))) f (forwarding_of s before).open_requests (all f.editor there s) found in
           let p : (is_response (message_of (text_for f)) ≡ true) × (answered_id (message_of (text_for f)) ≡ Some k.id)
           = response_is k.id (message_of (text_for f)) (answer_says (own_version settings before s f) (own_flat settings before s f meant) body f.id k.id (answers_only (message_of body) f (forwarding_of s before).open_requests found) k.text) in
           record {
@@ -248,7 +248,7 @@ module _ (settings : Settings) (range : InRange settings) (before : List Event) 
   hasty_why at other not_json says = by_nothing
   hasty_why at other not_message says = by_nothing
 
-  module _ (opened : Opened settings before) (untold : Untold before) (waiting : AllWaiting before) (all : AllForwarded before) (apart : Apart before) (meant : AllMeant before) (asks : Asks settings before) (written : Written settings before) where
+  module _ (opened : Opened settings before) (untold : Untold before) (waiting : AllWaiting before) (all : (e : ℕ) → is_there (desk_of e before).phase ≡ true → AllForwarded before) (apart : Apart before) (meant : AllMeant before) (asks : Asks settings before) (written : Written settings before) where
     result_why : FirstResult (message_of body) → (life_of s before).stage ≡ Initializing → is_first_result (message_of body) ≡ true → shown_of (result_bytes body) ≡ result_bytes body → Because R now (first_result settings before s body)
     result_why first at is whole = by_on (λ none. by_nothing) (λ g home. greet_why first.r first.is whole at is opened untold waiting g)
 

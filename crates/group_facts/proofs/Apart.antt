@@ -154,7 +154,7 @@ module _ (settings : Settings) (before : List Event) (cause : Cause) (events : L
 
 -- A response that is passed on
 
-find_true : (test : Forwarded → Bool) (fs : List Forwarded) (f : Forwarded) → find test fs ≡ Some f → test f ≡ true
+pub find_true : (test : Forwarded → Bool) (fs : List Forwarded) (f : Forwarded) → find test fs ≡ Some f → test f ≡ true
 find_true test [] f h = absurd (cc)
 find_true test (g ∷ fs) f h = go (test g) refl (λ k. find_true test fs f k) h
   where

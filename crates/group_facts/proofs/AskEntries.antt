@@ -28,7 +28,7 @@ use Rattle.group_rows.specs.Rows.{outs_of}
 use Rattle.group_facts.specs.Built.{built_behind}
 use Rattle.group_facts.specs.Facts.{ends_link, is_unready, is_up, leaves, shuts}
 use Rattle.group_facts.specs.Settled.{HasSeat}
-use Rattle.group_facts.specs.Why.{IsAsk, IsResumed, Why, WhyToEditor, answers, asks, passes, recalls, refuses, calls, rejects, resumes, spreads, turns_away, welcomes, progresses, shows}
+use Rattle.group_facts.specs.Why.{IsAsk, IsResumed, Why, WhyToEditor, answers, asks, passes, recalls, refuses, calls, rejects, resumes, spreads, turns_away, welcomes, progresses, shows, loses}
 use Rattle.group_facts.proofs.Asks.{registering_made, is_question, listed, response_asks_none, resumed_here, resumed_off, taken}
 use Rattle.group_facts.proofs.AskSeats.{MidSeat, asks_more, did_all, took_all}
 use Rattle.group_facts.proofs.AskingRows.{still_runs}
@@ -107,17 +107,8 @@ module _ (settings : Settings) (before : List Event) (facts : Facts settings bef
     ready = k.ready;
   }
 
-module _ (settings : Settings) (range : InRange settings) (before : List Event) (facts : Facts settings before) (one : OneStart before) (seats : AllSeats settings before) (cause : Cause) (built : built_behind settings before cause ≡ true) where
-  abbrev Seat : ℕ → Ask → Type 0
-  Seat s a = MidSeat settings before cause s a
-
-  -- what is known at a place of the entry: who is asked has its seat
-  pub record Inner (events : List Event) : Type 0 where
-    pub here : Here settings before cause events
-    pub seated : (s : ℕ) → AllByRecursion (Seat s) (asks_of settings s events)
-    pub begun : (s : ℕ) → is_unready (life_of s before).stage ≡ false → is_unready (life_of s events).stage ≡ false
-    pub runs : (e : ℕ) → leaves settings before cause e ≡ false → (desk_of e (with_cause before cause)).phase ≡ Running → (desk_of e events).phase ≡ Running
-
+-- a start that was ready or past it stays so
+module _ (settings : Settings) (range : InRange settings) (before : List Event) (facts : Facts settings before) (cause : Cause) (built : built_behind settings before cause ≡ true) where
   not_back : (s : ℕ) (events : List Event) (event : Event) → Fresh is_unready unready_falls s (life_of s events) event → is_unready (life_of s events).stage ≡ false → is_unready (life_of s (events ++ event ∷ [])).stage ≡ false
   not_back s events event fresh begun = go (is_unready (life_of s (events ++ event ∷ [])).stage) refl
     where
@@ -136,11 +127,36 @@ module _ (settings : Settings) (range : InRange settings) (before : List Event) 
   fresh_out events (CloseEditor e) why none s = tt
   fresh_out events (EndServer n) why none s = tt
 
+  record Onward (events : List Event) : Type 0 where
+    here : Here settings before cause events
+    begun : (s : ℕ) → is_unready (life_of s before).stage ≡ false → is_unready (life_of s events).stage ≡ false
+
+  onward_did : (events : List Event) (out : Out) → Why settings before cause events out → Onward events → Onward (events ++ said out ∷ [])
+  onward_did events out why i = record {
+    here = here_did settings range before cause facts built events out why i.here;
+    begun = λ s h. not_back s events (said out) (fresh_out events out why (((i.here).mid).steady).starts s) (i.begun s h);
+  }
+
+  pub onward_rests : fits_behind before cause ≡ true → (s : ℕ) → is_unready (life_of s before).stage ≡ false → is_unready (life_of s (behind (with_cause before cause) (outs_of settings before cause))).stage ≡ false
+  onward_rests fits = (reasons_keep (λ events out. Why settings before cause events out) Onward onward_did (with_cause before cause) (outs_of settings before cause) (reasons settings range before facts cause built).why
+      (record { here = here_took settings range before cause fits built facts; begun = λ s h. not_back s before (heard cause) (fresh_cause cause s) h })).begun
+
+module _ (settings : Settings) (range : InRange settings) (before : List Event) (facts : Facts settings before) (one : OneStart before) (seats : AllSeats settings before) (cause : Cause) (built : built_behind settings before cause ≡ true) where
+  abbrev Seat : ℕ → Ask → Type 0
+  Seat s a = MidSeat settings before cause s a
+
+  -- what is known at a place of the entry: who is asked has its seat
+  pub record Inner (events : List Event) : Type 0 where
+    pub here : Here settings before cause events
+    pub seated : (s : ℕ) → AllByRecursion (Seat s) (asks_of settings s events)
+    pub begun : (s : ℕ) → is_unready (life_of s before).stage ≡ false → is_unready (life_of s events).stage ≡ false
+    pub runs : (e : ℕ) → leaves settings before cause e ≡ false → (desk_of e (with_cause before cause)).phase ≡ Running → (desk_of e events).phase ≡ Running
+
   inner_took : fits_behind before cause ≡ true → Inner (with_cause before cause)
   inner_took fits = record {
     here = here_took settings range before cause fits built facts;
     seated = λ s. took_all settings (Seat s) s before cause (all_of (HasSeat settings before s) (Seat s) (λ a k. seat_now settings before facts cause fits s a k) (asks_of settings s before) (seats s));
-    begun = λ s h. not_back s before (heard cause) (fresh_cause cause s) h;
+    begun = λ s h. not_back settings range before facts cause built s before (heard cause) (fresh_cause settings range before facts cause built cause s) h;
     runs = λ e stays at. at;
   }
 
@@ -199,6 +215,7 @@ module _ (settings : Settings) (range : InRange settings) (before : List Event) 
   told_seated events e body (spreads k) s h = did_all settings (Seat s) s events (ToEditor e body) (ap is_question k.says) h
   told_seated events e body (recalls k) s h = did_all settings (Seat s) s events (ToEditor e body) (ap is_question k.says) h
   told_seated events e body (progresses k) s h = did_all settings (Seat s) s events (ToEditor e body) (ap is_question k.says) h
+  told_seated events e body (loses k) s h = did_all settings (Seat s) s events (ToEditor e body) (ap is_question k.says) h
   told_seated events e body (shows k) s h = did_all settings (Seat s) s events (ToEditor e body) (ap is_question k.says) h
 
   did_seated : (events : List Event) (out : Out) → Why settings before cause events out → (s : ℕ) → AllByRecursion (Seat s) (asks_of settings s events) → AllByRecursion (Seat s) (asks_of settings s (events ++ said out ∷ []))
@@ -223,7 +240,7 @@ module _ (settings : Settings) (range : InRange settings) (before : List Event) 
   inner_did events out why i = record {
     here = here_did settings range before cause facts built events out why i.here;
     seated = λ s. did_seated events out why s (i.seated s);
-    begun = λ s h. not_back s events (said out) (fresh_out events out why (((i.here).mid).steady).starts s) (i.begun s h);
+    begun = λ s h. not_back settings range before facts cause built s events (said out) (fresh_out settings range before facts cause built events out why (((i.here).mid).steady).starts s) (i.begun s h);
     runs = λ e stays at. did_runs events out why e stays (i.runs e stays at);
   }
 

@@ -1,5 +1,5 @@
 -- An editor that leaves was asked nothing any more; so behind every entry each editor that a start asked has its seat.
-use Rattle.std.proofs.Common.{◌≡◌, ℕ, Bool, true, false, ◌&&◌, List, [], ◌∷◌, ◌++◌, filter, map, nat_eq, codes, bytes_eq, Option, Some, None, ◌⊎◌, inl, inr, refl, sym, ◌∙◌, ap, subst, append_assoc}
+use Rattle.std.proofs.Common.{◌≡◌, ℕ, Bool, true, false, ◌&&◌, List, [], ◌∷◌, ◌++◌, filter, map, nat_eq, codes, bytes_eq, Option, Some, None, ◌⊎◌, inl, inr, refl, sym, ◌∙◌, ap, subst, append_assoc, ◌||◌}
 use Rattle.std.specs.List.{AllByRecursion}
 use Rattle.std.specs.Option.{option_map_or}
 use Rattle.std.proofs.lemmas.Bool.{and_parts}
@@ -15,7 +15,7 @@ use Rattle.rpc_message.specs.Message.{Message, request, notification, result, er
 use Rattle.rpc_message.specs.Texts.{ok_text}
 use Rattle.event_model.specs.declared.phase.Phase.TheVariants.{Running}
 use Rattle.event_model.specs.Event.{Event, behind, requests, notifies, said, with_cause}
-use Rattle.event_model.specs.Phases.{desk_of, is_begun, is_new, is_running}
+use Rattle.event_model.specs.Phases.{desk_of, is_begun, is_new, is_running, is_waiting, is_there}
 use Rattle.event_model.specs.Requests.{is_open, open_of}
 use Rattle.event_model.specs.Row.{outs}
 use Rattle.event_model.specs.Settings.{Settings}
@@ -26,12 +26,12 @@ use Rattle.mux_model.specs.Fits.{fits_behind}
 use Rattle.mux_facts.specs.Ranges.{InRange}
 use Rattle.mux_facts.proofs.Lists.{all_of}
 use Rattle.mux_facts.proofs.Words.{number_same, same_number}
-use Rattle.group_words.specs.Houses.{groups_of, home_of, is_doubled, is_first_error, is_home, placed_for, places}
+use Rattle.group_words.specs.Houses.{groups_of, home_of, is_doubled, is_first_error, is_home, placed_for, places, stops}
 use Rattle.group_rows.specs.Asks.{Ask, asks_of, is_with}
 use Rattle.group_rows.specs.Leaves.{leave_row}
 use Rattle.group_rows.specs.Rows.{closing_row, from_editor, gone_row, outs_of, shutdown_row}
 use Rattle.group_facts.specs.Built.{built_behind}
-use Rattle.group_facts.specs.Facts.{is_in, is_parting, is_refusing, is_too_many, is_unready, ends_link, leaves, shuts, turned_away}
+use Rattle.group_facts.specs.Facts.{is_in, is_parting, is_refusing, is_too_many, is_unready, ends_link, leaves, shuts, turned_away, is_crowded, is_put_out}
 use Rattle.group_facts.specs.Lively.{Lively}
 use Rattle.group_facts.specs.Settled.{HasSeat, is_answered}
 use Rattle.group_facts.proofs.Asks.{is_question}
@@ -47,6 +47,9 @@ use Rattle.group_facts.proofs.Lively.{up_of}
 use Rattle.group_facts.proofs.Nulls.{null_said}
 use Rattle.group_facts.proofs.OneStart.{OneStart, start_kept}
 use Rattle.group_facts.proofs.PutOut.{homes_stay}
+use Rattle.group_rows.specs.StopRows.{stopped}
+use Rattle.group_facts.proofs.Quits.{one_of}
+use Rattle.group_facts.proofs.StopEntry.{before_on, unstopped}
 
 the : {v w : ℕ} → ◌≡◌ {A = Option ℕ} (Some v) (Some w) → v ≡ w
 the e = cc
@@ -93,7 +96,22 @@ module _ (settings : Settings) (range : InRange settings) (before : List Event) 
   seats_in cause fits s = all_of (HasSeat settings before s) (MidSeat settings before cause s) (λ a k. seat_now settings before facts cause fits s a k) (asks_of settings s before) (seats s)
 
   -- where the row is an out and the leave
-  module _ (n : ℕ) (body : List ℕ) (fits : fits_behind before (FromEditor n body) ≡ true) where
+  module _ (n : ℕ) (body : List ℕ) (fits : fits_behind before (FromEditor n body) ≡ true) (on : stops before n (message_of body) ≡ false) where
+    -- no other one is turned away or put out
+    crowded : (e : ℕ) → turned_away settings before (FromEditor n body) e ≡ true → is_crowded settings before n body e ≡ true
+    crowded e t = go (one_of (is_crowded settings before n body e) (stops before n (message_of body) && is_waiting (desk_of e before).phase) t)
+      where
+        go : (is_crowded settings before n body e ≡ true) ⊎ ((stops before n (message_of body) && is_waiting (desk_of e before).phase) ≡ true) → is_crowded settings before n body e ≡ true
+        go (inl many) = many
+        go (inr stop) = never (sym (and_parts (stops before n (message_of body)) (is_waiting (desk_of e before).phase) stop).0 ∙ on)
+
+    parts_own : (e : ℕ) → ((nat_eq n e && is_parting before n (message_of body)) || is_put_out settings before (FromEditor n body) e) ≡ true → (nat_eq n e && is_parting before n (message_of body)) ≡ true
+    parts_own e t = go (one_of (nat_eq n e && is_parting before n (message_of body)) (is_put_out settings before (FromEditor n body) e) t)
+      where
+        go : ((nat_eq n e && is_parting before n (message_of body)) ≡ true) ⊎ (is_put_out settings before (FromEditor n body) e ≡ true) → (nat_eq n e && is_parting before n (message_of body)) ≡ true
+        go (inl parts) = parts
+        go (inr stop) = never (sym (and_parts (stops before n (message_of body)) (is_there (desk_of e before).phase) stop).0 ∙ on)
+
     parted : (out : Out) → Unsaid out → outs_of settings before (FromEditor n body) ≡ out ∷ outs (leave_row settings before n) (with_cause before (FromEditor n body) ++ said out ∷ []) → (s : ℕ) → AllByRecursion (Away n) (asks_of settings s (later (FromEditor n body)))
     parted out none is s = subst (λ xs. AllByRecursion (Away n) (asks_of settings s (behind heard_now xs))) (sym is)
         (subst (λ z. AllByRecursion (Away n) (asks_of settings s z)) (append_assoc heard_now (said out ∷ []) (map said (outs (leave_row settings before n) (heard_now ++ said out ∷ []))))
@@ -135,28 +153,28 @@ module _ (settings : Settings) (range : InRange settings) (before : List Event) 
       own_away e h = go (on_either (ends_link settings before (FromEditor n body) e) (shuts (FromEditor n body) e) h)
         where
           turned : turned_away settings before (FromEditor n body) e ≡ true → (s : ℕ) → AllByRecursion (Away n) (asks_of settings s (later (FromEditor n body)))
-          turned t = let p = and_parts (nat_eq n e) (places (desk_of n before).phase (message_of body) && is_too_many (placed_for settings before n body (groups_of settings before))) t in
+          turned t = let p = and_parts (nat_eq n e) (places (desk_of n before).phase (message_of body) && is_too_many (placed_for settings before n body (groups_of settings before))) (crowded e t) in
               let q = and_parts (places (desk_of n before).phase (message_of body)) (is_too_many (placed_for settings before n body (groups_of settings before))) p.1 in
               never (sym q.0 ∙ ap (λ p. is_new p && requests (codes "initialize") (message_of body)) at)
 
-          ending : (turned_away settings before (FromEditor n body) e ≡ true) ⊎ ((nat_eq n e && is_parting before n (message_of body)) ≡ true) → (s : ℕ) → AllByRecursion (Away n) (asks_of settings s (later (FromEditor n body)))
+          ending : (turned_away settings before (FromEditor n body) e ≡ true) ⊎ (((nat_eq n e && is_parting before n (message_of body)) || is_put_out settings before (FromEditor n body) e) ≡ true) → (s : ℕ) → AllByRecursion (Away n) (asks_of settings s (later (FromEditor n body)))
           ending (inl t) = turned t
-          ending (inr p) = parting_away (and_parts (nat_eq n e) (is_parting before n (message_of body)) p).1
+          ending (inr p) = parting_away (and_parts (nat_eq n e) (is_parting before n (message_of body)) (parts_own e p)).1
 
           go : (ends_link settings before (FromEditor n body) e ≡ true) ⊎ (shuts (FromEditor n body) e ≡ true) → (s : ℕ) → AllByRecursion (Away n) (asks_of settings s (later (FromEditor n body)))
-          go (inl ends) = ending (on_either (turned_away settings before (FromEditor n body) e) (nat_eq n e && is_parting before n (message_of body)) ends)
+          go (inl ends) = ending (on_either (turned_away settings before (FromEditor n body) e) ((nat_eq n e && is_parting before n (message_of body)) || is_put_out settings before (FromEditor n body) e) ends)
           go (inr shut) = shut_away (message_of body) refl (and_parts (nat_eq n e) (requests (codes "shutdown") (message_of body)) shut).1
 
     -- it is the editor of the message that leaves
     leaves_itself : (e : ℕ) → leaves settings before (FromEditor n body) e ≡ true → n ≡ e
     leaves_itself e h = number_same n e (go (on_either (ends_link settings before (FromEditor n body) e) (shuts (FromEditor n body) e) h))
       where
-        ending : (turned_away settings before (FromEditor n body) e ≡ true) ⊎ ((nat_eq n e && is_parting before n (message_of body)) ≡ true) → nat_eq n e ≡ true
-        ending (inl t) = (and_parts (nat_eq n e) (places (desk_of n before).phase (message_of body) && is_too_many (placed_for settings before n body (groups_of settings before))) t).0
-        ending (inr p) = (and_parts (nat_eq n e) (is_parting before n (message_of body)) p).0
+        ending : (turned_away settings before (FromEditor n body) e ≡ true) ⊎ (((nat_eq n e && is_parting before n (message_of body)) || is_put_out settings before (FromEditor n body) e) ≡ true) → nat_eq n e ≡ true
+        ending (inl t) = (and_parts (nat_eq n e) (places (desk_of n before).phase (message_of body) && is_too_many (placed_for settings before n body (groups_of settings before))) (crowded e t)).0
+        ending (inr p) = (and_parts (nat_eq n e) (is_parting before n (message_of body)) (parts_own e p)).0
 
         go : (ends_link settings before (FromEditor n body) e ≡ true) ⊎ (shuts (FromEditor n body) e ≡ true) → nat_eq n e ≡ true
-        go (inl ends) = ending (on_either (turned_away settings before (FromEditor n body) e) (nat_eq n e && is_parting before n (message_of body)) ends)
+        go (inl ends) = ending (on_either (turned_away settings before (FromEditor n body) e) ((nat_eq n e && is_parting before n (message_of body)) || is_put_out settings before (FromEditor n body) e) ends)
         go (inr shut) = (and_parts (nat_eq n e) (requests (codes "shutdown") (message_of body)) shut).0
 
   gone_away : (n : ℕ) (why : link.Why) → fits_behind before (EditorGone n why) ≡ true → (desk_of n before).phase ≡ Running → (s : ℕ) → AllByRecursion (Away n) (asks_of settings s (later (EditorGone n why)))
@@ -181,22 +199,30 @@ module _ (settings : Settings) (range : InRange settings) (before : List Event) 
           never (sym r.1 ∙ (ap (λ i. is_initializing (life_of i before).stage) (sym is) ∙ ap is_initializing k.ready))
       go (inr off) = never (sym off)
 
-  module _ (begun : Begun settings before) (cause : Cause) (built : built_behind settings before cause ≡ true) (fits : fits_behind before cause ≡ true) where
+  module _ (begun : Begun settings before) (cause : Cause) (built : built_behind settings before cause ≡ true) (fits : fits_behind before cause ≡ true) (goes_on : stopped (later cause) ≡ false) where
     inside : Inner settings range before facts one seats cause built (later cause)
     inside = inner_rests settings range before facts one seats cause built fits
 
     abbrev AllAway : ℕ → Type 0
     AllAway e = (s : ℕ) → AllByRecursion (Away e) (asks_of settings s (later cause))
 
+    joined_leaves : (n e : ℕ) → leaves settings before (Joined n) e ≡ true → (nat_eq n e && stopped before) ≡ true
+    joined_leaves n e h = go (one_of (nat_eq n e && stopped before) false h)
+      where
+        go : ((nat_eq n e && stopped before) ≡ true) ⊎ (false ≡ true) → (nat_eq n e && stopped before) ≡ true
+        go (inl k) = k
+        go (inr k) = never (sym k)
+
     by_cause : (c : Cause) → cause ≡ c → (e : ℕ) → leaves settings before c e ≡ true → is_running (desk_of e before).phase ≡ true → AllAway e
     by_cause (FromEditor n body) is e h runs = subst (λ c. (s : ℕ) → AllByRecursion (Away e) (asks_of settings s (later c))) (sym is)
-        (let same : n ≡ e = leaves_itself n body (ap (fits_behind before) (sym is) ∙ fits) e h in subst (λ k. (s : ℕ) → AllByRecursion (Away k) (asks_of settings s (later (FromEditor n body)))) same
-        (own_away n body (ap (fits_behind before) (sym is) ∙ fits) (running_is settings before (desk_of n before).phase (ap (λ k. is_running (desk_of k before).phase) same ∙ runs)) e h))
+        (let on : stops before n (message_of body) ≡ false = unstopped before n body (outs_of settings before (FromEditor n body)) (ap (λ c. stopped (later c)) (sym is) ∙ goes_on) in
+        let same : n ≡ e = leaves_itself n body (ap (fits_behind before) (sym is) ∙ fits) on e h in subst (λ k. (s : ℕ) → AllByRecursion (Away k) (asks_of settings s (later (FromEditor n body)))) same
+        (own_away n body (ap (fits_behind before) (sym is) ∙ fits) on (running_is settings before (desk_of n before).phase (ap (λ k. is_running (desk_of k before).phase) same ∙ runs)) e h))
     by_cause (EditorGone n why) is e h runs = subst (λ c. (s : ℕ) → AllByRecursion (Away e) (asks_of settings s (later c))) (sym is)
         (let same : n ≡ e = number_same n e h in subst (λ k. (s : ℕ) → AllByRecursion (Away k) (asks_of settings s (later (EditorGone n why)))) same
         (gone_away n why (ap (fits_behind before) (sym is) ∙ fits) (running_is settings before (desk_of n before).phase (ap (λ k. is_running (desk_of k before).phase) same ∙ runs))))
     by_cause (FromServer t body) is e h runs = λ s. none_with settings before (FromServer t body) e s (asks_of settings s (later cause)) (subst (λ c. AllByRecursion (MidSeat settings before c s) (asks_of settings s (later cause))) is (inside.seated s)) (refused_none t body e h s)
-    by_cause (Joined n) is e h runs = never (sym h)
+    by_cause (Joined n) is e h runs = never (sym (and_parts (nat_eq n e) (stopped before) (joined_leaves n e h)).1 ∙ before_on before cause (outs_of settings before cause) goes_on)
     by_cause other is e h runs = never (sym h)
 
     left_away : (e : ℕ) → leaves settings before cause e ≡ true → AllAway e

@@ -27,12 +27,13 @@ use Rattle.mux_facts.proofs.Why.{is_early}
 use Rattle.mux_facts.proofs.Words.{id_same, number_same, still_open}
 use Rattle.group_rows.specs.Asks.{next_ask}
 use Rattle.group_rows.specs.Forwarded.{Forwarded, Forwarding, Sender, answered_by, forwarding_behind, forwarding_of, forwards, no_forwarding, numbered}
+use Rattle.group_rows.specs.StopRows.{stopped}
 use Rattle.group_facts.specs.Built.{built_behind}
 use Rattle.group_facts.specs.Facts.{AllForwarded, IsAlone, IsAsker, IsForwarded}
 use Rattle.group_facts.proofs.Forwards.{forwarding_more, more_requests, notified_all, zip_all}
 use Rattle.group_facts.proofs.Levels.{each_start}
 use Rattle.group_facts.proofs.Numbers.{forwarding_other, forwarding_sent, response_forwards}
-use Rattle.group_facts.specs.Why.{IsForward, WhyToEditor, WhyToServer, begins, greets, forwarded, notes, tells, shuts, cancels, calls, rejects, resumes, refuses, answers, turns_away, welcomes, passes, responds, exits, asks, recalls, resolves, spreads, cancels_work, progresses, shows}
+use Rattle.group_facts.specs.Why.{IsForward, WhyToEditor, WhyToServer, begins, greets, forwarded, notes, tells, shuts, cancels, calls, rejects, resumes, refuses, answers, turns_away, welcomes, passes, responds, exits, asks, loses, recalls, resolves, spreads, cancels_work, progresses, shows}
 
 -- An editor that got its result stays one that did
 
@@ -202,17 +203,18 @@ module _ (settings : Settings) (before : List Event) (cause : Cause) (events : L
   all_alone id replies alone h s = asked_list events (said (ToEditor n body)) s (forwarding_of s events).open_requests refl
       (zip_all (IsForwarded events) (λ (f : Forwarded). f.editor ≡ n → IsIdText id f.id → ⊥) (IsForwarded told) (λ f k a. by_alone id replies f a k) (forwarding_of s events).open_requests (h s) (alone s))
 
-  pub asked_told : WhyToEditor settings before cause events n body → AllForwarded events → AllForwarded told
-  asked_told (rejects k) h = asked_still events (said (ToEditor n body)) (λ f a. by_open f a (λ same. ap (λ m. is_open a.id (without (answered_id m) (open_of f.editor events))) k.says ∙ a.waits)) (λ s. refl) h
-  asked_told (refuses k) h = all_alone k.id (ap answered_id k.says) k.alone h
-  asked_told (answers k) h = all_alone k.id (ap answered_id k.says) k.alone h
-  asked_told (turns_away k) h = asked_still events (said (ToEditor n body)) (by_waiting (k.waiting).phase) (λ s. refl) h
-  asked_told (welcomes k) h = asked_still events (said (ToEditor n body)) (by_waiting (k.waiting).phase) (λ s. refl) h
-  asked_told (passes k) h = all_alone k.id k.answers k.alone h
-  asked_told (asks k) h = unanswered (request (integer (decimal (next_ask n events))) k.method k.params) k.says refl h
-  asked_told (resumes k) h = unanswered (request (integer (decimal (next_ask n events))) k.method k.params) k.says refl h
-  asked_told (calls k) h = unanswered (request (integer (decimal (next_ask n events))) k.method k.params) k.says refl h
-  asked_told (spreads k) h = unanswered (notification k.method k.params) k.says refl h
-  asked_told (recalls k) h = unanswered (notification (codes "$/cancelRequest") (Some k.params)) k.says refl h
-  asked_told (progresses k) h = unanswered (notification k.method k.params) k.says refl h
-  asked_told (shows k) h = unanswered (notification k.method k.params) k.says refl h
+  pub asked_told : WhyToEditor settings before cause events n body → stopped events ≡ false → AllForwarded events → AllForwarded told
+  asked_told (rejects k) on h = asked_still events (said (ToEditor n body)) (λ f a. by_open f a (λ same. ap (λ m. is_open a.id (without (answered_id m) (open_of f.editor events))) k.says ∙ a.waits)) (λ s. refl) h
+  asked_told (refuses k) on h = all_alone k.id (ap answered_id k.says) k.alone h
+  asked_told (answers k) on h = all_alone k.id (ap answered_id k.says) k.alone h
+  asked_told (turns_away k) on h = asked_still events (said (ToEditor n body)) (by_waiting (k.waiting).phase) (λ s. refl) h
+  asked_told (welcomes k) on h = asked_still events (said (ToEditor n body)) (by_waiting (k.waiting).phase) (λ s. refl) h
+  asked_told (passes k) on h = all_alone k.id k.answers k.alone h
+  asked_told (asks k) on h = unanswered (request (integer (decimal (next_ask n events))) k.method k.params) k.says refl h
+  asked_told (resumes k) on h = unanswered (request (integer (decimal (next_ask n events))) k.method k.params) k.says refl h
+  asked_told (calls k) on h = unanswered (request (integer (decimal (next_ask n events))) k.method k.params) k.says refl h
+  asked_told (spreads k) on h = unanswered (notification k.method k.params) k.says refl h
+  asked_told (recalls k) on h = unanswered (notification (codes "$/cancelRequest") (Some k.params)) k.says refl h
+  asked_told (progresses k) on h = unanswered (notification k.method k.params) k.says refl h
+  asked_told (shows k) on h = unanswered (notification k.method k.params) k.says refl h
+  asked_told (loses k) on h = never (sym k.over ∙ on)

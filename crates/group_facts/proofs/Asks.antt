@@ -31,7 +31,7 @@ use Rattle.lsp_method.specs.declared.variants.Class.TheVariants.{Create, Registe
 use Rattle.lsp_method.specs.declared.variants.Origin.TheVariants.{Server}
 use Rattle.group_facts.specs.Facts.{AllApart, AllDiffer, AreAsks, Asks, IsAsked, IsParked, asked_by, asked_of, editor_behind, server_behind}
 use Rattle.group_rows.specs.Created.{names_create}
-use Rattle.group_facts.specs.Why.{IsAsk, IsCall, is_call, IsResumed, WhyToEditor, answers, asks, passes, recalls, refuses, calls, rejects, resumes, spreads, turns_away, welcomes, progresses, shows}
+use Rattle.group_facts.specs.Why.{IsAsk, IsCall, is_call, IsResumed, WhyToEditor, answers, asks, passes, recalls, refuses, calls, rejects, resumes, spreads, turns_away, welcomes, progresses, shows, loses}
 
 -- One event more
 
@@ -549,6 +549,7 @@ module _ (settings : Settings) (events : List Event) (e : ℕ) (body : List ℕ)
   asks_told before cause (refuses k) h = no_question (error (Some k.id) k.x) k.says refl h
   asks_told before cause (answers k) h = no_question (result (Some k.id) k.r) k.says refl h
   asks_told before cause (turns_away k) h = no_question (error (Some k.id) k.x) k.says refl h
+  asks_told before cause (loses k) h = no_question (error (Some k.id) k.x) k.says refl h
   asks_told before cause (welcomes k) h = no_question (result (Some k.id) k.r) k.says refl h
   asks_told before cause (passes k) h = no_question (message_of body) refl (response_asks_none (message_of body) k.response) h
   asks_told before cause (asks k) h = question before cause k h

@@ -41,7 +41,7 @@ use Rattle.group_words.specs.declared.kept.Kept.{Kept}
 use Rattle.group_words.specs.declared.placed.Placed.{Placed}
 use Rattle.group_words.specs.declared.placed.Placed.TheVariants.{Joins, New as Founds, Evicts, TooMany}
 use Rattle.group_words.specs.Houses.{at_group, declared_for, emptied, groups_hear, groups_of, house_of, idle_if_live, is_first_error, key_for, placed_for, places, server_asked, stops, time_of}
-use Rattle.group_words.specs.Placing.{busy, changed, end_where, ended, founded, is_live, with_editor, is_due}
+use Rattle.group_words.specs.Placing.{all_from, busy, changed, end_where, ended, founded, is_live, with_editor, is_due}
 use Rattle.group_words.specs.Rows.{end_group, end_start, initialize_row, placed_row}
 use Rattle.group_words.proofs.Frames.{changed_length, groups_more, groups_stay, touches_groups}
 use Rattle.group_rows.specs.registrations.specs.declared.registration.Registration.{Registration}
@@ -49,7 +49,8 @@ use Rattle.group_rows.specs.registrations.specs.Items.{again}
 use Rattle.group_rows.specs.Live.{live_of, register_text, unregister_text}
 use Rattle.group_rows.specs.LiveRows.{accept, call, has_some, registering, restore, unregister_any}
 use Rattle.group_rows.specs.Cancelling.{cancelling_at, cancelling_row}
-use Rattle.group_rows.specs.Forwarded.{Forwarded, forwarding_of}
+use Rattle.group_rows.specs.Forwarded.{Forwarded, forwarding_of, is_of}
+use Rattle.group_rows.specs.StopRows.{close_each, joined_row, lose_request, lose_requests, refuse_initialize, refuse_open, stop_row, there_in}
 use Rattle.group_rows.specs.diagnostics_route.specs.declared.last_list.LastList.{LastList}
 use Rattle.group_rows.specs.ListRows.{list_row, show, show_full, show_opened}
 use Rattle.group_rows.specs.diagnostics_route.specs.Published.{published}
@@ -357,8 +358,47 @@ module _ (settings : Settings) (before : List Event) where
   quiet_open : (e : ℕ) (body : List ℕ) (m : Message) (events : List Event) → Quiet events (open_row settings before e body m)
   quiet_open e body m events = by_choose (λ first. quiet_named e body (server_asked settings.servers body) events) (λ late. by_send tt)
 
+  quiet_end : (s : ℕ) (stage : Stage) (events : List Event) → Quiet events (end_start s stage)
+  quiet_end s Ready events = by_look (by_send tt)
+  quiet_end s Spawning events = by_send tt
+  quiet_end s Initializing events = by_send tt
+  quiet_end s other events = by_nothing
+
+  quiet_ended : (g : ℕ) (events : List Event) → Quiet events (end_group g)
+  quiet_ended g events = by_look (by_on (λ none. by_nothing) (λ s start. quiet_end s (life_of s events).stage events))
+
+  quiet_ends : (gs : List ℕ) (events : List Event) → Quiet events (each end_group gs)
+  quiet_ends [] events = by_nothing
+  quiet_ends (g ∷ gs) events = by_then (quiet_ended g events) (quiet_ends gs (behind events (outs (end_group g) events)))
+
+  -- E6
+  quiet_lost : (fs : List Forwarded) (events : List Event) → Quiet events (each lose_request fs)
+  quiet_lost [] events = by_nothing
+  quiet_lost (f ∷ fs) events = by_then (by_send tt) (quiet_lost fs (behind events (outs (lose_request f) events)))
+
+  quiet_open_refused : (es : List ℕ) (events : List Event) → Quiet events (each (refuse_open settings before) es)
+  quiet_open_refused [] events = by_nothing
+  quiet_open_refused (e ∷ es) events = by_then (by_then (by_look (by_choose (λ waits. by_send tt) (λ late. by_nothing))) (losing (behind events (outs (refuse_initialize e) events))))
+      (quiet_open_refused es (behind events (outs (refuse_open settings before e) events)))
+    where
+      at_group : (places : List Event) (g : ℕ) → Quiet places (on (start_of g before) nothing (λ s. each lose_request (filter (is_of e) (forwarding_of s before).open_requests)))
+      at_group places g = by_on (λ none. by_nothing) (λ s start. quiet_lost (filter (is_of e) (forwarding_of s before).open_requests) places)
+
+      losing : (places : List Event) → Quiet places (lose_requests settings before e)
+      losing places = by_on (λ none. by_nothing) (λ g home. at_group places g)
+
+  quiet_links : (es : List ℕ) (events : List Event) → Quiet events (close_each es)
+  quiet_links [] events = by_nothing
+  quiet_links (e ∷ es) events = by_then (by_send tt) (quiet_links es (behind events (CloseEditor e ∷ [])))
+
+  quiet_stop : (e : ℕ) (body : List ℕ) (events : List Event) → Quiet events (stop_row settings before e body)
+  quiet_stop e body events = by_then (by_send tt) (by_then (quiet_open_refused (there_in before) _) (by_then (quiet_links (there_in before) _) (quiet_ends (all_from 0 is_live (groups_of settings before)) _)))
+
+  quiet_joined : (e : ℕ) (events : List Event) → Quiet events (joined_row before e)
+  quiet_joined e events = by_choose (λ over. by_send tt) (λ goes. by_nothing)
+
   quiet_lspmux : (e : ℕ) (body : List ℕ) (m : Message) (events : List Event) → Quiet events (lspmux_row settings before e body m)
-  quiet_lspmux e body m events = by_choose (λ names. quiet_open e body m events) (λ tells. by_send tt)
+  quiet_lspmux e body m events = by_choose (λ names. quiet_open e body m events) (λ others. by_choose (λ stops. quiet_stop e body events) (λ tells. by_send tt))
 
   quiet_message : (e : ℕ) (body : List ℕ) (m : Message) (phase : Phase) (events : List Event) → places phase m ≡ false → Quiet events (message_row settings before e body m phase)
   quiet_message e body m phase events h = by_choose (λ twice. quiet_closing e events) (λ single. by_choose (λ asks. quiet_lspmux e body m events) (λ other. quiet_taken e body m phase events h))
@@ -462,19 +502,6 @@ module _ (settings : Settings) (before : List Event) where
   quiet_started s Spawning events = by_on (λ none. by_nothing) (λ g home. quiet_begin s g events)
   quiet_started s other events = by_nothing
 
-  quiet_end : (s : ℕ) (stage : Stage) (events : List Event) → Quiet events (end_start s stage)
-  quiet_end s Ready events = by_look (by_send tt)
-  quiet_end s Spawning events = by_send tt
-  quiet_end s Initializing events = by_send tt
-  quiet_end s other events = by_nothing
-
-  quiet_ended : (g : ℕ) (events : List Event) → Quiet events (end_group g)
-  quiet_ended g events = by_look (by_on (λ none. by_nothing) (λ s start. quiet_end s (life_of s events).stage events))
-
-  quiet_ends : (gs : List ℕ) (events : List Event) → Quiet events (each end_group gs)
-  quiet_ends [] events = by_nothing
-  quiet_ends (g ∷ gs) events = by_then (quiet_ended g events) (quiet_ends gs (behind events (outs (end_group g) events)))
-
   quiet_programs : (ss : List ℕ) (events : List Event) → Quiet events (each (λ s. send (EndServer s)) ss)
   quiet_programs [] events = by_nothing
   quiet_programs (s ∷ ss) events = by_then (by_send tt) (quiet_programs ss (behind events (EndServer s ∷ [])))
@@ -566,7 +593,7 @@ module _ (settings : Settings) where
   founding_of before (FromServer s body) built = quiet (all_outs NoSpawn _ _ (quiet_server settings before s body (message_of body) (life_of s before).stage (with_cause before (FromServer s body))).why)
       (ap length (groups_more settings before (heard (FromServer s body))) ∙ at_same (group_of s before) (is_first_error (message_of body) && is_initializing (life_of s before).stage) (groups_of settings before))
   founding_of before (Started s) built = quiet (all_outs NoSpawn _ _ (quiet_started settings before s (life_of s before).stage (with_cause before (Started s))).why) (counts_stay before (heard (Started s)) refl)
-  founding_of before (Joined e) built = quiet tt (counts_stay before (heard (Joined e)) refl)
+  founding_of before (Joined e) built = quiet (all_outs NoSpawn _ _ (quiet_joined settings before e (with_cause before (Joined e))).why) (counts_stay before (heard (Joined e)) refl)
   founding_of before (Drained e k) built = quiet tt (counts_stay before (heard (Drained e k)) refl)
   founding_of before (Tick t) built = quiet (all_outs NoSpawn _ _ (quiet_tick settings before t (with_cause before (Tick t))).why)
       (ap length (groups_more settings before (heard (Tick t))) ∙ ended_length (is_due settings.limits.idle (max (time_of before) t)) (groups_of settings before))

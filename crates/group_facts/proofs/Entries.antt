@@ -1,5 +1,5 @@
 -- What is open at every editor, behind each sort of entry.
-use Rattle.std.proofs.Common.{◌≡◌, ℕ, ◌+◌, ◌<◌, ◌≤◌, ◌^◌, Bool, true, false, ◌&&◌, List, [], ◌∷◌, ◌++◌, find, nat_eq, if◌then◌else◌, Some, None, ◌⊎◌, inl, inr, refl, sym, ◌∙◌, ap, ap₂, subst, arith, append-nil}
+use Rattle.std.proofs.Common.{◌≡◌, ℕ, ◌+◌, ◌<◌, ◌≤◌, ◌^◌, Bool, true, false, ◌&&◌, List, [], ◌∷◌, ◌++◌, find, nat_eq, if◌then◌else◌, Some, None, ◌⊎◌, inl, inr, refl, sym, ◌∙◌, ap, ap₂, subst, arith, append-nil, not, ◌||◌, codes}
 use Rattle.mux_history.specs.declared.cause.Cause.{Cause}
 use Rattle.mux_history.specs.declared.cause.Cause.TheVariants.{Joined, FromEditor, EditorGone, Started, StartFailed, FromServer, ServerGone, Drained, Tick}
 use Rattle.mux_history.specs.declared.cause.Why as link
@@ -9,8 +9,8 @@ use Rattle.event_model.specs.declared.phase.Phase.{Phase}
 use Rattle.event_model.specs.declared.phase.Phase.TheVariants.{Absent, New, Waiting, Answered, Running, Down, Closed, Gone}
 use Rattle.event_model.specs.declared.stage.Stage.{Stage}
 use Rattle.event_model.specs.declared.stage.Stage.TheVariants.{Unspawned, Spawning, Initializing, Ready, Stopping, Ending, Ended}
-use Rattle.event_model.specs.Event.{Event, behind, heard, said, with_cause}
-use Rattle.event_model.specs.Phases.{Desk, desk_hears, desk_of, editors_of, is_begun, is_malformed, is_there}
+use Rattle.event_model.specs.Event.{Event, behind, heard, said, with_cause, requests}
+use Rattle.event_model.specs.Phases.{Desk, desk_hears, desk_of, editors_of, is_begun, is_malformed, is_there, is_waiting}
 use Rattle.event_model.specs.Requests.{answered_id, with_request, is_open, open_of, without, next_number}
 use Rattle.event_model.specs.Row.{choose, nothing, on, outs, send}
 use Rattle.event_model.specs.Settings.{Settings}
@@ -23,13 +23,13 @@ use Rattle.mux_facts.specs.Allowed.{is_response}
 use Rattle.mux_facts.specs.Ranges.{InRange}
 use Rattle.mux_facts.proofs.Folds.{desk_more, opens_more}
 use Rattle.mux_facts.proofs.Words.{number_same, same_number}
-use Rattle.group_words.specs.Houses.{groups_of, placed_for, places}
+use Rattle.group_words.specs.Houses.{groups_of, placed_for, places, is_doubled, stops}
 use Rattle.group_rows.specs.Forwarded.{Forwarded, answered_by, forwarding_of}
 use Rattle.group_rows.specs.Answers.{answer_row, hand_on, own_version}
 use Rattle.group_rows.specs.Rows.{from_server, outs_of, ready_row}
 use Rattle.group_rows.proofs.Versions.{own_flat}
 use Rattle.group_facts.specs.Built.{built_behind, built_from_server, is_left}
-use Rattle.group_facts.specs.Facts.{is_too_many, is_up, turned_away}
+use Rattle.group_facts.specs.Facts.{is_too_many, is_up, turned_away, is_crowded}
 use Rattle.group_facts.specs.Lively.{Lively, is_unplaced}
 use Rattle.group_facts.specs.Settled.{is_answered}
 use Rattle.group_facts.proofs.AnswerRows.{answers_only, response_is}
@@ -43,6 +43,9 @@ use Rattle.group_facts.proofs.Sent.{Found, IsOf, OneOf, Passed, Rising, SentAt, 
 use Rattle.group_facts.proofs.PutOut.{turned_ends, turned_placed}
 use Rattle.group_facts.proofs.OpenByPhase.{OpenDesk, OpenIf, answered_closed, if_other}
 use Rattle.group_facts.proofs.OpenByOut.{OpenAt, S, open_at, open_entry}
+use Rattle.std.proofs.lemmas.Bool.{and_parts}
+use Rattle.group_facts.proofs.StopEntry.{is_absent, none_absent, none_there}
+use Rattle.mux_facts.proofs.Table.{there_taken}
 
 abbrev pub OpenAll : Settings → List Event → Type 0
 OpenAll settings events = (e : ℕ) → OpenAt settings e Nobody events
@@ -65,23 +68,69 @@ module _ (settings : Settings) (range : InRange settings) (before : List Event) 
       go true other = never other
       go false other = if_other (S settings e Nobody before) (S settings e Nobody (with_cause before (FromEditor n body))) (desk_of e before).phase (desk_of e before).initialize (open_of e before) (λ served id is. sent id) (h e)
 
-  other_stays : (n : ℕ) (body : List ℕ) (e : ℕ) → nat_eq n e ≡ false → turned_away settings before (FromEditor n body) e ≡ false
-  other_stays n body e other = ap (λ b. b && (places (desk_of n before).phase (message_of body) && is_too_many (placed_for settings before n body (groups_of settings before)))) other
+  other_stays : (n : ℕ) (body : List ℕ) (e : ℕ) → stops before n (message_of body) ≡ false → nat_eq n e ≡ false → turned_away settings before (FromEditor n body) e ≡ false
+  other_stays n body e on other = ap₂ (λ a b. a || b) (ap (λ b. b && (places (desk_of n before).phase (message_of body) && is_too_many (placed_for settings before n body (groups_of settings before)))) other) (ap (λ b. b && is_waiting (desk_of e before).phase) on)
 
-  own_entry : (n : ℕ) (body : List ℕ) → fits_behind before (FromEditor n body) ≡ true → built_behind settings before (FromEditor n body) ≡ true → OpenAt settings n Nobody (later (FromEditor n body))
-  own_entry n body fits built = go (places (desk_of n before).phase (message_of body)) refl (turned_away settings before (FromEditor n body) n) refl
+  own_entry : (n : ℕ) (body : List ℕ) → stops before n (message_of body) ≡ false → fits_behind before (FromEditor n body) ≡ true → built_behind settings before (FromEditor n body) ≡ true → OpenAt settings n Nobody (later (FromEditor n body))
+  own_entry n body on fits built = go (places (desk_of n before).phase (message_of body)) refl (is_crowded settings before n body n) refl
     where
-      go : (b : Bool) → places (desk_of n before).phase (message_of body) ≡ b → (c : Bool) → turned_away settings before (FromEditor n body) n ≡ c → OpenAt settings n Nobody (later (FromEditor n body))
+      go : (b : Bool) → places (desk_of n before).phase (message_of body) ≡ b → (c : Bool) → is_crowded settings before n body n ≡ c → OpenAt settings n Nobody (later (FromEditor n body))
       go b place true turned = turned_rests settings before n body turned
-      go true place false stays = open_entry settings n Nobody before (FromEditor n body) stays range facts begun built (placed_open settings before n body (h n) place)
-      go false place false stays = message_rests settings before n body (h n) range facts fits place
+      go true place false few = open_entry settings n Nobody before (FromEditor n body) (ap₂ (λ a b. a || b) few (ap (λ b. b && is_waiting (desk_of n before).phase) on)) range facts begun built (placed_open settings before n body (h n) place)
+      go false place false few = message_rests settings before n body (h n) range facts fits on place
 
-  editor_entry : (n : ℕ) (body : List ℕ) → fits_behind before (FromEditor n body) ≡ true → built_behind settings before (FromEditor n body) ≡ true → OpenAll settings (later (FromEditor n body))
-  editor_entry n body fits built e = go (nat_eq n e) refl
+  -- E6: behind it an editor that was there is closed, and of one that wasn't nothing is changed
+  closed_at : (T : Id → Type 0) (phase : Phase) (initialize : List ℕ) (ids : List Id) → is_there phase ≡ false → is_absent phase ≡ false → OpenIf T phase initialize ids
+  closed_at T Closed initialize ids gone present = tt
+  closed_at T Gone initialize ids gone present = tt
+  closed_at T Absent initialize ids gone present = never present
+  closed_at T New initialize ids gone present = never gone
+  closed_at T Waiting initialize ids gone present = never gone
+  closed_at T Answered initialize ids gone present = never gone
+  closed_at T Running initialize ids gone present = never gone
+  closed_at T Down initialize ids gone present = never gone
+
+  unthere_late : (phase : Phase) → is_there phase ≡ false → is_waiting phase ≡ false
+  unthere_late Waiting h = never h
+  unthere_late other h = refl
+
+  there_heard_now : (n : ℕ) (body : List ℕ) (e : ℕ) → is_there (desk_of n before).phase ≡ true → is_there (desk_of e before).phase ≡ true → is_there (desk_of e (with_cause before (FromEditor n body))).phase ≡ true
+  there_heard_now n body e own there = go (nat_eq n e) refl
+    where
+      go : (b : Bool) → nat_eq n e ≡ b → is_there (desk_of e (with_cause before (FromEditor n body))).phase ≡ true
+      go true same = subst (λ k. is_there (desk_of k (with_cause before (FromEditor n body))).phase ≡ true) (number_same n e same) (there_taken settings before n body own)
+      go false other = ap (λ (d : Desk). is_there d.phase) (desk_more e before (heard (FromEditor n body)) ∙ ap (λ b. if b then desk_hears (desk_of e before).phase (desk_of e before).initialize body (message_of body) else desk_of e before) other) ∙ there
+
+  stop_entry : (n : ℕ) (body : List ℕ) → stops before n (message_of body) ≡ true → built_behind settings before (FromEditor n body) ≡ true → OpenAll settings (later (FromEditor n body))
+  stop_entry n body stop built e = go (is_there (desk_of e before).phase) refl
+    where
+      own : is_there (desk_of n before).phase ≡ true
+      own = (and_parts (is_there (desk_of n before).phase) (not (is_begun (desk_of n before).phase && is_doubled before n (message_of body))) (and_parts (requests (codes "lspmux/stop") (message_of body)) _ stop).1).0
+
+      other : is_there (desk_of e before).phase ≡ false → (b : Bool) → nat_eq n e ≡ b → b ≡ false
+      other gone true same = never (sym own ∙ (ap (λ k. is_there (desk_of k before).phase) (number_same n e same) ∙ gone))
+      other gone false away = refl
+
+      go : (b : Bool) → is_there (desk_of e before).phase ≡ b → OpenAt settings e Nobody (later (FromEditor n body))
+      go true there = closed_at (S settings e Nobody (later (FromEditor n body))) (desk_of e (later (FromEditor n body))).phase (desk_of e (later (FromEditor n body))).initialize (open_of e (later (FromEditor n body)))
+          (none_there settings before n body stop (facts.steady).editors e) (none_absent settings before n body stop (facts.steady).editors e (there_heard_now n body e own there))
+      go false gone = let away : nat_eq n e ≡ false = other gone (nat_eq n e) refl in open_entry settings e Nobody before (FromEditor n body)
+          (ap₂ (λ a b. a || b) (ap (λ b. b && (places (desk_of n before).phase (message_of body) && is_too_many (placed_for settings before n body (groups_of settings before)))) away)
+          (ap₂ (λ a b. a && b) stop (unthere_late (desk_of e before).phase gone))) range facts begun built (other_heard n body e away)
+
+  ordinary : (n : ℕ) (body : List ℕ) → stops before n (message_of body) ≡ false → fits_behind before (FromEditor n body) ≡ true → built_behind settings before (FromEditor n body) ≡ true → OpenAll settings (later (FromEditor n body))
+  ordinary n body on fits built e = go (nat_eq n e) refl
     where
       go : (b : Bool) → nat_eq n e ≡ b → OpenAt settings e Nobody (later (FromEditor n body))
-      go true same = subst (λ k. OpenAt settings k Nobody (later (FromEditor n body))) (number_same n e same) (own_entry n body fits built)
-      go false other = open_entry settings e Nobody before (FromEditor n body) (other_stays n body e other) range facts begun built (other_heard n body e other)
+      go true same = subst (λ k. OpenAt settings k Nobody (later (FromEditor n body))) (number_same n e same) (own_entry n body on fits built)
+      go false other = open_entry settings e Nobody before (FromEditor n body) (other_stays n body e on other) range facts begun built (other_heard n body e other)
+
+  editor_entry : (n : ℕ) (body : List ℕ) → fits_behind before (FromEditor n body) ≡ true → built_behind settings before (FromEditor n body) ≡ true → OpenAll settings (later (FromEditor n body))
+  editor_entry n body fits built e = choose_by (stops before n (message_of body)) refl
+    where
+      choose_by : (c : Bool) → stops before n (message_of body) ≡ c → OpenAt settings e Nobody (later (FromEditor n body))
+      choose_by true stop = stop_entry n body stop built e
+      choose_by false on = ordinary n body on fits built e
 
   -- an editor that joins
   joined_now : (n e : ℕ) → fits_behind before (Joined n) ≡ true → OpenAt settings e Nobody (with_cause before (Joined n))

@@ -13,8 +13,9 @@ use Rattle.mux_facts.proofs.Editors.{Editors}
 use Rattle.mux_facts.proofs.Starts.{Starts}
 use Rattle.mux_facts.proofs.Waits.{AllWaiting, Waits, WaitsAt, waits_at}
 use Rattle.group_rows.specs.Forwarded.{forwarding_of}
+use Rattle.group_rows.specs.StopRows.{stopped}
 use Rattle.group_rows.proofs.Versions.{AllMeant}
-use Rattle.group_facts.specs.Facts.{AllForwarded, Apart, Asks, Bounded, Housed, Known, Numbered, Opened, Plain, Stopped, Unbegun, Untold, Written, turned_away}
+use Rattle.group_facts.specs.Facts.{AllForwarded, Apart, Asks, Bounded, Housed, Known, Numbered, Opened, Plain, Quit, Stopped, Unbegun, Untold, Written, turned_away}
 
 pub record Base (settings : Settings) (events : List Event) : Type 0 where
   pub opened : Opened settings events
@@ -28,7 +29,7 @@ pub record Steady (settings : Settings) (events : List Event) : Type 0 where
   pub untold : Untold events
   pub bounded : Bounded settings events
   pub editors : Editors events
-  pub asked : AllForwarded events
+  pub asked : stopped events ≡ false → AllForwarded events
   pub apart : Apart events
   pub asks : Asks settings events
   pub housed : Housed settings events
@@ -53,12 +54,13 @@ numbered_of events h s at = subst (λ z. TiedAt z (next_number s events) (forwar
 pub stopped_of : (events : List Event) → AllTied events → Stopped events
 stopped_of events h s at = subst (λ z. TiedAt z (next_number s events) (forwarding_of s events).next) at (h s)
 
--- between entries also the two numbers are tied, and each editor that waits has its `initialize` open
+-- between entries also the two numbers are tied, each editor that waits has its `initialize` open, and behind a stop none is there
 pub record Facts (settings : Settings) (events : List Event) : Type 0 where
   pub base : Base settings events
   pub steady : Steady settings events
   pub tied : AllTied events
   pub waiting : AllWaiting events
+  pub quit : Quit events
 
 -- inside of an entry that a program begins with, its start is left out
 abbrev pub begins_now : Cause → ℕ → Bool
@@ -86,6 +88,7 @@ known_of settings events h = record {
   untold = (h.steady).untold;
   bounded = (h.steady).bounded;
   asked = (h.steady).asked;
+  quit = h.quit;
   apart = (h.steady).apart;
   asks = (h.steady).asks;
   housed = (h.steady).housed;

@@ -29,6 +29,7 @@ use Rattle.mux_facts.proofs.Words.{number_same}
 use Rattle.group_words.specs.Houses.{groups_of}
 use Rattle.group_rows.specs.Forwarded.{Forwarding, forwarding_of}
 use Rattle.group_rows.specs.Rows.{outs_of}
+use Rattle.group_rows.specs.StopRows.{stopped as is_stopped}
 use Rattle.group_rows.proofs.Versions.{meant_heard, meant_more, meant_said}
 use Rattle.group_facts.specs.Built.{built_behind}
 use Rattle.group_facts.specs.Legal.{Legal, LegalFrom}
@@ -44,6 +45,8 @@ use Rattle.group_facts.proofs.Numbers.{bounded_said, bounded_sent, bounded_took,
 use Rattle.group_facts.proofs.Numbered.{ending_tied, tied_life, tied_rests, tied_said, tied_sent, tied_took}
 use Rattle.group_facts.proofs.Opened.{opened_did, opened_none, opened_took}
 use Rattle.group_facts.proofs.Plain.{plain_did, plain_none, plain_took}
+use Rattle.group_facts.proofs.Quits.{stopped_back}
+use Rattle.group_facts.proofs.StopEntry.{quit_rests}
 use Rattle.group_facts.proofs.Table.{reasons}
 use Rattle.group_facts.proofs.Waiting.{waiting_closed, waiting_rests, waiting_said, waiting_told, waiting_took}
 use Rattle.group_facts.specs.Why.{Why, WhyEnd, WhyToEditor, is_starting, refused, starting, stopped}
@@ -81,7 +84,7 @@ module _ (settings : Settings) where
     untold = untold_took settings events cause built (untold_fresh cause) h.untold;
     bounded = bounded_took settings events cause built (up_fresh cause) h.bounded;
     editors = editors_took events cause fits h.editors;
-    asked = asked_took settings events cause built fits h.editors h.asked;
+    asked = λ on. asked_took settings events cause built fits h.editors (h.asked (stopped_back events (heard cause) on));
     apart = apart_fewer events (with_cause events cause) (fewer_took settings events cause built) h.apart;
     asks = asks_took settings events cause h.asks;
     housed = housed_took settings events cause built h.housed;
@@ -109,7 +112,7 @@ module _ (settings : Settings) where
       untold = untold_said settings events (ToEditor n body) a f d (λ s. tt) h.untold;
       bounded = bounded_said settings events (ToEditor n body) a f d (λ s. tt) h.bounded;
       editors = editors.to_editor events n body h.editors;
-      asked = asked_told settings before cause events n body why h.asked;
+      asked = λ on. let off : is_stopped events ≡ false = stopped_back events (said (ToEditor n body)) on in asked_told settings before cause events n body why off (h.asked off);
       apart = apart_said events (ToEditor n body) (λ s. refl) h.apart;
       asks = asks_told settings events n body before cause why h.asks;
       housed = housed_did settings events (ToEditor n body) refl (λ s. refl) h.housed;
@@ -131,7 +134,7 @@ module _ (settings : Settings) where
       untold = untold_said settings events (Spawn (starts_of events) g) a f d (λ s. spawn_fresh is_unready refl events h.starts s) h.untold;
       bounded = bounded_said settings events (Spawn (starts_of events) g) a f d (λ s. spawn_fresh is_up refl events h.starts s) h.bounded;
       editors = editors.more events (said (Spawn (starts_of events) g)) h.editors refl (λ e absent. absent);
-      asked = asked_said events (Spawn (starts_of events) g) (λ s. refl) (λ e. refl) h.asked;
+      asked = λ on. asked_said events (Spawn (starts_of events) g) (λ s. refl) (λ e. refl) (h.asked (stopped_back events (said (Spawn (starts_of events) g)) on));
       apart = apart_said events (Spawn (starts_of events) g) (λ s. refl) h.apart;
       asks = asks_spawned settings events (starts_of events) g h.asks;
       housed = housed_spawn settings events g inside h.housed;
@@ -154,7 +157,7 @@ module _ (settings : Settings) where
       bounded = bounded_said settings events (CloseEditor n) a f d (λ s. tt) h.bounded;
       editors = editors.more events (said (CloseEditor n)) h.editors refl (λ e absent. ap (λ (x : Desk). x.phase) (unless (nat_eq n e) (record { phase = phase_closed (desk_of e events).phase; initialize = (desk_of e events).initialize }) (desk_of e events)
           (λ same. there_not events n e absent same there)) ∙ absent);
-      asked = asked_said events (CloseEditor n) (λ s. refl) (λ e. refl) h.asked;
+      asked = λ on. asked_said events (CloseEditor n) (λ s. refl) (λ e. refl) (h.asked (stopped_back events (said (CloseEditor n)) on));
       apart = apart_said events (CloseEditor n) (λ s. refl) h.apart;
       asks = asks_closed settings events n h.asks;
       housed = housed_did settings events (CloseEditor n) refl (λ s. refl) h.housed;
@@ -177,7 +180,7 @@ module _ (settings : Settings) where
       untold = untold_said settings events (EndServer n) a f d (λ s. tt) h.untold;
       bounded = bounded_said settings events (EndServer n) a f d (λ s. tt) h.bounded;
       editors = editors.more events (said (EndServer n)) h.editors refl (λ e absent. absent);
-      asked = asked_said events (EndServer n) (λ s. refl) (λ e. refl) h.asked;
+      asked = λ on. asked_said events (EndServer n) (λ s. refl) (λ e. refl) (h.asked (stopped_back events (said (EndServer n)) on));
       apart = apart_said events (EndServer n) (λ s. refl) h.apart;
       asks = asks_ended settings events n h.asks;
       housed = housed_did settings events (EndServer n) refl (λ s. refl) h.housed;
@@ -213,7 +216,7 @@ module _ (settings : Settings) where
         untold = untold_sent settings before cause facts built events n body why (h.steady).untold;
         bounded = bounded_sent settings before cause facts built events n body why (h.steady).bounded;
         editors = editors.to_server events n body (h.steady).editors;
-        asked = asked_sent settings before cause events n body why (h.steady).asked;
+        asked = λ on. asked_sent settings before cause events n body why ((h.steady).asked (stopped_back events (said (ToServer n body)) on));
         apart = apart_sent settings before cause events n body why (h.steady).apart;
         asks = asks_sent settings events n body (h.steady).asks;
         housed = housed_did settings events (ToServer n body) refl (λ s. refl) (h.steady).housed;
@@ -247,14 +250,15 @@ module _ (settings : Settings) where
     entry_keeps before cause fits built h =
         let last : Here before cause (behind (with_cause before cause) (outs_of settings before cause)) = reasons_keep (λ events out. Why settings before cause events out) (Here before cause) (here_did before cause h built)
         (with_cause before cause) (outs_of settings before cause) (reasons settings range before h cause built).why (here_took before cause fits built h) in
-        record { base = last.base; steady = (last.mid).steady; tied = tied_rests settings before cause fits (h.steady).starts (h.steady).unbegun (h.steady).housed (h.base).written (last.mid).tied; waiting = waiting_rests settings before cause (h.steady).editors (last.mid).waiting }
+        record { base = last.base; steady = (last.mid).steady; tied = tied_rests settings before cause fits (h.steady).starts (h.steady).unbegun (h.steady).housed (h.base).written (last.mid).tied; waiting = waiting_rests settings before cause (h.steady).editors (last.mid).waiting; quit = quit_rests settings before (h.steady).editors h.quit cause }
 
     pub no_facts : Facts settings []
     no_facts = record {
       base = record { opened = opened_none settings; plain = plain_none; written = tt; meant = tt };
-      steady = record { starts = λ s le. refl; unbegun = λ s un. (refl, refl); untold = λ s un u. refl; bounded = λ s up. (omega arith, omega arith); editors = λ e le. refl; asked = λ s. tt; apart = λ s. tt; asks = no_asks settings; housed = λ s below. absurd (omega (arith, below)) };
+      steady = record { starts = λ s le. refl; unbegun = λ s un. (refl, refl); untold = λ s un u. refl; bounded = λ s up. (omega arith, omega arith); editors = λ e le. refl; asked = λ on s. tt; apart = λ s. tt; asks = no_asks settings; housed = λ s below. absurd (omega (arith, below)) };
       tied = λ s. tt;
       waiting = λ e. tt;
+      quit = λ over. absurd (cc);
     }
 
     pub one_entry : (before : List Entry) (entry : Entry) → IsTrue (fits_behind (events_of before) entry.cause) → IsTrue (built_behind settings (events_of before) entry.cause)

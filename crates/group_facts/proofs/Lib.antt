@@ -69,3 +69,8 @@ pub mod WorkRow
 pub mod Marks
 pub mod Takings
 pub mod Shown
+pub mod Quits
+pub mod StopRow
+pub mod StopEnds
+pub mod StopWhy
+pub mod StopEntry

@@ -1,19 +1,16 @@
 -- The groups that live, their editors and their last starts, one event further, and so behind every legal history.
-use Rattle.std.proofs.Common.{◌≡◌, ℕ, max, zero, suc, ◌+◌, ◌<◌, ◌≤◌, Bool, true, false, not, ◌&&◌, ◌||◌, cond, List, [], ◌∷◌, ◌++◌, filter, length, nat_eq, nat_lt, codes, bytes_eq, if◌then◌else◌, Option, Some, None, ◌⊎◌, inl, inr, refl, sym, ◌∙◌, ap, ap₂, subst, arith}
+use Rattle.std.proofs.Common.{◌≡◌, ℕ, max, zero, suc, ◌+◌, ◌<◌, ◌≤◌, Bool, true, false, ◌&&◌, cond, List, [], ◌∷◌, ◌++◌, filter, length, nat_eq, nat_lt, codes, if◌then◌else◌, Option, Some, None, ◌⊎◌, inl, inr, refl, sym, ◌∙◌, ap, ap₂, subst, arith}
 use Rattle.std.specs.List.{range_with_len}
 use Rattle.std.specs.Option.{option_map_or}
 use Rattle.std.proofs.lemmas.Bool.{and_parts}
 use Rattle.std.proofs.lemmas.Bool.Decides.{nat_tests}
-use Rattle.std.proofs.lemmas.Slice.Eq.{bytes_eq-Decides}
 use Rattle.document_model.proofs.Written.{Spoken, spoken}
-use Rattle.lsp_method.specs.Class.{class_of, editor_request, own_request}
-use Rattle.lsp_method.specs.declared.variants.Origin.TheVariants.{Editor}
 use Rattle.mux_history.specs.declared.cause.Cause.{Cause}
 use Rattle.mux_history.specs.declared.cause.Cause.TheVariants.{Joined, FromEditor, EditorGone, Started, StartFailed, FromServer, ServerGone, Drained, Tick}
 use Rattle.mux_history.specs.declared.cause.Why as link
 use Rattle.mux_history.specs.declared.out.Out.{Out}
 use Rattle.mux_history.specs.declared.out.Out.TheVariants.{ToEditor, ToServer, Spawn, CloseEditor, EndServer}
-use Rattle.rpc_message.specs.Message.{Message, request, notification, result, error, not_json, not_message, message_of}
+use Rattle.rpc_message.specs.Message.{Message, message_of}
 use Rattle.event_model.specs.declared.phase.Phase.{Phase}
 use Rattle.event_model.specs.declared.phase.Phase.TheVariants.{Absent, New, Waiting, Answered, Running, Down, Closed, Gone}
 use Rattle.event_model.specs.declared.stage.Stage.{Stage}
@@ -32,16 +29,15 @@ use Rattle.mux_facts.proofs.Reasons.{reasons_keep}
 use Rattle.mux_facts.proofs.Words.{number_same, same_number}
 use Rattle.group_words.specs.declared.kept.Kept.{Kept}
 use Rattle.group_words.specs.declared.placed.Placed.{Placed}
-use Rattle.group_words.specs.Houses.{at_group, declared_for, groups_lose, groups_next, groups_of, has_editor, home_next, home_of, house_of, is_doubled, is_first_error, is_home, key_for, placed_for, places, stops, time_of}
+use Rattle.group_words.specs.Houses.{at_group, declared_for, groups_lose, groups_next, groups_of, has_editor, home_next, home_of, house_of, is_first_error, is_home, key_for, placed_for, places, stops, time_of}
 use Rattle.group_words.specs.Placing.{end_where, ended, home_by, is_due, is_live, with_editor}
 use Rattle.group_words.proofs.Frames.{groups_more, home_more}
-use Rattle.group_rows.specs.Rows.{names_lspmux, outs_of}
-use Rattle.group_facts.specs.Built.{built_behind, built_from_editor, is_left, is_standard}
+use Rattle.group_rows.specs.Rows.{outs_of}
+use Rattle.group_facts.specs.Built.{built_behind, is_left}
 use Rattle.group_facts.specs.Facts.{is_put_out, is_refusing, is_up}
 use Rattle.group_facts.specs.Lively.{IsDying, Lively, is_busy_at, is_unplaced, lives_at}
 use Rattle.group_facts.specs.Settled.{is_answered}
 use Rattle.group_facts.specs.Why.{Why, WhyEnd, WhyToServer, begins, greets, forwarded, notes, tells, shuts, cancels, exits, refused, starting, stopped, responds, resolves, cancels_work}
-use Rattle.group_facts.proofs.Multiplexer.{lspmux_apart}
 use Rattle.group_facts.proofs.Begun.{Begun, start_more}
 use Rattle.group_facts.proofs.Exits.{left_groups, left_over}
 use Rattle.group_facts.proofs.Facts.{Facts}
@@ -49,8 +45,10 @@ use Rattle.group_facts.proofs.Housed.{group_more}
 use Rattle.group_facts.proofs.Known.{Here, here_did, here_took}
 use Rattle.group_facts.proofs.LiveGroups.{IsFair, busy_apart, busy_emptied, busy_ended, busy_own, busy_placed, lives_busy, lives_changed, lives_emptied, lives_ended, lives_placed, placed_fair}
 use Rattle.group_facts.proofs.Numbered.{no_shutdown}
-use Rattle.group_facts.proofs.PutOut.{begun_closed, begun_told, put_out_ends, unplaced_closed, unplaced_told}
+use Rattle.group_facts.proofs.PutOut.{begun_closed, begun_told, unplaced_closed, unplaced_told}
 use Rattle.group_facts.proofs.RequestRow.{either_desk}
+use Rattle.group_facts.proofs.StopEnds.{over_all}
+use Rattle.group_facts.proofs.StopEntry.{begun_there, put_out_ends, there_heard}
 use Rattle.group_facts.proofs.Table.{reasons}
 use Rattle.group_facts.proofs.Waiting.{new_is}
 use Rattle.group_facts.proofs.Numbers.{response_asks}
@@ -288,6 +286,19 @@ module _ (settings : Settings) (before : List Event) (h : Lively settings before
         busy e g true same k at = h.busy e g (begun_heard (desk_of e before).phase (desk_of e before).initialize body m (subst (λ i. places (desk_of i before).phase m ≡ false) (number_same n e same) off) k) at
         busy e g false other k at = h.busy e g k at
 
+    -- E6: all groups end, and each editor that is there is left out
+    stopped_by : places (desk_of n before).phase m ≡ false → stops before n m ≡ true → Mostly settings (is_put_out settings before (FromEditor n body)) (with_cause before (FromEditor n body))
+    stopped_by off stop = most_words settings (is_put_out settings before (FromEditor n body)) before (heard (FromEditor n body)) (λ e. rw off (unplaced e (nat_eq n e))) (λ e g rest begun at. never (sym (ap₂ (λ a b. a && b) stop (out e (nat_eq n e) begun)) ∙ rest)) h.last
+        (λ g s live at. never (sym live ∙ (ap₂ (λ a b. lives_at g (if a then later else if b then end_where is_live groups else groups)) off stop ∙ over_all g groups)))
+      where
+        unplaced : (e : ℕ) (b : Bool) → is_unplaced (if b then desk_hears (desk_of e before).phase (desk_of e before).initialize body m else desk_of e before).phase ≡ true → (if b && false then home_by placed (home_of settings e before) else home_of settings e before) ≡ None
+        unplaced e true k = h.unplaced e (unplaced_heard (desk_of e before).phase (desk_of e before).initialize body m k)
+        unplaced e false k = h.unplaced e k
+
+        out : (e : ℕ) (b : Bool) → is_begun (if b then desk_hears (desk_of e before).phase (desk_of e before).initialize body m else desk_of e before).phase ≡ true → is_there (desk_of e before).phase ≡ true
+        out e true k = there_heard (desk_of e before).phase (desk_of e before).initialize body m (begun_there _ k)
+        out e false k = begun_there _ k
+
   -- a message of a start that refuses nothing
   spoke : (n : ℕ) (body : List ℕ) → (is_first_error (message_of body) && is_initializing (life_of n before).stage) ≡ false → Lively settings (with_cause before (FromServer n body))
   spoke n body off = by_words settings before (heard (FromServer n body)) h.unplaced (λ e g. rw off (h.busy e g)) h.last
@@ -356,28 +367,6 @@ module _ (settings : Settings) (before : List Event) (h : Lively settings before
   exited : (n : ℕ) → is_left settings before n ≡ true → Lively settings (with_cause before (ServerGone n))
   exited n left = by_words settings before (heard (ServerGone n)) h.unplaced (λ e g begun at. ap (is_busy_at g) (left_groups settings before n left) ∙ h.busy e g begun at) h.last (ended_up n left)
 
--- what is built of an editor stops nothing
-
-not_stopping : (method : List ℕ) → is_standard (class_of method Editor false) ≡ true → bytes_eq (codes "lspmux/stop") method ≡ false
-unfolding editor_request own_request
-not_stopping method h = go (bytes_eq (codes "lspmux/stop") method) refl
-  where
-    go : (b : Bool) → bytes_eq (codes "lspmux/stop") method ≡ b → b ≡ false
-    go true e = absurd (let k : is_standard (class_of (codes "lspmux/stop") Editor false) ≡ true = subst (λ m. is_standard (class_of m Editor false) ≡ true) (sym ((bytes_eq-Decides (codes "lspmux/stop") method).0 e)) h in cc)
-    go false e = refl
-
-built_on : (m : Message) → built_from_editor m ≡ true → requests (codes "lspmux/stop") m ≡ false
-built_on (request id method params) built = go (names_lspmux method) refl built
-  where
-    go : (b : Bool) → names_lspmux method ≡ b → (b || is_standard (class_of method Editor false)) ≡ true → bytes_eq (codes "lspmux/stop") method ≡ false
-    go true is k = lspmux_apart (codes "lspmux/stop") method refl refl is
-    go false is k = not_stopping method k
-built_on (notification method params) built = refl
-built_on (result id r) built = refl
-built_on (error id x) built = refl
-built_on not_json built = refl
-built_on not_message built = refl
-
 took : (settings : Settings) (before : List Event) (cause : Cause) → fits_behind before cause ≡ true → built_behind settings before cause ≡ true → Editors before → Editors (with_cause before cause) → Begun settings before → Lively settings before
     → Mostly settings (is_put_out settings before cause) (with_cause before cause)
 took settings before (Joined n) fits built absent after begun h = mostly settings _ _ (joined settings before h n fits absent)
@@ -385,11 +374,12 @@ took settings before (Drained n k) fits built absent after begun h = mostly sett
 took settings before (Started n) fits built absent after begun h = mostly settings _ _ (began settings before h n)
 took settings before (EditorGone n why) fits built absent after begun h = mostly settings _ _ (gone settings before h n why after)
 took settings before (FromServer n body) fits built absent after begun h = said_by settings before h n body
-took settings before (FromEditor n body) fits built absent after begun h = mostly settings _ _ (go (places (desk_of n before).phase (message_of body)) refl)
+took settings before (FromEditor n body) fits built absent after begun h = go (places (desk_of n before).phase (message_of body)) (stops before n (message_of body)) refl refl
   where
-    go : (b : Bool) → places (desk_of n before).phase (message_of body) ≡ b → Lively settings (with_cause before (FromEditor n body))
-    go true here = placing settings before h n body begun here
-    go false off = heard_on settings before h n body off (ap (λ b. b && (is_there (desk_of n before).phase && not (is_doubled before n (message_of body)))) (built_on (message_of body) built))
+    go : (b c : Bool) → places (desk_of n before).phase (message_of body) ≡ b → stops before n (message_of body) ≡ c → Mostly settings (is_put_out settings before (FromEditor n body)) (with_cause before (FromEditor n body))
+    go true c here stop = mostly settings _ _ (placing settings before h n body begun here)
+    go false true off stop = stopped_by settings before h n body off stop
+    go false false off on = mostly settings _ _ (heard_on settings before h n body off on)
 took settings before (StartFailed n) fits built absent after begun h = mostly settings _ _ (failed settings before h n built)
 took settings before (ServerGone n) fits built absent after begun h = mostly settings _ _ (exited settings before h n built)
 took settings before (Tick t) fits built absent after begun h = mostly settings _ _ (ticked settings before h t)

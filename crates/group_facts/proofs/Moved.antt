@@ -1,19 +1,20 @@
 -- The reasons of what an editor's message gives hold behind what the editor is asked and told, as it begins to run.
-use Rattle.std.proofs.Common.{◌≡◌, ℕ, true, false, List, [], ◌∷◌, ◌++◌, find, map, codes, decimal, nat_lt, is_some, Option, None, refl, sym, ◌∙◌, ap, subst, append-nil, append_assoc}
+use Rattle.std.proofs.Common.{◌≡◌, ℕ, true, false, not, ◌&&◌, List, [], ◌∷◌, ◌++◌, find, map, codes, decimal, nat_lt, is_some, Option, None, refl, sym, ◌∙◌, ap, subst, append-nil, append_assoc}
 use Rattle.std.specs.List.{AllByRecursion, list_any}
 use Rattle.std.specs.Option.{option_map}
 use Rattle.std.proofs.lemmas.List.{append_cancel_left}
 use Rattle.json_text.specs.Json.{Json}
 use Rattle.document_model.specs.Helds.{HeldText}
 use Rattle.document_model.specs.Sayings.{Saying, opens, changes, closes, misshapen, nothing, saying_of}
+use Rattle.std.proofs.lemmas.Bool.{and_parts}
 use Rattle.mux_history.specs.declared.cause.Cause.{Cause}
 use Rattle.mux_history.specs.declared.cause.Cause.TheVariants.{FromEditor, FromServer, Started}
 use Rattle.mux_history.specs.declared.out.Out.{Out}
 use Rattle.mux_history.specs.declared.out.Out.TheVariants.{ToEditor, ToServer, Spawn, CloseEditor, EndServer}
 use Rattle.rpc_message.specs.Message.{Message, request, notification, result, error, not_json, not_message, Id, integer, message_of}
 use Rattle.rpc_message.specs.ValueTexts.{IsIdText}
-use Rattle.event_model.specs.Event.{Event, behind, heard, said, with_cause}
-use Rattle.event_model.specs.Phases.{Desk, desk_of, has_id, is_malformed, is_running, is_there, makes_running}
+use Rattle.event_model.specs.Event.{Event, behind, heard, requests, said, with_cause}
+use Rattle.event_model.specs.Phases.{Desk, desk_of, has_id, is_begun, is_malformed, is_running, is_there, makes_running}
 use Rattle.event_model.specs.Requests.{is_open}
 use Rattle.event_model.specs.Row.{Row, outs}
 use Rattle.event_model.specs.Settings.{Settings}
@@ -23,6 +24,7 @@ use Rattle.mux_facts.specs.Allowed.{AllowsSaying, IsNext}
 use Rattle.mux_facts.proofs.Keeps.{behind_both}
 use Rattle.mux_facts.proofs.Lists.{all_join}
 use Rattle.mux_facts.proofs.Reasons.{Because, Reasons}
+use Rattle.group_words.specs.Houses.{is_doubled, stops}
 use Rattle.group_rows.specs.Asks.{next_ask}
 use Rattle.group_rows.specs.diagnostics_route.specs.Rows.{is_of}
 use Rattle.group_rows.specs.diagnostics_route.specs.Shown.{fits, shown_text}
@@ -30,7 +32,8 @@ use Rattle.group_rows.specs.Forwarded.{Forwarded, Forwarding}
 use Rattle.group_facts.specs.Facts.{IsAlone, IsWaiting, is_early}
 use Rattle.group_facts.specs.Lively.{lives_at}
 use Rattle.group_rows.specs.Tokens.{forwarded_text}
-use Rattle.group_facts.specs.Why.{IsBehindSync, IsBeside, IsQuestion, Showing, Telling, Turn, Why, WhyToEditor, WhyToServer, answers, asks, asks_something, begins, cancels, exits, forwarded, greeted, greets, is_uncancelled, notes, of_held, of_request, of_token, passes, recalls, refuses, calls, rejects, resolves, responds, resumes, shuts, spreads, stays, tells, turns_away, versions_at, welcomes, cancels_work, progresses, begins_by, comes, opened_by, shows}
+use Rattle.group_facts.proofs.Quits.{running_stops}
+use Rattle.group_facts.specs.Why.{IsBehindSync, IsBeside, IsQuestion, Showing, Telling, Turn, Why, WhyToEditor, WhyToServer, answers, asks, asks_something, begins, cancels, exits, forwarded, greeted, greets, is_uncancelled, notes, of_held, of_request, of_token, passes, recalls, refuses, calls, rejects, resolves, responds, resumes, shuts, spreads, stays, tells, turns_away, versions_at, welcomes, cancels_work, progresses, begins_by, comes, opened_by, shows, loses}
 use Rattle.group_rows.proofs.Versions.{AllMeant, meant_heard, meant_more}
 use Rattle.group_facts.proofs.Same.{IsBody, Same, same_agreement, same_behind, same_held, same_questions, same_version}
 use Rattle.group_facts.proofs.Shown.{meant_behind}
@@ -244,6 +247,11 @@ module _ (settings : Settings) (before : List Event) (e : ℕ) (body : List ℕ)
         by_told (of_request s text given f token told found own editor bytes) = none_from s text told.from
         by_told (of_token s text given token told found accepted bytes) = none_from s text told.from
         by_told (of_held s taking earlier held later taken order place bytes) = never (sym (ap is_running (ap (λ i. (desk_of i before).phase) (same_editor taken.answer taken.from) ∙ taken.ran)) ∙ idle)
+    editor_moved n b goes (loses k) = never (sym (the_stop k.editor k.asked k.from k.stop) ∙ running_stops (message_of body) runs)
+      where
+        the_stop : (n : ℕ) (text : List ℕ) → cause ≡ FromEditor n text → stops before n (message_of text) ≡ true → requests (codes "lspmux/stop") (message_of body) ≡ true
+        the_stop n text from stop = let same : body ≡ text = cc in ap (λ w. requests (codes "lspmux/stop") (message_of w)) same
+            ∙ (and_parts (requests (codes "lspmux/stop") (message_of text)) (is_there (desk_of n before).phase && not (is_begun (desk_of n before).phase && is_doubled before n (message_of text))) stop).0
     editor_moved n b goes (shows k) = shows (record {
       start = k.start;
       shown = by_shown k.start k.shown;

@@ -38,7 +38,7 @@ use Rattle.mux_facts.proofs.Reasons.{Because, by_nothing, by_send, by_then, by_c
 use Rattle.mux_facts.proofs.Table.{late_taken}
 use Rattle.mux_facts.proofs.Why.{is_early}
 use Rattle.mux_facts.proofs.Words.{same_id_itself, same_number}
-use Rattle.group_words.specs.Houses.{home_of, house_of, is_doubled, is_first_open, placed_for, places, server_asked}
+use Rattle.group_words.specs.Houses.{home_of, house_of, is_doubled, is_first_open, placed_for, places, server_asked, stops}
 use Rattle.group_words.specs.Placing.{home_by}
 use Rattle.group_words.specs.Rows.{initialize_row}
 use Rattle.group_words.proofs.Frames.{home_more}
@@ -63,7 +63,7 @@ use Rattle.group_rows.specs.Asks.{Ask, is_seated, asks_of}
 use Rattle.event_model.specs.Stages.{is_ready, life_of}
 use Rattle.std.specs.Prelude.{find}
 use Rattle.group_facts.proofs.AskingRows.{running_is, still_runs}
-use Rattle.group_facts.specs.Facts.{turned_away}
+use Rattle.group_facts.specs.Facts.{is_crowded}
 use Rattle.group_facts.specs.Why.{IsForward, IsQuestion}
 use Rattle.group_facts.specs.Settled.{is_answered}
 use Rattle.group_facts.proofs.Apart.{alone_by}
@@ -84,6 +84,8 @@ use Rattle.group_facts.proofs.OpenByPhase.{if_passed, OpenDesk, OpenIf, if_asked
 use Rattle.group_facts.proofs.SharedRows.{off_first}
 use Rattle.group_facts.proofs.Waiting.{new_is, turned_outs}
 use Rattle.group_facts.proofs.OpenByOut.{OpenAt, S, open_at, open_closed, open_moved, open_sent, open_still, or_later, told}
+use Rattle.group_rows.specs.StopRows.{stop_row}
+use Rattle.group_facts.proofs.Quits.{asked_while}
 
 -- no request is excused
 abbrev pub Nobody : Id → Type 0
@@ -233,12 +235,12 @@ module _ (settings : Settings) (before : List Event) (n : ℕ) (body : List ℕ)
           quiet_sync = all_outs NoSpawn now sync (quiet_bodies s _ now).why
 
           forward_is : IsForward settings before (FromEditor n body) synced s text
-          forward_is = is_forward settings before n body id method params says there (alone_by before (facts.steady).asked n id fresh) range (facts.base).opened late other g s start can free
+          forward_is = is_forward settings before n body id method params says there (alone_by before (asked_while before (facts.steady).asked facts.quit n there) n id fresh) range (facts.base).opened late other g s start can free
 
           list_now : (forwarding_of s gone).open_requests ≡ (forwarding_of s synced).open_requests ++ numbered (Some (record { editor = n; id = id_bytes body; work = token_in (codes "workDoneToken") body; partial = token_in (codes "partialResultToken") body })) (forwarding_of s synced).next
           list_now = ap (λ (x : Forwarding). x.open_requests) (forwarding_sent synced s text (request (integer (decimal (forwarding_of s synced).next)) forward_is.method forward_is.params) forward_is.says
               ∙ ap (λ c. if c then forwarding_of s synced else more_requests (forwarding_of s synced)) forward_is.other)
-              ∙ ap (λ o. (forwarding_of s synced).open_requests ++ numbered o (forwarding_of s synced).next) (synced_sender settings before n body id method params says there (alone_by before (facts.steady).asked n id fresh) range (facts.base).opened late other g s start can free)
+              ∙ ap (λ o. (forwarding_of s synced).open_requests ++ numbered o (forwarding_of s synced).next) (synced_sender settings before n body id method params says there (alone_by before (asked_while before (facts.steady).asked facts.quit n there) n id fresh) range (facts.base).opened late other g s start can free)
 
           sent_now : SentAt settings gone n id
           sent_now = record {
@@ -323,16 +325,16 @@ module _ (settings : Settings) (before : List Event) (n : ℕ) (body : List ℕ)
         named_rests None = refused (λ new. other) invalid_params
         named_rests (Some server) = replied (codes "null") null_tree (null_said body id method params says)
 
-        lspmux_rests : (m : Message) → Rests (outs (lspmux_row settings before n body m) now)
-        lspmux_rests m = go (requests (codes "lspmux/open") m)
+        lspmux_rests : (m : Message) → requests (codes "lspmux/stop") m ≡ false → Rests (outs (lspmux_row settings before n body m) now)
+        lspmux_rests m on = go (requests (codes "lspmux/open") m)
           where
             opens : (b : Bool) → Rests (outs (choose b (named_row n body (server_asked settings.servers body)) (answer_error n body invalid_request)) now)
             opens true = named_rests (server_asked settings.servers body)
             opens false = refused (λ new. other) invalid_request
 
-            go : (b : Bool) → Rests (outs (choose b (open_row settings before n body m) (status_row settings before n body)) now)
+            go : (b : Bool) → Rests (outs (choose b (open_row settings before n body m) (choose (requests (codes "lspmux/stop") m) (stop_row settings before n body) (status_row settings before n body))) now)
             go true = opens (is_first_open settings.servers before n m)
-            go false = replied (status_text (items_of settings before)) (told_tree (items_of settings before)) (status_said settings before body id method params says)
+            go false = subst (λ b. Rests (outs (choose b (stop_row settings before n body) (status_row settings before n body)) now)) (sym on) (replied (status_text (items_of settings before)) (told_tree (items_of settings before)) (status_said settings before body id method params says))
 
     -- E3 and E9: its link is to be ended
     closing_rests : Rests (outs (closing_row settings before n) now)
@@ -564,7 +566,7 @@ module _ (settings : Settings) (before : List Event) (n : ℕ) (body : List ℕ)
 
     -- Any message that doesn't place it
 
-    module _ (range : InRange settings) (facts : Facts settings before) (linked : is_linked (desk_of n before).phase ≡ true) where
+    module _ (range : InRange settings) (facts : Facts settings before) (linked : is_linked (desk_of n before).phase ≡ true) (on : stops before n (message_of body) ≡ false) where
       -- it begins to run
       begun_rests : (m : Message) → message_of body ≡ m → (desk_of n before).phase ≡ Answered → is_doubled before n m ≡ false → Rests (outs (served_row settings before n body m) now) → Rests (outs (begun_row settings before n body m) now)
       begun_rests m says at single rest = go (makes_running m) refl
@@ -615,11 +617,15 @@ module _ (settings : Settings) (before : List Event) (n : ℕ) (body : List ℕ)
           by_lspmux : is_open id ids ≡ false → is_there (desk_of n before).phase ≡ true → (row : Row) → Rests (outs row now) → Rests (outs (or_lspmux id method params row) now)
           by_lspmux fresh there row rest = go (names_lspmux method) refl
             where
+              not_stop : (b : Bool) → bytes_eq (codes "lspmux/stop") method ≡ b → b ≡ false
+              not_stop true stop = never (sym (ap (stops before n) says ∙ ap₂ (λ a b. a && b) stop (ap₂ (λ a b. a && b) there (ap not (single (desk_of n before).phase (request id method params) fresh)))) ∙ on)
+              not_stop false goes = refl
+
               other : names_lspmux method ≡ true → requests (codes "initialize") (message_of body) ≡ false
-              other is = ap (requests (codes "initialize")) says ∙ lspmux_apart (codes "initialize") method refl refl is
+              other is = ap (requests (codes "initialize")) says ∙ lspmux_apart (codes "initialize") method refl refl refl is
 
               go : (b : Bool) → names_lspmux method ≡ b → Rests (outs (choose b (lspmux_row settings before n body (request id method params)) row) now)
-              go true is = lspmux_rests id method params says fresh (other is) (λ at. beside_other now n id (beside settings before n body id method params says there (alone_by before (facts.steady).asked n id fresh) (other is) (λ waits. fresh) facts.waiting at)) (request id method params)
+              go true is = lspmux_rests id method params says fresh (other is) (λ at. beside_other now n id (beside settings before n body id method params says there (alone_by before (asked_while before (facts.steady).asked facts.quit n there) n id fresh) (other is) (λ waits. fresh) facts.waiting at)) (request id method params) (not_stop (bytes_eq (codes "lspmux/stop") method) refl)
               go false is = rest
 
           early_old : (phase : Phase) → (desk_of n before).phase ≡ phase → is_new phase ≡ false → (desk_of n before).phase ≡ New → requests (codes "initialize") (message_of body) ≡ false
@@ -697,6 +703,6 @@ module _ (settings : Settings) (before : List Event) (n : ℕ) (body : List ℕ)
     placed_open place = let p = and_parts (is_new (desk_of n before).phase) (requests (codes "initialize") (message_of body)) place in first_open (message_of body) refl (new_is (desk_of n before).phase p.0) p.1
 
   -- one that is turned away
-  pub turned_rests : turned_away settings before (FromEditor n body) n ≡ true → OpenAt settings n Nobody (behind now (outs_of settings before (FromEditor n body)))
+  pub turned_rests : is_crowded settings before n body n ≡ true → OpenAt settings n Nobody (behind now (outs_of settings before (FromEditor n body)))
   turned_rests turned = subst (λ xs. OpenAt settings n Nobody (behind now xs)) (sym (turned_outs settings before n body n turned))
       (subst (OpenAt settings n Nobody) (append_assoc now (said (ToEditor n (error_text (id_bytes body) request_failed)) ∷ []) (said (CloseEditor n) ∷ [])) (open_closed settings n Nobody (now ++ said (ToEditor n (error_text (id_bytes body) request_failed)) ∷ [])))

@@ -42,6 +42,8 @@ use Rattle.group_facts.proofs.Facts.{Facts}
 use Rattle.group_facts.proofs.Known.{facts_hold}
 use Rattle.group_facts.proofs.SentOn.{AllSentOn, WasSentOn, sent_holds}
 use Rattle.group_facts.proofs.VersionsIn.{own_answer, own_edit, own_now}
+use Rattle.group_facts.proofs.Quits.{asked_while}
+use Rattle.event_model.specs.Phases.{desk_of, is_there}
 
 -- of a start that isn't ready nothing is said
 unready : (settings : Settings) (before : List Event) (s : ℕ) (heard : List ℕ) → ((life_of s before).stage ≡ Ready → ⊥) → (xs : List Out) → AllByRecursion (OnOwnVersions settings before (FromServer s heard)) xs
@@ -82,11 +84,11 @@ module _ (settings : Settings) (before : List Event) (facts : Facts settings bef
   text_for f = answer_text (own_version settings before s f) answer f.id
 
   answer_on : asks_edit (message_of answer) ≡ false → Because R now (answer_row settings s before answer (message_of answer))
-  answer_on plain = by_on (λ none. by_nothing) (λ f found. by_choose (λ there. by_send (λ ready. (λ response. on f found, λ edit. never (sym edit ∙ plain)))) (λ gone. by_nothing))
+  answer_on plain = by_on (λ none. by_nothing) (λ f found. by_choose (λ there. by_send (λ ready. (λ response. on f found there, λ edit. never (sym edit ∙ plain)))) (λ gone. by_nothing))
     where
-      on : (f : Forwarded) → find (answered_by (answered_id (message_of answer))) (forwarding_of s before).open_requests ≡ Some f → IsHandedOn settings before s answer f.editor (text_for f)
-      on f found =
-          let k : IsAsker before f.editor f.id = found_is (IsForwarded before) (answered_by (answered_id (message_of answer))) f (forwarding_of s before).open_requests ((facts.steady).asked s) found in
+      on : (f : Forwarded) → find (answered_by (answered_id (message_of answer))) (forwarding_of s before).open_requests ≡ Some f → is_there (desk_of f.editor before).phase ≡ true → IsHandedOn settings before s answer f.editor (text_for f)
+      on f found there =
+          let k : IsAsker before f.editor f.id = found_is (IsForwarded before) (answered_by (answered_id (message_of answer))) f (forwarding_of s before).open_requests (asked_while before (facts.steady).asked facts.quit f.editor there s) found in
           let w : WasSentOn s before f.number f.editor f.id = found_is (λ (g : Forwarded). WasSentOn s before g.number g.editor g.id) (answered_by (answered_id (message_of answer))) f (forwarding_of s before).open_requests (asked s) found in
           record {
             request = f;

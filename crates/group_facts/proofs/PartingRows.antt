@@ -24,7 +24,7 @@ use Rattle.mux_facts.proofs.Why.{is_early}
 use Rattle.mux_facts.proofs.Words.{same_number}
 use Rattle.group_rows.specs.Forwarded.{Forwarding, forwarding_of}
 use Rattle.group_rows.specs.Rows.{closing_row, gone_row, shutdown_row}
-use Rattle.group_facts.specs.Facts.{Asks, Bounded, IsAlone, Opened, is_parting, turned_away}
+use Rattle.group_facts.specs.Facts.{Asks, Bounded, IsAlone, Opened, is_parting, is_put_out, turned_away}
 use Rattle.group_facts.specs.Why.{Why, answers}
 use Rattle.group_facts.proofs.Apart.{asks_fewer}
 use Rattle.group_facts.proofs.Forwards.{alone_fewer, forwarding_more}
@@ -64,7 +64,11 @@ module _ (settings : Settings) (range : InRange settings) (before : List Event) 
 
   -- E3 and E9: its own message ends its link
   pub closing_why : is_there (desk_of e before).phase ≡ true → is_parting before e (message_of body) ≡ true → Because R asked (closing_row settings before e)
-  closing_why there parts = by_then (by_send (or_second (turned_away settings before (FromEditor e body) e) (nat_eq e e && is_parting before e (message_of body)) (ap₂ (λ a b. a && b) (same_number e) parts), there_taken settings before e body there))
+  closing_why there parts = by_then (by_send (
+    or_second (turned_away settings before (FromEditor e body) e) ((nat_eq e e && is_parting before e (message_of body)) || is_put_out settings before (FromEditor e body) e)
+        (ap (λ b. b || is_put_out settings before (FromEditor e body) e) (ap₂ (λ a b. a && b) (same_number e) parts)),
+    there_taken settings before e body there,
+  ))
       (leave_why settings range before (FromEditor e body) opened bounded (asked ++ said (CloseEditor e) ∷ []) (λ s. refl)
       (stage_still (CloseEditor e) (λ s. ap (λ (l : Life). l.stage) (life_more s asked (said (CloseEditor e)))) (λ s u. ap (λ (x : Sent). x.held) (sent_more s u asked (said (CloseEditor e)))))
       (held_still (CloseEditor e) (λ s. ap (λ (l : Life). l.stage) (life_more s asked (said (CloseEditor e)))) (λ s u. ap (λ (x : Sent). x.held) (sent_more s u asked (said (CloseEditor e)))))

@@ -39,7 +39,7 @@ use Rattle.group_words.specs.Rows.{answer_with, end_group, end_start, initialize
 use Rattle.group_facts.specs.Lively.{IsDying, lives_at}
 use Rattle.group_facts.proofs.GroupEnds.{start_ends}
 use Rattle.group_facts.proofs.LiveGroups.{IsFair, over_at, placed_fair}
-use Rattle.group_facts.specs.Facts.{Bounded, IsPlain, IsWaiting, Plain, is_parting, is_up, turned_away}
+use Rattle.group_facts.specs.Facts.{Bounded, IsPlain, IsWaiting, Plain, is_parting, is_put_out, is_up, turned_away}
 use Rattle.group_facts.proofs.RequestRow.{R, asked, desk_taken, either_desk}
 use Rattle.group_facts.specs.Why.{turns_away, welcomes}
 
@@ -175,7 +175,7 @@ module _ (settings : Settings) (range : InRange settings) (before : List Event) 
 
     turn : Mine (placed_row e body before TooMany)
     turn = by_then (by_send (turns_away (record { id = id; x = error_tree request_failed; waiting = waits_now; turned = turned; says = refusal_says body id (codes "initialize") params request_failed says })))
-        (by_send (or_first (turned_away settings before (FromEditor e body) e) (nat_eq e e && is_parting before e (message_of body)) turned, there_still))
+        (by_send (or_first (turned_away settings before (FromEditor e body) e) ((nat_eq e e && is_parting before e (message_of body)) || is_put_out settings before (FromEditor e body) e) turned, there_still))
 
   placed_why : Plain before → Bounded settings before → (p : Placed) → placed_for settings before e body (groups_of settings before) ≡ p → Mine (placed_row e body before p)
   placed_why plain bounded (Joins g) at = by_on (λ none. by_nothing) (λ s start. by_choose (λ ready. by_on (λ none. by_nothing) (λ given found. joins plain s given (plain.whole s given (ready_up (life_of s before).stage ready) found))) (λ no. by_nothing))

@@ -3,7 +3,6 @@ use Rattle.std.proofs.Common.{◌≡◌, ℕ, zero, suc, ◌+◌, ◌<◌, ◌�
 use Rattle.std.specs.List.{list_any, range_with_len}
 use Rattle.std.specs.Option.{option_map_or}
 use Rattle.std.proofs.lemmas.Bool.{and_parts}
-use Rattle.mux_history.specs.declared.cause.Cause.{Cause}
 use Rattle.mux_history.specs.declared.cause.Cause.TheVariants.{FromServer}
 use Rattle.mux_history.specs.declared.out.Out.{Out}
 use Rattle.mux_history.specs.declared.out.Out.TheVariants.{ToEditor, ToServer, Spawn, CloseEditor, EndServer}
@@ -96,7 +95,7 @@ module _ (test : Phase → Bool) (told : (phase : Phase) (initialize : List ℕ)
   tested events (Spawn s g) h = sym (ap (λ (d : Desk). test d.phase) (desk_more e events (said (Spawn s g)))) ∙ h
   tested events (EndServer s) h = sym (ap (λ (d : Desk). test d.phase) (desk_more e events (said (EndServer s)))) ∙ h
 
-  outs_tested : (events : List Event) (xs : List Out) → test (desk_of e (behind events xs)).phase ≡ true → test (desk_of e events).phase ≡ true
+  pub outs_tested : (events : List Event) (xs : List Out) → test (desk_of e (behind events xs)).phase ≡ true → test (desk_of e events).phase ≡ true
   outs_tested = outs_back (λ events. test (desk_of e events).phase ≡ true) tested
 
 -- an editor that is in its group behind outs was in it before them, and one whose `initialize` didn't come
@@ -148,7 +147,7 @@ all_closed (n ∷ es) events e named h = go (nat_eq n e) refl (λ k. all_closed 
     go true same rest k = never (sym (begun_outs e next (outs (close_all es) next) (sooner h)) ∙ closed_now events n e same)
     go false other rest k = rest k
 
-named_in : (test : ℕ → Bool) (a n e : ℕ) → a ≤ e → e < a + n → test e ≡ true → list_any (λ k. nat_eq k e) (filter test (range_with_len a n)) ≡ true
+pub named_in : (test : ℕ → Bool) (a n e : ℕ) → a ≤ e → e < a + n → test e ≡ true → list_any (λ k. nat_eq k e) (filter test (range_with_len a n)) ≡ true
 named_in test a zero e low high h = absurd (omega (arith, low, high))
 named_in test a (suc n) e low high h = go (test a) refl (λ up. named_in test (a + 1) n e up (omega (arith, high)) h)
   where
@@ -231,7 +230,7 @@ module _ (settings : Settings) (before : List Event) (s : ℕ) (body : List ℕ)
       go None at k = absurd (cc)
       go (Some i) at k = ap (λ n. Some n) (number_same i g k)
 
-  refused_ends : Editors before → (e : ℕ) → is_put_out settings before (FromServer s body) e ≡ true → is_begun (desk_of e later).phase ≡ false
+  pub refused_ends : Editors before → (e : ℕ) → is_put_out settings before (FromServer s body) e ≡ true → is_begun (desk_of e later).phase ≡ false
   refused_ends absent e out =
       let p = and_parts (is_refusing before s (message_of body)) (is_begun (desk_of e before).phase && is_in settings before s e) out in
       let q = and_parts (is_begun (desk_of e before).phase) (is_in settings before s e) p.1 in
@@ -257,8 +256,3 @@ module _ (settings : Settings) (before : List Event) (s : ℕ) (body : List ℕ)
       let p = and_parts (is_refusing before s (message_of body)) (is_waiting (desk_of e before).phase && is_in settings before s e) turned in
       let q = and_parts (is_waiting (desk_of e before).phase) (is_in settings before s e) p.1 in
       never (sym (sym (ap (λ (d : Desk). is_unplaced d.phase) (desk_more e before (heard (FromServer s body)))) ∙ unplaced_outs e now (outs_of settings before (FromServer s body)) h) ∙ ap is_unplaced (waiting_is (desk_of e before).phase q.0))
-
--- of a group that ends so none is left
-pub put_out_ends : (settings : Settings) (before : List Event) (cause : Cause) → Editors before → (e : ℕ) → is_put_out settings before cause e ≡ true → is_begun (desk_of e (behind (with_cause before cause) (outs_of settings before cause))).phase ≡ false
-put_out_ends settings before (FromServer s body) absent e out = refused_ends settings before s body absent e out
-put_out_ends settings before cause absent e out = never (sym out)

@@ -6,6 +6,7 @@ use Rattle.json_text.specs.declared.kind.Word.TheVariants.{Null}
 use Rattle.json_text.specs.Json.{Json, word}
 use Rattle.mux_history.specs.declared.cause.Cause.TheVariants.{FromEditor}
 use Rattle.mux_history.specs.declared.out.Out.{Out}
+use Rattle.mux_history.specs.declared.out.Out.TheVariants.{ToEditor}
 use Rattle.document_model.specs.Sayings.{saying_of, speaks}
 use Rattle.rpc_message.specs.Message.{Message, request, result, Id, integer, message_of, id_bytes}
 use Rattle.rpc_message.specs.Texts.{Code, invalid_params, invalid_request, ok_text, request_failed, error_tree}
@@ -17,7 +18,7 @@ use Rattle.event_model.specs.Event.{Event, heard, requests, same_id, behind, wit
 use Rattle.event_model.specs.Members.{params_of}
 use Rattle.event_model.specs.Phases.{Desk, desk_of, desk_hears, has_id, is_there, makes_running}
 use Rattle.event_model.specs.Requests.{is_open, is_own, open_of, with_request}
-use Rattle.event_model.specs.Row.{on, outs, ◌⨾◌}
+use Rattle.event_model.specs.Row.{on, outs, send, ◌⨾◌}
 use Rattle.event_model.specs.Settings.{Settings}
 use Rattle.event_model.specs.Spawns.{start_of}
 use Rattle.event_model.specs.Stages.{is_ready, life_of}
@@ -142,7 +143,7 @@ module _ (settings : Settings) (before : List Event) (e : ℕ) (body : List ℕ)
 
     -- its own `initialize` is open under another id, where it waits
     module _ (other : requests (codes "initialize") (message_of body) ≡ false) (fresh : (desk_of e before).phase ≡ Waiting → is_open id (open_of e before) ≡ false) (waiting : AllWaiting before) where
-      waited : (desk_of e asked).phase ≡ Waiting → (desk_of e before).phase ≡ Waiting
+      pub waited : (desk_of e asked).phase ≡ Waiting → (desk_of e before).phase ≡ Waiting
       waited at = hears_waiting (desk_of e before).phase (desk_of e before).initialize body (message_of body) other (ap (λ (d : Desk). d.phase) (sym desk_taken) ∙ at)
 
       pub beside : (desk_of e asked).phase ≡ Waiting → IsBeside asked e id
@@ -167,9 +168,8 @@ module _ (settings : Settings) (before : List Event) (e : ℕ) (body : List ℕ)
       pub own_refused : (code : Code) → Because R asked (answer_error e body code)
       own_refused code = early code (λ at. beside_other asked e id (beside at))
 
-      named_why : (o : Option ℕ) → Because R asked (named_row e body o)
-      named_why None = own_refused invalid_params
-      named_why (Some server) = by_send (answers (record {
+      pub null_why : Because R asked (send (ToEditor e (ok_text (id_bytes body) (codes "null"))))
+      null_why = by_send (answers (record {
         id = id;
         r = word (record { from = 0; to = 0 }) Null;
         there = there_taken settings before e body there;
@@ -178,6 +178,10 @@ module _ (settings : Settings) (before : List Event) (e : ℕ) (body : List ℕ)
         alone = alone;
         says = null_said body id method params says;
       }))
+
+      named_why : (o : Option ℕ) → Because R asked (named_row e body o)
+      named_why None = own_refused invalid_params
+      named_why (Some server) = null_why
 
       pub open_why : (m : Message) → Because R asked (open_row settings before e body m)
       open_why m = by_choose (λ first. named_why (server_asked settings.servers body)) (λ late. own_refused invalid_request)

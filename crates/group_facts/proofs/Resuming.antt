@@ -13,7 +13,7 @@ use Rattle.rpc_message.proofs.Ids.{request_with_id}
 use Rattle.event_model.specs.declared.phase.Phase.TheVariants.{Answered, Down, Running}
 use Rattle.event_model.specs.declared.stage.Stage.TheVariants.{Ready}
 use Rattle.event_model.specs.Event.{Event, behind, did, heard, notifies, requests, said, with_cause}
-use Rattle.event_model.specs.Phases.{Desk, desk_hears, desk_of, is_new, makes_running}
+use Rattle.event_model.specs.Phases.{Desk, desk_hears, desk_of, is_new, is_there, is_waiting, makes_running}
 use Rattle.event_model.specs.Row.{choose, each, nothing, on, outs, send}
 use Rattle.event_model.specs.Settings.{Settings}
 use Rattle.event_model.specs.Spawns.{start_of}
@@ -41,12 +41,13 @@ use Rattle.group_rows.specs.Live.{live_of, register_text}
 use Rattle.group_rows.specs.LiveRows.{call, has_some, restore}
 use Rattle.group_rows.proofs.LiveTexts.{live_written, register_says}
 use Rattle.json_text.specs.Json.{Json}
-use Rattle.group_facts.specs.Facts.{Asks, IsParked, is_too_many, leaves, turned_away}
+use Rattle.group_facts.specs.Facts.{Asks, IsParked, is_put_out, is_too_many, leaves, turned_away}
 use Rattle.group_facts.specs.Why.{IsQuestion, IsCall, IsResumed, Why, begins_by, calls, has_method, restores, resumes, revives, shows}
 use Rattle.group_facts.proofs.Asks.{asking_more, registering_made, resumed_here}
 use Rattle.group_facts.proofs.AskingRows.{creates_all, registers_all, still_runs, work_told}
 use Rattle.group_facts.proofs.Begun.{start_did, start_took}
 use Rattle.group_facts.proofs.Homes.{took_home}
+use Rattle.group_facts.proofs.Quits.{running_goes_on}
 use Rattle.group_facts.proofs.Shown.{behind_full, shown_why, text_says, text_shown}
 use Rattle.group_facts.proofs.Still.{unended, unshut}
 
@@ -57,18 +58,20 @@ module _ (settings : Settings) (before : List Event) (e : ℕ) (body : List ℕ)
   and_off false = refl
 
   unturned : turned_away settings before (FromEditor e body) e ≡ false
-  unturned = ap (λ p. nat_eq e e && ((is_new p && requests (codes "initialize") (message_of body)) && is_too_many (placed_for settings before e body (groups_of settings before)))) waited ∙ and_off (nat_eq e e)
+  unturned = ap₂ (λ x y. x || y) (ap (λ p. nat_eq e e && ((is_new p && requests (codes "initialize") (message_of body)) && is_too_many (placed_for settings before e body (groups_of settings before)))) waited ∙ and_off (nat_eq e e))
+      (ap (λ b. b && is_waiting (desk_of e before).phase) (running_goes_on before e (message_of body) runs))
 
-  settled : (a n b c d : Bool) → a ≡ false → b ≡ false → c ≡ false → d ≡ false → ((a || (n && (b || c))) || (n && d)) ≡ false
-  settled false n false false false ha hb hc hd = ap₂ (λ x y. x || y) (and_off n) (and_off n)
-  settled true n b c d ha hb hc hd = never ha
-  settled false n true c d ha hb hc hd = never hb
-  settled false n false true d ha hb hc hd = never hc
-  settled false n false false true ha hb hc hd = never hd
+  settled : (a n b c d p : Bool) → a ≡ false → b ≡ false → c ≡ false → d ≡ false → p ≡ false → ((a || ((n && (b || c)) || p)) || (n && d)) ≡ false
+  settled false n false false false false ha hb hc hd hp = ap₂ (λ x y. (x || false) || y) (and_off n) (and_off n)
+  settled true n b c d p ha hb hc hd hp = never ha
+  settled false n true c d p ha hb hc hd hp = never hb
+  settled false n false true d p ha hb hc hd hp = never hc
+  settled false n false false true p ha hb hc hd hp = never hd
+  settled false n false false false true ha hb hc hd hp = never hp
 
   pub stays_there : leaves settings before (FromEditor e body) e ≡ false
-  stays_there = settled (turned_away settings before (FromEditor e body) e) (nat_eq e e) (notifies (codes "exit") (message_of body)) (is_doubled before e (message_of body)) (requests (codes "shutdown") (message_of body))
-      unturned (unended settings before e body (message_of body) runs) single (unshut settings before e body (message_of body) runs)
+  stays_there = settled (turned_away settings before (FromEditor e body) e) (nat_eq e e) (notifies (codes "exit") (message_of body)) (is_doubled before e (message_of body)) (requests (codes "shutdown") (message_of body)) (is_put_out settings before (FromEditor e body) e)
+      unturned (unended settings before e body (message_of body) runs) single (unshut settings before e body (message_of body) runs) (ap (λ b. b && is_there (desk_of e before).phase) (running_goes_on before e (message_of body) runs))
 
 module _ (settings : Settings) (before : List Event) (e : ℕ) (body : List ℕ) (waited : (desk_of e before).phase ≡ Answered) (runs : makes_running (message_of body) ≡ true) (stays : leaves settings before (FromEditor e body) e ≡ false) where
   abbrev base : List Event

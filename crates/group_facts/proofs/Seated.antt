@@ -1,5 +1,5 @@
 -- Each editor that needs a server is in a group that is kept, but for one that is turned away in the entry at hand.
-use Rattle.std.proofs.Common.{◌≡◌, ℕ, ◌+◌, ◌<◌, ◌≤◌, Bool, true, false, ◌&&◌, List, [], ◌∷◌, ◌++◌, map, length, nat_eq, nat_lt, codes, if◌then◌else◌, Option, Some, None, refl, sym, ◌∙◌, ap, subst, arith, append-nil, append_assoc}
+use Rattle.std.proofs.Common.{◌≡◌, ℕ, ◌+◌, ◌<◌, ◌≤◌, Bool, true, false, ◌&&◌, List, [], ◌∷◌, ◌++◌, map, length, nat_eq, nat_lt, codes, if◌then◌else◌, Option, Some, None, refl, sym, ◌∙◌, ap, subst, arith, append-nil, append_assoc, ◌⊎◌, inl, inr}
 use Rattle.std.proofs.lemmas.Bool.{and_parts}
 use Rattle.std.proofs.lemmas.List.{length-append}
 use Rattle.mux_history.specs.declared.cause.Cause.{Cause}
@@ -12,7 +12,7 @@ use Rattle.rpc_message.specs.Texts.{error_text, request_failed}
 use Rattle.event_model.specs.declared.phase.Phase.{Phase}
 use Rattle.event_model.specs.declared.phase.Phase.TheVariants.{Absent, New, Waiting, Answered, Running, Down, Closed, Gone}
 use Rattle.event_model.specs.Event.{Event, behind, heard, requests, said, with_cause}
-use Rattle.event_model.specs.Phases.{Desk, desk_behind, desk_hears, desk_of, is_begun, needs_server, phase_closed, phase_told}
+use Rattle.event_model.specs.Phases.{Desk, desk_behind, desk_hears, desk_of, is_begun, needs_server, phase_closed, phase_told, is_waiting}
 use Rattle.event_model.specs.Settings.{Settings}
 use Rattle.event_model.specs.Spawns.{start_of}
 use Rattle.event_model.proofs.Frames.{never}
@@ -23,13 +23,13 @@ use Rattle.group_words.specs.declared.idle.Idle.{Idle}
 use Rattle.group_words.specs.declared.kept.Kept.{Kept}
 use Rattle.group_words.specs.declared.placed.Placed.{Placed}
 use Rattle.group_words.specs.declared.placed.Placed.TheVariants.{Joins, New as Founds, Evicts, TooMany}
-use Rattle.group_words.specs.Houses.{declared_for, groups_of, home_of, key_for, placed_for, places}
+use Rattle.group_words.specs.Houses.{declared_for, groups_of, home_of, key_for, placed_for, places, stops}
 use Rattle.group_words.specs.Keys.{Common}
 use Rattle.group_words.specs.Placing.{changed, ended, evicting, first_from, founded, founding, home_by, idlest_from, joining, live_count, placed_in, takes, with_editor}
 use Rattle.group_words.proofs.Frames.{changed_length, groups_more, home_more, home_stays}
 use Rattle.group_rows.specs.Rows.{outs_of}
 use Rattle.group_facts.specs.Built.{built_behind}
-use Rattle.group_facts.specs.Facts.{is_too_many, turned_away}
+use Rattle.group_facts.specs.Facts.{is_too_many, turned_away, is_crowded}
 use Rattle.group_facts.specs.Settled.{IsSeated}
 use Rattle.group_facts.proofs.Begun.{Begun}
 use Rattle.group_facts.proofs.Housed.{longer_did, longer_took}
@@ -37,6 +37,9 @@ use Rattle.group_facts.proofs.PlacingRow.{IsNext, placed_next}
 use Rattle.group_facts.proofs.PutOut.{home_did, turned_ends}
 use Rattle.group_facts.proofs.RequestRow.{either_desk}
 use Rattle.group_facts.proofs.Waiting.{turned_outs}
+use Rattle.group_facts.proofs.SharedRows.{off_first}
+use Rattle.group_facts.proofs.Quits.{one_of}
+use Rattle.group_facts.proofs.StopEntry.{none_there, unthere_unbegun}
 
 -- A group that an editor joins is there
 
@@ -220,7 +223,7 @@ module _ (settings : Settings) where
     own_heard e body longer stays = go (places (desk_of e before).phase (message_of body)) refl
       where
         few : places (desk_of e before).phase (message_of body) ≡ true → is_too_many (placed_for settings before e body (groups_of settings before)) ≡ false
-        few here = sym (ap (λ b. b && (places (desk_of e before).phase (message_of body) && is_too_many (placed_for settings before e body (groups_of settings before)))) (same_number e) ∙ ap (λ b. b && is_too_many (placed_for settings before e body (groups_of settings before))) here) ∙ stays
+        few here = sym (ap (λ b. b && (places (desk_of e before).phase (message_of body) && is_too_many (placed_for settings before e body (groups_of settings before)))) (same_number e) ∙ ap (λ b. b && is_too_many (placed_for settings before e body (groups_of settings before))) here) ∙ off_first (is_crowded settings before e body e) (stops before e (message_of body) && is_waiting (desk_of e before).phase) stays
 
         go : (b : Bool) → places (desk_of e before).phase (message_of body) ≡ b → PlacedAt settings e (with_cause before (FromEditor e body))
         go true here = λ needs. placing before e body here (few here) longer
@@ -253,7 +256,7 @@ module _ (settings : Settings) where
     placed_took (ServerGone s) built longer e stays = stays_placed e before (heard (ServerGone s)) (home_stays settings e before (heard (ServerGone s)) refl) longer (by_desk e before (heard (ServerGone s)) (λ needs. needs)) (h e)
 
     -- one that is turned away is closed
-    turned_none : (n : ℕ) (body : List ℕ) (e : ℕ) → turned_away settings before (FromEditor n body) e ≡ true → needs_server (desk_of e (behind (with_cause before (FromEditor n body)) (outs_of settings before (FromEditor n body)))).phase ≡ false
+    turned_none : (n : ℕ) (body : List ℕ) (e : ℕ) → is_crowded settings before n body e ≡ true → needs_server (desk_of e (behind (with_cause before (FromEditor n body)) (outs_of settings before (FromEditor n body)))).phase ≡ false
     turned_none n body e turned = ap (λ xs. needs_server (desk_of e (behind (with_cause before (FromEditor n body)) xs)).phase) (turned_outs settings before n body e turned)
         ∙ ap (λ z. needs_server (desk_of e z).phase) (sym (append_assoc (with_cause before (FromEditor n body)) (said (ToEditor n answer) ∷ []) (said (CloseEditor n) ∷ [])))
         ∙ ap (λ (d : Desk). needs_server d.phase) (desk_more e mid (said (CloseEditor n)))
@@ -270,7 +273,11 @@ module _ (settings : Settings) where
         closed false same = never (sym same)
 
     turned_placed : (cause : Cause) → Editors before → (e : ℕ) → turned_away settings before cause e ≡ true → PlacedAt settings e (behind (with_cause before cause) (outs_of settings before cause))
-    turned_placed (FromEditor n body) absent e turned = λ needs. never (sym needs ∙ turned_none n body e turned)
+    turned_placed (FromEditor n body) absent e turned = go (one_of (is_crowded settings before n body e) (stops before n (message_of body) && is_waiting (desk_of e before).phase) turned)
+      where
+        go : (is_crowded settings before n body e ≡ true) ⊎ ((stops before n (message_of body) && is_waiting (desk_of e before).phase) ≡ true) → PlacedAt settings e (behind (with_cause before (FromEditor n body)) (outs_of settings before (FromEditor n body)))
+        go (inl many) = λ needs. never (sym needs ∙ turned_none n body e many)
+        go (inr stop) = λ needs. never (sym (needs_begun _ needs) ∙ unthere_unbegun _ (none_there settings before n body (and_parts (stops before n (message_of body)) (is_waiting (desk_of e before).phase) stop).0 absent e))
     turned_placed (FromServer s body) absent e turned = λ needs. never (sym (needs_begun _ needs) ∙ turned_ends settings before s body absent e turned)
     turned_placed cause absent e turned = never (sym turned)
 

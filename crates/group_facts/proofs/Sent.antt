@@ -223,7 +223,7 @@ abbrev pub Rising : ℕ → ℕ → List Forwarded → Type 0
 Rising low next [] = low ≤ next
 Rising low next (f ∷ fs) = (low ≤ f.number) × Rising (f.number + 1) next fs
 
-rising_from : (low high next : ℕ) (fs : List Forwarded) → low ≤ high → Rising high next fs → Rising low next fs
+pub rising_from : (low high next : ℕ) (fs : List Forwarded) → low ≤ high → Rising high next fs → Rising low next fs
 rising_from low high next [] le h = omega (arith, le, h)
 rising_from low high next (f ∷ fs) le h = (let k : high ≤ f.number = h.0 in omega (arith, le, k), h.1)
 

@@ -1,5 +1,5 @@
 -- What is settled behind every legal history.
-use Rattle.std.proofs.Common.{◌≡◌, ℕ, true, List, [], ◌∷◌, ◌++◌, map, IsTrue, ◌⊎◌, inl, inr, refl, sym, subst, arith, append-nil, append_assoc}
+use Rattle.std.proofs.Common.{◌≡◌, ℕ, true, List, [], ◌∷◌, ◌++◌, map, IsTrue, ◌⊎◌, inl, inr, refl, sym, subst, arith, append-nil, append_assoc, false}
 use Rattle.std.specs.List.{AllByRecursion}
 use Rattle.mux_history.specs.declared.cause.Cause.{Cause}
 use Rattle.mux_history.specs.declared.entry.Entry.{Entry}
@@ -37,6 +37,8 @@ use Rattle.group_facts.proofs.Sent.{SentAt, sent_is}
 use Rattle.group_facts.proofs.Takings.{AllTaken, Uncreated, none_taken, none_uncreated, taken_rests, uncreated_rests}
 use Rattle.group_facts.proofs.OpenByPhase.{IsOne, OpenIf, if_answered}
 use Rattle.group_facts.proofs.OpenByOut.{S}
+use Rattle.group_rows.specs.StopRows.{stopped}
+use Rattle.group_facts.proofs.StopEntry.{before_on}
 
 -- Folders
 
@@ -60,7 +62,7 @@ module _ (settings : Settings) (range : InRange settings) where
     opens : OpenAll settings events
     placed : AllPlaced settings events
     one : OneStart events
-    seats : AllSeats settings events
+    seats : stopped events ≡ false → AllSeats settings events
     uncreated : Uncreated settings events
     taken : AllTaken settings events
 
@@ -78,9 +80,9 @@ module _ (settings : Settings) (range : InRange settings) where
     opens = open_rests settings range before h.facts h.begun h.lively h.opens cause fits built;
     placed = placed_rests settings before h.placed cause built ((h.facts).steady).editors;
     one = one_rests settings before cause h.begun built h.one;
-    seats = seats_rest settings range before h.facts h.one h.seats h.begun cause built fits (lively_rests settings range before h.facts h.begun h.lively cause fits built);
-    uncreated = uncreated_rests settings range before h.facts h.one h.seats h.begun cause built fits h.uncreated h.taken;
-    taken = taken_rests settings range before h.facts h.one h.seats h.begun cause built fits h.uncreated h.taken (lively_rests settings range before h.facts h.begun h.lively cause fits built);
+    seats = λ on. seats_rest settings range before h.facts h.one (h.seats (before_on before cause (outs_of settings before cause) on)) h.begun cause built fits on (lively_rests settings range before h.facts h.begun h.lively cause fits built);
+    uncreated = uncreated_rests settings range before h.facts h.one h.begun cause built fits h.uncreated h.taken;
+    taken = taken_rests settings range before h.facts h.one h.begun cause built fits h.uncreated h.taken (lively_rests settings range before h.facts h.begun h.lively cause fits built);
   }
 
   no_rests : Rests []
@@ -92,7 +94,7 @@ module _ (settings : Settings) (range : InRange settings) where
     opens = λ e. refl;
     placed = λ e needs. absurd (cc);
     one = one_none;
-    seats = no_seats settings;
+    seats = λ on. no_seats settings;
     uncreated = none_uncreated settings;
     taken = none_taken settings;
   }

@@ -1,10 +1,10 @@
 -- The routing table over several editors and groups, walked once: each out of every row has its reason.
-use Rattle.std.proofs.Common.{◌≡◌, ℕ, true, false, ◌&&◌, ◌||◌, List, codes, bytes_eq, Option, refl, sym, ◌∙◌, ap, append-nil, not, subst, Bool}
+use Rattle.std.proofs.Common.{◌≡◌, ℕ, true, false, ◌&&◌, ◌||◌, List, codes, bytes_eq, Option, refl, sym, ◌∙◌, ap, ap₂, append-nil, not, subst, Bool}
 use Rattle.std.proofs.lemmas.Bool.{and_parts}
 use Rattle.std.proofs.lemmas.Slice.Eq.{bytes_eq-Decides}
 use Rattle.json_text.specs.Json.{Json}
 use Rattle.mux_history.specs.declared.cause.Cause.{Cause}
-use Rattle.mux_history.specs.declared.cause.Cause.TheVariants.{FromEditor, EditorGone, Started, FromServer, Tick}
+use Rattle.mux_history.specs.declared.cause.Cause.TheVariants.{Joined, FromEditor, EditorGone, Started, FromServer, Tick}
 use Rattle.rpc_message.specs.Message.{Message, request, notification, result, error, not_json, not_message, Id, message_of, result_bytes}
 use Rattle.rpc_message.specs.Texts.{error_tree, invalid_request}
 use Rattle.event_model.specs.declared.phase.Phase.{Phase}
@@ -25,12 +25,12 @@ use Rattle.mux_facts.proofs.Bodies.{malformed_says}
 use Rattle.event_model.proofs.Frames.{never}
 use Rattle.mux_facts.proofs.Reasons.{Because, by_nothing, by_send, by_choose, by_then}
 use Rattle.mux_facts.proofs.Why.{is_early}
-use Rattle.group_words.specs.Houses.{is_doubled}
+use Rattle.group_words.specs.Houses.{is_doubled, stops}
 use Rattle.group_words.specs.Rows.{shown_of}
 use Rattle.group_rows.specs.AskRows.{run_row}
 use Rattle.group_rows.specs.Rows.{asks_lspmux, closing_row, down_row, early_code, early_row, exit_row, from_editor, lspmux_row, message_row, row_of, served_notice, served_request, served_row, taken_row, wrong_code}
 use Rattle.group_facts.specs.Built.{built_behind, built_early, built_from_server, is_shown_whole}
-use Rattle.group_facts.specs.Facts.{IsAlone, is_parting, leaves}
+use Rattle.group_facts.specs.Facts.{AllForwarded, IsAlone, is_parting, leaves}
 use Rattle.group_facts.proofs.AskingRows.{response_why}
 use Rattle.group_facts.proofs.AnswerRows.{server_why, start_why}
 use Rattle.group_facts.proofs.Apart.{alone_by, alone_early}
@@ -43,10 +43,13 @@ use Rattle.group_facts.proofs.Moved.{row_moved}
 use Rattle.group_facts.proofs.NoticeRow.{notice_why}
 use Rattle.group_facts.proofs.PartingRows.{closing_why, gone_why, or_second, shutdown_why}
 use Rattle.group_facts.proofs.PlacingRow.{initialize_why}
+use Rattle.group_facts.proofs.Quits.{asked_while}
 use Rattle.group_facts.proofs.RequestRow.{R, asked, early_new, early_waiting, late_refused, not_own, open_why, request_why, status_why}
 use Rattle.group_facts.proofs.Resuming.{run_questions, run_why, stays_there}
 use Rattle.group_facts.proofs.SharedRows.{off_first}
 use Rattle.group_facts.proofs.Still.{still_served}
+use Rattle.group_facts.proofs.StopRow.{joined_why}
+use Rattle.group_facts.proofs.StopWhy.{stop_why}
 use Rattle.group_facts.proofs.TickRow.{tick_why}
 use Rattle.group_facts.proofs.WorkRow.{work_why}
 use Rattle.group_facts.specs.Why.{Why, rejects}
@@ -54,6 +57,9 @@ use Rattle.group_facts.specs.Why.{Why, rejects}
 module _ (settings : Settings) (range : InRange settings) (before : List Event) (facts : Facts settings before) (e : ℕ) (body : List ℕ) where
   abbrev Mine : Row → Type 0
   Mine row = Because (R settings before e body) (asked settings before e body) row
+
+  asked_here : is_there (desk_of e before).phase ≡ true → AllForwarded before
+  asked_here there = asked_while before (facts.steady).asked facts.quit e there
 
   parting : is_there (desk_of e before).phase ≡ true → is_parting before e (message_of body) ≡ true → Mine (closing_row settings before e)
   parting there ends = closing_why settings range before (facts.base).opened (facts.steady).bounded (facts.steady).asks e body there ends
@@ -91,7 +97,7 @@ module _ (settings : Settings) (range : InRange settings) (before : List Event) 
       (λ other. document_why settings range before e body (facts.base).opened method params says (facts.base).meant served no))))
 
   served_why : (m : Message) → message_of body ≡ m → is_served (desk_of e before).phase ≡ true → is_early (desk_of e before).phase ≡ false → is_there (desk_of e before).phase ≡ true → is_doubled before e m ≡ false → Mine (served_row settings before e body m)
-  served_why (request id method params) says served late there single = asked_why id method params says late there (alone_by before (facts.steady).asked e id single)
+  served_why (request id method params) says served late there single = asked_why id method params says late there (alone_by before (asked_here there) e id single)
   served_why (notification method params) says served late there single = noticed_why method params says served there
   served_why (result id r) says served late there single = response_why settings before (facts.steady).asks (λ s. held_told settings s before (facts.base).meant) e body (result id r) says
   served_why (error id x) says served late there single = response_why settings before (facts.steady).asks (λ s. held_told settings s before (facts.base).meant) e body (error id x) says
@@ -100,7 +106,7 @@ module _ (settings : Settings) (range : InRange settings) (before : List Event) 
 
   -- behind `shutdown`
   down_why : (m : Message) → message_of body ≡ m → (desk_of e before).phase ≡ Down → is_doubled before e m ≡ false → Mine (down_row settings before e body m)
-  down_why (request id method params) says at single = late_refused settings before e body id method params says (ap is_there at) (alone_by before (facts.steady).asked e id single) (wrong_code method invalid_request) (ap is_early at)
+  down_why (request id method params) says at single = late_refused settings before e body id method params says (ap is_there at) (alone_by before (asked_here (ap is_there at)) e id single) (wrong_code method invalid_request) (ap is_early at)
   down_why (notification method params) says at single = exits (notification method params) says (ap is_there at)
   down_why (result id r) says at single = by_nothing
   down_why (error id x) says at single = by_nothing
@@ -110,7 +116,7 @@ module _ (settings : Settings) (range : InRange settings) (before : List Event) 
   new_why : (m : Message) → message_of body ≡ m → (desk_of e before).phase ≡ New → Mine (taken_row settings before e body m New)
   new_why (request id method params) says at = by_choose
       (λ yes. initialize_why settings range before e body id params (says ∙ ap (λ z. request id z params) (sym ((bytes_eq-Decides (codes "initialize") method).0 yes))) at (facts.base).plain (facts.steady).bounded)
-      (λ no. early_new settings before e body id method params says (ap is_there at) (alone_early before (facts.steady).asked e id (ap is_early at)) (early_code method) at no)
+      (λ no. early_new settings before e body id method params says (ap is_there at) (alone_early before (asked_here (ap is_there at)) e id (ap is_early at)) (early_code method) at no)
   new_why (notification method params) says at = by_choose (λ yes. absurd (cc)) (λ no. exits (notification method params) says (ap is_there at))
   new_why (result id r) says at = by_choose (λ yes. absurd (cc)) (λ no. by_nothing)
   new_why (error id x) says at = by_choose (λ yes. absurd (cc)) (λ no. by_nothing)
@@ -118,7 +124,7 @@ module _ (settings : Settings) (range : InRange settings) (before : List Event) 
   new_why not_message says at = by_choose (λ yes. absurd (cc)) (λ no. by_nothing)
 
   waiting_why : (m : Message) → message_of body ≡ m → (desk_of e before).phase ≡ Waiting → is_doubled before e m ≡ false → Mine (early_row settings before e body m)
-  waiting_why (request id method params) says at single = early_waiting settings before e body id method params says (ap is_there at) (alone_by before (facts.steady).asked e id single) (early_code method) at single facts.waiting
+  waiting_why (request id method params) says at single = early_waiting settings before e body id method params says (ap is_there at) (alone_by before (asked_here (ap is_there at)) e id single) (early_code method) at single facts.waiting
   waiting_why (notification method params) says at single = exits (notification method params) says (ap is_there at)
   waiting_why (result id r) says at single = by_nothing
   waiting_why (error id x) says at single = by_nothing
@@ -145,21 +151,26 @@ module _ (settings : Settings) (range : InRange settings) (before : List Event) 
   unbegun_early Closed there h = absurd (cc)
   unbegun_early Gone there h = absurd (cc)
 
-  -- E4 and E5: a request of the multiplexer's own, of an editor that is there
+  -- E4 to E6: a request of the multiplexer's own, of an editor that is there
   lspmux_why : (m : Message) → message_of body ≡ m → is_there (desk_of e before).phase ≡ true → asks_lspmux m ≡ true → (is_begun (desk_of e before).phase && is_doubled before e m) ≡ false → Mine (lspmux_row settings before e body m)
   lspmux_why (request id method params) says there asks single = by_choose
       (λ names. open_why settings before e body id method params says there alone_here other fresh facts.waiting (request id method params))
-      (λ tells. status_why settings before e body id method params says there alone_here other fresh facts.waiting)
+      (λ others. by_choose
+      (λ stop. stop_why settings range before (facts.steady).bounded (facts.steady).apart facts.waiting (asked_here there) e body id method params says there alone_here other fresh (stops_all stop))
+      (λ tells. status_why settings before e body id method params says there alone_here other fresh facts.waiting))
     where
+      stops_all : requests (codes "lspmux/stop") (request id method params) ≡ true → stops before e (message_of body) ≡ true
+      stops_all stop = ap (stops before e) says ∙ ap₂ (λ a b. a && b) stop (ap₂ (λ a b. a && b) there (ap not single))
+
       lonely : (b : Bool) → is_begun (desk_of e before).phase ≡ b → IsAlone before e id
-      lonely true begun = alone_by before (facts.steady).asked e id (ap (λ b. b && is_open id (open_of e before)) (sym begun) ∙ single)
-      lonely false unbegun = alone_early before (facts.steady).asked e id (unbegun_early (desk_of e before).phase there unbegun)
+      lonely true begun = alone_by before (asked_here there) e id (ap (λ b. b && is_open id (open_of e before)) (sym begun) ∙ single)
+      lonely false unbegun = alone_early before (asked_here there) e id (unbegun_early (desk_of e before).phase there unbegun)
 
       alone_here : IsAlone before e id
       alone_here = lonely (is_begun (desk_of e before).phase) refl
 
       other : requests (codes "initialize") (message_of body) ≡ false
-      other = ap (requests (codes "initialize")) says ∙ lspmux_apart (codes "initialize") method refl refl asks
+      other = ap (requests (codes "initialize")) says ∙ lspmux_apart (codes "initialize") method refl refl refl asks
 
       fresh : (desk_of e before).phase ≡ Waiting → is_open id (open_of e before) ≡ false
       fresh at = ap (λ p. is_begun p && is_open id (open_of e before)) (sym at) ∙ single
@@ -230,8 +241,9 @@ module _ (settings : Settings) (range : InRange settings) (before : List Event) 
   pub reasons : (cause : Cause) → built_behind settings before cause ≡ true → Because (Why settings before cause) (with_cause before cause) (row_of settings before cause)
   reasons (FromEditor e body) built = editor_why settings range before facts e body
   reasons (EditorGone e why) built = gone_why settings range before (facts.base).opened (facts.steady).bounded (facts.steady).asks e why (desk_of e before).phase
-  reasons (FromServer s body) built = server_why settings range before s body (facts.base).opened (facts.steady).untold facts.waiting (facts.steady).asked (facts.steady).apart (facts.base).meant (facts.steady).asks (facts.base).written (first_shown settings before s body built)
+  reasons (FromServer s body) built = server_why settings range before s body (facts.base).opened (facts.steady).untold facts.waiting (asked_while before (facts.steady).asked facts.quit) (facts.steady).apart (facts.base).meant (facts.steady).asks (facts.base).written (first_shown settings before s body built)
       (λ at. ap (λ stage. built_from_server settings before s stage body (message_of body)) (sym at) ∙ built) (life_of s before).stage refl
+  reasons (Joined e) built = joined_why settings before e
   reasons (Started s) built = start_why settings before s (facts.base).written (life_of s before).stage refl
   reasons (Tick t) built = tick_why settings range.requests before (facts.steady).bounded t
   reasons cause built = by_nothing

@@ -40,8 +40,8 @@ use Rattle.group_facts.specs.Facts.{is_unready, shuts}
 use Rattle.group_facts.specs.Lively.{Lively}
 use Rattle.group_facts.specs.Settled as settled_facts
 use Rattle.group_facts.specs.Settled.{HasTaken, RunsAt}
-use Rattle.group_facts.specs.Why.{Calling, IsCall, Why, WhyToEditor, answers, asks, calls, creates, displaces, enrols, passes, progresses, recalls, refuses, rejects, releases, restores, resumes, revives, shows, spreads, turns_away, welcomes}
-use Rattle.group_facts.proofs.AskEntries.{AllSeats, close_runs, inner_rests, took_runs, up_ready}
+use Rattle.group_facts.specs.Why.{Calling, IsCall, Why, WhyToEditor, answers, asks, calls, creates, displaces, enrols, passes, progresses, recalls, refuses, rejects, releases, restores, resumes, revives, shows, spreads, turns_away, welcomes, loses}
+use Rattle.group_facts.proofs.AskEntries.{close_runs, onward_rests, took_runs, up_ready}
 use Rattle.group_facts.proofs.AskingRows.{still_runs}
 use Rattle.group_facts.proofs.Asks.{call_hurried, is_question, response_asks_none, unless_not}
 use Rattle.group_facts.proofs.Begun.{Begun}
@@ -387,6 +387,7 @@ module _ (settings : Settings) (before : List Event) (cause : Cause) where
       told_takers spawned (recalls k) = plain_takers (ap makes k.says)
       told_takers spawned (progresses k) = plain_takers (ap makes k.says)
       told_takers spawned (shows k) = plain_takers (ap makes k.says)
+      told_takers spawned (loses k) = plain_takers (ap makes k.says)
 
     did_takers : starts_of before ≤ starts_of events → (out : Out) → Why settings before cause events out → Takers (events ++ said out ∷ [])
     did_takers spawned (ToEditor e body) why = told_takers e body spawned why
@@ -413,7 +414,7 @@ module _ (settings : Settings) (before : List Event) (cause : Cause) where
 abbrev pub AllTaken : Settings → List Event → Type 0
 AllTaken settings events = starts_of events ≤ 2 ^ 64 → (s : ℕ) → AllByRecursion (HasTaken settings events s) (created_of settings s events).takings
 
-module _ (settings : Settings) (range : InRange settings) (before : List Event) (facts : Facts settings before) (one : OneStart before) (seats : AllSeats settings before) (begun : Begun settings before) (cause : Cause) (built : built_behind settings before cause ≡ true) (fits : fits_behind before cause ≡ true)
+module _ (settings : Settings) (range : InRange settings) (before : List Event) (facts : Facts settings before) (one : OneStart before) (begun : Begun settings before) (cause : Cause) (built : built_behind settings before cause ≡ true) (fits : fits_behind before cause ≡ true)
     (none : Uncreated settings before) (taken : AllTaken settings before) where
   abbrev there : List Event
   there = behind (with_cause before cause) (outs_of settings before cause)
@@ -442,7 +443,7 @@ module _ (settings : Settings) (range : InRange settings) (before : List Event) 
         group = k.group;
         kept = kept;
         last = last;
-        ready = up_ready (life_of s there).stage (up_of settings there lively e k.group s (ap settled_facts.is_answered k.running) home last) ((inner_rests settings range before facts one seats cause built fits).begun s (ap is_unready k.ready));
+        ready = up_ready (life_of s there).stage (up_of settings there lively e k.group s (ap settled_facts.is_answered k.running) home last) (onward_rests settings range before facts cause built fits s (ap is_unready k.ready));
       }
 
   pub taken_rests : Lively settings there → AllTaken settings there

@@ -1,5 +1,5 @@
 -- Each editor that waits has its `initialize` open, but for one that is turned away in the entry at hand.
-use Rattle.std.proofs.Common.{◌≡◌, ℕ, Bool, true, false, ◌&&◌, List, [], ◌∷◌, ◌++◌, nat_eq, codes, if◌then◌else◌, None, Some, refl, sym, ◌∙◌, ap, subst, subst₂, append_assoc}
+use Rattle.std.proofs.Common.{◌≡◌, ℕ, Bool, true, false, ◌&&◌, List, [], ◌∷◌, ◌++◌, nat_eq, codes, if◌then◌else◌, None, Some, ◌⊎◌, inl, inr, refl, sym, ◌∙◌, ap, subst, subst₂, append_assoc}
 use Rattle.std.proofs.lemmas.Bool.{and_parts}
 use Rattle.std.proofs.lemmas.Slice.Eq.{bytes_eq-Decides}
 use Rattle.json_text.specs.Json.{Json}
@@ -12,7 +12,7 @@ use Rattle.rpc_message.specs.Texts.{error_text, request_failed}
 use Rattle.event_model.specs.declared.phase.Phase.{Phase}
 use Rattle.event_model.specs.declared.phase.Phase.TheVariants.{Absent, New, Waiting, Answered, Running, Down, Closed, Gone}
 use Rattle.event_model.specs.Event.{Event, said, behind, with_cause, requests}
-use Rattle.event_model.specs.Phases.{Desk, desk_of, desk_behind, has_id, is_begun, is_malformed, is_new, phase_closed, phase_told}
+use Rattle.event_model.specs.Phases.{Desk, desk_of, desk_behind, has_id, is_begun, is_malformed, is_new, is_waiting, phase_closed, phase_told}
 use Rattle.event_model.specs.Requests.{answered_id, open_behind, open_of, without}
 use Rattle.event_model.specs.Settings.{Settings}
 use Rattle.event_model.proofs.Frames.{never}
@@ -23,14 +23,16 @@ use Rattle.mux_facts.proofs.Waits.{AllWaiting, WaitsAt, WaitsIf, is_a_result, la
 use Rattle.mux_facts.proofs.Words.{number_same, still_open}
 use Rattle.group_words.specs.declared.placed.Placed.{Placed}
 use Rattle.group_words.specs.declared.placed.Placed.TheVariants.{Joins, New as Founds, Evicts, TooMany}
-use Rattle.group_words.specs.Houses.{groups_of, placed_for, places}
+use Rattle.group_words.specs.Houses.{groups_of, placed_for, places, stops}
 use Rattle.mux_facts.proofs.Why.{is_early}
 use Rattle.group_rows.specs.Rows.{asks_lspmux, names_lspmux, outs_of}
-use Rattle.group_facts.specs.Facts.{is_too_many, turned_away}
+use Rattle.group_facts.specs.Facts.{is_crowded, is_too_many, turned_away}
 use Rattle.group_facts.proofs.Facts.{OthersWait}
 use Rattle.group_facts.proofs.PutOut.{turned_ends}
+use Rattle.group_facts.proofs.Quits.{one_of}
+use Rattle.group_facts.proofs.StopEntry.{none_there, unthere_unbegun}
 use Rattle.group_facts.proofs.Listens.{listens_late}
-use Rattle.group_facts.specs.Why.{IsRefusal, WhyToEditor, calls, rejects, resumes, refuses, answers, turns_away, welcomes, passes, asks, recalls, spreads, progresses, shows}
+use Rattle.group_facts.specs.Why.{IsRefusal, WhyToEditor, calls, rejects, resumes, refuses, answers, turns_away, welcomes, passes, asks, loses, recalls, spreads, progresses, shows}
 
 -- one event more
 wait_more : (e : ℕ) (events : List Event) (event : Event) → WaitsAt (desk_behind e (desk_of e events) event) (open_behind e (open_of e events) event) → WaitsAt (desk_of e (events ++ event ∷ [])) (open_of e (events ++ event ∷ []))
@@ -91,6 +93,7 @@ module _ (settings : Settings) (before : List Event) (cause : Cause) (events : L
   waiting_told (shows k) h e rest = running_told k.running e (h e rest)
   waiting_told (recalls k) h e rest = running_told (k.source).running e (h e rest)
   waiting_told (progresses k) h e rest = result_told (λ at. absurd (late_not (desk_of n events).phase (listens_late (desk_of n events).phase k.hears) at)) e (h e rest)
+  waiting_told (loses k) h e rest = result_told (λ at. absurd (late_not (desk_of n events).phase k.late at)) e (h e rest)
   waiting_told (passes k) h e rest = result_told (λ at. absurd (late_not (desk_of n events).phase k.late at)) e (h e rest)
 
 -- Other outs
@@ -143,35 +146,6 @@ many_is (Joins g) h = absurd (cc)
 many_is (Founds g) h = absurd (cc)
 many_is (Evicts a g) h = absurd (cc)
 
-module _ (settings : Settings) (before : List Event) (n : ℕ) (body : List ℕ) where
-  abbrev answer : List ℕ
-  answer = error_text (id_bytes body) request_failed
-
-  pub turned_outs : (e : ℕ) → turned_away settings before (FromEditor n body) e ≡ true → outs_of settings before (FromEditor n body) ≡ ToEditor n answer ∷ CloseEditor n ∷ []
-  turned_outs e turned =
-      let parts = and_parts (nat_eq n e) (places (desk_of n before).phase (message_of body) && is_too_many (placed_for settings before n body (groups_of settings before))) turned in
-      let more = and_parts (places (desk_of n before).phase (message_of body)) (is_too_many (placed_for settings before n body (groups_of settings before))) parts.1 in
-      let place = and_parts (is_new (desk_of n before).phase) (requests (codes "initialize") (message_of body)) more.0 in
-      rw (whole_is (message_of body) place.1, new_is (desk_of n before).phase place.0, first_unasked (message_of body) place.1, place.1, many_is (placed_for settings before n body (groups_of settings before)) more.1) refl
-
-  pub turned_closed : (e : ℕ) → turned_away settings before (FromEditor n body) e ≡ true → (now : List Event) → WaitsAt (desk_of e (behind now (ToEditor n answer ∷ CloseEditor n ∷ []))) (open_of e (behind now (ToEditor n answer ∷ CloseEditor n ∷ [])))
-  turned_closed e turned now = subst (λ z. WaitsAt (desk_of e z) (open_of e z)) (append_assoc now (said (ToEditor n answer) ∷ []) (said (CloseEditor n) ∷ []))
-      (wait_more e mid (said (CloseEditor n)) (closed (nat_eq n e) (and_parts (nat_eq n e) (places (desk_of n before).phase (message_of body) && is_too_many (placed_for settings before n body (groups_of settings before))) turned).0))
-    where
-      mid : List Event
-      mid = now ++ said (ToEditor n answer) ∷ []
-
-      closed : (b : Bool) → b ≡ true → WaitsAt (if b then record { phase = phase_closed (desk_of e mid).phase; initialize = (desk_of e mid).initialize } else desk_of e mid) (open_of e mid)
-      closed true same = closed_waits (desk_of e mid).phase (desk_of e mid).initialize (open_of e mid)
-      closed false same = absurd (cc)
-
-  all_wait : OthersWait settings before (FromEditor n body) (behind (with_cause before (FromEditor n body)) (outs_of settings before (FromEditor n body))) → AllWaiting (behind (with_cause before (FromEditor n body)) (outs_of settings before (FromEditor n body)))
-  all_wait h e = go (turned_away settings before (FromEditor n body) e) refl
-    where
-      go : (b : Bool) → turned_away settings before (FromEditor n body) e ≡ b → WaitsAt (desk_of e (behind (with_cause before (FromEditor n body)) (outs_of settings before (FromEditor n body)))) (open_of e (behind (with_cause before (FromEditor n body)) (outs_of settings before (FromEditor n body))))
-      go false rest = h e rest
-      go true turned = subst (λ xs. WaitsAt (desk_of e (behind (with_cause before (FromEditor n body)) xs)) (open_of e (behind (with_cause before (FromEditor n body)) xs))) (sym (turned_outs e turned)) (turned_closed e turned (with_cause before (FromEditor n body)))
-
 -- one that isn't in its group waits for nothing
 unbegun_waits : (phase : Phase) (initialize : List ℕ) (ids : List Id) → is_begun phase ≡ false → WaitsIf phase initialize ids
 unbegun_waits Waiting initialize ids h = never h
@@ -182,6 +156,39 @@ unbegun_waits Running initialize ids h = tt
 unbegun_waits Down initialize ids h = tt
 unbegun_waits Closed initialize ids h = tt
 unbegun_waits Gone initialize ids h = tt
+
+module _ (settings : Settings) (before : List Event) (n : ℕ) (body : List ℕ) where
+  abbrev answer : List ℕ
+  answer = error_text (id_bytes body) request_failed
+
+  pub turned_outs : (e : ℕ) → is_crowded settings before n body e ≡ true → outs_of settings before (FromEditor n body) ≡ ToEditor n answer ∷ CloseEditor n ∷ []
+  turned_outs e turned =
+      let parts = and_parts (nat_eq n e) (places (desk_of n before).phase (message_of body) && is_too_many (placed_for settings before n body (groups_of settings before))) turned in
+      let more = and_parts (places (desk_of n before).phase (message_of body)) (is_too_many (placed_for settings before n body (groups_of settings before))) parts.1 in
+      let place = and_parts (is_new (desk_of n before).phase) (requests (codes "initialize") (message_of body)) more.0 in
+      rw (whole_is (message_of body) place.1, new_is (desk_of n before).phase place.0, first_unasked (message_of body) place.1, place.1, many_is (placed_for settings before n body (groups_of settings before)) more.1) refl
+
+  pub turned_closed : (e : ℕ) → is_crowded settings before n body e ≡ true → (now : List Event) → WaitsAt (desk_of e (behind now (ToEditor n answer ∷ CloseEditor n ∷ []))) (open_of e (behind now (ToEditor n answer ∷ CloseEditor n ∷ [])))
+  turned_closed e turned now = subst (λ z. WaitsAt (desk_of e z) (open_of e z)) (append_assoc now (said (ToEditor n answer) ∷ []) (said (CloseEditor n) ∷ []))
+      (wait_more e mid (said (CloseEditor n)) (closed (nat_eq n e) (and_parts (nat_eq n e) (places (desk_of n before).phase (message_of body) && is_too_many (placed_for settings before n body (groups_of settings before))) turned).0))
+    where
+      mid : List Event
+      mid = now ++ said (ToEditor n answer) ∷ []
+
+      closed : (b : Bool) → b ≡ true → WaitsAt (if b then record { phase = phase_closed (desk_of e mid).phase; initialize = (desk_of e mid).initialize } else desk_of e mid) (open_of e mid)
+      closed true same = closed_waits (desk_of e mid).phase (desk_of e mid).initialize (open_of e mid)
+      closed false same = absurd (cc)
+
+  all_wait : Editors before → OthersWait settings before (FromEditor n body) (behind (with_cause before (FromEditor n body)) (outs_of settings before (FromEditor n body))) → AllWaiting (behind (with_cause before (FromEditor n body)) (outs_of settings before (FromEditor n body)))
+  all_wait absent h e = go (turned_away settings before (FromEditor n body) e) refl
+    where
+      go : (b : Bool) → turned_away settings before (FromEditor n body) e ≡ b → WaitsAt (desk_of e (behind (with_cause before (FromEditor n body)) (outs_of settings before (FromEditor n body)))) (open_of e (behind (with_cause before (FromEditor n body)) (outs_of settings before (FromEditor n body))))
+      go false rest = h e rest
+      go true turned = by_reason (one_of (is_crowded settings before n body e) (stops before n (message_of body) && is_waiting (desk_of e before).phase) turned)
+        where
+          by_reason : (is_crowded settings before n body e ≡ true) ⊎ ((stops before n (message_of body) && is_waiting (desk_of e before).phase) ≡ true) → WaitsAt (desk_of e (behind (with_cause before (FromEditor n body)) (outs_of settings before (FromEditor n body)))) (open_of e (behind (with_cause before (FromEditor n body)) (outs_of settings before (FromEditor n body))))
+          by_reason (inl many) = subst (λ xs. WaitsAt (desk_of e (behind (with_cause before (FromEditor n body)) xs)) (open_of e (behind (with_cause before (FromEditor n body)) xs))) (sym (turned_outs e many)) (turned_closed e many (with_cause before (FromEditor n body)))
+          by_reason (inr stop) = unbegun_waits _ _ _ (unthere_unbegun _ (none_there settings before n body (and_parts (stops before n (message_of body)) (is_waiting (desk_of e before).phase) stop).0 absent e))
 
 module _ (settings : Settings) (before : List Event) (s : ℕ) (body : List ℕ) (absent : Editors before) where
   abbrev later : List Event
@@ -195,6 +202,6 @@ module _ (settings : Settings) (before : List Event) (s : ℕ) (body : List ℕ)
       go true turned = unbegun_waits (desk_of e later).phase (desk_of e later).initialize (open_of e later) (turned_ends settings before s body absent e turned)
 
 pub waiting_rests : (settings : Settings) (before : List Event) (cause : Cause) → Editors before → OthersWait settings before cause (behind (with_cause before cause) (outs_of settings before cause)) → AllWaiting (behind (with_cause before cause) (outs_of settings before cause))
-waiting_rests settings before (FromEditor n body) absent h = all_wait settings before n body h
+waiting_rests settings before (FromEditor n body) absent h = all_wait settings before n body absent h
 waiting_rests settings before (FromServer s body) absent h = none_wait settings before s body absent h
 waiting_rests settings before cause absent h = λ e. h e refl

@@ -1,5 +1,4 @@
 -- Which causes meet only rows of the table over several editors and groups that are built, until all are.
--- Not built of an editor: `lspmux/stop` (E6).
 -- Not built of a start: the end of a program whose group lives.
 -- Of S2, what is read back must be what was meant: editors are shown all of the result.
 use Rattle.std.specs.Prelude.{ℕ, Bool, true, false, not, ◌&&◌, ◌||◌, List, bytes_eq}
@@ -40,7 +39,7 @@ is_standard _ = false
 abbrev pub doubles : Phase → Id → List Id → Bool
 doubles phase id ids = is_begun phase && is_open id ids
 
--- E3 to E5, E7 to E10 and J2
+-- E3 to E10 and J2
 abbrev pub built_request : List ℕ → Bool
 built_request method = names_lspmux method || is_standard (class_of method Editor false)
 

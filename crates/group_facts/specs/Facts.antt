@@ -7,7 +7,7 @@ use Rattle.json_text.specs.Json.{Json}
 use Rattle.document_model.specs.Orderly.{AllSpelt, Orderly}
 use Rattle.document_model.specs.Texts.{Texts}
 use Rattle.mux_history.specs.declared.cause.Cause.{Cause}
-use Rattle.mux_history.specs.declared.cause.Cause.TheVariants.{EditorGone, FromEditor, FromServer}
+use Rattle.mux_history.specs.declared.cause.Cause.TheVariants.{EditorGone, FromEditor, FromServer, Joined}
 use Rattle.mux_history.specs.declared.out.Out.TheVariants.{ToEditor, ToServer}
 use Rattle.rpc_message.specs.Message.{Id, Message, integer, request, result, message_of, result_bytes, same_id}
 use Rattle.rpc_message.specs.ValueTexts.{IsIdText, IsShallowText}
@@ -16,7 +16,7 @@ use Rattle.event_model.specs.declared.phase.Phase.TheVariants.{Absent, New, Wait
 use Rattle.event_model.specs.declared.stage.Stage.{Stage}
 use Rattle.event_model.specs.declared.stage.Stage.TheVariants.{Unspawned, Spawning, Initializing, Ready, Stopping}
 use Rattle.event_model.specs.Event.{Event, took, did, notifies, requests}
-use Rattle.event_model.specs.Phases.{desk_of, editors_of, is_begun, is_waiting}
+use Rattle.event_model.specs.Phases.{desk_of, editors_of, is_begun, is_there, is_waiting}
 use Rattle.event_model.specs.Requests.{answered_id, next_number, is_open, open_of, with_request, without}
 use Rattle.event_model.specs.Settings.{Settings}
 use Rattle.event_model.specs.Spawns.{group_of, starts_of}
@@ -25,10 +25,11 @@ use Rattle.mux_model.specs.Documents.{held_at}
 use Rattle.group_words.specs.declared.kept.Kept.{Kept}
 use Rattle.group_words.specs.declared.placed.Placed.{Placed}
 use Rattle.group_words.specs.declared.placed.Placed.TheVariants.{TooMany}
-use Rattle.group_words.specs.Houses.{groups_of, home_of, is_doubled, is_first_error, is_home, places, placed_for}
+use Rattle.group_words.specs.Houses.{groups_of, home_of, is_doubled, is_first_error, is_home, places, placed_for, stops}
 use Rattle.group_words.specs.Rows.{folders_text, initialize_of, result_of, shown_of}
 use Rattle.group_rows.specs.Asks.{Ask, Parked, asks_of, is_patient, is_under, parked_of, waits_under}
 use Rattle.group_rows.specs.Forwarded.{Forwarded, forwarding_of}
+use Rattle.group_rows.specs.StopRows.{stopped}
 use Rattle.group_rows.specs.Texts.{texts_of}
 
 -- Starts and editors that weren't there yet
@@ -237,19 +238,29 @@ is_refusing before s m = is_first_error m && is_initializing (life_of s before).
 abbrev pub is_in : Settings → List Event → ℕ → ℕ → Bool
 is_in settings before s e = option_map_or (λ g. is_home g (home_of settings e before)) (group_of s before) false
 
--- an editor that waits and that this cause turns away: the daemon has too many groups (E7), or the start for which it waits refuses its `initialize` (S3)
+-- behind a stop no editor is there
+abbrev pub Quit : List Event → Type 0
+Quit events = stopped events ≡ true → (e : ℕ) → is_there (desk_of e events).phase ≡ false
+
+-- the daemon has too many groups for an editor that comes (E7)
 abbrev pub is_too_many : Placed → Bool
 is_too_many TooMany = true
 is_too_many other = false
 
+abbrev pub is_crowded : Settings → List Event → ℕ → List ℕ → ℕ → Bool
+is_crowded settings before n body e = nat_eq n e && (places (desk_of n before).phase (message_of body) && is_too_many (placed_for settings before n body (groups_of settings before)))
+
+-- an editor that waits and that this cause turns away: the daemon has too many groups (E7), the start for which it waits refuses its `initialize` (S3), or all is stopped (E6)
 abbrev pub turned_away : Settings → List Event → Cause → ℕ → Bool
-turned_away settings before (FromEditor n body) e = nat_eq n e && (places (desk_of n before).phase (message_of body) && is_too_many (placed_for settings before n body (groups_of settings before)))
+turned_away settings before (FromEditor n body) e = is_crowded settings before n body e || (stops before n (message_of body) && is_waiting (desk_of e before).phase)
 turned_away settings before (FromServer s body) e = is_refusing before s (message_of body) && (is_waiting (desk_of e before).phase && is_in settings before s e)
 turned_away settings before other e = false
 
--- an editor of a group that ends while it has editors: its start refuses its `initialize` (S3)
+-- an editor whose link another one's doing ends: of a group whose start refuses its `initialize` (S3); each that is there, where one stops all (E6); and one that joins behind that (J1)
 abbrev pub is_put_out : Settings → List Event → Cause → ℕ → Bool
 is_put_out settings before (FromServer s body) e = is_refusing before s (message_of body) && (is_begun (desk_of e before).phase && is_in settings before s e)
+is_put_out settings before (FromEditor n body) e = stops before n (message_of body) && is_there (desk_of e before).phase
+is_put_out settings before (Joined n) e = nat_eq n e && stopped before
 is_put_out settings before other e = false
 
 -- the message that is at work ends the link of its editor: `exit` (E9), or a request under an id that is open (E3)
@@ -258,7 +269,7 @@ is_parting before e m = notifies (codes "exit") m || is_doubled before e m
 
 -- an editor whose link this cause ends
 abbrev pub ends_link : Settings → List Event → Cause → ℕ → Bool
-ends_link settings before (FromEditor n body) e = turned_away settings before (FromEditor n body) e || (nat_eq n e && is_parting before n (message_of body))
+ends_link settings before (FromEditor n body) e = turned_away settings before (FromEditor n body) e || ((nat_eq n e && is_parting before n (message_of body)) || is_put_out settings before (FromEditor n body) e)
 ends_link settings before other e = is_put_out settings before other e
 
 -- its message is `shutdown`, or its link is gone
@@ -278,7 +289,8 @@ pub record Known (settings : Settings) (events : List Event) : Type 0 where
   pub unbegun : Unbegun events
   pub untold : Untold events
   pub bounded : Bounded settings events
-  pub asked : AllForwarded events
+  pub asked : stopped events ≡ false → AllForwarded events
+  pub quit : Quit events
   pub apart : Apart events
   pub asks : Asks settings events
   pub housed : Housed settings events

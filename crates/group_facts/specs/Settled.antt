@@ -18,6 +18,7 @@ use Rattle.group_words.specs.Houses.{groups_of, home_of}
 use Rattle.group_rows.specs.Asks.{Ask, asks_of}
 use Rattle.group_rows.specs.Created.{Taking, created_of, no_created}
 use Rattle.group_rows.specs.Forwarded.{Forwarded, forwarding_of}
+use Rattle.group_rows.specs.StopRows.{stopped}
 use Rattle.group_facts.specs.Lively.{Lively}
 
 -- the uris and names of folders
@@ -72,7 +73,7 @@ HasSeat settings events s a = RunsAt settings events s a.editor
 abbrev pub HasTaken : Settings → List Event → ℕ → Taking → Type 0
 HasTaken settings events s c = RunsAt settings events s c.editor
 
--- each group has a start, an editor's group lives until the editor leaves it, each open request of an editor that got its result was sent on, an editor that was asked runs, and one that
+-- each group has a start, an editor's group lives until the editor leaves it, each open request of an editor that got its result was sent on, an editor that was asked runs, as long as nothing was stopped, and one that
 -- needs a server is in a group that has a start; a start that wasn't spawned created no token, and an editor that was asked to take one runs, as long as numerals tell starts apart
 pub record Settled (settings : Settings) (events : List Event) : Type 0 where
   pub spelt : AllByRecursion (λ (x : Kept). AreUtf8 x.key.folders) (groups_of settings events)
@@ -81,7 +82,7 @@ pub record Settled (settings : Settings) (events : List Event) : Type 0 where
   pub unasked : (e : ℕ) → (desk_of e events).phase ≡ New → open_of e events ≡ []
   pub waiting : (e : ℕ) → (desk_of e events).phase ≡ Waiting → IsOnly events e
   pub sent : (e : ℕ) (id : Id) → is_answered (desk_of e events).phase ≡ true → is_open id (open_of e events) ≡ true → IsSent settings events e id
-  pub asks : (s : ℕ) → AllByRecursion (HasSeat settings events s) (asks_of settings s events)
+  pub asks : stopped events ≡ false → (s : ℕ) → AllByRecursion (HasSeat settings events s) (asks_of settings s events)
   pub seated : (e : ℕ) → needs_server (desk_of e events).phase ≡ true → IsSeated settings events e
   pub uncreated : (s : ℕ) → starts_of events ≤ s → created_of settings s events ≡ no_created
   pub takings : starts_of events ≤ 2 ^ 64 → (s : ℕ) → AllByRecursion (HasTaken settings events s) (created_of settings s events).takings

@@ -41,7 +41,7 @@ use Rattle.group_rows.specs.diagnostics_route.specs.Shown.{fits, shown_text}
 use Rattle.group_rows.specs.registrations.specs.declared.registration.Registration.{Registration}
 use Rattle.group_rows.specs.registrations.specs.Items.{again, registered}
 use Rattle.group_words.specs.declared.kept.Kept.{Kept}
-use Rattle.group_words.specs.Houses.{groups_of, home_of}
+use Rattle.group_words.specs.Houses.{groups_of, home_of, stops}
 use Rattle.group_words.specs.Rows.{folders_text}
 use Rattle.group_rows.specs.Answers.{own_version}
 use Rattle.group_rows.specs.AskRows.{current_version, is_edit}
@@ -55,6 +55,7 @@ use Rattle.group_rows.specs.Leaves.{cancel_text}
 use Rattle.group_rows.specs.Lists.{agreement_at, lists_of, sayings_of, version_at}
 use Rattle.group_rows.specs.Live.{is_registering, live_of, register_text, taken_back, unregister_text}
 use Rattle.group_rows.specs.Rows.{sync_bodies}
+use Rattle.group_rows.specs.StopRows.{stopped as is_stopped}
 use Rattle.group_rows.specs.Texts.{texts_of}
 use Rattle.group_rows.specs.Tokens.{forwarded_text, is_told, is_worked, listens, mark_text, marked_text, own_token, reserves, work_mark}
 use Rattle.group_facts.specs.Built.{is_left}
@@ -171,7 +172,7 @@ pub record IsNotice (settings : Settings) (before : List Event) (cause : Cause) 
   pub going : goes_on (class_of method Editor true) ≡ true
   pub ready : (life_of s events).stage ≡ Ready
 
--- the daemon's own `shutdown` to a ready start, which sent nothing and was sent nothing in this entry before: its group ended, for another one (E7) or since it was idle (X7)
+-- the daemon's own `shutdown` to a ready start, which sent nothing and was sent nothing in this entry before: its group ended, for another one (E7), since it was idle (X7), or as all was stopped (E6)
 pub record IsShutting (settings : Settings) (before : List Event) (cause : Cause) (events : List Event) (s : ℕ) (body : List ℕ) : Type 0 where
   pub ready : (life_of s events).stage ≡ Ready
   pub stays : moves before cause s ≡ false
@@ -328,12 +329,26 @@ pub record IsAnswer (events : List Event) (e : ℕ) (body : List ℕ) : Type 0 w
   pub alone : IsAlone events e id
   pub says : message_of body ≡ result (Some id) r
 
--- an error for the `initialize` of an editor that waits: the daemon has too many groups, or the start for which it waits refuses its own
+-- an error for the `initialize` of an editor that waits: the daemon has too many groups, the start for which it waits refuses its own, or all is stopped
 pub record IsTurning (settings : Settings) (before : List Event) (cause : Cause) (events : List Event) (e : ℕ) (body : List ℕ) : Type 0 where
   pub id : Id
   pub x : Json
   pub waiting : IsWaiting events e id
   pub turned : turned_away settings before cause e ≡ true
+  pub says : message_of body ≡ error (Some id) x
+
+-- an error for a request that is open at a start, of an editor that got its result: all is stopped (E6)
+pub record IsLoss (before : List Event) (cause : Cause) (events : List Event) (e : ℕ) (body : List ℕ) : Type 0 where
+  pub editor : ℕ
+  pub asked : List ℕ
+  pub id : Id
+  pub x : Json
+  pub from : cause ≡ FromEditor editor asked
+  pub stop : stops before editor (message_of asked) ≡ true
+  pub over : is_stopped events ≡ true
+  pub there : is_there (desk_of e events).phase ≡ true
+  pub late : is_early (desk_of e events).phase ≡ false
+  pub waits : is_open id (open_of e events) ≡ true
   pub says : message_of body ≡ error (Some id) x
 
 -- a result for it
@@ -574,6 +589,7 @@ pub data WhyToEditor (settings : Settings) (before : List Event) (cause : Cause)
   recalls : IsRecall settings before cause events e body → WhyToEditor settings before cause events e body
   progresses : IsProgress settings before cause events e body → WhyToEditor settings before cause events e body
   shows : IsShown settings before cause events e body → WhyToEditor settings before cause events e body
+  loses : IsLoss before cause events e body → WhyToEditor settings before cause events e body
 
 -- its program is to begin, or gave no result yet
 abbrev pub is_starting : Stage → Bool
@@ -581,7 +597,7 @@ is_starting Spawning = true
 is_starting Initializing = true
 is_starting other = false
 
--- the end of a program: its group ended before it gave a result (E7, X7), or since it refused to (S3), or it was sent `shutdown` (S4, X7)
+-- the end of a program: its group ended before it gave a result (E6, E7, X7), or since it refused to (S3), or it was sent `shutdown` (S4, X7)
 pub data WhyEnd (settings : Settings) (events : List Event) (s : ℕ) : Type 0 where
   starting : is_starting (life_of s events).stage ≡ true → IsDying settings events s → WhyEnd settings events s
   refused : (life_of s events).stage ≡ Initializing → is_left settings events s ≡ true → WhyEnd settings events s

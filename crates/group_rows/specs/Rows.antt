@@ -1,10 +1,10 @@
--- The routing table over several editors and groups, in part: J1, J2, E2 to E5, E7 to E10, E11, E12 to E17, E19, S1, S2 with X4, S3, S4, S5 with V1 and V2, S6 to S12 with V3, S13 to S15, L2, X1 to X3 of groups that live no more, and X5 to X7.
+-- The routing table over several editors and groups, in part: J1, J2, E2 to E10, E11, E12 to E17, E19, S1, S2 with X4, S3, S4, S5 with V1 and V2, S6 to S12 with V3, S13 to S15, L2, X1 to X3 of groups that live no more, and X5 to X7.
 use Rattle.std.specs.Prelude.{ℕ, Bool, true, false, ◌&&◌, ◌||◌, List, [], ◌∷◌, ◌++◌, filter, flat_map, codes, nat_eq, nat_lt, bytes_eq, if◌then◌else◌}
 use Rattle.std.specs.Prelude.{Option, Some, None, slice_get}
 use Rattle.std.specs.List.{list_any}
 use Rattle.std.specs.Option.{option_map_or}
 use Rattle.mux_history.specs.declared.cause.Cause.{Cause}
-use Rattle.mux_history.specs.declared.cause.Cause.TheVariants.{FromEditor, EditorGone, Started, FromServer, Tick}
+use Rattle.mux_history.specs.declared.cause.Cause.TheVariants.{Joined, FromEditor, EditorGone, Started, FromServer, Tick}
 use Rattle.mux_history.specs.declared.out.Out.{Out}
 use Rattle.mux_history.specs.declared.out.Out.TheVariants.{ToEditor, ToServer, CloseEditor, EndServer}
 use Rattle.json_text.specs.Json.{Json}
@@ -45,6 +45,7 @@ use Rattle.group_rows.specs.Forwarded.{forwarding_of}
 use Rattle.group_rows.specs.Leaves.{leave_row}
 use Rattle.group_rows.specs.ListRows.{show_opened}
 use Rattle.group_rows.specs.Status.{items_of, status_text}
+use Rattle.group_rows.specs.StopRows.{joined_row, stop_row}
 use Rattle.group_rows.specs.Texts.{encoding_of, texts_of}
 use Rattle.group_rows.specs.Ticks.{tick_row}
 use Rattle.group_rows.specs.Tokens.{forwarded_text, reserves}
@@ -190,16 +191,16 @@ named_row e body None = answer_error e body invalid_params
 abbrev pub open_row : Settings → List Event → ℕ → List ℕ → Message → Row
 open_row settings before e body m = choose (is_first_open settings.servers before e m) (named_row e body (server_asked settings.servers body)) (answer_error e body invalid_request)
 
--- E4 and E5: a request of the multiplexer's own, in any phase
+-- E4 to E6: a request of the multiplexer's own, in any phase
 abbrev pub names_lspmux : List ℕ → Bool
-names_lspmux method = bytes_eq (codes "lspmux/open") method || bytes_eq (codes "lspmux/status") method
+names_lspmux method = bytes_eq (codes "lspmux/open") method || (bytes_eq (codes "lspmux/status") method || bytes_eq (codes "lspmux/stop") method)
 
 abbrev pub asks_lspmux : Message → Bool
 asks_lspmux (request id method params) = names_lspmux method
 asks_lspmux other = false
 
 abbrev pub lspmux_row : Settings → List Event → ℕ → List ℕ → Message → Row
-lspmux_row settings before e body m = choose (requests (codes "lspmux/open") m) (open_row settings before e body m) (status_row settings before e body)
+lspmux_row settings before e body m = choose (requests (codes "lspmux/open") m) (open_row settings before e body m) (choose (requests (codes "lspmux/stop") m) (stop_row settings before e body) (status_row settings before e body))
 
 abbrev pub told_row : Settings → List Event → ℕ → List ℕ → Message → Phase → Row
 told_row settings before e body m phase = choose (is_there phase && asks_lspmux m) (lspmux_row settings before e body m) (taken_row settings before e body m phase)
@@ -279,8 +280,9 @@ started settings s before other = nothing
 abbrev pub gone_row : Settings → List Event → ℕ → Phase → Row
 gone_row settings before e phase = choose (is_served phase) (leave_row settings before e) nothing
 
--- J1 and X6 give nothing, as each cause without a row of its own does
+-- X6 gives nothing, as each cause without a row of its own does
 abbrev pub row_of : Settings → List Event → Cause → Row
+row_of settings before (Joined e) = joined_row before e
 row_of settings before (FromEditor e body) = from_editor settings before e body (message_of body) (desk_of e before).phase
 row_of settings before (EditorGone e why) = gone_row settings before e (desk_of e before).phase
 row_of settings before (FromServer s body) = from_server settings s before body (message_of body) (life_of s before).stage

@@ -100,12 +100,14 @@ well_formed (request id method ps) h = (refl, own (asks_lspmux (request id metho
     own false k = refl
     own true k = never (sym (named (bytes_eq (codes "lspmux/open") method) (bytes_eq (codes "lspmux/status") method) (bytes_eq (codes "lspmux/stop") method) (bytes_eq (codes "shutdown") method) h k))
       where
-        named : (a b c d : Bool) → not (false || (false || (d || (a || (b || c))))) ≡ true → (a || b) ≡ true → false ≡ true
+        named : (a b c d : Bool) → not (false || (false || (d || (a || (b || c))))) ≡ true → (a || (b || c)) ≡ true → false ≡ true
         named true b c true h k = h
         named true b c false h k = h
         named false true c true h k = h
         named false true c false h k = h
-        named false false c d h k = k
+        named false false true true h k = h
+        named false false true false h k = h
+        named false false false d h k = k
 well_formed (notification method ps) h = (refl, refl)
 well_formed (result id r) h = (refl, refl)
 well_formed (error id r) h = (refl, refl)

@@ -12,7 +12,7 @@ use Rattle.session_laws.specs.ClientRules.{KeepsClient1}
 use Rattle.session_laws.proofs.Client1Law.{Everywhere, closes, ends, spawns, to_editor, to_server, took_it}
 use Rattle.group_facts.proofs.Listens.{listens_there}
 use Rattle.group_facts.specs.Legal.{Legal}
-use Rattle.group_facts.specs.Why.{WhyToEditor, calls, rejects, resumes, refuses, answers, turns_away, welcomes, passes, asks, recalls, shows, spreads, progresses}
+use Rattle.group_facts.specs.Why.{WhyToEditor, calls, rejects, resumes, refuses, answers, turns_away, welcomes, passes, asks, recalls, shows, spreads, progresses, loses}
 use Rattle.group_facts.proofs.RestLaws.{Law, law_holds}
 
 -- each reason of a body to an editor has that it is there
@@ -20,6 +20,7 @@ module _ (settings : Settings) (before : List Event) (cause : Cause) (events : L
   there : WhyToEditor settings before cause events e body → is_there (desk_of e events).phase ≡ true
   there (rejects k) = subst (λ z. is_there (desk_of e z).phase ≡ true) (sym (k.place ∙ ap (with_cause before) k.from)) (there_taken settings before e k.asked k.there)
   there (refuses k) = k.there
+  there (loses k) = k.there
   there (answers k) = k.there
   there (turns_away k) = ap is_there (k.waiting).phase
   there (welcomes k) = ap is_there (k.waiting).phase

@@ -15,7 +15,7 @@ use Rattle.session_laws.specs.ClientRules.{KeepsClient2}
 use Rattle.session_laws.proofs.Client2Law.{Everywhere, asks_editor, more, none_yet, refused, to_editor, took_it}
 use Rattle.group_facts.specs.Legal.{Legal}
 use Rattle.group_rows.specs.Asks.{next_ask}
-use Rattle.group_facts.specs.Why.{WhyToEditor, calls, rejects, resumes, refuses, answers, turns_away, welcomes, passes, asks, recalls, shows, spreads, progresses}
+use Rattle.group_facts.specs.Why.{WhyToEditor, calls, rejects, resumes, refuses, answers, turns_away, welcomes, passes, asks, recalls, shows, spreads, progresses, loses}
 use Rattle.group_facts.proofs.RestLaws.{Law, law_holds}
 
 -- a response with this id
@@ -31,6 +31,7 @@ module _ (settings : Settings) (before : List Event) (cause : Cause) (events : L
   told_it : WhyToEditor settings before cause events e body → Everywhere before → Everywhere events → Everywhere (events ++ said (ToEditor e body) ∷ [])
   told_it (rejects k) h i = subst (λ z. Everywhere (z ++ said (ToEditor e body) ∷ [])) (sym (k.place ∙ ap (with_cause before) k.from)) (refused before e k.asked body k.x k.malformed k.says h)
   told_it (refuses k) h i = to_editor events e body k.id (is_error k.x k.says) k.waits i
+  told_it (loses k) h i = to_editor events e body k.id (is_error k.x k.says) k.waits i
   told_it (answers k) h i = to_editor events e body k.id (is_result k.r k.says) k.waits i
   told_it (turns_away k) h i = to_editor events e body k.id (is_error k.x k.says) (k.waiting).waits i
   told_it (welcomes k) h i = to_editor events e body k.id (is_result k.r k.says) (k.waiting).waits i

@@ -29,7 +29,7 @@ use Rattle.group_rows.specs.Rows.{outs_of}
 use Rattle.group_rows.specs.Tokens.{listens}
 use Rattle.group_facts.specs.Facts.{Asks}
 use Rattle.group_facts.specs.Legal.{Legal}
-use Rattle.group_facts.specs.Why.{IsBeside, WhyToEditor, calls, rejects, resumes, refuses, answers, turns_away, welcomes, passes, asks, recalls, shows, spreads, progresses}
+use Rattle.group_facts.specs.Why.{IsBeside, WhyToEditor, calls, rejects, resumes, refuses, answers, turns_away, welcomes, passes, asks, recalls, shows, spreads, progresses, loses}
 use Rattle.group_facts.proofs.RestLaws.{RestLaw, rest_holds}
 use Rattle.group_rows.proofs.Versions.{AllMeant}
 use Rattle.group_sessions.proofs.Again.{again_rests}
@@ -309,6 +309,7 @@ module _ (events : List Event) (n : ℕ) (body : List ℕ) where
   heard_it : (settings : Settings) (before : List Event) (cause : Cause) → WhyToEditor settings before cause events n body → Here n events → Heard
   heard_it settings before cause (rejects k) h = error_told None k.x k.says h
   heard_it settings before cause (refuses k) h = error_told (Some k.id) k.x k.says h
+  heard_it settings before cause (loses k) h = error_told (Some k.id) k.x k.says h
   heard_it settings before cause (answers k) h = reply_told k.id k.r k.there k.others k.says h
   heard_it settings before cause (turns_away k) h = error_told (Some k.id) k.x k.says h
   heard_it settings before cause (welcomes k) h = welcome_told k.id (k.waiting).params k.r (k.waiting).phase (k.waiting).asks (k.waiting).waits k.says h

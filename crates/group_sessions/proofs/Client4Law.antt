@@ -15,7 +15,7 @@ use Rattle.session_laws.proofs.Client4Law.{free_4, next_counted}
 use Rattle.session_laws.proofs.PartLaws.{either_same, part_tied, same_if}
 use Rattle.group_rows.specs.Asks.{asked_behind, next_ask}
 use Rattle.group_facts.specs.Legal.{Legal}
-use Rattle.group_facts.specs.Why.{WhyToEditor, answers, asks, passes, recalls, refuses, calls, rejects, resumes, shows, spreads, turns_away, welcomes, progresses}
+use Rattle.group_facts.specs.Why.{WhyToEditor, answers, asks, passes, recalls, refuses, calls, rejects, resumes, shows, spreads, turns_away, welcomes, progresses, loses}
 use Rattle.group_sessions.proofs.PartLaws.{EditorRule, editor_history}
 use Rattle.group_sessions.proofs.Server3Law.{response_numbered}
 
@@ -42,6 +42,7 @@ module _ (settings : Settings) (before : List Event) (cause : Cause) (events : L
   numbered : WhyToEditor settings before cause events e body → Numbered (message_of body)
   numbered (rejects k) = subst Numbered (sym k.says) tt
   numbered (refuses k) = subst Numbered (sym k.says) tt
+  numbered (loses k) = subst Numbered (sym k.says) tt
   numbered (answers k) = subst Numbered (sym k.says) tt
   numbered (turns_away k) = subst Numbered (sym k.says) tt
   numbered (welcomes k) = subst Numbered (sym k.says) tt

@@ -16,7 +16,7 @@ use Rattle.session_laws.proofs.Client4Law.{free_5}
 use Rattle.session_laws.proofs.PartLaws.{either_same, part_tied, same_if}
 use Rattle.group_facts.specs.Facts.{asked_of, editor_behind}
 use Rattle.group_facts.specs.Legal.{Legal}
-use Rattle.group_facts.specs.Why.{WhyToEditor, answers, asks, passes, recalls, refuses, calls, rejects, resumes, shows, spreads, turns_away, welcomes, progresses}
+use Rattle.group_facts.specs.Why.{WhyToEditor, answers, asks, passes, recalls, refuses, calls, rejects, resumes, shows, spreads, turns_away, welcomes, progresses, loses}
 use Rattle.group_facts.proofs.Spreads.{list_no_cancel, not_cancel, progress_no_cancel}
 use Rattle.group_sessions.proofs.PartLaws.{EditorRule, editor_history}
 use Rattle.session_laws.proofs.Server6Law.{response_free}
@@ -41,6 +41,7 @@ module _ (settings : Settings) (before : List Event) (cause : Cause) (events : L
   may_go : WhyToEditor settings before cause events e body → May (message_of body)
   may_go (rejects k) = subst May (sym k.says) refl
   may_go (refuses k) = subst May (sym k.says) refl
+  may_go (loses k) = subst May (sym k.says) refl
   may_go (answers k) = subst May (sym k.says) refl
   may_go (turns_away k) = subst May (sym k.says) refl
   may_go (welcomes k) = subst May (sym k.says) refl

@@ -34,11 +34,11 @@ use Rattle.session_laws.proofs.Tokens.{holds_open, names_freely, open_behind, or
 use Rattle.group_rows.specs.Created.{created_mark, created_of, created_text}
 use Rattle.group_rows.specs.Forwarded.{Forwarded, Forwarding, answered_by, forwarding_of}
 use Rattle.group_rows.specs.Rows.{outs_of}
-use Rattle.group_rows.specs.Tokens.{is_mark, is_told, marked_text, own_token, partial_mark, work_mark}
+use Rattle.group_rows.specs.Tokens.{is_mark, is_told, marked_text, own_token, partial_mark, work_mark, listens}
 use Rattle.group_rows.proofs.CreatedTexts.{created_is}
 use Rattle.group_facts.specs.Built.{built_behind}
 use Rattle.group_facts.specs.Legal.{Legal}
-use Rattle.group_facts.specs.Why.{IsNotified, Telling, Why, WhyToEditor, answers, asks, calls, of_held, of_request, of_token, passes, progresses, recalls, refuses, rejects, resumes, shows, spreads, turns_away, welcomes}
+use Rattle.group_facts.specs.Why.{IsNotified, Telling, Why, WhyToEditor, answers, asks, calls, of_held, of_request, of_token, passes, progresses, recalls, refuses, rejects, resumes, shows, spreads, turns_away, welcomes, loses}
 use Rattle.group_facts.proofs.Facts.{Facts}
 use Rattle.group_facts.proofs.Forwards.{forwarding_more}
 use Rattle.group_facts.proofs.Known.{Here, facts_hold, here_did, here_took}
@@ -49,6 +49,13 @@ use Rattle.group_sessions.proofs.Marked.{Marked, id_bare, marked}
 use Rattle.group_sessions.proofs.Telling.{AllTold, HasToken, IsTold, Ties, outs_back, ties_free, ties_told, ties_took, unfiltered}
 use Rattle.group_sessions.proofs.TellingSent.{ties_sent}
 use Rattle.group_sessions.proofs.Walk.{walk}
+use Rattle.group_rows.specs.StopRows.{stopped}
+use Rattle.group_facts.proofs.Quits.{not_stopped, stopped_back, stopped_more}
+use Rattle.group_facts.proofs.StopEntry.{stopped_outs}
+use Rattle.group_facts.proofs.Apart.{find_true}
+use Rattle.group_facts.proofs.Listens.{listens_there}
+use Rattle.event_model.specs.Phases.{desk_of, is_there}
+use Rattle.std.proofs.lemmas.Bool.{and_parts}
 
 -- What is told
 
@@ -91,7 +98,7 @@ module _ (settings : Settings) (range : InRange settings) (before : List Event) 
     here : Here settings before cause events
     outs : List Out
     place : events ≡ behind (with_cause before cause) outs
-    ties : Ties events
+    ties : stopped events ≡ false → Ties events
     rules : (e : ℕ) → Always ClientRule6 (editor_part e events)
 
   module _ (events : List Event) (n : ℕ) (body : List ℕ) (at : At events) where
@@ -107,11 +114,11 @@ module _ (settings : Settings) (range : InRange settings) (before : List Event) 
         (or_second (not (bytes_eq method (codes "$/progress"))) (is_one (token_at (codes "token") m.params) tokens) (ap (λ o. is_one o tokens) m.names ∙ there)))
 
     -- a request that was open when its start told of it is kept with its tokens
-    kept : (s : ℕ) (asked : List ℕ) (given : Option Json) → IsNotified before cause s asked given → AllTold events (forwarding_of s before).open_requests
-    kept s asked given k = unfiltered events (forwarding_of s before).open_requests (subst (AllTold events) moved (subst (λ c. AllTold events (forwarding_of s (with_cause before c)).open_requests) k.from first))
+    kept : (s : ℕ) (asked : List ℕ) (given : Option Json) → IsNotified before cause s asked given → stopped events ≡ false → AllTold events (forwarding_of s before).open_requests
+    kept s asked given k on = unfiltered events (forwarding_of s before).open_requests (subst (AllTold events) moved (subst (λ c. AllTold events (forwarding_of s (with_cause before c)).open_requests) k.from first))
       where
         first : AllTold events (forwarding_of s (with_cause before cause)).open_requests
-        first = outs_back events s (with_cause before cause) at.outs (subst (λ z. AllTold events (forwarding_of s z).open_requests) at.place (at.ties s))
+        first = outs_back events s (with_cause before cause) at.outs (subst (λ z. AllTold events (forwarding_of s z).open_requests) at.place (at.ties on s))
 
         moved : (forwarding_of s (with_cause before (FromServer s asked))).open_requests ≡ filter (λ f. not (answered_by None f)) (forwarding_of s before).open_requests
         moved = ap (λ (x : Forwarding). x.open_requests) (forwarding_more s before (heard (FromServer s asked)))
@@ -131,7 +138,13 @@ module _ (settings : Settings) (range : InRange settings) (before : List Event) 
 
     telling : (told : Telling settings before cause events n body) → Hears settings before cause events n body told → May (message_of body)
     telling (of_request s asked given request token k found own editor bytes) h =
-        of_editor asked k.method given request token k.asks (found_is (IsTold events) (is_told before (named_of (codes "token") given)) request (forwarding_of s before).open_requests (kept s asked given k) found) own editor bytes
+        of_editor asked k.method given request token k.asks (found_is (IsTold events) (is_told before (named_of (codes "token") given)) request (forwarding_of s before).open_requests (kept s asked given k goes) found) own editor bytes
+      where
+        there : is_there (desk_of request.editor before).phase ≡ true
+        there = listens_there (desk_of request.editor before).phase (and_parts (is_some (own_token (named_of (codes "token") given) request)) (listens (desk_of request.editor before).phase) (find_true (is_told before (named_of (codes "token") given)) (forwarding_of s before).open_requests request found)).1
+
+        goes : stopped events ≡ false
+        goes = ap stopped at.place ∙ (stopped_outs (with_cause before cause) at.outs ∙ (ap (λ c. stopped (with_cause before c)) k.from ∙ (stopped_more before (heard (FromServer s asked)) ∙ not_stopped before facts.quit request.editor there)))
     telling (of_token s asked given token k called takes bytes) h =
         may_tell (text (created_mark s token.number)) (created_text s token.number) asked k.method
         (marked (text (created_mark s token.number)) (created_text s token.number) asked k.method given (created_id s token.number) k.asks (called_some (named_of (codes "token") given) (created_of settings s before) token called)) bytes
@@ -144,6 +157,7 @@ module _ (settings : Settings) (range : InRange settings) (before : List Event) 
     may_go : WhyToEditor settings before cause events n body → Heard settings before cause events (ToEditor n body) → May (message_of body)
     may_go (rejects k) h = subst May (sym k.says) refl
     may_go (refuses k) h = subst May (sym k.says) refl
+    may_go (loses k) h = subst May (sym k.says) refl
     may_go (answers k) h = subst May (sym k.says) refl
     may_go (turns_away k) h = subst May (sym k.says) refl
     may_go (welcomes k) h = subst May (sym k.says) refl
@@ -162,7 +176,7 @@ module _ (settings : Settings) (range : InRange settings) (before : List Event) 
   free : (events : List Event) (event : Event) → is_body event ≡ false → ((e : ℕ) → Always ClientRule6 (editor_part e events)) → (e : ℕ) → Always ClientRule6 (editor_part e (events ++ event ∷ []))
   free events event off h e = rule_more ClientRule6 (is_of_editor e) events event (h e) (λ same. free_6 (editor_part e events) event off)
 
-  more : (events : List Event) (out : Out) → Why settings before cause events out → At events → Ties (events ++ said out ∷ []) → ((e : ℕ) → Always ClientRule6 (editor_part e (events ++ said out ∷ []))) → At (events ++ said out ∷ [])
+  more : (events : List Event) (out : Out) → Why settings before cause events out → At events → (stopped (events ++ said out ∷ []) ≡ false → Ties (events ++ said out ∷ [])) → ((e : ℕ) → Always ClientRule6 (editor_part e (events ++ said out ∷ []))) → At (events ++ said out ∷ [])
   more events out why i ties rules = record {
     here = here_did settings range before cause facts built events out why i.here;
     outs = i.outs ++ out ∷ [];
@@ -172,12 +186,12 @@ module _ (settings : Settings) (range : InRange settings) (before : List Event) 
   }
 
   step : (events : List Event) (out : Out) → Both events out → At events → At (events ++ said out ∷ [])
-  step events (ToEditor n body) why i = more events (ToEditor n body) why.0 i (ties_told settings before cause events n body (((i.here).mid).steady).asked why.0 i.ties)
+  step events (ToEditor n body) why i = more events (ToEditor n body) why.0 i (λ on. let off : stopped events ≡ false = stopped_back events (said (ToEditor n body)) on in ties_told settings before cause events n body off ((((i.here).mid).steady).asked off) why.0 (i.ties off))
       (λ e. rule_more ClientRule6 (is_of_editor e) events (said (ToEditor n body)) (i.rules e) (λ same. subst (λ k. ClientRule6 (editor_part k events) (said (ToEditor n body))) (number_same n e same) (may_go events n body i why.0 why.1)))
-  step events (ToServer n body) why i = more events (ToServer n body) why.0 i (ties_sent settings before cause events n body why.0 i.ties) (free events (said (ToServer n body)) refl i.rules)
-  step events (Spawn n g) why i = more events (Spawn n g) why.0 i (ties_free events (Spawn n g) refl (λ s. refl) i.ties) (free events (said (Spawn n g)) refl i.rules)
-  step events (CloseEditor e) why i = more events (CloseEditor e) why.0 i (ties_free events (CloseEditor e) refl (λ s. refl) i.ties) (free events (said (CloseEditor e)) refl i.rules)
-  step events (EndServer n) why i = more events (EndServer n) why.0 i (ties_free events (EndServer n) refl (λ s. refl) i.ties) (free events (said (EndServer n)) refl i.rules)
+  step events (ToServer n body) why i = more events (ToServer n body) why.0 i (λ on. ties_sent settings before cause events n body why.0 (i.ties (stopped_back events (said (ToServer n body)) on))) (free events (said (ToServer n body)) refl i.rules)
+  step events (Spawn n g) why i = more events (Spawn n g) why.0 i (λ on. ties_free events (Spawn n g) refl (λ s. refl) (i.ties (stopped_back events (said (Spawn n g)) on))) (free events (said (Spawn n g)) refl i.rules)
+  step events (CloseEditor e) why i = more events (CloseEditor e) why.0 i (λ on. ties_free events (CloseEditor e) refl (λ s. refl) (i.ties (stopped_back events (said (CloseEditor e)) on))) (free events (said (CloseEditor e)) refl i.rules)
+  step events (EndServer n) why i = more events (EndServer n) why.0 i (λ on. ties_free events (EndServer n) refl (λ s. refl) (i.ties (stopped_back events (said (EndServer n)) on))) (free events (said (EndServer n)) refl i.rules)
 
   both : (events : List Event) (outs : List Out) → Reasons (Why settings before cause) events outs → Reasons (Heard settings before cause) events outs → Reasons Both events outs
   both events [] r h = tt
@@ -189,7 +203,7 @@ module _ (settings : Settings) (range : InRange settings) (before : List Event) 
 
 -- Between entries
 record Rests (events : List Event) : Type 0 where
-  ties : Ties events
+  ties : stopped events ≡ false → Ties events
   rules : (e : ℕ) → Always ClientRule6 (editor_part e events)
 
 -- where what editors are told of created tokens is as it should be
@@ -206,10 +220,10 @@ module _ (settings : Settings) (range : InRange settings) (all_heard : AllHeard 
         here = here_took settings range (events_of before) cause fits built facts;
         outs = [];
         place = sym (behind_nothing now);
-        ties = ties_took (events_of before) cause h.ties;
+        ties = λ on. ties_took (events_of before) cause (h.ties (stopped_back (events_of before) (heard cause) on));
         rules = rules_took settings range (events_of before) facts cause built cause h.rules;
       }) in
       record { ties = last.ties; rules = last.rules }
 
   pub client_6_law : (history : List Entry) → Legal settings history → KeepsClient6 history
-  client_6_law history legal = (walk settings Rests entry (record { ties = λ s. tt; rules = λ e. tt }) history legal).rules
+  client_6_law history legal = (walk settings Rests entry (record { ties = λ on s. tt; rules = λ e. tt }) history legal).rules

@@ -33,7 +33,7 @@ use Rattle.group_rows.specs.Live.{is_registering}
 use Rattle.group_rows.specs.Rows.{outs_of}
 use Rattle.group_facts.specs.Built.{built_behind}
 use Rattle.group_facts.specs.Legal.{Legal}
-use Rattle.group_facts.specs.Why.{Why, WhyToEditor, answers, asks, asks_something, calls, passes, progresses, recalls, refuses, rejects, resumes, shows, spreads, turns_away, welcomes}
+use Rattle.group_facts.specs.Why.{Why, WhyToEditor, answers, asks, asks_something, calls, passes, progresses, recalls, refuses, rejects, resumes, shows, spreads, turns_away, welcomes, loses}
 use Rattle.group_facts.proofs.AskSeats.{asks_more, did_all, took_all}
 use Rattle.group_facts.proofs.Asks.{call_hurried, is_question, listed, registering_made, response_asks_none, resumed_here, resumed_off, taken}
 use Rattle.group_facts.proofs.Known.{facts_hold}
@@ -255,6 +255,7 @@ module _ (settings : Settings) (before : List Event) (cause : Cause) where
     told_plain (calls k) s h = asks_more settings (IsPlain later) s events (said (ToEditor n body)) _ (ap (λ (x : Asking). x.asks) (registering_made settings events n body before cause k s)) (still_plain s h)
     told_plain (rejects k) s h = did_all settings (IsPlain later) s events (ToEditor n body) (ap is_question k.says) (still_plain s h)
     told_plain (refuses k) s h = did_all settings (IsPlain later) s events (ToEditor n body) (ap is_question k.says) (still_plain s h)
+    told_plain (loses k) s h = did_all settings (IsPlain later) s events (ToEditor n body) (ap is_question k.says) (still_plain s h)
     told_plain (answers k) s h = did_all settings (IsPlain later) s events (ToEditor n body) (ap is_question k.says) (still_plain s h)
     told_plain (turns_away k) s h = did_all settings (IsPlain later) s events (ToEditor n body) (ap is_question k.says) (still_plain s h)
     told_plain (welcomes k) s h = did_all settings (IsPlain later) s events (ToEditor n body) (ap is_question k.says) (still_plain s h)
@@ -279,6 +280,7 @@ module _ (settings : Settings) (before : List Event) (cause : Cause) where
     room (calls k) is = k.room
     room (rejects k) is = never (sym is ∙ ap asks_something k.says)
     room (refuses k) is = never (sym is ∙ ap asks_something k.says)
+    room (loses k) is = never (sym is ∙ ap asks_something k.says)
     room (answers k) is = never (sym is ∙ ap asks_something k.says)
     room (turns_away k) is = never (sym is ∙ ap asks_something k.says)
     room (welcomes k) is = never (sym is ∙ ap asks_something k.says)

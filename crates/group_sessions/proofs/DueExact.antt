@@ -36,7 +36,7 @@ use Rattle.group_rows.specs.Forwarded.{Forwarded, forwarding_of, names as names_
 use Rattle.group_rows.specs.Rows.{from_editor, from_server, outs_of}
 use Rattle.group_rows.specs.Tokens.{is_mark, is_told, listens, mark, marked_text, own_token, partial_mark, tell_progress, work_mark}
 use Rattle.group_facts.specs.Settled.{HasTaken, RunsAt, Settled}
-use Rattle.group_facts.specs.Why.{IsNotified, IsTaken, Showing, Why, WhyToEditor, answers, asks, begins_by, calls, comes, opened_by, passes, progresses, recalls, refuses, rejects, resumes, shows, spreads, turns_away, welcomes}
+use Rattle.group_facts.specs.Why.{IsNotified, IsTaken, Showing, Why, WhyToEditor, answers, asks, begins_by, calls, comes, opened_by, passes, progresses, recalls, refuses, rejects, resumes, shows, spreads, turns_away, welcomes, loses}
 use Rattle.group_facts.proofs.Facts.{Facts}
 use Rattle.group_sessions.proofs.Accepted.{NamesToken}
 use Rattle.group_sessions.proofs.Client6Law.{created_id}
@@ -222,6 +222,7 @@ module _ (settings : Settings) (before : List Event) (facts : Facts settings bef
     progress_of events out (recalls w) method params says = absurd (let clash : FromEditor e body ≡ FromServer w.start w.asked = (w.source).from in cc)
     progress_of events out (rejects w) method params says = absurd (let clash : notification method params ≡ error None w.x = sym says ∙ w.says in cc)
     progress_of events out (refuses w) method params says = absurd (let clash : notification method params ≡ error (Some w.id) w.x = sym says ∙ w.says in cc)
+    progress_of events out (loses w) method params says = absurd (let clash : notification method params ≡ error (Some w.id) w.x = sym says ∙ w.says in cc)
     progress_of events out (answers w) method params says = absurd (let clash : notification method params ≡ result (Some w.id) w.r = sym says ∙ w.says in cc)
     progress_of events out (turns_away w) method params says = absurd (let clash : notification method params ≡ error (Some w.id) w.x = sym says ∙ w.says in cc)
     progress_of events out (welcomes w) method params says = absurd (let clash : notification method params ≡ result (Some w.id) w.r = sym says ∙ w.says in cc)

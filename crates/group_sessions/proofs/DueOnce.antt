@@ -48,7 +48,7 @@ use Rattle.group_rows.proofs.LiveTexts.{again_written, live_written, register_sa
 use Rattle.group_facts.specs.Built.{built_behind}
 use Rattle.group_facts.specs.Facts.{IsParked}
 use Rattle.group_facts.specs.Settled.{Settled}
-use Rattle.group_facts.specs.Why.{Calling, IsCall, IsChange, IsRestoring, Why, WhyToEditor, answers, asks, asks_something, calls, creates, displaces, enrols, passes, progresses, recalls, refuses, rejects, releases, restores, resumes, revives, shows, spreads, turns_away, welcomes}
+use Rattle.group_facts.specs.Why.{Calling, IsCall, IsChange, IsRestoring, Why, WhyToEditor, answers, asks, asks_something, calls, creates, displaces, enrols, passes, progresses, recalls, refuses, rejects, releases, restores, resumes, revives, shows, spreads, turns_away, welcomes, loses}
 use Rattle.group_facts.proofs.Asks.{is_question, response_asks_none}
 use Rattle.group_facts.proofs.Begun.{all_outs, leave_by}
 use Rattle.group_facts.proofs.Facts.{Facts}
@@ -111,12 +111,14 @@ well_formed (request id method ps) h = (refl, own (asks_lspmux (request id metho
     own false k = refl
     own true k = never (sym (named (bytes_eq (codes "lspmux/open") method) (bytes_eq (codes "lspmux/status") method) (bytes_eq (codes "lspmux/stop") method) (bytes_eq (codes "shutdown") method) h k))
       where
-        named : (a b c d : Bool) → not (false || (false || (d || (a || (b || c))))) ≡ true → (a || b) ≡ true → false ≡ true
+        named : (a b c d : Bool) → not (false || (false || (d || (a || (b || c))))) ≡ true → (a || (b || c)) ≡ true → false ≡ true
         named true b c true h k = h
         named true b c false h k = h
         named false true c true h k = h
         named false true c false h k = h
-        named false false c d h k = k
+        named false false true true h k = h
+        named false false true false h k = h
+        named false false false d h k = k
 well_formed (notification method ps) h = (refl, refl)
 well_formed (result id r) h = (refl, refl)
 well_formed (error id r) h = (refl, refl)
@@ -271,6 +273,7 @@ module _ (settings : Settings) (range : InRange settings) (before : List Event) 
   origin events n body (resumes w) a = never (sym (asking_makes events n body a) ∙ (ap makes w.says ∙ off_creating w.method w.patient))
   origin events n body (rejects w) a = never (sym (asking_makes events n body a) ∙ ap makes w.says)
   origin events n body (refuses w) a = never (sym (asking_makes events n body a) ∙ ap makes w.says)
+  origin events n body (loses w) a = never (sym (asking_makes events n body a) ∙ ap makes w.says)
   origin events n body (answers w) a = never (sym (asking_makes events n body a) ∙ ap makes w.says)
   origin events n body (turns_away w) a = never (sym (asking_makes events n body a) ∙ ap makes w.says)
   origin events n body (welcomes w) a = never (sym (asking_makes events n body a) ∙ ap makes w.says)
@@ -287,6 +290,7 @@ module _ (settings : Settings) (range : InRange settings) (before : List Event) 
   asked_runs events n body (resumes w) a = never (sym (asking_makes events n body a) ∙ (ap makes w.says ∙ off_creating w.method w.patient))
   asked_runs events n body (rejects w) a = never (sym (asking_makes events n body a) ∙ ap makes w.says)
   asked_runs events n body (refuses w) a = never (sym (asking_makes events n body a) ∙ ap makes w.says)
+  asked_runs events n body (loses w) a = never (sym (asking_makes events n body a) ∙ ap makes w.says)
   asked_runs events n body (answers w) a = never (sym (asking_makes events n body a) ∙ ap makes w.says)
   asked_runs events n body (turns_away w) a = never (sym (asking_makes events n body a) ∙ ap makes w.says)
   asked_runs events n body (welcomes w) a = never (sym (asking_makes events n body a) ∙ ap makes w.says)

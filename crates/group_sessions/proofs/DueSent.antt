@@ -26,7 +26,7 @@ use Rattle.group_rows.specs.Created.{Created, Taking, Token, created_mark, creat
 use Rattle.group_rows.specs.Forwarded.{forwarding_of}
 use Rattle.group_rows.specs.Tokens.{is_told, marked_text}
 use Rattle.group_facts.specs.Settled.{Settled}
-use Rattle.group_facts.specs.Why.{IsNotified, IsTaken, Telling, Why, WhyToEditor, answers, asks, calls, of_held, of_request, of_token, passes, progresses, recalls, refuses, rejects, resumes, shows, spreads, turns_away, welcomes}
+use Rattle.group_facts.specs.Why.{IsNotified, IsTaken, Telling, Why, WhyToEditor, answers, asks, calls, of_held, of_request, of_token, passes, progresses, recalls, refuses, rejects, resumes, shows, spreads, turns_away, welcomes, loses}
 use Rattle.group_facts.proofs.Facts.{Facts}
 use Rattle.group_facts.proofs.Marks.{mark_number, mark_start}
 use Rattle.group_sessions.proofs.Accepted.{NamesToken}
@@ -248,6 +248,7 @@ module _ (settings : Settings) (before : List Event) (facts : Facts settings bef
   source events body (progresses w) h = by_telling events body w.told h
   source events body (rejects w) h = never (sym h ∙ ap (names_mark s k) w.says)
   source events body (refuses w) h = never (sym h ∙ ap (names_mark s k) w.says)
+  source events body (loses w) h = never (sym h ∙ ap (names_mark s k) w.says)
   source events body (answers w) h = never (sym h ∙ ap (names_mark s k) w.says)
   source events body (turns_away w) h = never (sym h ∙ ap (names_mark s k) w.says)
   source events body (welcomes w) h = never (sym h ∙ ap (names_mark s k) w.says)

@@ -15,7 +15,7 @@ use Rattle.mux_facts.specs.Allowed.{is_response}
 use Rattle.mux_facts.proofs.Reasons.{Because, Reasons}
 use Rattle.mux_facts.proofs.Words.{number_same}
 use Rattle.group_rows.specs.Lists.{is_publishing, names_list}
-use Rattle.group_facts.specs.Why.{IsShown, Why, WhyToEditor, answers, asks, calls, passes, progresses, recalls, refuses, rejects, resumes, shows, spreads, turns_away, welcomes}
+use Rattle.group_facts.specs.Why.{IsShown, Why, WhyToEditor, answers, asks, calls, passes, progresses, recalls, refuses, rejects, resumes, shows, spreads, turns_away, welcomes, loses}
 use Rattle.group_facts.proofs.Begun.{all_outs}
 use Rattle.group_sessions.proofs.DueWords.{flat_join}
 use Rattle.group_sessions.proofs.Tied.{all_back, runs_on}
@@ -63,6 +63,7 @@ module _ (settings : Settings) (before : List Event) (cause : Cause) where
   plain_or : (events : List Event) (n : ℕ) (body : List ℕ) → WhyToEditor settings before cause events n body → (gives_list (message_of body) ≡ false) ⊎ IsShown settings before cause events n body
   plain_or events n body (rejects k) = inl (ap gives_list k.says)
   plain_or events n body (refuses k) = inl (ap gives_list k.says)
+  plain_or events n body (loses k) = inl (ap gives_list k.says)
   plain_or events n body (answers k) = inl (ap gives_list k.says)
   plain_or events n body (turns_away k) = inl (ap gives_list k.says)
   plain_or events n body (welcomes k) = inl (ap gives_list k.says)

@@ -28,7 +28,7 @@ use Rattle.session_laws.proofs.Client7Law.{free_7}
 use Rattle.group_rows.specs.Live.{changes_live, is_registering}
 use Rattle.group_rows.specs.Rows.{outs_of}
 use Rattle.group_facts.specs.Built.{built_behind}
-use Rattle.group_facts.specs.Why.{progresses, IsAsk, IsChange, IsResumed, Calling, Why, WhyToEditor, answers, asks, displaces, enrols, passes, recalls, refuses, calls, rejects, releases, restores, creates, revives, resumes, shows, spreads, turns_away, welcomes}
+use Rattle.group_facts.specs.Why.{progresses, IsAsk, IsChange, IsResumed, Calling, Why, WhyToEditor, answers, asks, displaces, enrols, passes, recalls, refuses, calls, rejects, releases, restores, creates, revives, resumes, shows, spreads, turns_away, welcomes, loses}
 use Rattle.group_facts.proofs.Asks.{call_hurried}
 use Rattle.group_facts.proofs.Facts.{Facts}
 use Rattle.group_facts.proofs.Table.{reasons}
@@ -139,6 +139,7 @@ module _ (settings : Settings) (before : List Event) (cause : Cause) (same : is_
     plain : WhyToEditor settings before cause events n body → is_about (message_of body) ≡ false
     plain (rejects k) = ap is_about k.says
     plain (refuses k) = ap is_about k.says
+    plain (loses k) = ap is_about k.says
     plain (answers k) = ap is_about k.says
     plain (turns_away k) = ap is_about k.says
     plain (welcomes k) = ap is_about k.says

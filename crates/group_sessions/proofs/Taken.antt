@@ -39,7 +39,7 @@ use Rattle.group_facts.specs.Built.{built_behind}
 use Rattle.group_facts.specs.Facts.{shuts}
 use Rattle.group_facts.specs.Legal.{Legal}
 use Rattle.group_facts.specs.Settled.{Settled}
-use Rattle.group_facts.specs.Why.{IsNotified, IsTaken, Telling, Why, WhyToEditor, answers, asks, calls, of_held, of_request, of_token, passes, progresses, recalls, refuses, rejects, resumes, shows, spreads, turns_away, welcomes}
+use Rattle.group_facts.specs.Why.{IsNotified, IsTaken, Telling, Why, WhyToEditor, answers, asks, calls, of_held, of_request, of_token, passes, progresses, recalls, refuses, rejects, resumes, shows, spreads, turns_away, welcomes, loses}
 use Rattle.group_facts.proofs.Facts.{Facts}
 use Rattle.group_facts.proofs.Known.{Here, facts_hold, here_did, here_took}
 use Rattle.group_facts.proofs.OneStart.{OneStart}
@@ -162,6 +162,7 @@ is_request other = false
 asked_ran : (settings : Settings) (before : List Event) (cause : Cause) (events : List Event) (n : ℕ) (body : List ℕ) → WhyToEditor settings before cause events n body → is_request (message_of body) ≡ true → HasRun events n
 asked_ran settings before cause events n body (rejects k) is = never (sym is ∙ ap is_request k.says)
 asked_ran settings before cause events n body (refuses k) is = never (sym is ∙ ap is_request k.says)
+asked_ran settings before cause events n body (loses k) is = never (sym is ∙ ap is_request k.says)
 asked_ran settings before cause events n body (answers k) is = never (sym is ∙ ap is_request k.says)
 asked_ran settings before cause events n body (turns_away k) is = never (sym is ∙ ap is_request k.says)
 asked_ran settings before cause events n body (welcomes k) is = never (sym is ∙ ap is_request k.says)
@@ -358,6 +359,7 @@ module _ (settings : Settings) (range : InRange settings) (before : List Event) 
     tied_now : WhyToEditor settings before cause events n body → KnownOut settings before cause events (ToEditor n body) → Tied Stands settings sent
     tied_now (rejects k) known = tied_response Stands settings events n body (ap is_response k.says) i.tied
     tied_now (refuses k) known = tied_response Stands settings events n body (ap is_response k.says) i.tied
+    tied_now (loses k) known = tied_response Stands settings events n body (ap is_response k.says) i.tied
     tied_now (answers k) known = tied_response Stands settings events n body (ap is_response k.says) i.tied
     tied_now (turns_away k) known = tied_response Stands settings events n body (ap is_response k.says) i.tied
     tied_now (welcomes k) known = tied_response Stands settings events n body (ap is_response k.says) i.tied

@@ -22,9 +22,10 @@ use Rattle.session_laws.proofs.Client6Law.{tokened, tokened_grows, tokened_left}
 use Rattle.session_laws.proofs.Tokens.{holds}
 use Rattle.group_rows.specs.Forwarded.{Forwarded, Forwarding, answered_by, cancelled_by, forwarding_behind, forwarding_of, forwards, is_written, no_forwarding, numbered}
 use Rattle.group_facts.specs.Facts.{AllForwarded, IsAlone, is_early}
-use Rattle.group_facts.specs.Why.{WhyToEditor, answers, asks, calls, passes, progresses, recalls, refuses, rejects, resumes, shows, spreads, turns_away, welcomes}
+use Rattle.group_facts.specs.Why.{WhyToEditor, answers, asks, calls, passes, progresses, recalls, refuses, rejects, resumes, shows, spreads, turns_away, welcomes, loses}
 use Rattle.group_facts.proofs.Apart.{alone_early}
 use Rattle.group_facts.proofs.Forwards.{forwarding_more, zip_all}
+use Rattle.group_rows.specs.StopRows.{stopped}
 
 -- a token of this text is one of an open request under this id
 pub record HasToken (e : ℕ) (id : Id) (events : List Event) (bytes : List ℕ) : Type 0 where
@@ -204,20 +205,21 @@ module _ (settings : Settings) (before : List Event) (cause : Cause) (events : L
   one : (id : Id) → answered_id (message_of body) ≡ Some id → IsAlone events n id → Alone
   one id at alone i h = subst (IsAlone events n) (some_same id i (sym at ∙ h)) alone
 
-  pub alone_answered : AllForwarded events → WhyToEditor settings before cause events n body → Alone
-  alone_answered asked (rejects k) = none (ap answered_id k.says)
-  alone_answered asked (refuses k) = one k.id (ap answered_id k.says) k.alone
-  alone_answered asked (answers k) = one k.id (ap answered_id k.says) k.alone
-  alone_answered asked (turns_away k) = one k.id (ap answered_id k.says) (alone_early events asked n k.id (ap is_early (k.waiting).phase))
-  alone_answered asked (welcomes k) = one k.id (ap answered_id k.says) (alone_early events asked n k.id (ap is_early (k.waiting).phase))
-  alone_answered asked (passes k) = one k.id k.answers k.alone
-  alone_answered asked (asks k) = none (ap answered_id k.says)
-  alone_answered asked (resumes k) = none (ap answered_id k.says)
-  alone_answered asked (calls k) = none (ap answered_id k.says)
-  alone_answered asked (spreads k) = none (ap answered_id k.says)
-  alone_answered asked (recalls k) = none (ap answered_id k.says)
-  alone_answered asked (progresses k) = none (ap answered_id k.says)
-  alone_answered asked (shows k) = none (ap answered_id k.says)
+  pub alone_answered : stopped events ≡ false → AllForwarded events → WhyToEditor settings before cause events n body → Alone
+  alone_answered on asked (rejects k) = none (ap answered_id k.says)
+  alone_answered on asked (refuses k) = one k.id (ap answered_id k.says) k.alone
+  alone_answered on asked (answers k) = one k.id (ap answered_id k.says) k.alone
+  alone_answered on asked (turns_away k) = one k.id (ap answered_id k.says) (alone_early events asked n k.id (ap is_early (k.waiting).phase))
+  alone_answered on asked (welcomes k) = one k.id (ap answered_id k.says) (alone_early events asked n k.id (ap is_early (k.waiting).phase))
+  alone_answered on asked (passes k) = one k.id k.answers k.alone
+  alone_answered on asked (asks k) = none (ap answered_id k.says)
+  alone_answered on asked (resumes k) = none (ap answered_id k.says)
+  alone_answered on asked (calls k) = none (ap answered_id k.says)
+  alone_answered on asked (spreads k) = none (ap answered_id k.says)
+  alone_answered on asked (recalls k) = none (ap answered_id k.says)
+  alone_answered on asked (progresses k) = none (ap answered_id k.says)
+  alone_answered on asked (shows k) = none (ap answered_id k.says)
+  alone_answered on asked (loses k) = never (sym k.over ∙ on)
 
   abbrev sent : List Event
   sent = events ++ said (ToEditor n body) ∷ []
@@ -240,6 +242,6 @@ module _ (settings : Settings) (before : List Event) (cause : Cause) (events : L
           go true e = absurd (apart i is (sym (number_same n f.editor same)) (subst (λ z. IsIdText z f.id) (sym (id_same i h.id e)) h.is))
           go false e = refl
 
-  pub ties_told : AllForwarded events → WhyToEditor settings before cause events n body → Ties events → Ties sent
-  ties_told asked why h = ties_by events sent (said (ToEditor n body)) refl
-      (λ s. zip_all (IsTold events) (λ (f : Forwarded). (i : Id) → answered_id (message_of body) ≡ Some i → f.editor ≡ n → IsIdText i f.id → ⊥) (IsTold sent) told_one (forwarding_of s events).open_requests (h s) (apart_all (alone_answered asked why) s))
+  pub ties_told : stopped events ≡ false → AllForwarded events → WhyToEditor settings before cause events n body → Ties events → Ties sent
+  ties_told on asked why h = ties_by events sent (said (ToEditor n body)) refl
+      (λ s. zip_all (IsTold events) (λ (f : Forwarded). (i : Id) → answered_id (message_of body) ≡ Some i → f.editor ≡ n → IsIdText i f.id → ⊥) (IsTold sent) told_one (forwarding_of s events).open_requests (h s) (apart_all (alone_answered on asked why) s))

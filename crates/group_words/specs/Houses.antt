@@ -153,9 +153,9 @@ abbrev pub is_doubled : List Event → ℕ → Message → Bool
 is_doubled before e (request id method params) = is_open id (open_of e before)
 is_doubled before e other = false
 
--- E6: the message stops all
+-- E6: the message stops all, unless its id is open (E3)
 abbrev pub stops : List Event → ℕ → Message → Bool
-stops before e m = requests (codes "lspmux/stop") m && (is_there (desk_of e before).phase && not (is_doubled before e m))
+stops before e m = requests (codes "lspmux/stop") m && (is_there (desk_of e before).phase && not (is_begun (desk_of e before).phase && is_doubled before e m))
 
 abbrev pub placed_for : Settings → List Event → ℕ → List ℕ → List Kept → Placed
 placed_for settings before e body groups = placed_in settings.limits.groups (key_for settings before e body) (declared_for settings before e body) groups

@@ -46,7 +46,7 @@ fn is_standard(message: &Message) -> bool
     is_standard_class(class_in(message))
 }
 
-// E4 and E5: whether a request is the multiplexer's own.
+// E4 to E6: whether a request is the multiplexer's own.
 fn names_lspmux(message: &Message) -> bool
     ensures { (body method : List ℕ) (id : Id) (params : Option Json) → IsRead message.now body → message_of body ≡ request id method params
         → result ≡ names_lspmux method }
@@ -54,7 +54,7 @@ fn names_lspmux(message: &Message) -> bool
     asks_lspmux(message)
 }
 
-// E3 to E5 and E7 to E10: whether a request of an editor is built.
+// E3 to E10: whether a request of an editor is built.
 fn built_request(message: &Message) -> bool
     ensures { (body method : List ℕ) (id : Id) (params : Option Json) → IsRead message.now body → message_of body ≡ request id method params
         → result ≡ built_request method }

@@ -13,7 +13,7 @@ use Rattle.event_model.specs.declared.settings.Server.{Server}
 use Rattle.event_model.specs.declared.phase.Phase.{Phase}
 use Rattle.event_model.specs.declared.phase.Phase.TheVariants.{Absent, New, Waiting, Answered, Running, Down, Closed, Gone}
 use Rattle.event_model.specs.Event.{Event, heard, notifies, requests, with_cause}
-use Rattle.event_model.specs.Phases.{Desk, desk_behind, desk_hears, desk_of, is_malformed, is_new, is_served, is_there}
+use Rattle.event_model.specs.Phases.{Desk, desk_behind, desk_hears, desk_of, is_begun, is_malformed, is_new, is_served, is_there}
 use Rattle.event_model.proofs.Frames.{one_more}
 use Rattle.mux_turns.specs.group_facts.specs.Facts.{is_early}
 use Rattle.group_words.specs.Houses.{is_doubled, is_first_open, meant_of, places, stops}
@@ -200,7 +200,7 @@ module _ (before : List Event) (e : ℕ) (m : Message) (closed : (desk_of e befo
   closed_placed = ap (λ p. places p m) closed
 
   pub closed_stops : stops before e m ≡ false
-  closed_stops = ap (λ p. requests (codes "lspmux/stop") m && (is_there p && not (is_doubled before e m))) closed ∙ and_off (requests (codes "lspmux/stop") m)
+  closed_stops = ap (λ p. requests (codes "lspmux/stop") m && (is_there p && not (is_begun p && is_doubled before e m))) closed ∙ and_off (requests (codes "lspmux/stop") m)
 
   pub closed_keeps : changes_documents before e m ≡ false
   closed_keeps = ap (λ p. is_served p && (requests (codes "shutdown") m || speaks (saying_of m))) closed

@@ -1,5 +1,5 @@
 -- E3: a request under an id that is open.
-use Rattle.std.proofs.Common.{◌≡◌, ℕ, Bool, true, false, not, ◌&&◌, List, refl, ap, ◌∙◌, codes, bytes_eq}
+use Rattle.std.proofs.Common.{◌≡◌, ℕ, Bool, true, false, not, ◌&&◌, List, refl, ap, ap₂, ◌∙◌, codes, bytes_eq}
 use Rattle.std.specs.Prelude.{Option}
 use Rattle.json_text.specs.Json.{Json}
 use Rattle.lsp_method.specs.Class.{class_of}
@@ -59,7 +59,7 @@ module _ (before : List Event) (e : ℕ) (id : Id) (method : List ℕ) (params :
   doubled_unopened servers = old_unopened servers before e m (begun_new (desk_of e before).phase begun)
 
   pub doubled_stops : stops before e m ≡ false
-  doubled_stops = ap (stops before e) says ∙ (ap (λ b. bytes_eq (codes "lspmux/stop") method && (is_there (desk_of e before).phase && not b)) open_now ∙ (ap (λ b. bytes_eq (codes "lspmux/stop") method && b) (and_off (is_there (desk_of e before).phase)) ∙ and_off (bytes_eq (codes "lspmux/stop") method)))
+  doubled_stops = ap (stops before e) says ∙ (ap (λ b. bytes_eq (codes "lspmux/stop") method && (is_there (desk_of e before).phase && not b)) (ap₂ (λ b c. b && c) begun open_now) ∙ (ap (λ b. bytes_eq (codes "lspmux/stop") method && b) (and_off (is_there (desk_of e before).phase)) ∙ and_off (bytes_eq (codes "lspmux/stop") method)))
 
   pub doubled_stays : (body : List ℕ) → message_of body ≡ m → is_served (desk_of e before).phase ≡ false → (desk_of e (with_cause before (FromEditor e body))).phase ≡ (desk_of e before).phase
   doubled_stays body is unserved = desk_now before e body (desk_of e before).phase (begun_stays (desk_of e before).phase (desk_of e before).initialize body (message_of body) begun unserved)

@@ -1,3 +1,4 @@
+pub mod Halting
 pub mod Handing
 pub mod Asides
 pub mod Asking

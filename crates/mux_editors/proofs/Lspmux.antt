@@ -1,4 +1,4 @@
--- E3 to E5: a request of the multiplexer's own, and where its editor stands behind it.
+-- E3 to E6: a request of the multiplexer's own, and where its editor stands behind it.
 use Rattle.std.proofs.Common.{◌≡◌, ℕ, Bool, true, false, not, ◌&&◌, ◌||◌, List, codes, bytes_eq, Option, refl, sym, ap, ◌∙◌}
 use Rattle.std.proofs.lemmas.Bool.{and_parts}
 use Rattle.std.proofs.lemmas.Slice.Eq.{bytes_eq-Decides}
@@ -9,7 +9,7 @@ use Rattle.event_model.specs.declared.settings.Server.{Server}
 use Rattle.event_model.specs.declared.phase.Phase.{Phase}
 use Rattle.event_model.specs.declared.phase.Phase.TheVariants.{Absent, New, Waiting, Answered, Running, Down, Closed, Gone}
 use Rattle.event_model.specs.Event.{Event, heard, requests, same_id, with_cause}
-use Rattle.event_model.specs.Phases.{Desk, desk_behind, desk_hears, desk_of, has_id, is_begun, is_new, is_served}
+use Rattle.event_model.specs.Phases.{Desk, desk_behind, desk_hears, desk_of, has_id, is_begun, is_new, is_served, is_there}
 use Rattle.event_model.specs.Requests.{is_open, open_of}
 use Rattle.event_model.specs.Settings.{Settings}
 use Rattle.event_model.proofs.Frames.{one_more}
@@ -25,7 +25,7 @@ use Rattle.mux_turns.proofs.Lspmux.{either_asks}
 use Rattle.mux_editors.proofs.Asides.{desk_now}
 
 pub status_asks : (m : Message) → requests (codes "lspmux/status") m ≡ true → asks_lspmux m ≡ true
-status_asks m h = either_asks m ∙ (ap (λ b. requests (codes "lspmux/open") m || b) h ∙ later (requests (codes "lspmux/open") m))
+status_asks m h = either_asks m ∙ (ap (λ b. requests (codes "lspmux/open") m || (b || requests (codes "lspmux/stop") m)) h ∙ later (requests (codes "lspmux/open") m))
   where
     later : (a : Bool) → (a || true) ≡ true
     later true = refl
@@ -39,16 +39,46 @@ status_unnamed (error id x) h = refl
 status_unnamed not_json h = refl
 status_unnamed not_message h = refl
 
-pub open_asks : (m : Message) → requests (codes "lspmux/open") m ≡ true → asks_lspmux m ≡ true
-open_asks m h = either_asks m ∙ ap (λ b. b || requests (codes "lspmux/status") m) h
+pub status_unstopped : (m : Message) → requests (codes "lspmux/status") m ≡ true → requests (codes "lspmux/stop") m ≡ false
+status_unstopped (request id method params) h = ap (bytes_eq (codes "lspmux/stop")) (sym ((bytes_eq-Decides (codes "lspmux/status") method).0 h))
+status_unstopped (notification method params) h = refl
+status_unstopped (result id r) h = refl
+status_unstopped (error id x) h = refl
+status_unstopped not_json h = refl
+status_unstopped not_message h = refl
 
-pub other_status : (m : Message) → asks_lspmux m ≡ true → requests (codes "lspmux/open") m ≡ false → requests (codes "lspmux/status") m ≡ true
-other_status m asks other = ap (λ b. b || requests (codes "lspmux/status") m) (sym other) ∙ (sym (either_asks m) ∙ asks)
+pub open_unstopped : (m : Message) → requests (codes "lspmux/open") m ≡ true → requests (codes "lspmux/stop") m ≡ false
+open_unstopped (request id method params) h = ap (bytes_eq (codes "lspmux/stop")) (sym ((bytes_eq-Decides (codes "lspmux/open") method).0 h))
+open_unstopped (notification method params) h = refl
+open_unstopped (result id r) h = refl
+open_unstopped (error id x) h = refl
+open_unstopped not_json h = refl
+open_unstopped not_message h = refl
+
+pub stop_asks : (m : Message) → requests (codes "lspmux/stop") m ≡ true → asks_lspmux m ≡ true
+stop_asks m h = either_asks m ∙ (ap (λ b. requests (codes "lspmux/open") m || (requests (codes "lspmux/status") m || b)) h ∙ later (requests (codes "lspmux/open") m) (requests (codes "lspmux/status") m))
+  where
+    later : (a b : Bool) → (a || (b || true)) ≡ true
+    later true b = refl
+    later false true = refl
+    later false false = refl
+
+pub open_asks : (m : Message) → requests (codes "lspmux/open") m ≡ true → asks_lspmux m ≡ true
+open_asks m h = either_asks m ∙ ap (λ b. b || (requests (codes "lspmux/status") m || requests (codes "lspmux/stop") m)) h
+
+pub other_status : (m : Message) → asks_lspmux m ≡ true → requests (codes "lspmux/open") m ≡ false → requests (codes "lspmux/stop") m ≡ false → requests (codes "lspmux/status") m ≡ true
+other_status m asks other goes = only (requests (codes "lspmux/open") m) (requests (codes "lspmux/status") m) (requests (codes "lspmux/stop") m) other goes (sym (either_asks m) ∙ asks)
+  where
+    only : (a b c : Bool) → a ≡ false → c ≡ false → (a || (b || c)) ≡ true → b ≡ true
+    only true b c h k l = absurd (cc)
+    only false true c h k l = refl
+    only false false true h k l = absurd (cc)
+    only false false false h k l = absurd (cc)
 
 pub unasked_open : (m : Message) → asks_lspmux m ≡ false → requests (codes "lspmux/open") m ≡ false
 unasked_open m h = first (requests (codes "lspmux/open") m) (sym (either_asks m) ∙ h)
   where
-    first : (a : Bool) → (a || requests (codes "lspmux/status") m) ≡ false → a ≡ false
+    first : (a : Bool) → (a || (requests (codes "lspmux/status") m || requests (codes "lspmux/stop") m)) ≡ false → a ≡ false
     first true k = absurd (cc)
     first false k = refl
 
@@ -75,17 +105,17 @@ and_off false = refl
 -- it leaves its editor where it is
 hears_stays : (p : Phase) (i body : List ℕ) (id : Id) (params : Option Json) (method : List ℕ) → names_lspmux method ≡ true → (desk_hears p i body (request id method params)).phase ≡ p
 hears_stays Absent i body id params method h = refl
-hears_stays New i body id params method h = by_names (λ m. (desk_hears New i body (request id m params)).phase ≡ New) method refl refl h
+hears_stays New i body id params method h = by_names (λ m. (desk_hears New i body (request id m params)).phase ≡ New) method refl refl refl h
 hears_stays Waiting i body id params method h = refl
-hears_stays Answered i body id params method h = by_names (λ m. (desk_hears Answered i body (request id m params)).phase ≡ Answered) method refl refl h
-hears_stays Running i body id params method h = by_names (λ m. (desk_hears Running i body (request id m params)).phase ≡ Running) method refl refl h
+hears_stays Answered i body id params method h = by_names (λ m. (desk_hears Answered i body (request id m params)).phase ≡ Answered) method refl refl refl h
+hears_stays Running i body id params method h = by_names (λ m. (desk_hears Running i body (request id m params)).phase ≡ Running) method refl refl refl h
 hears_stays Down i body id params method h = refl
 hears_stays Closed i body id params method h = refl
 hears_stays Gone i body id params method h = refl
 
 -- nor is it `shutdown`
 pub own_shuts : (m : Message) → asks_lspmux m ≡ true → requests (codes "shutdown") m ≡ false
-own_shuts m asks = let k = lspmux_is m asks in ap (requests (codes "shutdown")) k.is ∙ by_names (λ w. bytes_eq (codes "shutdown") w ≡ false) k.method refl refl k.own
+own_shuts m asks = let k = lspmux_is m asks in ap (requests (codes "shutdown")) k.is ∙ by_names (λ w. bytes_eq (codes "shutdown") w ≡ false) k.method refl refl refl k.own
 
 module _ (before : List Event) (e : ℕ) (body : List ℕ) (asks : asks_lspmux (message_of body) ≡ true) where
   abbrev k : IsLspmux (message_of body)
@@ -96,13 +126,17 @@ module _ (before : List Event) (e : ℕ) (body : List ℕ) (asks : asks_lspmux (
       ∙ hears_stays (desk_of e before).phase (desk_of e before).initialize body k.id k.params k.method k.own)
 
   pub own_placed : places (desk_of e before).phase (message_of body) ≡ false
-  own_placed = ap (places (desk_of e before).phase) k.is ∙ (ap (λ b. is_new (desk_of e before).phase && b) (by_names (λ m. bytes_eq (codes "initialize") m ≡ false) k.method refl refl k.own) ∙ and_off (is_new (desk_of e before).phase))
+  own_placed = ap (places (desk_of e before).phase) k.is ∙ (ap (λ b. is_new (desk_of e before).phase && b) (by_names (λ m. bytes_eq (codes "initialize") m ≡ false) k.method refl refl refl k.own) ∙ and_off (is_new (desk_of e before).phase))
 
-  pub own_stops : stops before e (message_of body) ≡ false
-  own_stops = ap (stops before e) k.is ∙ by_names (λ m. stops before e (request k.id m k.params) ≡ false) k.method refl refl k.own
+  pub own_stops : requests (codes "lspmux/stop") (message_of body) ≡ false → stops before e (message_of body) ≡ false
+  own_stops goes = ap (λ b. b && (is_there (desk_of e before).phase && not (is_begun (desk_of e before).phase && is_doubled before e (message_of body)))) goes
+
+  pub doubled_stops : (is_begun (desk_of e before).phase && is_doubled before e (message_of body)) ≡ true → stops before e (message_of body) ≡ false
+  doubled_stops doubled = ap (λ b. requests (codes "lspmux/stop") (message_of body) && (is_there (desk_of e before).phase && not b)) doubled
+      ∙ (ap (λ b. requests (codes "lspmux/stop") (message_of body) && b) (and_off (is_there (desk_of e before).phase)) ∙ and_off (requests (codes "lspmux/stop") (message_of body)))
 
   pub own_keeps : changes_documents before e (message_of body) ≡ false
-  own_keeps = ap (changes_documents before e) k.is ∙ by_names (λ m. changes_documents before e (request k.id m k.params) ≡ false) k.method (and_off (is_served (desk_of e before).phase)) (and_off (is_served (desk_of e before).phase)) k.own
+  own_keeps = ap (changes_documents before e) k.is ∙ by_names (λ m. changes_documents before e (request k.id m k.params) ≡ false) k.method (and_off (is_served (desk_of e before).phase)) (and_off (is_served (desk_of e before).phase)) (and_off (is_served (desk_of e before).phase)) k.own
 
   -- where its editor waits, its `initialize` is open under another id
   apart : (id first : Id) (m : Message) → has_id first m ≡ true → same_id id first ≡ false → has_id id m ≡ false
@@ -117,7 +151,7 @@ module _ (before : List Event) (e : ℕ) (body : List ℕ) (asks : asks_lspmux (
   or_off true h = h
   or_off false h = refl
 
-  desk_stays : (desk_of e before).phase ≡ Waiting → (desk_of e (with_cause before (FromEditor e body))).initialize ≡ (desk_of e before).initialize
+  pub desk_stays : (desk_of e before).phase ≡ Waiting → (desk_of e (with_cause before (FromEditor e body))).initialize ≡ (desk_of e before).initialize
   desk_stays at = ap (λ (d : Desk). d.initialize) (one_more (desk_behind e) _ _ before (heard (FromEditor e body)) refl) ∙ rw (itself e) (ap (λ p. (desk_hears p (desk_of e before).initialize body (message_of body)).initialize) at)
 
   pub own_others : (settings : Settings) → (is_begun (desk_of e before).phase && is_doubled before e (message_of body)) ≡ false → Settled settings before

@@ -15,7 +15,7 @@ use Rattle.event_model.specs.declared.phase.Phase.{Phase}
 use Rattle.event_model.specs.declared.phase.Phase.TheVariants.{Absent, New, Waiting, Answered, Running, Down, Closed, Gone}
 use Rattle.event_model.specs.Does.{Alike, Does, Done}
 use Rattle.event_model.specs.Event.{Event, behind, did, heard, notifies, requests, said, with_cause}
-use Rattle.event_model.specs.Phases.{desk_hears, desk_of, is_malformed, is_multiplexer_request, is_served, is_there, makes_running}
+use Rattle.event_model.specs.Phases.{desk_hears, desk_of, is_begun, is_malformed, is_multiplexer_request, is_served, is_there, makes_running}
 use Rattle.event_model.specs.Row.{Row, after, choose, each, nothing, outs, send}
 use Rattle.event_model.specs.Settings.{Settings}
 use Rattle.event_model.specs.Spawns.{start_of}
@@ -93,7 +93,7 @@ module _ (m : Message) (runs : makes_running m ≡ true) where
       go false false c k = k
 
   pub runs_stops : (before : List Event) (e : ℕ) → stops before e m ≡ false
-  runs_stops before e = ap (λ b. b && (is_there (desk_of e before).phase && not (is_doubled before e m))) unstopped
+  runs_stops before e = ap (λ b. b && (is_there (desk_of e before).phase && not (is_begun (desk_of e before).phase && is_doubled before e m))) unstopped
 
   pub runs_from : (shut : requests (codes "shutdown") m ≡ false) (body : List ℕ) (q : Phase) (i : List ℕ) → is_served q ≡ true → (desk_hears q i body m).phase ≡ Running
   runs_from shut body Answered i h = ap (λ b. if b then Down else if makes_running m then Running else Answered) shut ∙ ap (λ b. if b then Running else Answered) runs

@@ -1,4 +1,5 @@
 pub mod Cancels
+pub mod Halting
 pub mod Handing
 pub mod Running
 pub mod Shows

@@ -1,5 +1,5 @@
 //! E3: requests of an editor under an id that is open.
-ghost use Rattle.std.specs.Prelude.{◌≡◌, ◌<◌, ℕ, List, [], Option, false, true, codes, length, OnOk};
+ghost use Rattle.std.specs.Prelude.{◌≡◌, ◌<◌, ◌&&◌, ℕ, List, [], Option, false, true, codes, length, OnOk};
 ghost use Rattle.event_model.specs.Does.{Done};
 ghost use Rattle.event_model.specs.Event.{Event, requests, with_cause};
 ghost use Rattle.event_model.specs.Phases.{desk_of, is_begun, is_served};
@@ -7,6 +7,7 @@ ghost use Rattle.event_model.specs.Requests.{open_of};
 ghost use Rattle.event_model.specs.Settings.{Settings};
 ghost use Rattle.mux_turns.specs.group_facts.specs.Built.{doubles, is_standard};
 ghost use Rattle.group_rows.specs.Rows.{asks_lspmux, closing_row};
+ghost use Rattle.group_words.specs.Houses.{is_doubled};
 ghost use Rattle.json_text.specs.Json.{Json};
 ghost use Rattle.lsp_method.specs.Class.{class_of};
 ghost use Rattle.lsp_method.specs.declared.variants.Origin.TheVariants.{Editor};
@@ -96,7 +97,7 @@ pub fn take_doubled_own(
     ensures requests { tables.new.requests ≡ tables.old.requests }
     ensures versions { tables.new.versions ≡ tables.old.versions }
     ensures does { (settings : Settings) (before : List Event) (body : List ℕ) → asks_lspmux (message_of body) ≡ true
-        → is_begun (desk_of e before).phase ≡ true → outs.old ≡ []
+        → (is_begun (desk_of e before).phase && is_doubled before e (message_of body)) ≡ true → outs.old ≡ []
         → Stands settings tables.old before → DocumentsStand settings nothing_owed tables.old before
         → OnOk result (Done (λ k events. AllStand settings k events) (closing_row settings before e)
         (with_cause before (FromEditor e body)) [] (tables.new, nothing_owed) outs.new) }

@@ -14,6 +14,7 @@ mod requests;
 mod running;
 mod shows;
 mod status;
+mod stops;
 mod worked;
 
 pub use cancelled::{Target, take_cancel};
@@ -28,4 +29,5 @@ pub use passed::take_passed;
 pub use quiet::{take_closed, take_early, take_malformed, take_quiet, take_wrong};
 pub use requests::take_request;
 pub use status::take_status;
+pub use stops::take_stop;
 pub use worked::take_work_cancel;

@@ -16,7 +16,7 @@ use Rattle.document_model.specs.Sayings.{saying_of, speaks}
 use Rattle.event_model.specs.declared.phase.Phase.{Phase}
 use Rattle.event_model.specs.declared.phase.Phase.TheVariants.{Absent, New, Waiting, Answered, Running, Down, Closed, Gone}
 use Rattle.event_model.specs.Event.{Event, requests}
-use Rattle.event_model.specs.Phases.{desk_of, is_served, is_there, needs_server}
+use Rattle.event_model.specs.Phases.{desk_of, is_begun, is_served, is_there, needs_server}
 use Rattle.mux_starts.specs.group_facts.specs.Built.{built_from_editor, built_request, is_standard}
 use Rattle.mux_starts.specs.group_facts.specs.Facts.{is_early}
 use Rattle.group_rows.specs.Rows.{asks_lspmux, names_lspmux}
@@ -45,7 +45,7 @@ not_so true h = absurd (cc)
 stops_not : (method : List ℕ) → ((codes "lspmux/stop" ≡ method) → ⊥) → (before : List Event) (e : ℕ) (id : Id) (params : Option Json) → stops before e (request id method params) ≡ false
 stops_not method f before e id params = go (bytes_eq (codes "lspmux/stop") method) refl
   where
-    go : (b : Bool) → bytes_eq (codes "lspmux/stop") method ≡ b → (b && (is_there (desk_of e before).phase && not (is_doubled before e (request id method params)))) ≡ false
+    go : (b : Bool) → bytes_eq (codes "lspmux/stop") method ≡ b → (b && (is_there (desk_of e before).phase && not (is_begun (desk_of e before).phase && is_doubled before e (request id method params)))) ≡ false
     go true k = absurd (f ((bytes_eq-Decides (codes "lspmux/stop") method).0 k))
     go false k = refl
 

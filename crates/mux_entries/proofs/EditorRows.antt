@@ -25,7 +25,8 @@ use Rattle.event_model.specs.Settings.{Settings}
 use Rattle.event_model.proofs.Turns.{alike, alike_then, does_nothing}
 use Rattle.mux_model.specs.Rows.{malformed_row}
 use Rattle.group_words.specs.Rows.{initialize_row}
-use Rattle.group_words.specs.Houses.{is_doubled}
+use Rattle.group_words.specs.Houses.{is_doubled, stops}
+use Rattle.group_rows.specs.StopRows.{stop_row}
 use Rattle.group_rows.specs.AskRows.{response_row}
 use Rattle.mux_starts.specs.mux_facts.specs.Allowed.{is_response}
 use Rattle.group_rows.specs.Rows.{asks_lspmux, closing_row, down_row, early_row, exit_row, from_editor, lspmux_row, open_row, row_of, served_row, status_row, taken_row}
@@ -173,7 +174,7 @@ module _ (settings : Settings) (before : List Event) (e : ℕ) (body : List ℕ)
       → Alike row (taken_row settings before e body (message_of body) p)
   taken p at well single other = alike_then (alike (ap (from_editor settings before e body (message_of body)) at)) (alike_then (is_second refl well) (alike_then (is_second refl single) (is_second refl other)))
 
-  -- E4 and E5
+  -- E4 to E6
   pub told : is_malformed (message_of body) ≡ false → (is_begun (desk_of e before).phase && is_doubled before e (message_of body)) ≡ false → (is_there (desk_of e before).phase && asks_lspmux (message_of body)) ≡ true
       → Alike row (lspmux_row settings before e body (message_of body))
   told well single asks = alike_then (is_second refl well) (alike_then (is_second refl single) (is_first refl asks))
@@ -181,8 +182,15 @@ module _ (settings : Settings) (before : List Event) (e : ℕ) (body : List ℕ)
   pub opens : requests (codes "lspmux/open") (message_of body) ≡ true → Alike (lspmux_row settings before e body (message_of body)) (open_row settings before e body (message_of body))
   opens h = is_first refl h
 
-  pub tells : requests (codes "lspmux/open") (message_of body) ≡ false → Alike (lspmux_row settings before e body (message_of body)) (status_row settings before e body)
-  tells h = is_second refl h
+  pub tells : requests (codes "lspmux/open") (message_of body) ≡ false → requests (codes "lspmux/stop") (message_of body) ≡ false → Alike (lspmux_row settings before e body (message_of body)) (status_row settings before e body)
+  tells h k = alike_then (is_second refl h) (is_second refl k)
+
+  pub halts : requests (codes "lspmux/open") (message_of body) ≡ false → requests (codes "lspmux/stop") (message_of body) ≡ true → Alike (lspmux_row settings before e body (message_of body)) (stop_row settings before e body)
+  halts h k = alike_then (is_second refl h) (is_first refl k)
+
+  -- it stops all, where its editor is there and it is under no id that is open
+  pub stops_all : requests (codes "lspmux/stop") (message_of body) ≡ true → is_there (desk_of e before).phase ≡ true → (is_begun (desk_of e before).phase && is_doubled before e (message_of body)) ≡ false → stops before e (message_of body) ≡ true
+  stops_all asks there single = rw (asks, there, single) refl
 
   -- E3
   pub closes : is_malformed (message_of body) ≡ false → (is_begun (desk_of e before).phase && is_doubled before e (message_of body)) ≡ true → Alike row (closing_row settings before e)

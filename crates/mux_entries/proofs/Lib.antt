@@ -3,3 +3,4 @@ pub mod EditorBuilt
 pub mod EditorRows
 pub mod Said
 pub mod Questions
+pub mod Joining

@@ -32,29 +32,34 @@ use message_body::{Body, Memory};
 use mux_editors::{
     asks_lspmux, doubles, take_cancel, take_closed, take_doubled, take_doubled_own, take_down,
     take_early, take_exit, take_gone, take_initialize, take_malformed, take_notice, take_open,
-    take_passed, take_quiet, take_reply, take_request, take_shutdown, take_status,
+    take_passed, take_quiet, take_reply, take_request, take_shutdown, take_status, take_stop,
     take_work_cancel, take_wrong,
 };
 use mux_history::Outs;
 use mux_starts::mux_members::{
-    cancels_work, class_in, goes_on, is_cancel, is_exit, is_initialize, is_open,
+    cancels_work, class_in, goes_on, is_cancel, is_exit, is_initialize, is_open, is_stop,
 };
 use mux_starts::mux_tables::Tables;
 use rpc_message::{Malformed, Message, Sort};
 use std::alloc::Global;
 
-/// J1: an editor joined, which gives nothing. The tables have room for the editor of the next number alone, and below 2^63.
-pub fn joined(tables: &mut Tables, e: u64) -> Result<(), Memory>
+/// J1: an editor joined, which gives nothing; where all was stopped its link is to be ended. The tables have room for the editor of the
+/// next number alone, and below 2^63.
+pub fn joined(tables: &mut Tables, alloc: Global, outs: &mut Outs, e: u64) -> Result<(), Memory>
     ensures same_limit { tables.new.requests ≡ tables.old.requests }
     ensures same_versions { tables.new.versions ≡ tables.old.versions }
-    ensures does { (settings : Settings) (before : List Event) → Stands settings tables.old before → DocumentsStand settings nothing_owed tables.old before
+    ensures does { (settings : Settings) (before : List Event) → outs.old ≡ [] → Stands settings tables.old before
+        → DocumentsStand settings nothing_owed tables.old before
         → OnOk result (Done (λ k events. AllStand settings k events) (row_of settings before (Joined e))
-        (with_cause before (Joined e)) [] (tables.new, nothing_owed) []) }
+        (with_cause before (Joined e)) [] (tables.new, nothing_owed) outs.new) }
 {
     if e != tables.editors.count() || e >= 9_223_372_036_854_775_808 {
         return Err(Memory);
     }
     tables.hear_joined(e)?;
+    if tables.is_stopped() {
+        tables.close(alloc, outs, e)?;
+    }
     Ok(())
 }
 
@@ -362,7 +367,7 @@ fn is_doubled(tables: &Tables, e: u64, message: &Message) -> bool
     }
 }
 
-// E4 and E5: whether a message is a request of the multiplexer's own, and its editor is there.
+// E4 to E6: whether a message is a request of the multiplexer's own, and its editor is there.
 fn asks_own(tables: &Tables, e: u64, message: &Message) -> bool
     ensures { (settings : Settings) (before : List Event) (body : List ℕ) → Stands settings tables.now before → IsRead message.now body
         → result ≡ (is_there (desk_of e before).phase && asks_lspmux (message_of body)) }
@@ -397,7 +402,7 @@ fn from_doubled(
     }
 }
 
-// E4 and E5: a request of the multiplexer's own, under no id that is open.
+// E4 to E6: a request of the multiplexer's own, under no id that is open.
 fn from_own(
     tables: &mut Tables,
     alloc: Global,
@@ -410,7 +415,7 @@ fn from_own(
     ensures same_limit { tables.new.requests ≡ tables.old.requests }
     ensures same_versions { tables.new.versions ≡ tables.old.versions }
     ensures does { (settings : Settings) (before : List Event) (body : List ℕ) → IsRead message.now body → asks_lspmux (message_of body) ≡ true
-        → settings.servers ≡ servers.now → outs.old ≡ [] → Settled settings before
+        → settings.servers ≡ servers.now → outs.old ≡ [] → Known settings before → Settled settings before → is_there (desk_of e before).phase ≡ true
         → (is_begun (desk_of e before).phase && is_doubled before e (message_of body)) ≡ false
         → Stands settings tables.old before → DocumentsStand settings nothing_owed tables.old before
         → OnOk result (Done (λ k events. AllStand settings k events) (lspmux_row settings before e body (message_of body))
@@ -419,13 +424,16 @@ fn from_own(
     if is_open(message) {
         take_open(tables, alloc, servers, outs, e, message)?;
         Ok(())
+    } else if is_stop(message) {
+        take_stop(tables, alloc, outs, e, message)?;
+        Ok(())
     } else {
         take_status(tables, alloc, servers, outs, e, message)?;
         Ok(())
     }
 }
 
-// A message under no id that is open: E4 and E5 where it is the multiplexer's own.
+// A message under no id that is open: E4 to E6 where it is the multiplexer's own.
 fn from_single(
     tables: &mut Tables,
     alloc: Global,
@@ -515,7 +523,7 @@ fn from_malformed(
     }
 }
 
-/// A body comes from an editor: E2 where it is no message; E3 where it is a request under an id that is open; E4 and E5 where it is
+/// A body comes from an editor: E2 where it is no message; E3 where it is a request under an id that is open; E4 to E6 where it is
 /// one of the multiplexer's own; else E7 to E10, or E12 to E17, by where the editor stands, or nothing.
 pub fn from_editor(
     tables: &mut Tables,

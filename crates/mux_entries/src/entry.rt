@@ -46,7 +46,7 @@ fn follow(
 {
     match cause {
         Cause::Joined(e) => {
-            joined(tables, *e)?;
+            joined(tables, alloc, outs, *e)?;
             Ok(())
         }
         Cause::EditorGone(e, _) => {

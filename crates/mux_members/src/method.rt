@@ -184,3 +184,13 @@ pub fn is_status(m: &Message) -> bool
         None => false,
     }
 }
+
+/// Whether it is the request `lspmux/stop`.
+pub fn is_stop(m: &Message) -> bool
+    ensures { (bytes : List ℕ) → IsRead m.now bytes → result ≡ requests (codes "lspmux/stop") (message_of bytes) }
+{
+    match request_method(m) {
+        Some(method) => spells(m.tape(), Some(method), "lspmux/stop"),
+        None => false,
+    }
+}

@@ -20,6 +20,8 @@ mod registered;
 #[cfg(test)]
 mod statuses;
 #[cfg(test)]
+mod stops;
+#[cfg(test)]
 mod tests;
 #[cfg(test)]
 mod tokens;

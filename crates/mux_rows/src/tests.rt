@@ -1,5 +1,6 @@
 use crate::play::{limits, play};
 use crate::statuses::STATUSES;
+use crate::stops::{STOPPED, UNSTOPPED};
 use lspmux_program::{Hub, Refusal, StepFault, Stop};
 use mux_history::{Cause, Journal, MemJournal};
 use std::test::Fail;
@@ -685,6 +686,8 @@ fn several_editors_bring_their_lines(rt: HostRuntime) -> Result<(), Fail> {
         &[&HASTY],
         &[&REFUSED],
         &[&STATUSES],
+        &[&OPENING, &STOPPED],
+        &[&OPENING, &UNSTOPPED],
         &[&OPENED],
         &[&OPENING, &IDLING],
     ];

@@ -20,27 +20,8 @@ use event_model::Stage;
 use message_body::Memory;
 use mux_history::Outs;
 use mux_tables::Tables;
-use mux_turns::{evict, stage_at};
+use mux_turns::{end_groups, stage_at};
 use std::alloc::Global;
-
-// These groups end, one after the other.
-fn end_groups(
-    tables: &mut Tables,
-    alloc: Global,
-    outs: &mut Outs,
-    groups: &[u64],
-) -> Result<(), Memory>
-    ensures requests { tables.new.requests ≡ tables.old.requests }
-    ensures versions { tables.new.versions ≡ tables.old.versions }
-    ensures does { (settings : Settings) (base : List Event) → Numbered (behind base outs.old)
-        → OnOk result (Does (λ k events. AllStand settings k events)
-        (each end_group groups.now) base (tables.old, nothing_owed) outs.old (tables.new, nothing_owed) outs.new) }
-{
-    for g in groups {
-        evict(tables, alloc, outs, *g)?;
-    }
-    Ok(())
-}
 
 // Whether its answer to `shutdown` is awaited.
 fn is_stopping(stage: Stage) -> bool

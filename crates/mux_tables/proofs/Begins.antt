@@ -31,13 +31,14 @@ no_lasts settings limit h = record {
 no_groups : (settings : Settings) (limit idle : ℕ) → settings.limits.groups ≡ limit → settings.limits.idle ≡ idle → GroupsStand settings (record { limit = limit; idle = idle; groups = [] }) []
 no_groups settings limit idle g i = record { groups = refl; limit = g; idle = i }
 
-pub begins : (settings : Settings) (t : Tables) (groups idle : ℕ) → 2 ≤ t.requests → t.requests < 2 ^ 32 → t.editors ≡ [] → t.groups ≡ record { limit = groups; idle = idle; groups = [] } → t.time ≡ 0 → t.lasts.items ≡ [] → t.origins.groups.items ≡ [] → t.origins.stopping.items ≡ [] → t.origins.created ≡ []
+pub begins : (settings : Settings) (t : Tables) (groups idle : ℕ) → 2 ≤ t.requests → t.requests < 2 ^ 32 → t.editors ≡ [] → t.groups ≡ record { limit = groups; idle = idle; groups = [] } → t.course ≡ record { time = 0; stopped = false } → t.lasts.items ≡ [] → t.origins.groups.items ≡ [] → t.origins.stopping.items ≡ [] → t.origins.created ≡ []
     → settings.limits.groups ≡ groups → settings.limits.idle ≡ idle → settings.limits.requests ≡ t.requests → Stands settings t []
 begins settings t groups idle h below es gs now ls os sk cr limit wait last = record {
   house = record {
     editors = rw es (record { count = refl; phase = λ e. refl; home = λ e. refl; names = λ e. record { own = λ g w h. absurd (none_some h); unplaced = λ n. refl }; meant = λ e w. refl; asked = λ e there. refl });
     groups = rw gs (no_groups settings groups idle limit wait);
     now = rw now refl;
+    halted = rw now refl;
   };
   origins = rw os (record { count = refl; group = λ s. refl });
   stopping = sym sk;

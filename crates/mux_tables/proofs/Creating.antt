@@ -70,7 +70,7 @@ creates_apart : (method : List ℕ) → is_creating method ≡ true → is_regis
 creates_apart method h = creating_live (class_of method Server false) h
 
 module _ (settings : Settings) (t u : Tables) (events : List Event) (g s n : ℕ) (x z : Start) (is : slice_get t.lasts.items g ≡ Some x) (at : slice_get (map number_in t.lasts.items) g ≡ Some s) (within : g < length t.lasts.items) (read : z ≡ get_or t.lasts.items g z) (ready : x.life.stage ≡ Ready) (start : n ≡ z.life.start)
-    (ls : u.lasts ≡ t.lasts) (es : u.editors ≡ t.editors) (gs : u.groups ≡ t.groups) (now : u.time ≡ t.time) (og : u.origins.groups ≡ t.origins.groups) (sk : u.origins.stopping ≡ t.origins.stopping) (r : u.requests ≡ t.requests) (st : Stands settings t events) where
+    (ls : u.lasts ≡ t.lasts) (es : u.editors ≡ t.editors) (gs : u.groups ≡ t.groups) (now : u.course ≡ t.course) (og : u.origins.groups ≡ t.origins.groups) (sk : u.origins.stopping ≡ t.origins.stopping) (r : u.requests ≡ t.requests) (st : Stands settings t events) where
   here : slice_get t.lasts.items g ≡ Some z
   here = read_here t.lasts.items g z within read
 
@@ -117,7 +117,7 @@ module _ (settings : Settings) (t u : Tables) (events : List Event) (g s n : ℕ
 
 -- S8 and L2
 pub offer_does : (settings : Settings) (t u : Tables) (base : List Event) (xs ys : List Out) (s e k n m : ℕ) (text : List ℕ) → e < length t.editors → is_running (desk_of e (behind base xs)).phase ≡ true → IsOffer settings s e k (behind base xs) text → ((j : ℕ) → (asking_of settings j (behind base xs)).asker ≡ None)
-    → Some n ≡ sessions.next_ask (session_of t.editors e) → m ≡ s → u.editors ≡ with_session t.editors e (unless_gone sessions.asked (session_of t.editors e)) → u.groups ≡ t.groups → u.time ≡ t.time → u.lasts ≡ t.lasts → u.origins.groups ≡ t.origins.groups → u.origins.stopping ≡ t.origins.stopping
+    → Some n ≡ sessions.next_ask (session_of t.editors e) → m ≡ s → u.editors ≡ with_session t.editors e (unless_gone sessions.asked (session_of t.editors e)) → u.groups ≡ t.groups → u.course ≡ t.course → u.lasts ≡ t.lasts → u.origins.groups ≡ t.origins.groups → u.origins.stopping ≡ t.origins.stopping
     → u.origins.created ≡ changed m (put_to k e n) t.origins.created → u.requests ≡ t.requests → ys ≡ xs ++ ToEditor e text ∷ [] → Does (λ t events. Stands settings t events) (send (ToEditor e text)) base t xs u ys
 offer_does settings t u base xs ys s e k n m text l runs offer none is own set gs now ls og sk cr r said_so = does_knowing {Stands = λ t events. Stands settings t events} (λ st.
     let before : List Event = behind base xs in

@@ -315,7 +315,7 @@ synced_does settings t u xs ys told base i s start e z text here number ran does
 pub asked_does : (settings : Settings) (t u : Tables) (xs ys told : List Out) (base : List Event) (g s start e : ℕ) (z : Start) (ids : Table) (pending : Pending) (noted : List (List ℕ × Stamp)) (text id : List ℕ) (work partial : Option (List ℕ)) (method : List ℕ) (name : Id) (ps : Option Json) → slice_get (map number_in t.lasts.items) g ≡ Some s → g < length t.lasts.items → z ≡ get_or t.lasts.items g z
     → z.life.stage ≡ Ready → message_of text ≡ request name method ps → is_own method ≡ false → Sends s e id work partial (behind base xs) → worker_of (behind base xs) ≡ Some e → forwarded_of (record { number = z.ids.next; pending = pending }) ≡ sent_as (record { editor = e; id = id; work = work; partial = partial }) z.ids.next
     → ids.requests ≡ z.ids.requests ++ record { number = z.ids.next; pending = pending } ∷ [] → ids.next ≡ z.ids.next + 1 → ids.limit ≡ z.ids.limit → IsInOrder ids
-    → u.lasts.items ≡ slice_set t.lasts.items g (record z { ids = ids }) → u.editors ≡ t.editors → u.groups ≡ t.groups → u.time ≡ t.time → u.origins ≡ t.origins → u.requests ≡ t.requests → u.versions ≡ t.versions
+    → u.lasts.items ≡ slice_set t.lasts.items g (record z { ids = ids }) → u.editors ≡ t.editors → u.groups ≡ t.groups → u.course ≡ t.course → u.origins ≡ t.origins → u.requests ≡ t.requests → u.versions ≡ t.versions
     → StepAt (sync_row e) g (slice_get t.documents.items g) t.documents.items told u.documents.items → pending.editor ≡ e → pending.noted ≡ Some noted → StampsAt noted (versions_of e) (slice_get u.documents.items g)
     → start ≡ z.life.start → ys ≡ (xs ++ told) ++ ToServer start text ∷ [] → (h : ℕ) → z.life.group ≡ h
     → Does (λ k events. AllStand settings k events) (look (λ now. to_start s (syncing settings now h s e) ⨾ send (ToServer s text))) base (t, nothing_owed) xs (u, nothing_owed) ys
@@ -361,7 +361,7 @@ asked_does settings t u xs ys told base g s start e z ids pending noted text id 
 -- a notification
 pub passed_does : (settings : Settings) (t u : Tables) (xs ys told : List Out) (base : List Event) (g s start e : ℕ) (z : Start) (text method : List ℕ) (ps : Option Json) → slice_get (map number_in t.lasts.items) g ≡ Some s → g < length t.lasts.items → z ≡ get_or t.lasts.items g z
     → z.life.stage ≡ Ready → message_of text ≡ notification method ps → is_synced (message_of text) ≡ true → worker_of (behind base xs) ≡ Some e
-    → u.lasts ≡ t.lasts → u.editors ≡ t.editors → u.groups ≡ t.groups → u.time ≡ t.time → u.origins ≡ t.origins → u.requests ≡ t.requests → u.versions ≡ t.versions
+    → u.lasts ≡ t.lasts → u.editors ≡ t.editors → u.groups ≡ t.groups → u.course ≡ t.course → u.origins ≡ t.origins → u.requests ≡ t.requests → u.versions ≡ t.versions
     → StepAt (sync_row e) g (slice_get t.documents.items g) t.documents.items told u.documents.items → start ≡ z.life.start → ys ≡ (xs ++ told) ++ ToServer start text ∷ [] → (h : ℕ) → z.life.group ≡ h
     → Does (λ k events. AllStand settings k events) (look (λ now. to_start s (syncing settings now h s e) ⨾ send (ToServer s text))) base (t, nothing_owed) xs (u, nothing_owed) ys
 passed_does settings t u xs ys told base g s start e z text method ps at within read ready says synced works ls es gs time os r vs does is said_so h mine =

@@ -136,7 +136,7 @@ held_by_sent s code d events later same h = record {
   counts = counts_stay s d events later same.counts h.counts;
 }
 
-sent_behind_same : (s : ℕ) (xs : List Out) (events later : List Event) → SentSame s events later → SentSame s (behind events xs) (behind later xs)
+pub sent_behind_same : (s : ℕ) (xs : List Out) (events later : List Event) → SentSame s events later → SentSame s (behind events xs) (behind later xs)
 sent_behind_same s xs events later same = record {
   sent = λ u. outs_more (sent_behind s u) _ (sent_of s u events) later xs (same.sent u) ∙ sym (outs_more (sent_behind s u) _ (sent_of s u events) events xs refl);
   counts = counts_behind_same s xs events later same.counts;

@@ -48,7 +48,7 @@ use Rattle.mux_tables.proofs.Placed.{groups_apart}
 use Rattle.mux_tables.proofs.DocumentOwed.{nothing_owes, owes_here, owes_there}
 use Rattle.mux_tables.proofs.Frames.{itself, spawns}
 
-kept_owners : (e : ℕ) (P Q : Open → Type 0) (os : List Open) → ((o : Open) → nat_eq o.editor e ≡ false → P o → Q o) → AllByRecursion P os → AllByRecursion Q (filter (λ (o : Open). not (nat_eq o.editor e)) os)
+pub kept_owners : (e : ℕ) (P Q : Open → Type 0) (os : List Open) → ((o : Open) → nat_eq o.editor e ≡ false → P o → Q o) → AllByRecursion P os → AllByRecursion Q (filter (λ (o : Open). not (nat_eq o.editor e)) os)
 kept_owners e P Q [] f h = tt
 kept_owners e P Q (o ∷ os) f h = go (nat_eq o.editor e) refl (kept_owners e P Q os f h.1)
   where
@@ -289,6 +289,51 @@ closed_unserved settings owed t u base xs ys e home place outs l is ls vs left s
     subst (λ es. (outs ≡ []) × DocumentsStand settings owed u es) (sym (ap (behind base) said_so ∙ behind_more base xs (CloseEditor e ∷ [])))
     (unserved_documents settings t u (behind base xs) (said (CloseEditor e)) e home outs (λ g. texts_more settings g (behind base xs) (said (CloseEditor e))) refl refl refl refl (λ n h. h)
     (home_seen settings t (behind base xs) e home l is st) (ap (λ v. v.items) ls) vs st owed unserved place left s)
+
+-- the same parts where starts are owed bodies already
+module _ (settings : Settings) (events : List Event) (e : ℕ) where
+  abbrev closing : Event
+  closing = said (CloseEditor e)
+
+  -- what is said of its own group
+  pub record ClosedParts (g s : ℕ) : Type 0 where
+    pub removed : texts_of settings g (events ++ closing ∷ []) ≡ without_editor e (texts_of settings g events)
+    pub kept : encoding_of g (events ++ closing ∷ []) ≡ encoding_of g events
+    pub same : SentSame s events (events ++ closing ∷ [])
+    pub owners : (o : Open) → nat_eq o.editor e ≡ false → IsOwned settings events g o → IsOwned settings (events ++ closing ∷ []) g o
+
+  pub closed_parts : (g s : ℕ) → ClosedParts g s
+  closed_parts g s = record {
+    removed = texts_more settings g events closing;
+    kept = encoding_stays g events closing refl;
+    same = sent_stays s events closing refl;
+    owners = λ o off k. owner_stays settings events g o closing (other_way o.editor e off) k;
+  }
+
+pub closed_rest : (settings : Settings) (t : Tables) (events : List Event) (e : ℕ) → Rest settings t events (events ++ said (CloseEditor e) ∷ [])
+closed_rest settings t events e = record {
+  texts = λ g l h. texts_more settings g events (said (CloseEditor e)) ∙ ap (without_editor e) h;
+  encoding = λ g l. encoding_stays g events (said (CloseEditor e)) refl;
+  founds = founds_kept events (said (CloseEditor e)) refl;
+  starts = starts_kept events (said (CloseEditor e)) refl;
+  sent = λ s l. sent_stays s events (said (CloseEditor e)) refl;
+  moments = λ g x n p at there. moment_stays x.life.start n events (said (CloseEditor e)) refl;
+  left = left_stays events (said (CloseEditor e)) refl;
+}
+
+-- another group
+pub closed_away : (settings : Settings) (t : Tables) (events : List Event) (e : ℕ) (home : Option ℕ) (owed : Owed) → e < length t.editors → home ≡ (session_of t.editors e).group → Stands settings t events
+    → (j s : ℕ) (stage : Stage) (c : Documents) → is_home j home ≡ false → SharedStands settings events (owed j) j s stage c → SharedStands settings (events ++ said (CloseEditor e) ∷ []) (owed j) j s stage c
+closed_away settings t events e home owed l is st j s stage c off h =
+    let none : AllByRecursion (λ (o : Open). nat_eq o.editor e ≡ false) c.opens = all_owned (IsOwned settings events j) (λ (o : Open). nat_eq o.editor e ≡ false) c.opens (λ o k. elsewhere settings events e j o (ap (is_home j) (home_seen settings t events e home l is st) ∙ off) k) h.owned in
+    shared_stays settings events (events ++ said (CloseEditor e) ∷ []) (owed j) j s stage c
+    (texts_more settings j events (said (CloseEditor e)) ∙ (ap (without_editor e) h.texts.texts ∙ (ap (λ (os : List Open). record { turn = c.turn; opens = os }) (none_left e c.opens none) ∙ sym h.texts.texts)))
+    (encoding_stays j events (said (CloseEditor e)) refl) (start_stays s (owed j) c events (events ++ said (CloseEditor e) ∷ []) (sent_stays s events (said (CloseEditor e)) refl) stage)
+    (λ k. both_owned (λ (o : Open). nat_eq o.editor e ≡ false) (IsOwned settings events j) (IsOwned settings (events ++ said (CloseEditor e) ∷ []) j) c.opens (λ o away q. owner_stays settings events j o (said (CloseEditor e)) (other_way o.editor e away) q) none k) h
+  where
+    both_owned : (N P Q : Open → Type 0) (os : List Open) → ((o : Open) → N o → P o → Q o) → AllByRecursion N os → AllByRecursion P os → AllByRecursion Q os
+    both_owned N P Q [] f n k = tt
+    both_owned N P Q (o ∷ os) f n k = (f o n.0 k.0, both_owned N P Q os f n.1 k.1)
 
 -- E9: it asks to shut down
 module _ (settings : Settings) (t u : Tables) (events : List Event) (e : ℕ) (body : List ℕ) (m : Message) (home : Option ℕ) (outs : List Out) (served : is_served (desk_of e events).phase ≡ true) (asks : requests (codes "shutdown") m ≡ true) (is : home_of settings e events ≡ home) (ls : u.lasts.items ≡ t.lasts.items) (vs : u.versions ≡ t.versions) (st : Stands settings t events) where

@@ -12,6 +12,7 @@ use Rattle.event_model.specs.Settings.{Settings}
 use Rattle.event_model.proofs.Frames.{never, one_more}
 use Rattle.editor_session.specs.Sessions.{with_session}
 use Rattle.group_words.specs.Houses.{is_first_open, places, stops}
+use Rattle.mux_tables.specs.declared.tables.Course.{Course}
 use Rattle.mux_tables.specs.declared.tables.Tables.{Tables}
 use Rattle.mux_tables.specs.Stands.{Stands}
 use Rattle.mux_tables.proofs.DocumentFrames.{served_old}
@@ -40,11 +41,11 @@ no_stop : (m : Message) → requests (codes "shutdown") m ≡ true → requests 
 no_stop (request id method ps) h = subst (λ w. bytes_eq (codes "lspmux/stop") w ≡ false) ((bytes_eq-Decides (codes "shutdown") method).0 h) refl
 no_stop other h = never (sym h)
 
-pub shutdown_moves : (settings : Settings) (t u : Tables) (events : List Event) (e : ℕ) (body : List ℕ) → e < length t.editors → u.editors ≡ with_session t.editors e (phased t.editors e Down) → u.groups ≡ t.groups → u.time ≡ t.time → u.lasts ≡ t.lasts → u.origins.groups ≡ t.origins.groups → u.origins.stopping ≡ t.origins.stopping → u.origins.created ≡ left_each e (keys_of t.origins.created) t.origins.created → IsStrictlySortedBy nat_cmp (keys_of t.origins.created) → u.requests ≡ t.requests
+pub shutdown_moves : (settings : Settings) (t u : Tables) (events : List Event) (e : ℕ) (body : List ℕ) → e < length t.editors → u.editors ≡ with_session t.editors e (phased t.editors e Down) → u.groups ≡ t.groups → u.course ≡ t.course → u.lasts ≡ t.lasts → u.origins.groups ≡ t.origins.groups → u.origins.stopping ≡ t.origins.stopping → u.origins.created ≡ left_each e (keys_of t.origins.created) t.origins.created → IsStrictlySortedBy nat_cmp (keys_of t.origins.created) → u.requests ≡ t.requests
     → is_served (desk_of e events).phase ≡ true → requests (codes "shutdown") (message_of body) ≡ true → Stands settings t events → Stands settings u (events ++ heard (FromEditor e body) ∷ [])
 shutdown_moves settings t u events e body l is gs now ls og sk cr sorted r served asks st =
     let stays : places (desk_of e events).phase (message_of body) ≡ false = rw (served_old (desk_of e events).phase served) refl in
     let goes : stops events e (message_of body) ≡ false = rw (no_stop (message_of body) asks) refl in
     let off : is_first_open settings.servers events e (message_of body) ≡ false = rw (served_old (desk_of e events).phase served) refl in
     let step : (desk_of e (events ++ heard (FromEditor e body) ∷ [])).phase ≡ Down = ap (λ (d : Desk). d.phase) (one_more (desk_behind e) _ _ events (heard (FromEditor e body)) refl) ∙ rw (itself e) (hears_down (desk_of e events).phase (desk_of e events).initialize body (message_of body) served asks) in
-    set_moves settings t u events e body Down l is now ls (origins_left settings t.origins u.origins events (heard (FromEditor e body)) e og sk cr sorted (λ s. shutdown_takes settings s e events (created_of settings s events) body (message_of body) asks)) r stays step (answers_none settings e (message_of body) events (asks_silent (codes "shutdown") (message_of body) asks)) gs goes off st
+    set_moves settings t u events e body Down l is (ap (λ (c : Course). c.time) now) ls (origins_left settings t.origins u.origins events (heard (FromEditor e body)) e og sk cr sorted (λ s. shutdown_takes settings s e events (created_of settings s events) body (message_of body) asks)) r stays step (answers_none settings e (message_of body) events (asks_silent (codes "shutdown") (message_of body) asks)) gs (ap (λ (c : Course). c.stopped) now) goes off st

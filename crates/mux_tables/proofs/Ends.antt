@@ -11,6 +11,8 @@ use Rattle.group_words.specs.Houses.{groups_of, time_of}
 use Rattle.group_words.proofs.Frames.{groups_more}
 use Rattle.group_laws.specs.group_rows.specs.Ticks.{due_of}
 use Rattle.group_table.specs.Tables.{Table, with_groups}
+use Rattle.mux_tables.specs.declared.tables.Course.{Course}
+use Rattle.mux_tables.proofs.Halted.{stopped_past}
 use Rattle.mux_tables.specs.declared.tables.Tables.{Tables}
 use Rattle.mux_tables.specs.Stands.{EditorsStand, HouseStands, ends}
 use Rattle.event_model.proofs.Frames.{one_more}
@@ -33,8 +35,8 @@ module _ (test : Kept → Bool) where
   pub ends_all : (xs : List Kept) → ends (all_from 0 test xs) xs ≡ end_where test xs
   ends_all xs = ends_past [] xs 0 refl
 
-pub tick_moves : (settings : Settings) (events : List Event) (now : ℕ) (m : Message) (t u : Tables) → u.editors ≡ t.editors → u.groups.limit ≡ t.groups.limit → u.groups.idle ≡ t.groups.idle → u.time ≡ max t.time now
-    → u.groups.groups ≡ ends (all_from 0 (is_due t.groups.idle (max t.time now)) t.groups.groups) t.groups.groups
+pub tick_moves : (settings : Settings) (events : List Event) (now : ℕ) (m : Message) (t u : Tables) → u.editors ≡ t.editors → u.groups.limit ≡ t.groups.limit → u.groups.idle ≡ t.groups.idle → u.course ≡ record t.course { time = max t.course.time now }
+    → u.groups.groups ≡ ends (all_from 0 (is_due t.groups.idle (max t.course.time now)) t.groups.groups) t.groups.groups
     → HouseStands settings t events → HouseStands settings u (events ++ took (Tick now) m ∷ [])
 tick_moves settings events now m t u es l i k gs s = record {
   editors = subst (λ xs. EditorsStand settings xs (events ++ took (Tick now) m ∷ [])) (sym es) (editors_stand settings t.editors events (took (Tick now) m) refl s.editors);
@@ -42,11 +44,12 @@ tick_moves settings events now m t u es l i k gs s = record {
     groups = groups_more settings events (took (Tick now) m)
         ∙ (ap (λ n. end_where (is_due n (max (time_of events) now)) (groups_of settings events)) s.groups.idle
         ∙ (ap (λ n. end_where (is_due t.groups.idle (max n now)) (groups_of settings events)) s.now
-        ∙ (ap (end_where (is_due t.groups.idle (max t.time now))) s.groups.groups ∙ (sym (ends_all (is_due t.groups.idle (max t.time now)) t.groups.groups) ∙ sym gs))));
+        ∙ (ap (end_where (is_due t.groups.idle (max t.course.time now))) s.groups.groups ∙ (sym (ends_all (is_due t.groups.idle (max t.course.time now)) t.groups.groups) ∙ sym gs))));
     limit = s.groups.limit ∙ sym l;
     idle = s.groups.idle ∙ sym i;
   };
-  now = one_more _ _ _ events (took (Tick now) m) s.now ∙ sym k;
+  now = one_more _ _ _ events (took (Tick now) m) s.now ∙ ap (λ (c : Course). c.time) (sym k);
+  halted = stopped_past events (took (Tick now) m) refl ∙ (s.halted ∙ ap (λ (c : Course). c.stopped) (sym k));
 }
 
 pub ends_more : (gs : List ℕ) (g : ℕ) (xs : List Kept) → ends (gs ++ g ∷ []) xs ≡ changed g ended (ends gs xs)
@@ -57,13 +60,13 @@ pub ends_next : (t u v : Table) (ns : List ℕ) (i d : ℕ) → i < length ns �
 ends_next t u v ns i d h one two =
     two ∙ (ap (λ (w : Table). with_groups (changed (get_or ns i d) ended w.groups) w) one ∙ ap (λ gs. with_groups gs t) (sym (ends_more (take i ns) (get_or ns i d) t.groups) ∙ ap (λ ms. ends ms t.groups) (sym (take_more ns i d h))))
 
-pub tick_heard : (settings : Settings) (events : List Event) (now later : ℕ) (m : Message) (t u : Tables) (ns : List ℕ) → later ≡ max t.time now → u.editors ≡ t.editors → u.time ≡ later → ns ≡ all_from 0 (is_due t.groups.idle later) t.groups.groups → u.groups ≡ with_groups (ends ns t.groups.groups) t.groups
+pub tick_heard : (settings : Settings) (events : List Event) (now later : ℕ) (m : Message) (t u : Tables) (ns : List ℕ) → later ≡ max t.course.time now → u.editors ≡ t.editors → u.course ≡ record t.course { time = later } → ns ≡ all_from 0 (is_due t.groups.idle later) t.groups.groups → u.groups ≡ with_groups (ends ns t.groups.groups) t.groups
     → HouseStands settings t events → HouseStands settings u (events ++ took (Tick now) m ∷ [])
 tick_heard settings events now later m t u ns l es k n gs s =
-    tick_moves settings events now m t u es (ap (λ (w : Table). w.limit) gs) (ap (λ (w : Table). w.idle) gs) (k ∙ l)
+    tick_moves settings events now m t u es (ap (λ (w : Table). w.limit) gs) (ap (λ (w : Table). w.idle) gs) (k ∙ ap (λ n. record t.course { time = n }) l)
     (ap (λ (w : Table). w.groups) gs ∙ (ap (λ ms. ends ms t.groups.groups) n ∙ ap (λ z. ends (all_from 0 (is_due t.groups.idle z) t.groups.groups) t.groups.groups) l)) s
 
 -- the groups that end at a tick
-pub due_seen : (settings : Settings) (events : List Event) (now later : ℕ) (t : Tables) (ns : List ℕ) → later ≡ max t.time now → ns ≡ all_from 0 (is_due t.groups.idle later) t.groups.groups → HouseStands settings t events → ns ≡ due_of settings events now
+pub due_seen : (settings : Settings) (events : List Event) (now later : ℕ) (t : Tables) (ns : List ℕ) → later ≡ max t.course.time now → ns ≡ all_from 0 (is_due t.groups.idle later) t.groups.groups → HouseStands settings t events → ns ≡ due_of settings events now
 due_seen settings events now later t ns l n s = n ∙ ap (λ z. all_from 0 (is_due t.groups.idle z) t.groups.groups) l ∙ ap (λ z. all_from 0 (is_due t.groups.idle (max z now)) t.groups.groups) (sym s.now)
     ∙ ap (λ z. all_from 0 (is_due z (max (time_of events) now)) t.groups.groups) (sym s.groups.idle) ∙ ap (all_from 0 (is_due settings.limits.idle (max (time_of events) now))) (sym s.groups.groups)

@@ -25,6 +25,9 @@ use Rattle.group_words.specs.Placing.{all_from, is_due, is_live}
 use Rattle.group_words.specs.declared.placed.Placed.{Placed}
 use Rattle.group_words.specs.Houses.{Meant, declared_for, emptied, groups_of, home_of, is_doubled, is_first_open, key_for, meant_behind, meant_of, no_meant, placed_for, places, server_asked, stops, time_behind}
 use Rattle.group_words.proofs.Frames.{groups_more, home_more}
+use Rattle.mux_tables.specs.declared.tables.Course.{Course}
+use Rattle.mux_tables.proofs.Halted.{stopped_more, stopped_now, stopped_quiet}
+use Rattle.group_laws.specs.group_rows.specs.StopRows.{stopped}
 use Rattle.mux_tables.specs.declared.tables.Tables.{Tables}
 use Rattle.mux_tables.specs.Names.{NameStands, id_in}
 use Rattle.mux_tables.specs.Stands.{AnswersNone, CountStands, EditorsStand, GroupsStand, HouseStands, Stands, ends, is_answer, phase_in, group_in, meant_in, stays_in}
@@ -105,12 +108,13 @@ joined_editors settings t u events e last is s = record {
         past (x ∷ xs) = past xs
     place j (other h) = rw (get_push_other t joined j h) refl
 
-pub joined_moves : (settings : Settings) (t u : Tables) (events : List Event) (e : ℕ) → e ≡ length t.editors → u.editors ≡ t.editors ++ joined ∷ [] → u.groups ≡ t.groups → u.time ≡ t.time → u.lasts ≡ t.lasts → u.origins ≡ t.origins → u.requests ≡ t.requests
+pub joined_moves : (settings : Settings) (t u : Tables) (events : List Event) (e : ℕ) → e ≡ length t.editors → u.editors ≡ t.editors ++ joined ∷ [] → u.groups ≡ t.groups → u.course ≡ t.course → u.lasts ≡ t.lasts → u.origins ≡ t.origins → u.requests ≡ t.requests
     → Stands settings t events → Stands settings u (events ++ took (Joined e) not_message ∷ [])
 joined_moves settings t u events e last is gs now ls os r s = house_moves settings t u events (took (Joined e) not_message) (λ n. refl) (λ n. record { asks = refl; parked = refl }) refl (ap (λ v. v.items) ls) (origins_stay settings t.origins u.origins events (took (Joined e) not_message) os (λ m. refl)) r (λ h. record {
   editors = joined_editors settings t.editors u.editors events e last is h.editors;
   groups = subst (λ g. GroupsStand settings g (events ++ took (Joined e) not_message ∷ [])) (sym gs) (groups_stand settings t.groups events (took (Joined e) not_message) refl h.groups);
-  now = one_more time_behind _ _ events (took (Joined e) not_message) h.now ∙ sym now;
+  now = one_more time_behind _ _ events (took (Joined e) not_message) h.now ∙ ap (λ (c : Course). c.time) (sym now);
+  halted = stopped_more events (took (Joined e) not_message) ∙ (h.halted ∙ ap (λ (c : Course). c.stopped) (sym now));
 }) s
 
 -- what is kept of an editor's `lspmux/open`, behind a message of it
@@ -151,7 +155,7 @@ module _ (settings : Settings) (t : List Session) (events : List Event) (e : ℕ
 
 -- a message that places nobody, and stops nothing
 module _ (settings : Settings) (t u : Tables) (events : List Event) (e : ℕ) (body : List ℕ) (y : Session) (l : e < length t.editors) (is : u.editors ≡ with_session t.editors e y)
-    (now : u.time ≡ t.time) (ls : u.lasts ≡ t.lasts) (os : OriginsMove settings t.origins u.origins events (took (FromEditor e body) (message_of body))) (r : u.requests ≡ t.requests)
+    (now : u.course.time ≡ t.course.time) (ls : u.lasts ≡ t.lasts) (os : OriginsMove settings t.origins u.origins events (took (FromEditor e body) (message_of body))) (r : u.requests ≡ t.requests)
     (stays : places (desk_of e events).phase (message_of body) ≡ false) (step : (desk_of e (events ++ heard (FromEditor e body) ∷ [])).phase ≡ y.phase)
     (group : y.group ≡ (session_of t.editors e).group) (id : y.id ≡ (session_of t.editors e).id) (count : y.asks ≡ (session_of t.editors e).asks)
     (means : (desk_of e (events ++ heard (FromEditor e body) ∷ [])).phase ≡ New → meant_in (Some y) ≡ meant_of settings.servers e (events ++ heard (FromEditor e body) ∷ [])) where
@@ -193,25 +197,29 @@ module _ (settings : Settings) (t u : Tables) (events : List Event) (e : ℕ) (b
       meant_at n (other h) w = meant_by (goes_so (desk_apart e n body (message_of body) events (ne_eqb e n (λ q. h (sym q))))) (ap meant_in (get_set_other t.editors e n y h))
           (meant_apart settings.servers e n body (message_of body) events (ne_eqb e n (λ q. h (sym q)))) (s.meant n) w
 
-  heard_house : (GroupsStand settings t.groups events → GroupsStand settings u.groups (events ++ ev ∷ [])) → HouseStands settings t events → HouseStands settings u (events ++ ev ∷ [])
-  heard_house go h = record {
+  heard_house : (stopped events ≡ t.course.stopped → stopped (events ++ ev ∷ []) ≡ u.course.stopped) → (GroupsStand settings t.groups events → GroupsStand settings u.groups (events ++ ev ∷ [])) → HouseStands settings t events → HouseStands settings u (events ++ ev ∷ [])
+  heard_house halt go h = record {
     editors = heard_editors h.editors;
     groups = go h.groups;
     now = one_more time_behind _ _ events ev h.now ∙ sym now;
+    halted = halt h.halted;
   }
 
   heard_groups : u.groups ≡ t.groups → stops events e (message_of body) ≡ false → GroupsStand settings t.groups events → GroupsStand settings u.groups (events ++ ev ∷ [])
   heard_groups gs goes h = subst (λ g. GroupsStand settings g (events ++ ev ∷ [])) (sym gs) (record { groups = groups_more settings events ev ∙ (rw (stays, goes) refl ∙ h.groups); limit = h.limit; idle = h.idle })
 
-  all_heard : AnswersNone settings e (message_of body) events → (GroupsStand settings t.groups events → GroupsStand settings u.groups (events ++ ev ∷ [])) → Stands settings t events → Stands settings u (events ++ ev ∷ [])
-  all_heard silent go = house_moves settings t u events ev (λ n. refl) (λ n. none_answered settings e n body (message_of body) events (silent n)) refl (ap (λ v. v.items) ls) os r (heard_house go)
+  all_heard : AnswersNone settings e (message_of body) events → (stopped events ≡ t.course.stopped → stopped (events ++ ev ∷ []) ≡ u.course.stopped) → (GroupsStand settings t.groups events → GroupsStand settings u.groups (events ++ ev ∷ [])) → Stands settings t events → Stands settings u (events ++ ev ∷ [])
+  all_heard silent halt go = house_moves settings t u events ev (λ n. refl) (λ n. none_answered settings e n body (message_of body) events (silent n)) refl (ap (λ v. v.items) ls) os r (heard_house halt go)
 
-  heard_moves : AnswersNone settings e (message_of body) events → u.groups ≡ t.groups → stops events e (message_of body) ≡ false → Stands settings t events → Stands settings u (events ++ ev ∷ [])
-  heard_moves silent gs goes = all_heard silent (heard_groups gs goes)
+  still : u.course.stopped ≡ t.course.stopped → stops events e (message_of body) ≡ false → stopped events ≡ t.course.stopped → stopped (events ++ ev ∷ []) ≡ u.course.stopped
+  still keeps goes h = stopped_quiet events e body (message_of body) goes ∙ (h ∙ sym keeps)
+
+  heard_moves : AnswersNone settings e (message_of body) events → u.groups ≡ t.groups → u.course.stopped ≡ t.course.stopped → stops events e (message_of body) ≡ false → Stands settings t events → Stands settings u (events ++ ev ∷ [])
+  heard_moves silent gs keeps goes = all_heard silent (still keeps goes) (heard_groups gs goes)
 
   -- E6
-  stopped_moves : AnswersNone settings e (message_of body) events → (ns : List ℕ) → ns ≡ all_from 0 is_live t.groups.groups → u.groups ≡ with_groups (ends ns t.groups.groups) t.groups → stops events e (message_of body) ≡ true → Stands settings t events → Stands settings u (events ++ ev ∷ [])
-  stopped_moves silent ns all gs stop = all_heard silent (λ h. stop_groups settings events e body (message_of body) t.groups u.groups stays stop (ap (λ (w : Table). w.limit) gs) (ap (λ (w : Table). w.idle) gs) (ap (λ (w : Table). w.groups) gs ∙ ap (λ ms. ends ms t.groups.groups) all) h)
+  stopped_moves : AnswersNone settings e (message_of body) events → (ns : List ℕ) → ns ≡ all_from 0 is_live t.groups.groups → u.groups ≡ with_groups (ends ns t.groups.groups) t.groups → u.course.stopped ≡ true → stops events e (message_of body) ≡ true → Stands settings t events → Stands settings u (events ++ ev ∷ [])
+  stopped_moves silent ns all gs halts stop = all_heard silent (λ _. stopped_now events e body (message_of body) stop ∙ sym halts) (λ h. stop_groups settings events e body (message_of body) t.groups u.groups stays stop (ap (λ (w : Table). w.limit) gs) (ap (λ (w : Table). w.idle) gs) (ap (λ (w : Table). w.groups) gs ∙ ap (λ ms. ends ms t.groups.groups) all) h)
 
 -- a request answers nothing
 pub asks_silent : (name : List ℕ) (m : Message) → requests name m ≡ true → is_answer m ≡ false
@@ -234,27 +242,27 @@ stops_asks events e servers m h = ap (λ b. is_new (desk_of e events).phase && (
 
 -- the same, as the code sets the phase
 module _ (settings : Settings) (t u : Tables) (events : List Event) (e : ℕ) (body : List ℕ) (p : Phase) (l : e < length t.editors) (set : u.editors ≡ with_session t.editors e (phased t.editors e p))
-    (now : u.time ≡ t.time) (ls : u.lasts ≡ t.lasts) (os : OriginsMove settings t.origins u.origins events (took (FromEditor e body) (message_of body))) (r : u.requests ≡ t.requests)
+    (now : u.course.time ≡ t.course.time) (ls : u.lasts ≡ t.lasts) (os : OriginsMove settings t.origins u.origins events (took (FromEditor e body) (message_of body))) (r : u.requests ≡ t.requests)
     (stays : places (desk_of e events).phase (message_of body) ≡ false) (step : (desk_of e (events ++ heard (FromEditor e body) ∷ [])).phase ≡ p) where
   abbrev put : Session
   put = record (session_of t.editors e) { phase = p }
 
-  pub set_house : u.groups ≡ t.groups → stops events e (message_of body) ≡ false → is_first_open settings.servers events e (message_of body) ≡ false → HouseStands settings t events → HouseStands settings u (events ++ heard (FromEditor e body) ∷ [])
-  set_house gs goes off h = heard_house settings t u events e body put l (set ∙ heard_plain settings t.editors events e p l h.editors body step) now ls os r stays step refl refl refl
-      (meant_kept settings t.editors events e body l p stays off h.editors)
+  pub set_house : u.groups ≡ t.groups → u.course.stopped ≡ t.course.stopped → stops events e (message_of body) ≡ false → is_first_open settings.servers events e (message_of body) ≡ false → HouseStands settings t events → HouseStands settings u (events ++ heard (FromEditor e body) ∷ [])
+  set_house gs keeps goes off h = heard_house settings t u events e body put l (set ∙ heard_plain settings t.editors events e p l h.editors body step) now ls os r stays step refl refl refl
+      (meant_kept settings t.editors events e body l p stays off h.editors) (λ s. stopped_quiet events e body (message_of body) goes ∙ (s ∙ sym keeps))
       (heard_groups settings t u events e body put l (set ∙ heard_plain settings t.editors events e p l h.editors body step) now ls os r stays step refl refl refl (meant_kept settings t.editors events e body l p stays off h.editors) gs goes) h
 
-  pub set_moves : AnswersNone settings e (message_of body) events → u.groups ≡ t.groups → stops events e (message_of body) ≡ false → is_first_open settings.servers events e (message_of body) ≡ false → Stands settings t events → Stands settings u (events ++ heard (FromEditor e body) ∷ [])
-  set_moves silent gs goes off s = heard_moves settings t u events e body put l (set ∙ heard_plain settings t.editors events e p l s.house.editors body step) now ls os r stays step refl refl refl
-      (meant_kept settings t.editors events e body l p stays off s.house.editors) silent gs goes s
+  pub set_moves : AnswersNone settings e (message_of body) events → u.groups ≡ t.groups → u.course.stopped ≡ t.course.stopped → stops events e (message_of body) ≡ false → is_first_open settings.servers events e (message_of body) ≡ false → Stands settings t events → Stands settings u (events ++ heard (FromEditor e body) ∷ [])
+  set_moves silent gs keeps goes off s = heard_moves settings t u events e body put l (set ∙ heard_plain settings t.editors events e p l s.house.editors body step) now ls os r stays step refl refl refl
+      (meant_kept settings t.editors events e body l p stays off s.house.editors) silent gs keeps goes s
 
-  pub stop_moves : AnswersNone settings e (message_of body) events → (ns : List ℕ) → ns ≡ all_from 0 is_live t.groups.groups → u.groups ≡ with_groups (ends ns t.groups.groups) t.groups → stops events e (message_of body) ≡ true → Stands settings t events → Stands settings u (events ++ heard (FromEditor e body) ∷ [])
-  stop_moves silent ns all gs stop s = stopped_moves settings t u events e body put l (set ∙ heard_plain settings t.editors events e p l s.house.editors body step) now ls os r stays step refl refl refl
-      (meant_kept settings t.editors events e body l p stays (stops_asks events e settings.servers (message_of body) stop) s.house.editors) silent ns all gs stop s
+  pub stop_moves : AnswersNone settings e (message_of body) events → (ns : List ℕ) → ns ≡ all_from 0 is_live t.groups.groups → u.groups ≡ with_groups (ends ns t.groups.groups) t.groups → u.course.stopped ≡ true → stops events e (message_of body) ≡ true → Stands settings t events → Stands settings u (events ++ heard (FromEditor e body) ∷ [])
+  stop_moves silent ns all gs halts stop s = stopped_moves settings t u events e body put l (set ∙ heard_plain settings t.editors events e p l s.house.editors body step) now ls os r stays step refl refl refl
+      (meant_kept settings t.editors events e body l p stays (stops_asks events e settings.servers (message_of body) stop) s.house.editors) silent ns all gs halts stop s
 
 -- E4: the first `lspmux/open` of a new editor
 module _ (settings : Settings) (t u : Tables) (events : List Event) (e : ℕ) (body : List ℕ) (o : Option ℕ) (l : e < length t.editors) (set : u.editors ≡ with_session t.editors e (unless_gone (meaning o) (session_of t.editors e)))
-    (now : u.time ≡ t.time) (ls : u.lasts ≡ t.lasts) (os : u.origins ≡ t.origins) (r : u.requests ≡ t.requests)
+    (now : u.course ≡ t.course) (ls : u.lasts ≡ t.lasts) (os : u.origins ≡ t.origins) (r : u.requests ≡ t.requests)
     (first : is_first_open settings.servers events e (message_of body) ≡ true) (is : o ≡ server_asked settings.servers body) where
   abbrev seen : Session
   seen = session_of t.editors e
@@ -289,11 +297,11 @@ module _ (settings : Settings) (t u : Tables) (events : List Event) (e : ℕ) (b
 
   pub open_moves : u.groups ≡ t.groups → Stands settings t events → Stands settings u (events ++ heard (FromEditor e body) ∷ [])
   open_moves gs s = heard_moves settings t u events e body (record seen { opened = true; server = o }) l
-      (set ∙ ap (λ p. with_session t.editors e (if is_gone p then seen else record seen { opened = true; server = o })) (stands_new s.house.editors)) now ls (origins_stay settings t.origins u.origins events (heard (FromEditor e body)) os (request_takes settings e (codes "lspmux/open") (message_of body) events refl asks)) r
+      (set ∙ ap (λ p. with_session t.editors e (if is_gone p then seen else record seen { opened = true; server = o })) (stands_new s.house.editors)) (ap (λ (c : Course). c.time) now) ls (origins_stay settings t.origins u.origins events (heard (FromEditor e body)) os (request_takes settings e (codes "lspmux/open") (message_of body) events refl asks)) r
       (ap (λ b. is_new (desk_of e events).phase && b) (no_first (message_of body) asks) ∙ and_off (is_new (desk_of e events).phase))
       (now_new ∙ sym (stands_new s.house.editors))
       refl refl refl (λ w. meant_first settings t.editors events e body l o is first) (answers_none settings e (message_of body) events (asks_silent (codes "lspmux/open") (message_of body) asks))
-      gs (ap (λ b. b && (is_there (desk_of e events).phase && not (is_doubled events e (message_of body)))) (no_stop (message_of body) asks)) s
+      gs (ap (λ (c : Course). c.stopped) now) (ap (λ b. b && (is_there (desk_of e events).phase && not (is_begun (desk_of e events).phase && is_doubled events e (message_of body)))) (no_stop (message_of body) asks)) s
 
 -- X6: no table speaks of bytes that were written
 pub drained_moves : (settings : Settings) (t : Tables) (events : List Event) (e k : ℕ) → Stands settings t events → Stands settings t (events ++ heard (Drained e k) ∷ [])
@@ -302,8 +310,8 @@ drained_moves settings t events e k s = quiet_moves settings t events (heard (Dr
 -- X5
 pub gone_heard : (settings : Settings) (t u : Tables) (events : List Event) (e : ℕ) (why : Why) (mid : List Session) (p : Phase) (home : Option ℕ) (was : Bool) → e < length t.editors
     → p ≡ (session_of t.editors e).phase → home ≡ (session_of t.editors e).group → was ≡ is_begun p
-    → mid ≡ with_session t.editors e gone → u.editors ≡ mid → u.time ≡ t.time → u.lasts ≡ t.lasts → u.origins.groups ≡ t.origins.groups → u.origins.stopping ≡ t.origins.stopping → u.origins.created ≡ left_each e (keys_of t.origins.created) t.origins.created → IsStrictlySortedBy nat_cmp (keys_of t.origins.created) → u.requests ≡ t.requests
-    → u.groups ≡ with_groups (emptied home was (stays_in mid) t.time t.groups.groups) t.groups
+    → mid ≡ with_session t.editors e gone → u.editors ≡ mid → u.course ≡ t.course → u.lasts ≡ t.lasts → u.origins.groups ≡ t.origins.groups → u.origins.stopping ≡ t.origins.stopping → u.origins.created ≡ left_each e (keys_of t.origins.created) t.origins.created → IsStrictlySortedBy nat_cmp (keys_of t.origins.created) → u.requests ≡ t.requests
+    → u.groups ≡ with_groups (emptied home was (stays_in mid) t.course.time t.groups.groups) t.groups
     → Stands settings t events → Stands settings u (events ++ took (EditorGone e why) not_message ∷ [])
 gone_heard settings t u events e why mid p home was l phases homes begun set es now ls og sk cr sorted r gs =
     house_moves settings t u events (took (EditorGone e why) not_message) (λ n. refl) (λ n. record { asks = refl; parked = refl }) refl (ap (λ v. v.items) ls) (origins_left settings t.origins u.origins events (took (EditorGone e why) not_message) e og sk cr sorted (λ s. refl)) r
@@ -312,14 +320,14 @@ gone_heard settings t u events e why mid p home was l phases homes begun set es 
 -- E7
 pub initialized_moves : (settings : Settings) (before : List Event) (e : ℕ) (body : List ℕ) (t u : Tables) (mid : Table) (x : Session) (p : Placed) (key : Common) (given id : List ℕ) → requests (codes "initialize") (message_of body) ≡ true → slice_get t.editors e ≡ Some x → x.phase ≡ New → id ≡ id_bytes body
     → key ≡ key_for settings before e body → given ≡ declared_for settings before e body → p ≡ place_in key given t.groups → mid ≡ after_place key given t.groups → u.groups ≡ with_groups (placing.joined p mid.groups) mid
-    → Seated t.editors u.editors e p x id → u.time ≡ t.time → u.lasts ≡ t.lasts → u.origins ≡ t.origins → u.requests ≡ t.requests → Stands settings t before
+    → Seated t.editors u.editors e p x id → u.course ≡ t.course → u.lasts ≡ t.lasts → u.origins ≡ t.origins → u.requests ≡ t.requests → Stands settings t before
     → (p ≡ placed_for settings before e body (groups_of settings before)) × Stands settings u (before ++ took (FromEditor e body) (message_of body) ∷ [])
 initialized_moves settings before e body t u mid x p key given id first at new own k d chosen placed busy sits now ls os r s =
     let h = initialize_heard settings before e body (message_of body) t u mid x p key given id first at new own k d chosen placed busy sits now s.house in
     (h.0, house_moves settings t u before (took (FromEditor e body) (message_of body)) (λ n. refl) (λ n. none_answered settings e n body (message_of body) before (answers_none settings e (message_of body) before (asks_silent (codes "initialize") (message_of body) first) n)) refl (ap (λ v. v.items) ls) (origins_stay settings t.origins u.origins before (took (FromEditor e body) (message_of body)) os (request_takes settings e (codes "initialize") (message_of body) before refl first)) r (λ _. h.1) s)
 
 -- X7
-pub ticked_moves : (settings : Settings) (t u : Tables) (events : List Event) (now later : ℕ) (ns : List ℕ) → later ≡ max t.time now → u.editors ≡ t.editors → u.time ≡ later → ns ≡ all_from 0 (is_due t.groups.idle later) t.groups.groups
+pub ticked_moves : (settings : Settings) (t u : Tables) (events : List Event) (now later : ℕ) (ns : List ℕ) → later ≡ max t.course.time now → u.editors ≡ t.editors → u.course ≡ record t.course { time = later } → ns ≡ all_from 0 (is_due t.groups.idle later) t.groups.groups
     → u.groups ≡ with_groups (ends ns t.groups.groups) t.groups → u.lasts ≡ t.lasts → u.origins ≡ t.origins → u.requests ≡ t.requests → Stands settings t events → Stands settings u (events ++ took (Tick now) not_message ∷ [])
 ticked_moves settings t u events now later ns l es k n gs ls os r =
     house_moves settings t u events (took (Tick now) not_message) (λ n. refl) (λ n. record { asks = refl; parked = refl }) refl (ap (λ v. v.items) ls) (origins_stay settings t.origins u.origins events (took (Tick now) not_message) os (λ m. refl)) r (tick_heard settings events now later not_message t u ns l es k n gs)

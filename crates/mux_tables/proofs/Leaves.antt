@@ -21,6 +21,9 @@ use Rattle.group_words.specs.Placing.{changed}
 use Rattle.group_words.specs.Houses.{House, Meant, groups_of, home_of, house_of, groups_next, groups_left, emptied, has_editor, is_home, idle_if_live, meant_behind, meant_of, time_behind, time_of}
 use Rattle.group_words.proofs.Frames.{itself, groups_more, home_more, home_stays, names_home}
 use Rattle.group_table.specs.Tables.{Table, with_groups}
+use Rattle.mux_tables.specs.declared.tables.Course.{Course}
+use Rattle.mux_tables.proofs.Halted.{stopped_more}
+use Rattle.group_laws.specs.group_rows.specs.StopRows.{stopped, stopped_next}
 use Rattle.mux_tables.specs.declared.tables.Tables.{Tables}
 use Rattle.mux_tables.specs.Names.{NameStands, id_in}
 use Rattle.group_laws.specs.group_rows.specs.Asks.{asked_behind, next_ask}
@@ -45,7 +48,7 @@ record LeftOne (settings : Settings) (events : List Event) (ev : Event) (e : ℕ
   counts : (g : ℕ) (o : Option ℕ) → o ≡ x.group → (is_begun y.phase && is_home g o) ≡ (is_begun y.phase && is_home g y.group)
   asked : is_gone y.phase ≡ false → (is_gone x.phase ≡ false) × (y.asks ≡ x.asks)
 
-module _ (settings : Settings) (events : List Event) (ev : Event) (e : ℕ) (leaves : (x : House) → groups_next settings events x ev ≡ groups_left events ev e x) (rest : (n : ℕ) (d : Desk) → nat_eq e n ≡ false → desk_behind n d ev ≡ d) (number : (n : ℕ) → editors_behind n ev ≡ n) (homes : (n : ℕ) → nat_eq e n ≡ false → names_home n ev ≡ false) (time : ticks ev ≡ false) (unmeant : (n : ℕ) (x : Meant) → meant_behind settings.servers n x ev ≡ x) (unasked : (n k : ℕ) → asked_behind n k ev ≡ k) where
+module _ (settings : Settings) (events : List Event) (ev : Event) (e : ℕ) (leaves : (x : House) → groups_next settings events x ev ≡ groups_left events ev e x) (rest : (n : ℕ) (d : Desk) → nat_eq e n ≡ false → desk_behind n d ev ≡ d) (number : (n : ℕ) → editors_behind n ev ≡ n) (homes : (n : ℕ) → nat_eq e n ≡ false → names_home n ev ≡ false) (time : ticks ev ≡ false) (halts : (b : Bool) → stopped_next events b ev ≡ b) (unmeant : (n : ℕ) (x : Meant) → meant_behind settings.servers n x ev ≡ x) (unasked : (n k : ℕ) → asked_behind n k ev ≡ k) where
   home_apart : (n : ℕ) → (n ≡ e → ⊥) → home_of settings n (events ++ ev ∷ []) ≡ home_of settings n events
   home_apart n h = home_stays settings n events ev (homes n (ne_eqb e n (λ q. h (sym q))))
 
@@ -83,7 +86,7 @@ module _ (settings : Settings) (events : List Event) (ev : Event) (e : ℕ) (lea
       home_at n (other h) = home_apart n h ∙ (s.home n ∙ ap group_in (sym (get_set_other t e n y h)))
 
   left_groups : (t u : Tables) (x y : Session) → slice_get t.editors e ≡ Some x → u.editors ≡ slice_set t.editors e y → LeftOne settings events ev e x y → EditorsStand settings u.editors (events ++ ev ∷ []) → u.groups.limit ≡ t.groups.limit → u.groups.idle ≡ t.groups.idle
-      → u.groups.groups ≡ emptied x.group (is_begun x.phase) (stays_in u.editors) t.time t.groups.groups
+      → u.groups.groups ≡ emptied x.group (is_begun x.phase) (stays_in u.editors) t.course.time t.groups.groups
       → HouseStands settings t events → GroupsStand settings u.groups (events ++ ev ∷ [])
   left_groups t u x y at set own after l i is s = record {
     groups = groups_more settings events ev ∙ (leaves (house_of settings events)
@@ -92,7 +95,7 @@ module _ (settings : Settings) (events : List Event) (ev : Event) (e : ℕ) (lea
         ∙ (ap (λ o. emptied o (is_begun (desk_of e events).phase) (stays_in u.editors) (time_of events) (groups_of settings events)) (s.editors.home e ∙ ap group_in at)
         ∙ (ap (λ p. emptied x.group (is_begun p) (stays_in u.editors) (time_of events) (groups_of settings events)) (s.editors.phase e ∙ ap phase_in at)
         ∙ (ap (λ now. emptied x.group (is_begun x.phase) (stays_in u.editors) now (groups_of settings events)) s.now
-        ∙ (ap (λ gs. emptied x.group (is_begun x.phase) (stays_in u.editors) t.time gs) s.groups.groups ∙ sym is))))));
+        ∙ (ap (λ gs. emptied x.group (is_begun x.phase) (stays_in u.editors) t.course.time gs) s.groups.groups ∙ sym is))))));
     limit = s.groups.limit ∙ sym l;
     idle = s.groups.idle ∙ sym i;
   }
@@ -111,22 +114,23 @@ module _ (settings : Settings) (events : List Event) (ev : Event) (e : ℕ) (lea
       counts g n (other h) = ap (λ o. is_begun (phase_in (slice_get u.editors n)) && is_home g o) (sym (home_apart n h) ∙ after.home n)
 
   left_moves : (t u : Tables) (x y : Session) → slice_get t.editors e ≡ Some x → u.editors ≡ slice_set t.editors e y → LeftOne settings events ev e x y → ((d : Desk) → d.phase ≡ x.phase → (desk_behind e d ev).phase ≡ y.phase)
-      → u.groups.limit ≡ t.groups.limit → u.groups.idle ≡ t.groups.idle → u.time ≡ t.time → u.groups.groups ≡ emptied x.group (is_begun x.phase) (stays_in u.editors) t.time t.groups.groups
+      → u.groups.limit ≡ t.groups.limit → u.groups.idle ≡ t.groups.idle → u.course ≡ t.course → u.groups.groups ≡ emptied x.group (is_begun x.phase) (stays_in u.editors) t.course.time t.groups.groups
       → HouseStands settings t events → HouseStands settings u (events ++ ev ∷ [])
   left_moves t u x y at is own step l i k gs s =
       let after = left_editors t.editors u.editors x y at is own step s.editors in
       record {
         editors = after;
         groups = left_groups t u x y at is own after l i gs s;
-        now = one_more time_behind _ _ events ev s.now ∙ (time_alone _ ev time ∙ sym k);
+        now = one_more time_behind _ _ events ev s.now ∙ (time_alone _ ev time ∙ ap (λ (c : Course). c.time) (sym k));
+        halted = stopped_more events ev ∙ (halts (stopped events) ∙ (s.halted ∙ ap (λ (c : Course). c.stopped) (sym k)));
       }
 
 -- its link is to be ended: it keeps its home
 pub close_moves : (settings : Settings) (events : List Event) (e : ℕ) (m : Message) (t u : Tables) (x y : Session) → slice_get t.editors e ≡ Some x → u.editors ≡ slice_set t.editors e y → y.group ≡ x.group → y.id ≡ x.id → y.asks ≡ x.asks → y.phase ≡ phase_closed x.phase
-    → u.groups.limit ≡ t.groups.limit → u.groups.idle ≡ t.groups.idle → u.time ≡ t.time → u.groups.groups ≡ emptied x.group (is_begun x.phase) (stays_in u.editors) t.time t.groups.groups
+    → u.groups.limit ≡ t.groups.limit → u.groups.idle ≡ t.groups.idle → u.course ≡ t.course → u.groups.groups ≡ emptied x.group (is_begun x.phase) (stays_in u.editors) t.course.time t.groups.groups
     → HouseStands settings t events → HouseStands settings u (events ++ did (CloseEditor e) m ∷ [])
 close_moves settings events e m t u x y at is group id asks closed l i k gs s =
-    left_moves settings events (did (CloseEditor e) m) e (λ h. refl) (λ n d f. rw f refl) (λ n. refl) (λ n f. refl) refl (λ n x. refl) (λ n k. refl) t u x y at is own (λ d p. rw (itself e, p) (sym closed)) l i k gs s
+    left_moves settings events (did (CloseEditor e) m) e (λ h. refl) (λ n d f. rw f refl) (λ n. refl) (λ n f. refl) refl (λ b. refl) (λ n x. refl) (λ n k. refl) t u x y at is own (λ d p. rw (itself e, p) (sym closed)) l i k gs s
   where
     stays : home_of settings e (events ++ did (CloseEditor e) m ∷ []) ≡ home_of settings e events
     stays = home_stays settings e events (did (CloseEditor e) m) refl
@@ -145,10 +149,10 @@ close_moves settings events e m t u x y at is group id asks closed l i k gs s =
 
 -- its link ended: it is in no group from then on
 pub gone_moves : (settings : Settings) (events : List Event) (e : ℕ) (why : Why) (m : Message) (t u : Tables) (x : Session) → slice_get t.editors e ≡ Some x → u.editors ≡ slice_set t.editors e gone
-    → u.groups.limit ≡ t.groups.limit → u.groups.idle ≡ t.groups.idle → u.time ≡ t.time → u.groups.groups ≡ emptied x.group (is_begun x.phase) (stays_in u.editors) t.time t.groups.groups
+    → u.groups.limit ≡ t.groups.limit → u.groups.idle ≡ t.groups.idle → u.course ≡ t.course → u.groups.groups ≡ emptied x.group (is_begun x.phase) (stays_in u.editors) t.course.time t.groups.groups
     → HouseStands settings t events → HouseStands settings u (events ++ took (EditorGone e why) m ∷ [])
 gone_moves settings events e why m t u x at is l i k gs s =
-    left_moves settings events (took (EditorGone e why) m) e (λ h. refl) (λ n d f. rw f refl) (λ n. refl) (λ n f. f) refl (λ n x. refl) (λ n k. refl) t u x gone at is own (λ d p. rw (itself e) refl) l i k gs s
+    left_moves settings events (took (EditorGone e why) m) e (λ h. refl) (λ n d f. rw f refl) (λ n. refl) (λ n f. f) refl (λ b. refl) (λ n x. refl) (λ n k. refl) t u x gone at is own (λ d p. rw (itself e) refl) l i k gs s
   where
     leaves : desk_behind e (desk_of e events) (took (EditorGone e why) m) ≡ record { phase = Gone; initialize = (desk_of e events).initialize }
     leaves = rw (itself e) refl
@@ -162,13 +166,13 @@ gone_moves settings events e why m t u x at is l i k gs s =
       asked = λ there. never there;
     }
 
-pub closed_said : (settings : Settings) (events : List Event) (e : ℕ) (m : Message) (t u : Tables) (mid : List Session) (x : Session) (p : Phase) → e < length t.editors → slice_get t.editors e ≡ Some x → p ≡ phase_closed x.phase → mid ≡ with_session t.editors e (record (session_of t.editors e) { phase = p }) → u.editors ≡ mid → u.time ≡ t.time
-    → u.groups ≡ with_groups (emptied x.group (is_begun x.phase) (stays_in mid) t.time t.groups.groups) t.groups
+pub closed_said : (settings : Settings) (events : List Event) (e : ℕ) (m : Message) (t u : Tables) (mid : List Session) (x : Session) (p : Phase) → e < length t.editors → slice_get t.editors e ≡ Some x → p ≡ phase_closed x.phase → mid ≡ with_session t.editors e (record (session_of t.editors e) { phase = p }) → u.editors ≡ mid → u.course ≡ t.course
+    → u.groups ≡ with_groups (emptied x.group (is_begun x.phase) (stays_in mid) t.course.time t.groups.groups) t.groups
     → HouseStands settings t events → HouseStands settings u (events ++ did (CloseEditor e) m ∷ [])
 closed_said settings events e m t u mid x p h at closed set es now gs s =
     let y : Session = record (session_of t.editors e) { phase = p } in
     close_moves settings events e m t u x y at (es ∙ set) (ap (λ (z : Session). z.group) (index_get t.editors e x _ at)) (ap (λ (z : Session). z.id) (index_get t.editors e x _ at)) (ap (λ (z : Session). z.asks) (index_get t.editors e x _ at)) closed (ap (λ (w : Table). w.limit) gs) (ap (λ (w : Table). w.idle) gs) now
-    (ap (λ (w : Table). w.groups) gs ∙ ap (λ ns. emptied x.group (is_begun x.phase) (stays_in ns) t.time t.groups.groups) (sym es)) s
+    (ap (λ (w : Table). w.groups) gs ∙ ap (λ ns. emptied x.group (is_begun x.phase) (stays_in ns) t.course.time t.groups.groups) (sym es)) s
 
 read_at : {X : Type 0} (xs : List X) (i : ℕ) (d : X) → i < length xs → slice_get xs i ≡ Some (slice_index_or xs i d)
 read_at [] i d h = absurd (omega arith)
@@ -178,22 +182,22 @@ read_at (x ∷ xs) (suc i) d h = read_at xs i d (omega arith)
 -- the same, as the code has it
 pub closed_by : (settings : Settings) (events : List Event) (e : ℕ) (m : Message) (t u : Tables) (mid : List Session) (phase p : Phase) (home : Option ℕ) (was : Bool) → e < length t.editors
     → phase ≡ (session_of t.editors e).phase → home ≡ (session_of t.editors e).group → p ≡ phase_closed phase → was ≡ is_begun phase
-    → mid ≡ with_session t.editors e (record (session_of t.editors e) { phase = p }) → u.editors ≡ mid → u.time ≡ t.time
-    → u.groups ≡ with_groups (emptied home was (stays_in mid) t.time t.groups.groups) t.groups
+    → mid ≡ with_session t.editors e (record (session_of t.editors e) { phase = p }) → u.editors ≡ mid → u.course ≡ t.course
+    → u.groups ≡ with_groups (emptied home was (stays_in mid) t.course.time t.groups.groups) t.groups
     → HouseStands settings t events → HouseStands settings u (events ++ did (CloseEditor e) m ∷ [])
 closed_by settings events e m t u mid phase p home was h phases homes closes begun set es now gs s =
     let x : Session = session_of t.editors e in
     closed_said settings events e m t u mid x p h (read_at t.editors e _ h) (closes ∙ ap phase_closed phases) set es now
-    (gs ∙ (ap (λ b. with_groups (emptied home b (stays_in mid) t.time t.groups.groups) t.groups) (begun ∙ ap is_begun phases) ∙ ap (λ o. with_groups (emptied o (is_begun x.phase) (stays_in mid) t.time t.groups.groups) t.groups) homes)) s
+    (gs ∙ (ap (λ b. with_groups (emptied home b (stays_in mid) t.course.time t.groups.groups) t.groups) (begun ∙ ap is_begun phases) ∙ ap (λ o. with_groups (emptied o (is_begun x.phase) (stays_in mid) t.course.time t.groups.groups) t.groups) homes)) s
 
 pub gone_by : (settings : Settings) (events : List Event) (e : ℕ) (why : Why) (m : Message) (t u : Tables) (mid : List Session) (phase : Phase) (home : Option ℕ) (was : Bool) → e < length t.editors
     → phase ≡ (session_of t.editors e).phase → home ≡ (session_of t.editors e).group → was ≡ is_begun phase
-    → mid ≡ with_session t.editors e gone → u.editors ≡ mid → u.time ≡ t.time
-    → u.groups ≡ with_groups (emptied home was (stays_in mid) t.time t.groups.groups) t.groups
+    → mid ≡ with_session t.editors e gone → u.editors ≡ mid → u.course ≡ t.course
+    → u.groups ≡ with_groups (emptied home was (stays_in mid) t.course.time t.groups.groups) t.groups
     → HouseStands settings t events → HouseStands settings u (events ++ took (EditorGone e why) m ∷ [])
 gone_by settings events e why m t u mid phase home was h phases homes begun set es now gs s =
     let x : Session = session_of t.editors e in
     let at : slice_get t.editors e ≡ Some x = read_at t.editors e _ h in
     gone_moves settings events e why m t u x at (es ∙ set) (ap (λ (w : Table). w.limit) gs) (ap (λ (w : Table). w.idle) gs) now
-    (ap (λ (w : Table). w.groups) gs ∙ (ap (λ ns. emptied home was (stays_in ns) t.time t.groups.groups) (sym es)
-    ∙ (ap (λ b. emptied home b (stays_in u.editors) t.time t.groups.groups) (begun ∙ ap is_begun phases) ∙ ap (λ o. emptied o (is_begun x.phase) (stays_in u.editors) t.time t.groups.groups) homes))) s
+    (ap (λ (w : Table). w.groups) gs ∙ (ap (λ ns. emptied home was (stays_in ns) t.course.time t.groups.groups) (sym es)
+    ∙ (ap (λ b. emptied home b (stays_in u.editors) t.course.time t.groups.groups) (begun ∙ ap is_begun phases) ∙ ap (λ o. emptied o (is_begun x.phase) (stays_in u.editors) t.course.time t.groups.groups) homes))) s

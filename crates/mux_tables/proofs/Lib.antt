@@ -29,6 +29,8 @@ pub mod Served
 pub mod Leaves
 pub mod Ends
 pub mod Exits
+pub mod Halted
+pub mod OpenIds
 pub mod Heard
 pub mod DocumentBegins
 pub mod DocumentFrames
@@ -40,6 +42,7 @@ pub mod DocumentHeard
 pub mod DocumentSaid
 pub mod DocumentSpawned
 pub mod DocumentOwed
+pub mod DocumentOwing
 pub mod DocumentLeft
 pub mod DocumentReady
 pub mod Downs

@@ -42,7 +42,7 @@ lists_seen settings t events g x z at within read ready st =
 -- S15
 module _ (settings : Settings) (t u : Tables) (events : List Event) (g s : ℕ) (x z : Start) (body method : List ℕ) (params : Option Json) (list : LastList) (kept : Table) (is : slice_get t.lasts.items g ≡ Some x) (at : slice_get (map start_in t.lasts.items) g ≡ Some s) (within : g < length t.lasts.items) (read : z ≡ get_or t.lasts.items g z)
     (stage : x.life.stage ≡ Ready) (says : message_of body ≡ notification method params) (class : is_publishing method ≡ true) (gives : published (sayings_of s events) body ≡ Some list) (puts : kept ≡ taken list z.lists)
-    (set : u.lasts.items ≡ slice_set t.lasts.items g (record z { lists = kept })) (es : u.editors ≡ t.editors) (gs : u.groups ≡ t.groups) (now : u.time ≡ t.time) (os : u.origins ≡ t.origins) (r : u.requests ≡ t.requests) where
+    (set : u.lasts.items ≡ slice_set t.lasts.items g (record z { lists = kept })) (es : u.editors ≡ t.editors) (gs : u.groups ≡ t.groups) (now : u.course ≡ t.course) (os : u.origins ≡ t.origins) (r : u.requests ≡ t.requests) where
   abbrev ev : Event
   ev = took (FromServer z.life.start body) (message_of body)
 

@@ -4,11 +4,12 @@ use Rattle.std.specs.Prelude.{Option, Some, None, slice_get}
 use Rattle.std.specs.List.{filter, range_with_len}
 use Rattle.event_model.specs.declared.phase.Phase.{Phase}
 use Rattle.event_model.specs.Event.{Event}
-use Rattle.event_model.specs.Phases.{desk_of, editors_of, is_begun, is_running, is_waiting, needs_server}
+use Rattle.event_model.specs.Phases.{desk_of, editors_of, is_begun, is_running, is_there, is_waiting, needs_server}
 use Rattle.event_model.specs.Settings.{Settings}
 use Rattle.editor_session.specs.declared.session.Session.{Session}
 use Rattle.editor_session.specs.Sessions.{session_of, numbers_of, is_of, is_in, needs_in, runs_in, waits_in}
 use Rattle.group_words.specs.Houses.{home_of, is_home, editors_in}
+use Rattle.group_laws.specs.group_rows.specs.StopRows.{there_in}
 use Rattle.mux_tables.specs.Stands.{EditorsStand, phase_in, group_in, those_in}
 
 filter_same : (p q : ℕ → Bool) → ((n : ℕ) → p n ≡ q n) → (xs : List ℕ) → filter p xs ≡ filter q xs
@@ -42,6 +43,17 @@ pub editors_for : (test : Phase → Bool) (home : ℕ → Option ℕ) (xs : List
 editors_for test home xs events g count phase homes =
     filter_same _ _ (λ e. ap (λ p. test p && is_home g (home e)) (phase e) ∙ ap (λ o. test (phase_in (slice_get xs e)) && is_home g o) (homes e)) (range_with_len 0 (editors_of events))
     ∙ ap (λ n. filter (λ e. test (phase_in (slice_get xs e)) && is_home g (group_in (slice_get xs e))) (range_with_len 0 n)) count
+
+-- those that are there
+there_test : (xs : List Session) (e : ℕ) → is_there (phase_in (slice_get xs e)) ≡ is_there (session_of xs e).phase
+there_test [] e = refl
+there_test (x ∷ xs) zero = refl
+there_test (x ∷ xs) (suc e) = there_test xs e
+
+pub there_by : (xs : List Session) (events : List Event) → editors_of events ≡ length xs → ((e : ℕ) → (desk_of e events).phase ≡ phase_in (slice_get xs e)) → there_in events ≡ numbers_of (λ s. is_there s.phase) xs
+there_by xs events count phase =
+    filter_same _ _ (λ e. ap is_there (phase e) ∙ there_test xs e) (range_with_len 0 (editors_of events))
+    ∙ ap (λ n. filter (λ e. is_there (session_of xs e).phase) (range_with_len 0 n)) count
 
 -- those for which a server is started again
 needs_so : (g : ℕ) (xs : List Session) (e : ℕ) → (needs_server (phase_in (slice_get xs e)) && is_home g (group_in (slice_get xs e))) ≡ needs_in g (session_of xs e)

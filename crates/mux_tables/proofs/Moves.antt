@@ -11,6 +11,8 @@ use Rattle.event_model.specs.Stages.{Life, life_of}
 use Rattle.group_laws.specs.group_rows.specs.Ticks.{is_stopping}
 use Rattle.group_words.specs.Houses.{time_behind}
 use Rattle.group_words.proofs.Frames.{touches_groups}
+use Rattle.mux_tables.specs.declared.tables.Course.{Course}
+use Rattle.mux_tables.proofs.Halted.{stopped_past}
 use Rattle.mux_tables.specs.declared.tables.Start.{Start}
 use Rattle.mux_tables.specs.declared.tables.Tables.{Tables}
 use Rattle.mux_tables.specs.Stands.{AsksStay, Part, PartStands, EditorsStand, GroupsStand, OriginsStand, LastStands, LastsStand, HouseStands, Stands}
@@ -25,11 +27,12 @@ use Rattle.mux_tables.proofs.Awaited.{StopsMove, stopping_more, stops_kept}
 
 module _ (settings : Settings) where
   -- an event that editors, groups and the time don't speak of
-  pub house_stands : (t u : Tables) (events : List Event) (ev : Event) → names_editor ev ≡ false → (GroupsStand settings t.groups events → GroupsStand settings u.groups (events ++ ev ∷ [])) → ticks ev ≡ false → u.editors ≡ t.editors → u.time ≡ t.time → HouseStands settings t events → HouseStands settings u (events ++ ev ∷ [])
+  pub house_stands : (t u : Tables) (events : List Event) (ev : Event) → names_editor ev ≡ false → (GroupsStand settings t.groups events → GroupsStand settings u.groups (events ++ ev ∷ [])) → ticks ev ≡ false → u.editors ≡ t.editors → u.course ≡ t.course → HouseStands settings t events → HouseStands settings u (events ++ ev ∷ [])
   house_stands t u events ev e g w es now s = record {
     editors = subst (λ xs. EditorsStand settings xs (events ++ ev ∷ [])) (sym es) (editors_stand settings t.editors events ev e s.editors);
     groups = g s.groups;
-    now = one_more time_behind _ _ events ev s.now ∙ (time_alone _ ev w ∙ sym now);
+    now = one_more time_behind _ _ events ev s.now ∙ (time_alone _ ev w ∙ ap (λ (c : Course). c.time) (sym now));
+    halted = stopped_past events ev e ∙ (s.halted ∙ ap (λ (c : Course). c.stopped) (sym now));
   }
 
   -- an event that no table speaks of
@@ -73,7 +76,7 @@ module _ (settings : Settings) where
 
   -- what moves is the last start of one group
   module _ (t u : Tables) (events : List Event) (ev : Event) (i : ℕ) (x : Start) (e : names_editor ev ≡ false) (g : GroupsStand settings t.groups events → GroupsStand settings u.groups (events ++ ev ∷ [])) (w : ticks ev ≡ false) (k : spawns ev ≡ false) (n : (m : ℕ) → names_start m ev ≡ nat_eq x.life.start m)
-      (at : slice_get t.lasts.items i ≡ Some x) (es : u.editors ≡ t.editors) (now : u.time ≡ t.time) (os : u.origins.groups ≡ t.origins.groups) (sk : StopsMove t u events ev) (cm : CreatedMove settings t u events ev) (r : u.requests ≡ t.requests) where
+      (at : slice_get t.lasts.items i ≡ Some x) (es : u.editors ≡ t.editors) (now : u.course ≡ t.course) (os : u.origins.groups ≡ t.origins.groups) (sk : StopsMove t u events ev) (cm : CreatedMove settings t u events ev) (r : u.requests ≡ t.requests) where
     last_moves : (y : Start) → y.life.group ≡ x.life.group → u.lasts.items ≡ slice_set t.lasts.items i y → (LastStands settings t.requests events x.life.group x → LastStands settings t.requests (events ++ ev ∷ []) x.life.group y) → Stands settings t events → Stands settings u (events ++ ev ∷ [])
     last_moves y group is go s = record {
       house = house_stands t u events ev e g w es now s.house;
@@ -96,13 +99,14 @@ module _ (settings : Settings) where
     }) s
 
 -- what is kept of a group whose last start ended is forgotten
-pub forgotten : (settings : Settings) (t u : Tables) (events : List Event) (i : ℕ) (x : Start) → slice_get t.lasts.items i ≡ Some x → x.life.stage ≡ Ended → x.ids.requests ≡ [] → u.lasts.items ≡ remove t.lasts.items i → u.editors ≡ t.editors → u.groups ≡ t.groups → u.time ≡ t.time → u.origins ≡ t.origins → u.requests ≡ t.requests
+pub forgotten : (settings : Settings) (t u : Tables) (events : List Event) (i : ℕ) (x : Start) → slice_get t.lasts.items i ≡ Some x → x.life.stage ≡ Ended → x.ids.requests ≡ [] → u.lasts.items ≡ remove t.lasts.items i → u.editors ≡ t.editors → u.groups ≡ t.groups → u.course ≡ t.course → u.origins ≡ t.origins → u.requests ≡ t.requests
     → Stands settings t events → Stands settings u events
 forgotten settings t u events i x at ended answered ls es gs now os r s = record {
   house = record {
     editors = subst (λ xs. EditorsStand settings xs events) (sym es) s.house.editors;
     groups = subst (λ xs. GroupsStand settings xs events) (sym gs) s.house.groups;
-    now = s.house.now ∙ sym now;
+    now = s.house.now ∙ ap (λ (c : Course). c.time) (sym now);
+    halted = s.house.halted ∙ ap (λ (c : Course). c.stopped) (sym now);
   };
   origins = subst (λ v. OriginsStand v.groups.items events) (sym os) s.origins;
   stopping = s.stopping ∙ ap (λ v. v.stopping.items) (sym os);

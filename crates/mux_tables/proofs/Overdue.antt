@@ -67,7 +67,7 @@ module _ (settings : Settings) (t : Tables) (before : List Event) (p s : ℕ) (x
       ap moment_in is ∙ (kept ∙ (ap (λ n. stop_of n before) (start_at_place t.lasts.items p s x here at) ∙ sym (rw (ap is_stopping (stage_is ∙ stops)) refl)))
 
 module _ (settings : Settings) (t : Tables) (before : List Event) (st : Stands settings t before) where
-  pub overdue_kept : (now later grace : ℕ) → settings.limits.grace ≡ grace → later ≡ max t.time now → filter (λ s. is_since grace later (awaited_stop s before)) t.origins.stopping.items ≡ overdue_of settings before now
+  pub overdue_kept : (now later grace : ℕ) → settings.limits.grace ≡ grace → later ≡ max t.course.time now → filter (λ s. is_since grace later (awaited_stop s before)) t.origins.stopping.items ≡ overdue_of settings before now
   overdue_kept now later grace g l = ap (filter (λ s. is_since grace later (awaited_stop s before))) (sym st.stopping)
       ∙ filter_within (λ s. is_since grace later (awaited_stop s before)) (λ s. is_since settings.limits.grace (max (time_of before) now) (stop_of s before)) (λ s. is_stopping (life_of s before).stage)
       (λ s stops. ap (is_since grace later) (awaited s stops) ∙ ap (λ k. is_since k later (stop_of s before)) (sym g) ∙ ap (λ k. is_since settings.limits.grace k (stop_of s before)) (l ∙ ap (λ k. max k now) (sym st.house.now)))

@@ -58,7 +58,7 @@ parked_then p qs ps kept may unasked untaken s = record {
 module _ (settings : Settings) (t u : Tables) (events : List Event) (g s : ℕ) (z : Start) (body method : List ℕ) (id : Id) (params : Option Json) (kept : List route.Ask) (at : slice_get (map number_in t.lasts.items) g ≡ Some s) (within : g < length t.lasts.items) (read : z ≡ get_or t.lasts.items g z)
     (ready : z.life.stage ≡ Ready) (says : message_of body ≡ request id method params) (patient : is_patient method ≡ true) (untaken : is_taken (Some id) (asking_of settings s events) ≡ false) (none_runs : has_running settings events s ≡ false)
     (puts : kept ≡ z.parked ++ asks.parked (id_bytes body) body ∷ [])
-    (set : u.lasts.items ≡ slice_set t.lasts.items g (record z { parked = kept })) (es : u.editors ≡ t.editors) (gs : u.groups ≡ t.groups) (now : u.time ≡ t.time) (os : u.origins ≡ t.origins) (r : u.requests ≡ t.requests) where
+    (set : u.lasts.items ≡ slice_set t.lasts.items g (record z { parked = kept })) (es : u.editors ≡ t.editors) (gs : u.groups ≡ t.groups) (now : u.course ≡ t.course) (os : u.origins ≡ t.origins) (r : u.requests ≡ t.requests) where
   abbrev p : Parked
   p = record { id = id; body = body }
 
@@ -117,7 +117,7 @@ module _ (settings : Settings) (t u : Tables) (events : List Event) (g s : ℕ) 
 -- the same, as the code has it
 pub park_by : (settings : Settings) (t u : Tables) (events : List Event) (g s : ℕ) (x z : Start) (body method : List ℕ) (id : Id) (params : Option Json) (kept : List route.Ask) → slice_get t.lasts.items g ≡ Some x → slice_get (map number_in t.lasts.items) g ≡ Some s → g < length t.lasts.items → z ≡ get_or t.lasts.items g z
     → x.life.stage ≡ Ready → message_of body ≡ request id method params → is_patient method ≡ true → is_taken (Some id) (asking_of settings s events) ≡ false → has_running settings events s ≡ false → kept ≡ z.parked ++ asks.parked (id_bytes body) body ∷ []
-    → u.lasts.items ≡ slice_set t.lasts.items g (record z { parked = kept }) → u.editors ≡ t.editors → u.groups ≡ t.groups → u.time ≡ t.time → u.origins ≡ t.origins → u.requests ≡ t.requests → Stands settings t events → Stands settings u (events ++ took (FromServer s body) (message_of body) ∷ [])
+    → u.lasts.items ≡ slice_set t.lasts.items g (record z { parked = kept }) → u.editors ≡ t.editors → u.groups ≡ t.groups → u.course ≡ t.course → u.origins ≡ t.origins → u.requests ≡ t.requests → Stands settings t events → Stands settings u (events ++ took (FromServer s body) (message_of body) ∷ [])
 park_by settings t u events g s x z body method id params kept is at within read ready says patient untaken none_runs puts set es gs now os r st =
     park_moves settings t u events g s z body method id params kept at within read (ap (λ (w : Start). w.life.stage) (read_same t.lasts.items g z x within read is) ∙ ready) says patient untaken none_runs puts set es gs now os r st
 

@@ -20,6 +20,8 @@ use Rattle.group_words.specs.Placing.{home_by, placed_in, with_editor, end_where
 use Rattle.group_words.specs.Houses.{groups_of, home_of, key_for, declared_for, meant_of, placed_for, places, stops, time_behind}
 use Rattle.group_words.proofs.Frames.{itself, groups_more, home_more}
 use Rattle.group_table.specs.Tables.{Table}
+use Rattle.mux_tables.specs.declared.tables.Course.{Course}
+use Rattle.mux_tables.proofs.Halted.{initialize_goes, stopped_quiet}
 use Rattle.mux_tables.specs.declared.tables.Tables.{Tables}
 use Rattle.mux_tables.specs.Names.{NameStands, id_in}
 use Rattle.group_laws.specs.group_rows.specs.Asks.{next_ask}
@@ -103,11 +105,12 @@ module _ (settings : Settings) (events : List Event) (e : ℕ) (body : List ℕ)
       → ((g : ℕ) → home_by (placed_in t.groups.limit (key_for settings events e body) (declared_for settings events e body) t.groups.groups) None ≡ Some g → y.id ≡ Some (id_bytes body))
       → y.group ≡ home_by (placed_in t.groups.limit (key_for settings events e body) (declared_for settings events e body) t.groups.groups) x.group
       → u.groups.groups ≡ with_editor (placed_in t.groups.limit (key_for settings events e body) (declared_for settings events e body) t.groups.groups) (key_for settings events e body) (declared_for settings events e body) t.groups.groups
-      → u.groups.limit ≡ t.groups.limit → u.groups.idle ≡ t.groups.idle → u.time ≡ t.time → y.asks ≡ x.asks
+      → u.groups.limit ≡ t.groups.limit → u.groups.idle ≡ t.groups.idle → u.course ≡ t.course → y.asks ≡ x.asks
       → HouseStands settings t events → HouseStands settings u (events ++ took (FromEditor e body) m ∷ [])
   initialize_moves t u x y at new es waits keeps home gs l i k asks s = record {
     editors = placed_editors t.editors u.editors t.groups.groups x y s.groups.groups at new es waits (home ∙ ap (λ n. home_by (placed_in n (key_for settings events e body) (declared_for settings events e body) t.groups.groups) x.group) (sym s.groups.limit))
         (λ g q. keeps g (ap (λ n. home_by (placed_in n (key_for settings events e body) (declared_for settings events e body) t.groups.groups) None) (sym s.groups.limit) ∙ q)) asks s.editors;
     groups = placed_groups t.groups u.groups (s.editors.phase e ∙ (ap phase_in at ∙ new)) l i gs s.groups;
-    now = one_more time_behind _ _ events (took (FromEditor e body) m) s.now ∙ sym k;
+    now = one_more time_behind _ _ events (took (FromEditor e body) m) s.now ∙ ap (λ (c : Course). c.time) (sym k);
+    halted = stopped_quiet events e body m (initialize_goes events e m first) ∙ (s.halted ∙ ap (λ (c : Course). c.stopped) (sym k));
   }

@@ -126,7 +126,7 @@ text_says body text method id ps n small says writes = ap message_of writes ∙ 
 
 -- the row, by whether a number is left
 module _ (settings : Settings) (t u : Tables) (base : List Event) (xs : List Out) (e : ℕ) (body : List ℕ) (l : e < length t.editors) (runs : is_running (desk_of e (behind base xs)).phase ≡ true)
-    (set : u.editors ≡ with_session t.editors e (unless_gone sessions.asked (session_of t.editors e))) (gs : u.groups ≡ t.groups) (time : u.time ≡ t.time) (os : u.origins ≡ t.origins) (r : u.requests ≡ t.requests) where
+    (set : u.editors ≡ with_session t.editors e (unless_gone sessions.asked (session_of t.editors e))) (gs : u.groups ≡ t.groups) (time : u.course ≡ t.course) (os : u.origins ≡ t.origins) (r : u.requests ≡ t.requests) where
   abbrev now : List Event
   now = behind base xs
 
@@ -207,7 +207,7 @@ module _ (settings : Settings) (t u : Tables) (base : List Event) (xs : List Out
   untaken_does v ys is = does_knowing {Stands = λ t events. Stands settings t events} (λ st. never (sym asks_next.left ∙ none_left settings t.editors before e l runs st.house.editors is))
 
   module _ (n : ℕ) (kept : List route.Ask)
-      (set : u.editors ≡ with_session t.editors e (unless_gone sessions.asked (session_of t.editors e))) (gs : u.groups ≡ t.groups) (time : u.time ≡ t.time) (os : u.origins ≡ t.origins) (r : u.requests ≡ t.requests)
+      (set : u.editors ≡ with_session t.editors e (unless_gone sessions.asked (session_of t.editors e))) (gs : u.groups ≡ t.groups) (time : u.course ≡ t.course) (os : u.origins ≡ t.origins) (r : u.requests ≡ t.requests)
       (at : slice_get t.lasts.items g ≡ Some z) (ready : z.life.stage ≡ Ready) (lasts : u.lasts.items ≡ slice_set t.lasts.items g (record z { asks = kept })) (puts : kept ≡ z.asks ++ asks.asked e n bytes ∷ [])
       (work : IsAtWork settings z.life.start id bytes (behind base xs)) (creates : is_creating method ≡ false) where
     abbrev ev : Event

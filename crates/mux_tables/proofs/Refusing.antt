@@ -64,7 +64,7 @@ ready_asks stage events qs kept is s = subst (λ k. AsksAt k events qs kept) is 
 -- the answer is said
 module _ (settings : Settings) (t u : Tables) (base : List Event) (xs ys : List Out) (g : ℕ) (z : Start) (kept : List route.Ask) (text : List ℕ) (id : Id) (at : slice_get t.lasts.items g ≡ Some z) (ready : z.life.stage ≡ Ready)
     (runs : requests (codes "shutdown") (message_of text) ≡ false) (counts : moves_ids (message_of text) ≡ false) (is : answered_id (message_of text) ≡ Some id)
-    (set : u.lasts.items ≡ slice_set t.lasts.items g (record z { asks = kept })) (es : u.editors ≡ t.editors) (gs : u.groups ≡ t.groups) (now : u.time ≡ t.time) (os : u.origins ≡ t.origins) (r : u.requests ≡ t.requests) (said_so : ys ≡ xs ++ ToServer z.life.start text ∷ []) where
+    (set : u.lasts.items ≡ slice_set t.lasts.items g (record z { asks = kept })) (es : u.editors ≡ t.editors) (gs : u.groups ≡ t.groups) (now : u.course ≡ t.course) (os : u.origins ≡ t.origins) (r : u.requests ≡ t.requests) (said_so : ys ≡ xs ++ ToServer z.life.start text ∷ []) where
   abbrev y : Start
   y = record z { asks = kept }
 
@@ -106,9 +106,9 @@ abbrev pub keeping : Tables → ℕ → Start → List route.Ask → Tables
 keeping t g z kept = record t { lasts = record t.lasts { items = slice_set t.lasts.items g (record z { asks = kept }); ok = (t.lasts.ok.0 ∙ sym (length-set t.lasts.items g (record z { asks = kept })), t.lasts.ok.1) } }
 
 -- tables that agree
-pub same_stands : (settings : Settings) (t u : Tables) (events : List Event) → u.lasts.items ≡ t.lasts.items → u.editors ≡ t.editors → u.groups ≡ t.groups → u.time ≡ t.time → u.origins ≡ t.origins → u.requests ≡ t.requests → Stands settings t events → Stands settings u events
+pub same_stands : (settings : Settings) (t u : Tables) (events : List Event) → u.lasts.items ≡ t.lasts.items → u.editors ≡ t.editors → u.groups ≡ t.groups → u.course ≡ t.course → u.origins ≡ t.origins → u.requests ≡ t.requests → Stands settings t events → Stands settings u events
 same_stands settings t u events ls es gs now os r s = record {
-  house = record { editors = rw es s.house.editors; groups = rw gs s.house.groups; now = rw now s.house.now };
+  house = record { editors = rw es s.house.editors; groups = rw gs s.house.groups; now = rw now s.house.now; halted = rw now s.house.halted };
   origins = rw os s.origins;
   stopping = rw os s.stopping;
   created = rw os s.created;
@@ -193,7 +193,7 @@ module _ (settings : Settings) (t : Tables) (base : List Event) (g e : ℕ) (z :
           (λ events st. ends events (subst (λ qs. Stands settings (keeping t g z (map kept_ask qs)) events) (append_assoc pre (a ∷ []) (filter (λ a. not (is_with e a)) post)) st)) outs
 
   -- all of them
-  pub refused_does : (u : Tables) (xs ys : List Out) → u.lasts.items ≡ slice_set t.lasts.items g (record z { asks = filter (λ k. not (asks.is_with (Some e) k)) z.asks }) → u.editors ≡ t.editors → u.groups ≡ t.groups → u.time ≡ t.time → u.origins ≡ t.origins → u.requests ≡ t.requests
+  pub refused_does : (u : Tables) (xs ys : List Out) → u.lasts.items ≡ slice_set t.lasts.items g (record z { asks = filter (λ k. not (asks.is_with (Some e) k)) z.asks }) → u.editors ≡ t.editors → u.groups ≡ t.groups → u.course ≡ t.course → u.origins ≡ t.origins → u.requests ≡ t.requests
       → ys ≡ xs ++ refusals s (of_editor e z.asks) → Does (λ t events. Stands settings t events) (each (refusal s) (of_editor e z.asks)) base t xs u ys
   refused_does u xs ys set es gs now os r outs = record {
     done = λ st.
@@ -210,7 +210,7 @@ module _ (settings : Settings) (t : Tables) (base : List Event) (g e : ℕ) (z :
 
 -- the same, as the code has it
 pub refused_by : (settings : Settings) (t u : Tables) (base : List Event) (g e : ℕ) (x z : Start) (kept left : List route.Ask) (start : ℕ) (xs ys : List Out) → z ≡ x → slice_get t.lasts.items g ≡ Some x → x.life.stage ≡ Ready → left ≡ of_editor e z.asks → kept ≡ filter (λ k. not (asks.is_with (Some e) k)) z.asks → start ≡ z.life.start
-    → u.lasts.items ≡ slice_set t.lasts.items g (record z { asks = kept }) → u.editors ≡ t.editors → u.groups ≡ t.groups → u.time ≡ t.time → u.origins ≡ t.origins → u.requests ≡ t.requests → ys ≡ xs ++ refusals start left
+    → u.lasts.items ≡ slice_set t.lasts.items g (record z { asks = kept }) → u.editors ≡ t.editors → u.groups ≡ t.groups → u.course ≡ t.course → u.origins ≡ t.origins → u.requests ≡ t.requests → ys ≡ xs ++ refusals start left
     → Does (λ t events. Stands settings t events) (each (refusal x.life.start) (of_editor e x.asks)) base t xs u ys
 refused_by settings t u base g e x z kept left start xs ys same at ready leaves stays own set es gs now os r outs =
     refused_does settings t base g e x at ready u xs ys

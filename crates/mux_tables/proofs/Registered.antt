@@ -59,7 +59,7 @@ impatient c d is h = ap may_wait is ∙ h
 module _ (settings : Settings) (t u : Tables) (events : List Event) (g s : ℕ) (z : Start) (body method : List ℕ) (id : Id) (params : Option Json) (kept : List Registration) (at : slice_get (map number_in t.lasts.items) g ≡ Some s) (within : g < length t.lasts.items) (read : z ≡ get_or t.lasts.items g z)
     (ready : z.life.stage ≡ Ready) (says : message_of body ≡ request id method params) (quiet : is_patient method ≡ false) (creates : is_creating method ≡ false) (untaken : is_taken (Some id) (asking_of settings s events) ≡ false)
     (keeps : z.live ≡ live_of settings z.life.start events → kept ≡ live_by (class_of method Server false) body (live_of settings z.life.start events))
-    (set : u.lasts.items ≡ slice_set t.lasts.items g (record z { live = kept })) (es : u.editors ≡ t.editors) (gs : u.groups ≡ t.groups) (now : u.time ≡ t.time) (os : u.origins ≡ t.origins) (r : u.requests ≡ t.requests) where
+    (set : u.lasts.items ≡ slice_set t.lasts.items g (record z { live = kept })) (es : u.editors ≡ t.editors) (gs : u.groups ≡ t.groups) (now : u.course ≡ t.course) (os : u.origins ≡ t.origins) (r : u.requests ≡ t.requests) where
   abbrev ev : Event
   ev = took (FromServer z.life.start body) (message_of body)
 
@@ -95,7 +95,7 @@ module _ (settings : Settings) (t u : Tables) (events : List Event) (g s : ℕ) 
 -- S6
 pub register_by : (settings : Settings) (t u : Tables) (events : List Event) (g s : ℕ) (x z : Start) (body method : List ℕ) (id : Id) (params : Option Json) (kept items : List Registration) → slice_get t.lasts.items g ≡ Some x → slice_get (map number_in t.lasts.items) g ≡ Some s → g < length t.lasts.items → z ≡ get_or t.lasts.items g z
     → x.life.stage ≡ Ready → message_of body ≡ request id method params → class_of method Server false ≡ Register → is_taken (Some id) (asking_of settings s events) ≡ false → registered body ≡ Some items → kept ≡ others items z.live ++ items
-    → u.lasts.items ≡ slice_set t.lasts.items g (record z { live = kept }) → u.editors ≡ t.editors → u.groups ≡ t.groups → u.time ≡ t.time → u.origins ≡ t.origins → u.requests ≡ t.requests → Stands settings t events → Stands settings u (events ++ took (FromServer s body) (message_of body) ∷ [])
+    → u.lasts.items ≡ slice_set t.lasts.items g (record z { live = kept }) → u.editors ≡ t.editors → u.groups ≡ t.groups → u.course ≡ t.course → u.origins ≡ t.origins → u.requests ≡ t.requests → Stands settings t events → Stands settings u (events ++ took (FromServer s body) (message_of body) ∷ [])
 register_by settings t u events g s x z body method id params kept items is at within read ready says class untaken names left set es gs now os r st =
     registered_moves settings t u events g s z body method id params kept at within read (ap (λ (w : Start). w.life.stage) (read_same t.lasts.items g z x within read is) ∙ ready) says (impatient (class_of method Server false) Register class refl) (ap names_create class) untaken
     (λ was. left ∙ ap (λ rs. others items rs ++ items) was ∙ sym (ap (λ c. live_by c body (live_of settings z.life.start events)) class ∙ ap (λ o. with_registered o (live_of settings z.life.start events)) names)) set es gs now os r st
@@ -107,7 +107,7 @@ taken_so live items false = refl
 
 pub unregister_by : (settings : Settings) (t u : Tables) (events : List Event) (g s : ℕ) (x z : Start) (body method : List ℕ) (id : Id) (params : Option Json) (kept items : List Registration) → slice_get t.lasts.items g ≡ Some x → slice_get (map number_in t.lasts.items) g ≡ Some s → g < length t.lasts.items → z ≡ get_or t.lasts.items g z
     → x.life.stage ≡ Ready → message_of body ≡ request id method params → class_of method Server false ≡ Unregister → is_taken (Some id) (asking_of settings s events) ≡ false → unregistered body ≡ Some items → kept ≡ (if are_live items z.live then others items z.live else z.live)
-    → u.lasts.items ≡ slice_set t.lasts.items g (record z { live = kept }) → u.editors ≡ t.editors → u.groups ≡ t.groups → u.time ≡ t.time → u.origins ≡ t.origins → u.requests ≡ t.requests → Stands settings t events → Stands settings u (events ++ took (FromServer s body) (message_of body) ∷ [])
+    → u.lasts.items ≡ slice_set t.lasts.items g (record z { live = kept }) → u.editors ≡ t.editors → u.groups ≡ t.groups → u.course ≡ t.course → u.origins ≡ t.origins → u.requests ≡ t.requests → Stands settings t events → Stands settings u (events ++ took (FromServer s body) (message_of body) ∷ [])
 unregister_by settings t u events g s x z body method id params kept items is at within read ready says class untaken names left set es gs now os r st =
     let live : List Registration = live_of settings z.life.start events in
     registered_moves settings t u events g s z body method id params kept at within read (ap (λ (w : Start). w.life.stage) (read_same t.lasts.items g z x within read is) ∙ ready) says (impatient (class_of method Server false) Unregister class refl) (ap names_create class) untaken
@@ -138,7 +138,7 @@ module _ (settings : Settings) (t u : Tables) (base : List Event) (xs : List Out
   uncalled_does ys is = does_knowing {Stands = λ t events. Stands settings t events} (λ st. never (sym asks_next.left ∙ none_left settings t.editors (behind base xs) e l runs st.house.editors is))
 
   pub call_does : (ys : List Out) (n : ℕ) → is_patient method ≡ false → is_creating method ≡ false → ((s : ℕ) → (asking_of settings s (behind base xs)).asker ≡ None) → Some n ≡ sessions.next_ask (session_of t.editors e)
-      → u.editors ≡ with_session t.editors e (unless_gone sessions.asked (session_of t.editors e)) → u.groups ≡ t.groups → u.time ≡ t.time → u.lasts ≡ t.lasts → u.origins ≡ t.origins → u.requests ≡ t.requests → ys ≡ xs ++ ToEditor e text ∷ []
+      → u.editors ≡ with_session t.editors e (unless_gone sessions.asked (session_of t.editors e)) → u.groups ≡ t.groups → u.course ≡ t.course → u.lasts ≡ t.lasts → u.origins ≡ t.origins → u.requests ≡ t.requests → ys ≡ xs ++ ToEditor e text ∷ []
       → Does (λ t events. Stands settings t events) (send (ToEditor e text)) base t xs u ys
   call_does ys n quiet creates none is set gs time ls os r said_so = does_send settings (ToEditor e text) base t u xs ys said_so
       (house_moves settings t u (behind base xs) (said (ToEditor e text)) (λ m. refl) (λ m. called_stay settings m e (behind base xs) text method _ ps asks_next.says quiet (none m)) refl (ap (λ v. v.items) ls)

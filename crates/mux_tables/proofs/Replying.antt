@@ -21,6 +21,7 @@ use Rattle.editor_session.specs.Sessions.{with_session}
 use Rattle.group_words.specs.Houses.{is_first_open, places, stops}
 use Rattle.group_laws.specs.group_rows.specs.Asks.{Ask, Asking, Parked, asks_of, is_seated, is_under, parked_of, waits_under}
 use Rattle.group_laws.specs.group_rows.specs.Forwarded.{names}
+use Rattle.mux_tables.specs.declared.tables.Course.{Course}
 use Rattle.mux_tables.specs.declared.tables.Start.{Start}
 use Rattle.mux_tables.specs.declared.tables.Tables.{Tables}
 use Rattle.mux_tables.specs.Refusals.{Given, Left}
@@ -132,7 +133,7 @@ answered_at Initializing e id n events qs kept left named is s = (ap (filter (λ
 answered_at other e id n events qs kept left named is s = tt
 
 module _ (settings : Settings) (t u : Tables) (events : List Event) (g e : ℕ) (body : List ℕ) (p : Phase) (n : Option ℕ) (z : Start) (left : List route.Ask) (l : e < length t.editors) (at : slice_get t.lasts.items g ≡ Some z) (set : u.editors ≡ with_session t.editors e (phased t.editors e p))
-    (ls : u.lasts.items ≡ slice_set t.lasts.items g (record z { asks = left })) (gs : u.groups ≡ t.groups) (now : u.time ≡ t.time) (os : OriginsMove settings t.origins u.origins events (heard (FromEditor e body))) (r : u.requests ≡ t.requests) (named : NamesAsk (answered_id (message_of body)) n) (is : Left e n z.asks left) (one : AnswersOne settings z.life.start e (message_of body) events) where
+    (ls : u.lasts.items ≡ slice_set t.lasts.items g (record z { asks = left })) (gs : u.groups ≡ t.groups) (now : u.course ≡ t.course) (os : OriginsMove settings t.origins u.origins events (heard (FromEditor e body))) (r : u.requests ≡ t.requests) (named : NamesAsk (answered_id (message_of body)) n) (is : Left e n z.asks left) (one : AnswersOne settings z.life.start e (message_of body) events) where
   abbrev ev : Event
   ev = heard (FromEditor e body)
 
@@ -159,12 +160,12 @@ module _ (settings : Settings) (t u : Tables) (events : List Event) (g e : ℕ) 
       (λ origins lasts. asked_last settings t.requests t.origins.groups.items t.lasts.items u.lasts.items events ev g z y (λ m. refl) (λ m away. none_answered settings e m body (message_of body) events (one m away)) refl at ls refl origins
       (λ s. record { start = one_more (start_behind z.life.group) _ _ events ev s.start; home = one_more (group_behind z.life.start) _ _ events ev s.home; own = s.own; parts = λ q. part q (s.parts q) }) lasts)
       (λ h.
-      let k = set_house settings t (record u { lasts = t.lasts }) events e body p l set now refl os r stays step gs goes off h in
-      record { editors = k.editors; groups = k.groups; now = k.now }) st
+      let k = set_house settings t (record u { lasts = t.lasts }) events e body p l set (ap (λ (c : Course). c.time) now) refl os r stays step gs (ap (λ (c : Course). c.stopped) now) goes off h in
+      record { editors = k.editors; groups = k.groups; now = k.now; halted = k.halted }) st
 
 -- the same, as the code has it
 pub replied_by : (settings : Settings) (t u : Tables) (events : List Event) (g e : ℕ) (body : List ℕ) (p : Phase) (n : Option ℕ) (x z : Start) (left : List route.Ask) → e < length t.editors → slice_get t.lasts.items g ≡ Some x → z ≡ x → u.editors ≡ with_session t.editors e (phased t.editors e p)
-    → u.lasts.items ≡ slice_set t.lasts.items g (record z { asks = left }) → u.groups ≡ t.groups → u.time ≡ t.time → OriginsMove settings t.origins u.origins events (heard (FromEditor e body)) → u.requests ≡ t.requests → NamesAsk (answered_id (message_of body)) n → Left e n z.asks left → AnswersOne settings x.life.start e (message_of body) events
+    → u.lasts.items ≡ slice_set t.lasts.items g (record z { asks = left }) → u.groups ≡ t.groups → u.course ≡ t.course → OriginsMove settings t.origins u.origins events (heard (FromEditor e body)) → u.requests ≡ t.requests → NamesAsk (answered_id (message_of body)) n → Left e n z.asks left → AnswersOne settings x.life.start e (message_of body) events
     → places (desk_of e events).phase (message_of body) ≡ false → stops events e (message_of body) ≡ false → is_first_open settings.servers events e (message_of body) ≡ false → (desk_of e (events ++ heard (FromEditor e body) ∷ [])).phase ≡ p
     → Stands settings t events → Stands settings u (events ++ heard (FromEditor e body) ∷ [])
 replied_by settings t u events g e body p n x z left l at same set ls gs now os r named is one =

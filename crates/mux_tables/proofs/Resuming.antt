@@ -99,7 +99,7 @@ flip a b h = grind (arith, nat_tests)
 
 -- what waits first at the last start of the group, which is ready, is asked
 module _ (settings : Settings) (t u : Tables) (base : List Event) (xs : List Out) (g e : ℕ) (z : Start) (p : Parked) (ps : List Parked) (n : ℕ) (text : List ℕ) (kept left : List route.Ask) (l : e < length t.editors) (faces : IsFacing settings e z.life.group (behind base xs))
-    (set : u.editors ≡ with_session t.editors e (unless_gone sessions.asked (session_of t.editors e))) (gs : u.groups ≡ t.groups) (time : u.time ≡ t.time) (os : u.origins ≡ t.origins) (r : u.requests ≡ t.requests)
+    (set : u.editors ≡ with_session t.editors e (unless_gone sessions.asked (session_of t.editors e))) (gs : u.groups ≡ t.groups) (time : u.course ≡ t.course) (os : u.origins ≡ t.origins) (r : u.requests ≡ t.requests)
     (at : slice_get t.lasts.items g ≡ Some z) (ready : z.life.stage ≡ Ready) (lasts : u.lasts.items ≡ slice_set t.lasts.items g (record z { asks = kept; parked = left })) (puts : kept ≡ z.asks ++ asks.asked e n (id_bytes p.body) ∷ []) (stays : left ≡ map kept_parked ps)
     (writes : text ≡ with_id_text p.body (decimal n)) (waits : parked_of settings z.life.start (behind base xs) ≡ p ∷ ps) where
   abbrev before : List Event
@@ -211,7 +211,7 @@ module _ (settings : Settings) (t : Tables) (base : List Event) (g e : ℕ) (z :
     pub editors : u.editors ≡ x.editors
     pub lasts : u.lasts.items ≡ slice_set t.lasts.items g x.start
     pub groups : u.groups ≡ t.groups
-    pub time : u.time ≡ t.time
+    pub time : u.course ≡ t.course
     pub origins : u.origins ≡ t.origins
     pub requests : u.requests ≡ t.requests
 
@@ -291,7 +291,7 @@ module _ (settings : Settings) (t : Tables) (base : List Event) (g e : ℕ) (z :
   none_left (p ∷ ps) = none_left ps
 
   pub resumed_does : (u : Tables) (y : Start) (xs ys : List Out) → ◌≡◌ {A = Resuming} (record { editors = u.editors; start = y; outs = ys }) (all_resumed e (record { editors = t.editors; start = record z { parked = filter (λ k. not (asks.is_with None k)) z.parked }; outs = xs }) (filter (asks.is_with None) z.parked))
-      → u.lasts.items ≡ slice_set t.lasts.items g y → u.groups ≡ t.groups → u.time ≡ t.time → u.origins ≡ t.origins → u.requests ≡ t.requests → e < length t.editors → IsFacing settings e z.life.group (behind base xs)
+      → u.lasts.items ≡ slice_set t.lasts.items g y → u.groups ≡ t.groups → u.course ≡ t.course → u.origins ≡ t.origins → u.requests ≡ t.requests → e < length t.editors → IsFacing settings e z.life.group (behind base xs)
       → Does (λ t events. Stands settings t events) (each (λ (p : Parked). ask p.body e) (parked_of settings z.life.start (behind base xs))) base t xs u ys
   resumed_does u y xs ys is set gs now os r l faces = record {
     done = λ st.
@@ -319,7 +319,7 @@ module _ (settings : Settings) (t : Tables) (base : List Event) (g e : ℕ) (z :
 -- the same, as the code has it
 pub resumed_by : (settings : Settings) (t u : Tables) (base : List Event) (g e : ℕ) (x z y : Start) (left ks : List route.Ask) (xs ys : List Out) → z ≡ x → slice_get t.lasts.items g ≡ Some x → x.life.stage ≡ Ready → left ≡ filter (λ k. not (asks.is_with None k)) z.parked → ks ≡ filter (asks.is_with None) z.parked
     → ◌≡◌ {A = Resuming} (record { editors = u.editors; start = y; outs = ys }) (all_resumed e (record { editors = t.editors; start = record z { parked = left }; outs = xs }) ks)
-    → u.lasts.items ≡ slice_set t.lasts.items g y → u.groups ≡ t.groups → u.time ≡ t.time → u.origins ≡ t.origins → u.requests ≡ t.requests → e < length t.editors → is_running (desk_of e (behind base xs)).phase ≡ true → home_of settings e (behind base xs) ≡ Some x.life.group → ((s : ℕ) → IsWorking settings e s (behind base xs))
+    → u.lasts.items ≡ slice_set t.lasts.items g y → u.groups ≡ t.groups → u.course ≡ t.course → u.origins ≡ t.origins → u.requests ≡ t.requests → e < length t.editors → is_running (desk_of e (behind base xs)).phase ≡ true → home_of settings e (behind base xs) ≡ Some x.life.group → ((s : ℕ) → IsWorking settings e s (behind base xs))
     → Does (λ t events. Stands settings t events) (each (λ (p : Parked). ask p.body e) (parked_of settings x.life.start (behind base xs))) base t xs u ys
 resumed_by settings t u base g e x z y left ks xs ys same at ready stays leaves is set gs now os r l running home works =
     resumed_does settings t base g e x at ready u y xs ys

@@ -22,6 +22,8 @@ use Rattle.group_table.specs.Tables.{with_groups}
 use Rattle.group_laws.specs.group_rows.specs.Asks.{Asking, asked_next, asking_next, asking_of, is_own_work, is_patient, next_ask, serves, unparked}
 use Rattle.group_words.specs.Houses.{emptied, meant_behind, time_behind}
 use Rattle.group_words.proofs.Frames.{home_stays}
+use Rattle.mux_tables.specs.declared.tables.Course.{Course}
+use Rattle.mux_tables.proofs.Halted.{stopped_more}
 use Rattle.mux_tables.specs.declared.tables.Tables.{Tables}
 use Rattle.mux_tables.specs.Stands.{AsksStay, CountStands, EditorsStand, GroupsStand, HouseStands, IsAtRest, Keeps, Stands, phase_in, group_in, is_request, meant_in, stays_in}
 use Rattle.mux_tables.proofs.Counted.{asked_apart, asked_more, asked_quiet, counted_same, counted_set, next_more}
@@ -62,11 +64,12 @@ module _ (settings : Settings) (events : List Event) (e : ℕ) (body : List ℕ)
   quiet_count : (n : ℕ) → is_request (message_of body) ≡ false → next_ask n (events ++ ev ∷ []) ≡ next_ask n events
   quiet_count n quiet = next_more n events ev ∙ asked_quiet n (next_ask n events) e body (message_of body) quiet
 
-  pub told_house : (t u : Tables) → EditorsStand settings u.editors (events ++ ev ∷ []) → u.groups ≡ t.groups → u.time ≡ t.time → HouseStands settings t events → HouseStands settings u (events ++ ev ∷ [])
+  pub told_house : (t u : Tables) → EditorsStand settings u.editors (events ++ ev ∷ []) → u.groups ≡ t.groups → u.course ≡ t.course → HouseStands settings t events → HouseStands settings u (events ++ ev ∷ [])
   told_house t u after gs now s = record {
     editors = after;
     groups = subst (λ xs. GroupsStand settings xs (events ++ ev ∷ [])) (sym gs) (groups_stand settings t.groups events ev refl s.groups);
-    now = one_more time_behind _ _ events ev s.now ∙ sym now;
+    now = one_more time_behind _ _ events ev s.now ∙ ap (λ (c : Course). c.time) (sym now);
+    halted = stopped_more events ev ∙ (s.halted ∙ ap (λ (c : Course). c.stopped) (sym now));
   }
 
   kept_editors : (t : List Session) → Keeps e body events → EditorsStand settings t events → EditorsStand settings t (events ++ ev ∷ [])
@@ -143,15 +146,15 @@ told_does settings t xs ys base e body k is = does_send settings (ToEditor e bod
     (house_moves settings t t (behind base xs) (said (ToEditor e body)) (λ n. refl) (λ s. asks_stay settings s (behind base xs) (said (ToEditor e body)) k.1) refl refl (origins_stay settings t.origins t.origins (behind base xs) (said (ToEditor e body)) refl (λ s. told_tokens settings s e (behind base xs) (created_of settings s (behind base xs)) body (message_of body) k.1)) refl (λ h. told_house settings (behind base xs) e body t t (kept_editors settings (behind base xs) e body t.editors k h.editors) refl refl h))
 
 pub welcome_does : (settings : Settings) (t u : Tables) (xs ys : List Out) (base : List Event) (e : ℕ) (body : List ℕ) (p : Phase) → e < length t.editors → (desk_of e (behind base xs ++ said (ToEditor e body) ∷ [])).phase ≡ p → is_request (message_of body) ≡ false → u.editors ≡ with_session t.editors e (phased t.editors e p)
-    → u.groups ≡ t.groups → u.time ≡ t.time → u.lasts ≡ t.lasts → u.origins ≡ t.origins → u.requests ≡ t.requests → ys ≡ xs ++ ToEditor e body ∷ [] → Does (λ t events. Stands settings t events) (send (ToEditor e body)) base t xs u ys
+    → u.groups ≡ t.groups → u.course ≡ t.course → u.lasts ≡ t.lasts → u.origins ≡ t.origins → u.requests ≡ t.requests → ys ≡ xs ++ ToEditor e body ∷ [] → Does (λ t events. Stands settings t events) (send (ToEditor e body)) base t xs u ys
 welcome_does settings t u xs ys base e body p l k q es gs now ls os r is = does_send settings (ToEditor e body) base t u xs ys is
     (house_moves settings t u (behind base xs) (said (ToEditor e body)) (λ n. refl) (λ s. asks_stay settings s (behind base xs) (said (ToEditor e body)) q) refl (ap (λ v. v.items) ls) (origins_stay settings t.origins u.origins (behind base xs) (said (ToEditor e body)) os (λ s. told_tokens settings s e (behind base xs) (created_of settings s (behind base xs)) body (message_of body) q)) r
     (λ h. told_house settings (behind base xs) e body t u (subst (λ z. EditorsStand settings z (behind base xs ++ said (ToEditor e body) ∷ [])) (sym (es ∙ told_plain settings t.editors (behind base xs) e p l h.editors body k)) (moved_editors settings (behind base xs) e body t.editors p l k q h.editors)) gs now h))
 
 pub close_does : (settings : Settings) (t u : Tables) (xs ys : List Out) (base : List Event) (e : ℕ) (mid : List Session) (before p : Phase) (home : Option ℕ) (was : Bool) → e < length t.editors
     → before ≡ (session_of t.editors e).phase → home ≡ (session_of t.editors e).group → p ≡ phase_closed before → was ≡ is_begun before
-    → mid ≡ with_session t.editors e (phased t.editors e p) → u.editors ≡ mid → u.time ≡ t.time → u.lasts ≡ t.lasts → u.origins.groups ≡ t.origins.groups → u.origins.stopping ≡ t.origins.stopping → u.origins.created ≡ left_each e (keys_of t.origins.created) t.origins.created → IsStrictlySortedBy nat_cmp (keys_of t.origins.created) → u.requests ≡ t.requests
-    → u.groups ≡ with_groups (emptied home was (stays_in mid) t.time t.groups.groups) t.groups → ys ≡ xs ++ CloseEditor e ∷ [] → Does (λ t events. Stands settings t events) (send (CloseEditor e)) base t xs u ys
+    → mid ≡ with_session t.editors e (phased t.editors e p) → u.editors ≡ mid → u.course ≡ t.course → u.lasts ≡ t.lasts → u.origins.groups ≡ t.origins.groups → u.origins.stopping ≡ t.origins.stopping → u.origins.created ≡ left_each e (keys_of t.origins.created) t.origins.created → IsStrictlySortedBy nat_cmp (keys_of t.origins.created) → u.requests ≡ t.requests
+    → u.groups ≡ with_groups (emptied home was (stays_in mid) t.course.time t.groups.groups) t.groups → ys ≡ xs ++ CloseEditor e ∷ [] → Does (λ t events. Stands settings t events) (send (CloseEditor e)) base t xs u ys
 close_does settings t u xs ys base e mid before p home was l phases homes closes begun set es now ls og sk cr sorted r gs is = does_send settings (CloseEditor e) base t u xs ys is
     (house_moves settings t u (behind base xs) (said (CloseEditor e)) (λ n. refl) (λ n. record { asks = refl; parked = refl }) refl (ap (λ v. v.items) ls) (origins_left settings t.origins u.origins (behind base xs) (said (CloseEditor e)) e og sk cr sorted (λ s. refl)) r
     (closed_by settings (behind base xs) e not_message t u mid before p home was l phases homes closes begun (set ∙ plain t.editors e p (ap is_gone closes ∙ (closed_gone before ∙ ap is_gone phases))) es now gs))

@@ -78,7 +78,7 @@ twice_length t u v e y z one two = ap length two ∙ (length-set u e z ∙ (ap l
 
 pub initialize_heard : (settings : Settings) (before : List Event) (e : ℕ) (body : List ℕ) (m : Message) (t u : Tables) (mid : Table) (x : Session) (p : Placed) (key : Common) (given id : List ℕ) → requests (codes "initialize") m ≡ true → slice_get t.editors e ≡ Some x → x.phase ≡ New → id ≡ id_bytes body
     → key ≡ key_for settings before e body → given ≡ declared_for settings before e body → p ≡ place_in key given t.groups → mid ≡ after_place key given t.groups → u.groups ≡ with_groups (placing.joined p mid.groups) mid
-    → Seated t.editors u.editors e p x id → u.time ≡ t.time → HouseStands settings t before
+    → Seated t.editors u.editors e p x id → u.course ≡ t.course → HouseStands settings t before
     → (p ≡ placed_for settings before e body (groups_of settings before)) × HouseStands settings u (before ++ took (FromEditor e body) m ∷ [])
 initialize_heard settings before e body m t u mid x p key given id first at new own k d chosen placed busy sits now s =
     let K : Common = key_for settings before e body in

@@ -46,7 +46,7 @@ same_set (x ∷ xs) (suc g) z h = ap (λ ws. x ∷ ws) (same_set xs g z h)
 
 -- a body to the last start of a group, which goes from z to y
 module _ (settings : Settings) (t u : Tables) (xs ys : List Out) (base : List Event) (g s start : ℕ) (z y : Start) (text : List ℕ) (at : slice_get (map number_in t.lasts.items) g ≡ Some s) (within : g < length t.lasts.items) (read : z ≡ get_or t.lasts.items g z)
-    (set : u.lasts.items ≡ slice_set t.lasts.items g y) (own : y.life.start ≡ z.life.start) (group : y.life.group ≡ z.life.group) (es : u.editors ≡ t.editors) (gs : u.groups ≡ t.groups) (now : u.time ≡ t.time) (os : u.origins.groups ≡ t.origins.groups) (cr : u.origins.created ≡ t.origins.created) (r : u.requests ≡ t.requests)
+    (set : u.lasts.items ≡ slice_set t.lasts.items g y) (own : y.life.start ≡ z.life.start) (group : y.life.group ≡ z.life.group) (es : u.editors ≡ t.editors) (gs : u.groups ≡ t.groups) (now : u.course ≡ t.course) (os : u.origins.groups ≡ t.origins.groups) (cr : u.origins.created ≡ t.origins.created) (r : u.requests ≡ t.requests)
     (is : start ≡ z.life.start) (said_so : ys ≡ xs ++ ToServer start text ∷ []) where
   pub sent_does : (Stands settings t (behind base xs) → StopsMove t u (behind base xs) (said (ToServer s text))) → (Stands settings t (behind base xs) → (p : Part) → PartStands p settings t.requests z (behind base xs) → PartStands p settings t.requests y (behind base xs ++ said (ToServer z.life.start text) ∷ [])) → Does (λ t events. Stands settings t events) (send (ToServer s text)) base t xs u ys
   sent_does stops parts =
@@ -58,7 +58,7 @@ module _ (settings : Settings) (t u : Tables) (xs ys : List Out) (base : List Ev
 
 -- its program's end
 module _ (settings : Settings) (t u : Tables) (xs ys : List Out) (base : List Event) (g s start : ℕ) (z y : Start) (at : slice_get (map number_in t.lasts.items) g ≡ Some s) (within : g < length t.lasts.items) (read : z ≡ get_or t.lasts.items g z)
-    (set : u.lasts.items ≡ slice_set t.lasts.items g y) (own : y.life.start ≡ z.life.start) (group : y.life.group ≡ z.life.group) (es : u.editors ≡ t.editors) (gs : u.groups ≡ t.groups) (now : u.time ≡ t.time) (os : u.origins.groups ≡ t.origins.groups) (cr : u.origins.created ≡ t.origins.created) (r : u.requests ≡ t.requests)
+    (set : u.lasts.items ≡ slice_set t.lasts.items g y) (own : y.life.start ≡ z.life.start) (group : y.life.group ≡ z.life.group) (es : u.editors ≡ t.editors) (gs : u.groups ≡ t.groups) (now : u.course ≡ t.course) (os : u.origins.groups ≡ t.origins.groups) (cr : u.origins.created ≡ t.origins.created) (r : u.requests ≡ t.requests)
     (is : start ≡ z.life.start) (said_so : ys ≡ xs ++ EndServer start ∷ []) where
   ended_with : StopsMove t u (behind base xs) (said (EndServer s)) → ((p : Part) → PartStands p settings t.requests z (behind base xs) → PartStands p settings t.requests y (behind base xs ++ said (EndServer z.life.start) ∷ [])) → Does (λ t events. Stands settings t events) (send (EndServer s)) base t xs u ys
   ended_with stops parts =
@@ -70,7 +70,7 @@ module _ (settings : Settings) (t u : Tables) (xs ys : List Out) (base : List Ev
 
 -- one that moves no table of a start
 pub unmoved_does : (settings : Settings) (t u : Tables) (xs ys : List Out) (base : List Event) (g s start : ℕ) (z : Start) (text : List ℕ) → slice_get (map number_in t.lasts.items) g ≡ Some s → g < length t.lasts.items → z ≡ get_or t.lasts.items g z
-    → requests (codes "shutdown") (message_of text) ≡ false → moves_ids (message_of text) ≡ false → (is_ready z.life.stage ≡ true → AsksStay settings z.life.start (behind base xs) (said (ToServer z.life.start text))) → u.lasts.items ≡ t.lasts.items → u.editors ≡ t.editors → u.groups ≡ t.groups → u.time ≡ t.time → u.origins ≡ t.origins → u.requests ≡ t.requests
+    → requests (codes "shutdown") (message_of text) ≡ false → moves_ids (message_of text) ≡ false → (is_ready z.life.stage ≡ true → AsksStay settings z.life.start (behind base xs) (said (ToServer z.life.start text))) → u.lasts.items ≡ t.lasts.items → u.editors ≡ t.editors → u.groups ≡ t.groups → u.course ≡ t.course → u.origins ≡ t.origins → u.requests ≡ t.requests
     → start ≡ z.life.start → ys ≡ xs ++ ToServer start text ∷ [] → Does (λ t events. Stands settings t events) (send (ToServer s text)) base t xs u ys
 unmoved_does settings t u xs ys base g s start z text at within read runs counts silent ls es gs now os r is said_so =
     sent_does settings t u xs ys base g s start z z text at within read (ls ∙ sym (same_set t.lasts.items g z (read_here t.lasts.items g z within read))) refl refl es gs now (ap (λ v. v.groups) os) (ap (λ v. v.created) os) r is said_so (λ st. told_stops t u (behind base xs) s text os runs) (λ st p h. part p h)
@@ -110,7 +110,7 @@ not_shutdown method h = go (bytes_eq (codes "shutdown") method) refl
 pub forward_does : (settings : Settings) (t u : Tables) (xs ys : List Out) (base : List Event) (g s start e : ℕ) (z : Start) (ids : Table) (pending : Pending) (text id : List ℕ) (work partial : Option (List ℕ)) (method : List ℕ) (name : Id) (ps : Option Json) → slice_get (map number_in t.lasts.items) g ≡ Some s → g < length t.lasts.items → z ≡ get_or t.lasts.items g z
     → message_of text ≡ request name method ps → is_own method ≡ false → Sends s e id work partial (behind base xs) → forwarded_of (record { number = z.ids.next; pending = pending }) ≡ sent_as (record { editor = e; id = id; work = work; partial = partial }) z.ids.next
     → ids.requests ≡ z.ids.requests ++ record { number = z.ids.next; pending = pending } ∷ [] → ids.next ≡ z.ids.next + 1 → ids.limit ≡ z.ids.limit → IsInOrder ids
-    → u.lasts.items ≡ slice_set t.lasts.items g (record z { ids = ids }) → u.editors ≡ t.editors → u.groups ≡ t.groups → u.time ≡ t.time → u.origins ≡ t.origins → u.requests ≡ t.requests → start ≡ z.life.start → ys ≡ xs ++ ToServer start text ∷ []
+    → u.lasts.items ≡ slice_set t.lasts.items g (record z { ids = ids }) → u.editors ≡ t.editors → u.groups ≡ t.groups → u.course ≡ t.course → u.origins ≡ t.origins → u.requests ≡ t.requests → start ≡ z.life.start → ys ≡ xs ++ ToServer start text ∷ []
     → Does (λ t events. Stands settings t events) (send (ToServer s text)) base t xs u ys
 forward_does settings t u xs ys base g s start e z ids pending text id work partial method name ps at within read says own sends kept put next limit order set es gs now os r is said_so =
     let y : Start = record z { ids = ids } in
@@ -132,7 +132,7 @@ forward_does settings t u xs ys base g s start e z ids pending text id work part
 pub cancel_does : (settings : Settings) (t u : Tables) (xs ys : List Out) (base : List Event) (g s start n : ℕ) (z : Start) (ids : Table) (text method : List ℕ) (ps : Option Json) → slice_get (map number_in t.lasts.items) g ≡ Some s → g < length t.lasts.items → z ≡ get_or t.lasts.items g z
     → message_of text ≡ notification method ps → bytes_eq method (codes "$/cancelRequest") ≡ true → ((k : ℕ) → k < 2 ^ 32 → is_written (named_of (codes "id") ps) k ≡ nat_eq k n)
     → ids.requests ≡ with_cancelled n z.ids.requests → ids.next ≡ z.ids.next → ids.limit ≡ z.ids.limit → IsInOrder ids
-    → u.lasts.items ≡ slice_set t.lasts.items g (record z { ids = ids }) → u.editors ≡ t.editors → u.groups ≡ t.groups → u.time ≡ t.time → u.origins ≡ t.origins → u.requests ≡ t.requests → start ≡ z.life.start → ys ≡ xs ++ ToServer start text ∷ []
+    → u.lasts.items ≡ slice_set t.lasts.items g (record z { ids = ids }) → u.editors ≡ t.editors → u.groups ≡ t.groups → u.course ≡ t.course → u.origins ≡ t.origins → u.requests ≡ t.requests → start ≡ z.life.start → ys ≡ xs ++ ToServer start text ∷ []
     → Does (λ t events. Stands settings t events) (send (ToServer s text)) base t xs u ys
 cancel_does settings t u xs ys base g s start n z ids text method ps at within read says cancels written put next limit order set es gs now os r is said_so =
     sent_does settings t u xs ys base g s start z (record z { ids = ids }) text at within read set refl refl es gs now (ap (λ v. v.groups) os) (ap (λ v. v.created) os) r is said_so (λ st. told_stops t u (behind base xs) s text os (ap (requests (codes "shutdown")) says)) (λ st p h. part st p h)
@@ -154,8 +154,8 @@ Adds s t u = (low high : List ℕ) → t.origins.stopping.items ≡ low ++ high 
 
 -- the request `shutdown`
 pub shut_does : (settings : Settings) (t u : Tables) (xs ys : List Out) (base : List Event) (g s start n : ℕ) (z : Start) (life : Standing) (text : List ℕ) (name : Id) (ps : Option Json) → slice_get (map number_in t.lasts.items) g ≡ Some s → g < length t.lasts.items → z ≡ get_or t.lasts.items g z → z.life.stage ≡ Ready
-    → message_of text ≡ request name (codes "shutdown") ps → life ≡ stopped n t.time z.life → Adds start t u
-    → u.lasts.items ≡ slice_set t.lasts.items g (record z { life = life; shown = None }) → u.editors ≡ t.editors → u.groups ≡ t.groups → u.time ≡ t.time → u.origins.groups ≡ t.origins.groups → u.origins.created ≡ t.origins.created → u.requests ≡ t.requests → start ≡ life.start → ys ≡ xs ++ ToServer start text ∷ []
+    → message_of text ≡ request name (codes "shutdown") ps → life ≡ stopped n t.course.time z.life → Adds start t u
+    → u.lasts.items ≡ slice_set t.lasts.items g (record z { life = life; shown = None }) → u.editors ≡ t.editors → u.groups ≡ t.groups → u.course ≡ t.course → u.origins.groups ≡ t.origins.groups → u.origins.created ≡ t.origins.created → u.requests ≡ t.requests → start ≡ life.start → ys ≡ xs ++ ToServer start text ∷ []
     → Does (λ t events. Stands settings t events) (send (ToServer s text)) base t xs u ys
 shut_does settings t u xs ys base g s start n z life text name ps at within read ready says stops adds set es gs now os cr r is said_so =
     sent_does settings t u xs ys base g s start z y text at within read set own (ap (λ (l : Standing). l.group) stops) es gs now os cr r (is ∙ own) said_so awaited (λ st p h. part st p h)
@@ -184,7 +184,7 @@ shut_does settings t u xs ys base g s start n z life text name ps at within read
         let x : Added (behind base xs) s text = stop_added (behind base xs) s text there (subst (λ k. (life_of k (behind base xs)).stage ≡ Ready) same (stage_here st)) asks in
         x.now ∙ sym (subst (λ k. Adds k t u) (is ∙ own ∙ same) adds x.low x.high (sym h ∙ x.was) x.under x.over)
 
-    moment : Stands settings t (behind base xs) → stop_of z.life.start (behind base xs ++ said (ToServer z.life.start text) ∷ []) ≡ Some t.time
+    moment : Stands settings t (behind base xs) → stop_of z.life.start (behind base xs ++ said (ToServer z.life.start text) ∷ []) ≡ Some t.course.time
     moment st = stop_more z.life.start (behind base xs) (said (ToServer z.life.start text))
         ∙ ap (λ b. if b && (is_ready (life_of z.life.start (behind base xs)).stage && requests (codes "shutdown") (message_of text)) then Some (time_of (behind base xs)) else stop_of z.life.start (behind base xs)) (itself z.life.start)
         ∙ ap (λ k. if is_ready k && requests (codes "shutdown") (message_of text) then Some (time_of (behind base xs)) else stop_of z.life.start (behind base xs)) (stage_here st)
@@ -214,7 +214,7 @@ ending_over s l = ap (λ b. is_stopping (if b then record { stage = stage_ending
 
 -- its program is to be ended
 pub end_does : (settings : Settings) (t u : Tables) (xs ys : List Out) (base : List Event) (g s start : ℕ) (z : Start) (life : Standing) → slice_get (map number_in t.lasts.items) g ≡ Some s → g < length t.lasts.items → z ≡ get_or t.lasts.items g z → (z.life.stage ≡ Ended → ⊥) → life ≡ moved Ending z.life → u.origins.stopping.items ≡ unstopped start t.origins.stopping.items
-    → u.lasts.items ≡ slice_set t.lasts.items g (record z { life = life; shown = None }) → u.editors ≡ t.editors → u.groups ≡ t.groups → u.time ≡ t.time → u.origins.groups ≡ t.origins.groups → u.origins.created ≡ t.origins.created → u.requests ≡ t.requests → start ≡ life.start → ys ≡ xs ++ EndServer start ∷ []
+    → u.lasts.items ≡ slice_set t.lasts.items g (record z { life = life; shown = None }) → u.editors ≡ t.editors → u.groups ≡ t.groups → u.course ≡ t.course → u.origins.groups ≡ t.origins.groups → u.origins.created ≡ t.origins.created → u.requests ≡ t.requests → start ≡ life.start → ys ≡ xs ++ EndServer start ∷ []
     → Does (λ t events. Stands settings t events) (send (EndServer s)) base t xs u ys
 end_does settings t u xs ys base g s start z life at within read runs ends ceases set es gs now os cr r is said_so =
     let own : life.start ≡ z.life.start = ap (λ (l : Standing). l.start) ends in

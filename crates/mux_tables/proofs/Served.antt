@@ -85,7 +85,7 @@ begun_stop Ending l since h s = s
 begun_stop Ended l since h s = s
 
 pub started_moves : (settings : Settings) (t u : Tables) (events : List Event) (g s : ℕ) (z : Start) (life : Standing) → slice_get (map number_in t.lasts.items) g ≡ Some s → g < length t.lasts.items → z ≡ get_or t.lasts.items g z → life ≡ begun_at z.life.stage z.life
-    → u.lasts.items ≡ slice_set t.lasts.items g (record z { life = life; started = true }) → u.editors ≡ t.editors → u.groups ≡ t.groups → u.time ≡ t.time → u.origins ≡ t.origins → u.requests ≡ t.requests
+    → u.lasts.items ≡ slice_set t.lasts.items g (record z { life = life; started = true }) → u.editors ≡ t.editors → u.groups ≡ t.groups → u.course ≡ t.course → u.origins ≡ t.origins → u.requests ≡ t.requests
     → Stands settings t events → Stands settings u (events ++ took (Started s) not_message ∷ [])
 started_moves settings t u events g s z life at within read is set es gs now os r =
     let y : Start = record z { life = life; started = true } in
@@ -147,7 +147,7 @@ module _ (settings : Settings) (t u : Tables) (events : List Event) (g s : ℕ) 
     (publishes : Stands settings t events → PartStands of_lists settings t.requests z events → ListsAt life.stage (lists_of z.life.start (events ++ took (FromServer z.life.start body) (message_of body) ∷ [])) lists.lists)
     (own : life.start ≡ z.life.start) (group : life.group ≡ z.life.group) (hears : stage_hears z.life.stage (message_of body) ≡ life.stage) (refuses : (is_first_error (message_of body) && is_initializing z.life.stage) ≡ false) (named : NamesAt (answered_id (message_of body)) n)
     (taken : MatchOption n (ids.requests ≡ z.ids.requests) (λ k. ids.requests ≡ without k z.ids.requests)) (next : ids.next ≡ z.ids.next) (limit : ids.limit ≡ z.ids.limit) (order : IsInOrder z.ids → IsInOrder ids)
-    (set : u.lasts.items ≡ slice_set t.lasts.items g (record z { life = life; ids = ids; shown = shown; parked = parked; live = live; lists = lists })) (es : u.editors ≡ t.editors) (gs : u.groups ≡ t.groups) (now : u.time ≡ t.time) (os : OriginsMove settings t.origins u.origins events (took (FromServer s body) (message_of body))) (r : u.requests ≡ t.requests) where
+    (set : u.lasts.items ≡ slice_set t.lasts.items g (record z { life = life; ids = ids; shown = shown; parked = parked; live = live; lists = lists })) (es : u.editors ≡ t.editors) (gs : u.groups ≡ t.groups) (now : u.course ≡ t.course) (os : OriginsMove settings t.origins u.origins events (took (FromServer s body) (message_of body))) (r : u.requests ≡ t.requests) where
   pub server_moves : Stands settings t events → Stands settings u (events ++ took (FromServer s body) (message_of body) ∷ [])
   server_moves st = start_moves settings t u events (λ k. took (FromServer k body) (message_of body)) g s z y at within read set own group es now os.groups r (λ k. refl) (λ k. refl) (λ k. refl) (λ k m. refl)
       (λ k e h. groups_kept settings t.groups u.groups events (took (FromServer k body) (message_of body)) gs (not_refused settings t.groups events k body (message_of body) (ap (λ a. is_first_error (message_of body) && is_initializing a) (stage_seen settings t events g k z st here (e ∙ sym (start_at_place t.lasts.items g s z here at))) ∙ refuses)) h)
@@ -196,7 +196,7 @@ later_begun true other h = refl
 pub answer_moves : (settings : Settings) (t u : Tables) (events : List Event) (g s : ℕ) (x z : Start) (body : List ℕ) (n : Option ℕ) (ids : Table) → slice_get t.lasts.items g ≡ Some x → slice_get (map number_in t.lasts.items) g ≡ Some s → g < length t.lasts.items → z ≡ get_or t.lasts.items g z
     → (is_first_result (message_of body) && is_early x.life.stage) ≡ false → (is_first_error (message_of body) && is_initializing x.life.stage) ≡ false → ParkedStay settings s events (took (FromServer s body) (message_of body)) → LiveStay settings s events (took (FromServer s body) (message_of body)) → ListsStay s events (took (FromServer s body) (message_of body)) → NamesAt (answered_id (message_of body)) n
     → MatchOption n (ids.requests ≡ z.ids.requests) (λ k. ids.requests ≡ without k z.ids.requests) → ids.next ≡ z.ids.next → ids.limit ≡ z.ids.limit → (IsInOrder z.ids → IsInOrder ids)
-    → u.lasts.items ≡ slice_set t.lasts.items g (record z { ids = ids }) → u.editors ≡ t.editors → u.groups ≡ t.groups → u.time ≡ t.time → OriginsMove settings t.origins u.origins events (took (FromServer s body) (message_of body)) → u.requests ≡ t.requests
+    → u.lasts.items ≡ slice_set t.lasts.items g (record z { ids = ids }) → u.editors ≡ t.editors → u.groups ≡ t.groups → u.course ≡ t.course → OriginsMove settings t.origins u.origins events (took (FromServer s body) (message_of body)) → u.requests ≡ t.requests
     → Stands settings t events → Stands settings u (events ++ took (FromServer s body) (message_of body) ∷ [])
 answer_moves settings t u events g s x z body n ids is at within read no_result no_failure still stays keeps named taken next limit order set es gs now os r =
     let same : x ≡ z = same_item (sym is ∙ read_here t.lasts.items g z within read) in
@@ -246,7 +246,7 @@ error_asks other h = refl
 pub result_moves : (settings : Settings) (t u : Tables) (events : List Event) (g s : ℕ) (z : Start) (body : List ℕ) (n : Option ℕ) (life : Standing) (ids : Table) (shown : List ℕ) → slice_get (map number_in t.lasts.items) g ≡ Some s → g < length t.lasts.items → z ≡ get_or t.lasts.items g z
     → z.life.stage ≡ Initializing → is_first_result (message_of body) ≡ true → NamesAt (answered_id (message_of body)) n → shown ≡ shown_of (result_bytes body) → life ≡ moved Ready z.life
     → MatchOption n (ids.requests ≡ z.ids.requests) (λ k. ids.requests ≡ without k z.ids.requests) → ids.next ≡ z.ids.next → ids.limit ≡ z.ids.limit → (IsInOrder z.ids → IsInOrder ids)
-    → u.lasts.items ≡ slice_set t.lasts.items g (record z { life = life; ids = ids; shown = Some shown }) → u.editors ≡ t.editors → u.groups ≡ t.groups → u.time ≡ t.time → u.origins ≡ t.origins → u.requests ≡ t.requests
+    → u.lasts.items ≡ slice_set t.lasts.items g (record z { life = life; ids = ids; shown = Some shown }) → u.editors ≡ t.editors → u.groups ≡ t.groups → u.course ≡ t.course → u.origins ≡ t.origins → u.requests ≡ t.requests
     → Stands settings t events → Stands settings u (events ++ took (FromServer s body) (message_of body) ∷ [])
 result_moves settings t u events g s z body n life ids shown at within read stage first named shows is taken next limit order set es gs now os r =
     server_moves settings t u events g s z body n life ids (Some shown) z.parked z.live z.lists at within read (λ _. subst (λ (l : Standing). StopAt l.stage l.stopping (stop_of z.life.start events)) (sym is) tt) (first_shown z.life.start z.life.stage z.shown (result_of z.life.start events) body shown (message_of body) life z.life is stage first shows)
@@ -273,7 +273,7 @@ found_of n k o rs is h = subst (λ (m : Option ℕ). MatchOption m (o ≡ None) 
 pub refusal_moves : (settings : Settings) (t u : Tables) (events : List Event) (g s : ℕ) (z : Start) (body : List ℕ) (n : Option ℕ) (ids : Table) → slice_get (map number_in t.lasts.items) g ≡ Some s → g < length t.lasts.items → z ≡ get_or t.lasts.items g z
     → z.life.stage ≡ Initializing → is_first_error (message_of body) ≡ true → NamesAt (answered_id (message_of body)) n
     → MatchOption n (ids.requests ≡ z.ids.requests) (λ k. ids.requests ≡ without k z.ids.requests) → ids.next ≡ z.ids.next → ids.limit ≡ z.ids.limit → (IsInOrder z.ids → IsInOrder ids)
-    → u.lasts.items ≡ slice_set t.lasts.items g (record z { ids = ids }) → u.editors ≡ t.editors → u.groups ≡ with_groups (changed z.life.group ended t.groups.groups) t.groups → u.time ≡ t.time → u.origins ≡ t.origins → u.requests ≡ t.requests
+    → u.lasts.items ≡ slice_set t.lasts.items g (record z { ids = ids }) → u.editors ≡ t.editors → u.groups ≡ with_groups (changed z.life.group ended t.groups.groups) t.groups → u.course ≡ t.course → u.origins ≡ t.origins → u.requests ≡ t.requests
     → Stands settings t events → Stands settings u (events ++ took (FromServer s body) (message_of body) ∷ [])
 refusal_moves settings t u events g s z body n ids at within read stage refuses named taken next limit order set es gs now os r st =
     start_moves settings t u events (λ k. took (FromServer k body) (message_of body)) g s z y at within read set refl refl es now (ap (λ v. v.groups) os) r (λ k. refl) (λ k. refl) (λ k. refl) (λ k m. refl)
@@ -318,7 +318,7 @@ module _ (settings : Settings) (t u : Tables) (events : List Event) (g s : ℕ) 
   pub over_moves : Stands settings t events → Stands settings u (events ++ ev s ∷ [])
   over_moves st =
       let own : x.start.life.start ≡ z.life.start = ap (λ (l : Standing). l.start) x.life in
-      start_moves settings t u events ev g s z x.start at within (read_back t.lasts.items g z here) x.lasts own (ap (λ (l : Standing). l.group) x.life) x.editors x.time x.origins x.requests editor time spawn one
+      start_moves settings t u events ev g s z x.start at within (read_back t.lasts.items g z here) x.lasts own (ap (λ (l : Standing). l.group) x.life) x.editors x.course x.origins x.requests editor time spawn one
       (λ n e h. lost_groups settings events (ev n) n z.life.group (loses n) (t.groups) u.groups t.editors (subst (λ m. group_of m events ≡ Some z.life.group) (start_at_place t.lasts.items g s z here at ∙ sym e) (st.lasts.each g z here).home) st.house.editors x.groups h)
       (λ n e h. stopping_less events (ev n) n (spawn n) (one n) (ap (λ (l : Life). is_stopping l.stage) (over n (life_of n events))) ∙ ap (unstopped n) h
       ∙ ap (λ k. unstopped k t.origins.stopping.items) (e ∙ sym (start_at_place t.lasts.items g s z here at)) ∙ sym x.stopping) (λ n e. tokens n (e ∙ sym (start_at_place t.lasts.items g s z here at))) (part own) st

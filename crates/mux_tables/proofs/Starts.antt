@@ -210,7 +210,7 @@ late_lists settings limit events y h = lists_late y.life.stage (lists_of y.life.
 
 -- the event `ev n` names start n alone, and start s is the last one of group g, which goes from z to y
 module _ (settings : Settings) (t u : Tables) (events : List Event) (ev : ℕ → Event) (g s : ℕ) (z y : Start) (at : slice_get (map number_in t.lasts.items) g ≡ Some s) (within : g < length t.lasts.items) (read : z ≡ get_or t.lasts.items g z)
-    (set : u.lasts.items ≡ slice_set t.lasts.items g y) (own : y.life.start ≡ z.life.start) (group : y.life.group ≡ z.life.group) (es : u.editors ≡ t.editors) (now : u.time ≡ t.time) (os : u.origins.groups ≡ t.origins.groups) (r : u.requests ≡ t.requests)
+    (set : u.lasts.items ≡ slice_set t.lasts.items g y) (own : y.life.start ≡ z.life.start) (group : y.life.group ≡ z.life.group) (es : u.editors ≡ t.editors) (now : u.course ≡ t.course) (os : u.origins.groups ≡ t.origins.groups) (r : u.requests ≡ t.requests)
     (e : (n : ℕ) → names_editor (ev n) ≡ false) (w : (n : ℕ) → ticks (ev n) ≡ false) (k : (n : ℕ) → spawns (ev n) ≡ false) (one : (n m : ℕ) → names_start m (ev n) ≡ nat_eq n m) where
   pub start_moves : ((n : ℕ) → n ≡ s → GroupsStand settings t.groups events → GroupsStand settings u.groups (events ++ ev n ∷ [])) → ((n : ℕ) → n ≡ s → StopsMove t u events (ev n)) → ((n : ℕ) → n ≡ s → CreatedMove settings t u events (ev n)) → ((p : Part) → PartStands p settings t.requests z events → PartStands p settings t.requests y (events ++ ev z.life.start ∷ []))
       → Stands settings t events → Stands settings u (events ++ ev s ∷ [])

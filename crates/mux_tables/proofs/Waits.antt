@@ -6,7 +6,7 @@ use Rattle.std.proofs.lemmas.List.Elements.{All-filter, All-from_get_or}
 use Rattle.std.proofs.lemmas.List.FromFn.{get_or-range_with_len, length-range_with_len}
 use Rattle.std.proofs.lemmas.Option.{slice_get-get_or}
 use Rattle.event_model.specs.Event.{Event}
-use Rattle.event_model.specs.Phases.{is_waiting}
+use Rattle.event_model.specs.Phases.{is_there, is_waiting}
 use Rattle.event_model.specs.Settings.{Settings}
 use Rattle.event_model.proofs.Places.{Same, same, other, compare, get_set_same, get_set_other}
 use Rattle.editor_session.specs.declared.session.Session.{Session}
@@ -15,7 +15,8 @@ use Rattle.group_words.specs.Houses.{editors_in, home_of}
 use Rattle.mux_tables.specs.declared.tables.Tables.{Tables}
 use Rattle.mux_tables.specs.Names.{id_in}
 use Rattle.mux_tables.specs.Stands.{Stands, meant_in}
-use Rattle.mux_tables.proofs.Lists.{editors_for, waits_so}
+use Rattle.group_laws.specs.group_rows.specs.StopRows.{there_in}
+use Rattle.mux_tables.proofs.Lists.{editors_for, there_by, waits_so}
 
 pub waiting_so : (settings : Settings) (t : Tables) (events : List Event) (g : ℕ) (ns : List ℕ) → Stands settings t events → ns ≡ numbers_of (λ s. waits_in g s) t.editors → ns ≡ editors_in is_waiting g (λ e. home_of settings e events) events
 waiting_so settings t events g ns s is = is ∙ (sym (waits_so t.editors g) ∙ sym (editors_for is_waiting (λ e. home_of settings e events) t.editors events g s.house.editors.count s.house.editors.phase s.house.editors.home))
@@ -50,3 +51,10 @@ meant_kept xs e y l same_meant n = go n (compare e n)
     go : (n : ℕ) → Same e n → meant_in (slice_get (slice_set xs e y) n) ≡ meant_in (slice_get xs n)
     go _ same = ap meant_in (get_set_same xs e y l) ∙ (same_meant ∙ ap meant_in (sym (slice_get-get_or xs e absent l)))
     go n (other h) = ap meant_in (get_set_other xs e n y h)
+
+-- those that are there
+pub there_so : (settings : Settings) (t : Tables) (events : List Event) (ns : List ℕ) → Stands settings t events → ns ≡ numbers_of (λ s. is_there s.phase) t.editors → ns ≡ there_in events
+there_so settings t events ns s is = is ∙ sym (there_by t.editors events s.house.editors.count s.house.editors.phase)
+
+pub there_inside : (xs : List Session) (ns : List ℕ) → ns ≡ numbers_of (λ s. is_there s.phase) xs → All (λ e. e < length xs) ns
+there_inside xs ns is = numbers_inside (λ s. is_there s.phase) xs ns is

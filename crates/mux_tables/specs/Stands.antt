@@ -42,6 +42,7 @@ use Rattle.group_laws.specs.group_rows.specs.Asks.{Ask, Parked, asking_next, ask
 use Rattle.group_laws.specs.group_rows.specs.Forwarded.{Forwarded, Forwarding, forwarding_of, names}
 use Rattle.group_laws.specs.group_rows.specs.Lists.{lists_next, lists_of}
 use Rattle.group_laws.specs.group_rows.specs.Live.{live_next, live_of}
+use Rattle.group_laws.specs.group_rows.specs.StopRows.{stopped}
 use Rattle.group_laws.specs.group_rows.specs.Ticks.{stop_of, stopping_of}
 use Rattle.group_laws.specs.registrations.specs.declared.registration.Registration.{Registration}
 
@@ -283,11 +284,12 @@ pub record LastsStand (settings : Settings) (limit : ℕ) (lasts : List Start) (
   pub fresh : (s : ℕ) → starts_of events ≤ s → (p : Part) → PartStands p settings limit (blank limit s) events
   pub old : (s g : ℕ) → group_of s events ≡ Some g → (start_of g events ≡ Some s) ⊎ ((life_of s events).stage ≡ Ended)
 
--- the editors and their groups, and the time
+-- the editors and their groups, the time, and whether all was stopped
 pub record HouseStands (settings : Settings) (t : Tables) (events : List Event) : Type 0 where
   pub editors : EditorsStand settings t.editors events
   pub groups : GroupsStand settings t.groups events
-  pub now : time_of events ≡ t.time
+  pub now : time_of events ≡ t.course.time
+  pub halted : stopped events ≡ t.course.stopped
 
 pub record Stands (settings : Settings) (t : Tables) (events : List Event) : Type 0 where
   pub house : HouseStands settings t events
@@ -406,7 +408,7 @@ pub record Exits (restarts : ℕ) (t : Tables) (g : ℕ) (z : Start) (u : Tables
   pub limit : start.ids.limit ≡ t.requests
   pub order : IsInOrder start.ids
   pub editors : u.editors ≡ t.editors
-  pub time : u.time ≡ t.time
+  pub course : u.course ≡ t.course
   pub origins : u.origins.groups ≡ t.origins.groups
   pub created : u.origins.created ≡ less z.life.start t.origins.created
   pub stopping : u.origins.stopping.items ≡ unstopped z.life.start t.origins.stopping.items

@@ -7,6 +7,7 @@ ghost use Rattle.event_model.specs.Phases.{desk_of, is_served};
 ghost use Rattle.event_model.specs.Settings.{Settings};
 ghost use Rattle.group_table.specs.Tables.{Inside, declared_text, with_groups};
 ghost use Rattle.group_laws.specs.group_rows.specs.Ticks.{due_of};
+ghost use Rattle.group_words.specs.Placing.{all_from, is_live};
 ghost use Rattle.group_words.specs.Houses.{declared_for, emptied, groups_of, home_of, is_first_open, key_for, placed_for, places, server_asked, stops};
 ghost use Rattle.mux_history.specs.declared.cause.Cause.TheVariants.{EditorGone, FromEditor, Joined, Tick};
 ghost use Rattle.mux_history.specs.declared.cause.Why.{Why};
@@ -120,14 +121,14 @@ impl Tables {
     // A group that lives and lost its last editor is idle from now on.
     fn empty_group(&mut self, g: u64, was: bool) -> Result<(), Memory>
         ensures editors { self.new.editors ≡ self.old.editors }
-        ensures time { self.new.time ≡ self.old.time }
+        ensures course { self.new.course ≡ self.old.course }
         ensures lasts { self.new.lasts ≡ self.old.lasts }
         ensures origins { self.new.origins ≡ self.old.origins }
         ensures documents { self.new.documents ≡ self.old.documents }
         ensures requests { self.new.requests ≡ self.old.requests }
         ensures versions { self.new.versions ≡ self.old.versions }
         ensures groups { OnOk result (self.new.groups
-            ≡ with_groups (emptied (Some g) was (stays_in self.old.editors) self.old.time self.old.groups.groups) self.old.groups) }
+            ≡ with_groups (emptied (Some g) was (stays_in self.old.editors) self.old.course.time self.old.groups.groups) self.old.groups) }
     {
         if !was {
             return Ok(());
@@ -139,21 +140,21 @@ impl Tables {
         if left.len() > 0 {
             return Ok(());
         }
-        self.groups.idle(g, self.time);
+        self.groups.idle(g, self.course.time);
         Ok(())
     }
 
     // The same of a group that an editor may have been placed in.
     pub fn empty(&mut self, home: Option<u64>, was: bool) -> Result<(), Memory>
         ensures editors { self.new.editors ≡ self.old.editors }
-        ensures time { self.new.time ≡ self.old.time }
+        ensures course { self.new.course ≡ self.old.course }
         ensures lasts { self.new.lasts ≡ self.old.lasts }
         ensures origins { self.new.origins ≡ self.old.origins }
         ensures documents { self.new.documents ≡ self.old.documents }
         ensures requests { self.new.requests ≡ self.old.requests }
         ensures versions { self.new.versions ≡ self.old.versions }
         ensures groups { OnOk result (self.new.groups
-            ≡ with_groups (emptied home was (stays_in self.old.editors) self.old.time self.old.groups.groups) self.old.groups) }
+            ≡ with_groups (emptied home was (stays_in self.old.editors) self.old.course.time self.old.groups.groups) self.old.groups) }
     {
         match home {
             None => Ok(()),
@@ -254,6 +255,12 @@ impl Tables {
     pub fn hear_stop(&mut self, e: u64, phase: Phase) -> Result<Vec<u64>, Memory>
         requires editor { e < length self.old.editors }
         requires joined { phase ≢ Absent }
+        ensures count { OnOk result (length self.new.editors ≡ length self.old.editors) }
+        ensures requests { self.new.requests ≡ self.old.requests }
+        ensures versions { self.new.versions ≡ self.old.versions }
+        ensures lasts { self.new.lasts ≡ self.old.lasts }
+        ensures live { (settings : Settings) (events : List Event) → Stands settings self.old events
+            → IfOk result (λ live. live.items ≡ all_from 0 is_live (groups_of settings events)) }
         ensures stands { (settings : Settings) (events : List Event) (body : List ℕ) → Stands settings self.old events
             → places (desk_of e events).phase (message_of body) ≡ false → stops events e (message_of body) ≡ true
             → (desk_of e (events ++ heard (FromEditor e body) ∷ [])).phase ≡ phase
@@ -265,6 +272,7 @@ impl Tables {
         let live = self.groups.live_groups()?;
         end_all(&mut self.groups, &live);
         self.editors.set(e, phase);
+        self.course.stopped = true;
         Ok(live)
     }
 
@@ -279,10 +287,10 @@ impl Tables {
         ensures documents { (settings : Settings) (owed : Owed) (events : List Event) → DocumentsStand settings owed self.old events
             → OnOk result (DocumentsStand settings owed self.new (events ++ heard (Tick now) ∷ [])) }
     {
-        let now = later(self.time, now);
+        let now = later(self.course.time, now);
         let due = self.groups.due(now)?;
         end_all(&mut self.groups, &due);
-        self.time = now;
+        self.course.time = now;
         Ok(due)
     }
 }

@@ -101,6 +101,9 @@ impl Tables {
             → DocumentsStand settings nothing_owed self.old (behind base outs.old)
             → IfOk result (λ owed. Leaves settings (behind base outs.old) e (home_of settings e (behind base outs.old))
             (start_for settings e (behind base outs.old)) owed self.new (behind base outs.new)) }
+        ensures owing { (settings : Settings) (owing : Owed) (base : List Event) → Stands settings self.old (behind base outs.old)
+            → DocumentsStand settings owing self.old (behind base outs.old)
+            → OnOk result ((later : Owed) × DocumentsStand settings later self.new (behind base outs.new)) }
         ensures unserved { (settings : Settings) (owing : Owed) (base : List Event) → Stands settings self.old (behind base outs.old)
             → is_served (desk_of e (behind base outs.old)).phase ≡ false → DocumentsStand settings owing self.old (behind base outs.old)
             → IfOk result (λ owed. (owed ≡ []) × DocumentsStand settings owing self.new (behind base outs.new)) }
@@ -306,7 +309,7 @@ impl Tables {
             → message_of text ≡ message.request name (codes "shutdown") ps
             → DocumentsStand settings owed self.old (behind base outs.old) → OnOk result (DocumentsStand settings owed self.new (behind base outs.new)) }
     {
-        let now = self.time;
+        let now = self.course.time;
         unready(&mut self.documents, g);
         let last = &mut self.lasts[g];
         last.life.stop(n, now);

@@ -56,7 +56,7 @@ impl Tables {
         ensures { (settings : Settings) (before : List Event) → settings.limits.grace ≡ grace → Stands settings self.now before
             → IfOk result (λ late. late.items ≡ overdue_of settings before now) }
     {
-        let now = later(self.time, now);
+        let now = later(self.course.time, now);
         let mut late = Vec::from_slice(alloc, self.origins.stopping.as_slice())?;
         late.retain(|s| is_since(grace, now, self.stop(*s)));
         Ok(late)

@@ -44,6 +44,15 @@ pub struct Origins {
     pub created: Created,
 }
 
+/// How far it has come.
+#[derive(Clone, Copy, Debug)]
+pub struct Course {
+    /// The greatest tick so far, in seconds.
+    pub time: u64,
+    /// Whether an editor stopped all.
+    pub stopped: bool,
+}
+
 /// The tables.
 #[derive(Drop)]
 pub struct Tables {
@@ -51,8 +60,8 @@ pub struct Tables {
     pub editors: Editors,
     /// The groups, by number.
     pub groups: Groups,
-    /// The greatest tick so far, in seconds.
-    pub time: u64,
+    /// How far it has come.
+    pub course: Course,
     /// The last starts of the groups, by rising numbers of these: of each group that lives, and of each whose last start isn't over.
     pub lasts: Vec<Start>,
     /// The starts.
@@ -85,7 +94,10 @@ impl Tables {
         Ok(Tables {
             editors: Editors::new(alloc),
             groups: Groups::new(alloc, groups, idle)?,
-            time: 0,
+            course: Course {
+                time: 0,
+                stopped: false,
+            },
             lasts: Vec::new(alloc),
             origins: Origins {
                 groups: Vec::new(alloc),

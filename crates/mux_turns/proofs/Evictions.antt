@@ -5,7 +5,7 @@ use Rattle.std.proofs.lemmas.Bool.Decides.{nat_tests}
 use Rattle.json_text.specs.Json.{Json}
 use Rattle.mux_history.specs.declared.cause.Cause.TheVariants.{FromEditor, Tick}
 use Rattle.mux_history.specs.declared.out.Out.{Out}
-use Rattle.mux_history.specs.declared.out.Out.TheVariants.{ToServer, EndServer}
+use Rattle.mux_history.specs.declared.out.Out.TheVariants.{ToEditor, ToServer, CloseEditor, EndServer}
 use Rattle.rpc_message.specs.Message.{Id, integer, message_of, request}
 use Rattle.rpc_message.specs.Texts.{request_text}
 use Rattle.event_model.specs.declared.stage.Stage.{Stage}
@@ -28,7 +28,7 @@ use Rattle.group_words.specs.Rows.{end_group, end_start, placed_row, spawn}
 use Rattle.mux_tables.specs.id_rewrite.specs.Tables.{IsInOrder}
 use Rattle.mux_tables.specs.declared.tables.Start.{Start}
 use Rattle.mux_tables.specs.declared.tables.Tables.{Tables}
-use Rattle.mux_tables.specs.Documents.{AllStand, DocumentsStand, nothing_owed}
+use Rattle.mux_tables.specs.Documents.{AllStand, DocumentsStand, Owed, nothing_owed}
 use Rattle.mux_tables.specs.Stands.{HasEnded, Stands, number_in, of_ids, of_life}
 use Rattle.mux_tables.proofs.DocumentOwed.{all_does}
 use Rattle.mux_tables.proofs.Starts.{start_at_place}
@@ -75,11 +75,11 @@ module _ (settings : Settings) (t u : Tables) (base : List Event) (xs ys : List 
   stage_here st = subst (λ n. (life_of n (behind base xs)).stage ≡ x.life.stage) own (ap (λ (l : Life). l.stage) ((st.lasts.each g x at).parts of_life))
 
   -- it is sent `shutdown`
-  pub shuts : (n : ℕ) (text : List ℕ) → x.life.stage ≡ Ready → (IsInOrder x.ids → x.ids.limit ≡ t.requests → n ≡ x.ids.next) → text ≡ request_text n (codes "shutdown") None → next_number s (behind base xs) ≡ (forwarding_of s (behind base xs)).next
+  pub shuts : (owed : Owed) (n : ℕ) (text : List ℕ) → x.life.stage ≡ Ready → (IsInOrder x.ids → x.ids.limit ≡ t.requests → n ≡ x.ids.next) → text ≡ request_text n (codes "shutdown") None → next_number s (behind base xs) ≡ (forwarding_of s (behind base xs)).next
       → ((name : Id) (ps : Option Json) → message_of text ≡ request name (codes "shutdown") ps → Does (λ t events. Stands settings t events) (send (ToServer s text)) base t xs u ys)
-      → ((name : Id) (ps : Option Json) → message_of text ≡ request name (codes "shutdown") ps → DocumentsStand settings nothing_owed t (behind base xs) → DocumentsStand settings nothing_owed u (behind base ys))
-      → Does (λ k events. AllStand settings k events) (end_start s Ready) base (t, nothing_owed) xs (u, nothing_owed) ys
-  shuts n text ready same is asked d docs = does_knowing (λ k.
+      → ((name : Id) (ps : Option Json) → message_of text ≡ request name (codes "shutdown") ps → DocumentsStand settings owed t (behind base xs) → DocumentsStand settings owed u (behind base ys))
+      → Does (λ k events. AllStand settings k events) (end_start s Ready) base (t, owed) xs (u, owed) ys
+  shuts owed n text ready same is asked d docs = does_knowing (λ k.
       let ids = (k.0.lasts.each g x at).parts of_ids in
       let next : n ≡ x.ids.next = same ids.order ids.ends in
       let asks : next_number s (behind base xs) ≡ n = asked ∙ (ap (λ m. (forwarding_of m (behind base xs)).next) (sym own) ∙ (ids.next ∙ sym next)) in
@@ -88,32 +88,32 @@ module _ (settings : Settings) (t u : Tables) (base : List Event) (xs ys : List 
       let range = k.0.range in
       let says = ap message_of is ∙ shutdown_says n (omega (arith, next, within, ends, range)) in
       does_look (λ _. ap (λ w. send (ToServer s w)) (ap (λ m. request_text m (codes "shutdown") None) asks ∙ sym is))
-      (all_does settings t u nothing_owed nothing_owed base xs ys (d (integer (decimal n)) None says) (λ _ ds. docs (integer (decimal n)) None says ds)))
+      (all_does settings t u owed owed base xs ys (d (integer (decimal n)) None says) (λ _ ds. docs (integer (decimal n)) None says ds)))
 
-  abbrev Ends : Type 0
-  Ends = Does (λ k events. AllStand settings k events) (look (λ events. end_start s (life_of s events).stage)) base (t, nothing_owed) xs (u, nothing_owed) ys
+  abbrev Ends : Owed → Type 0
+  Ends owed = Does (λ k events. AllStand settings k events) (look (λ events. end_start s (life_of s events).stage)) base (t, owed) xs (u, owed) ys
 
-  pub ends_ready : x.life.stage ≡ Ready → Does (λ k events. AllStand settings k events) (end_start s Ready) base (t, nothing_owed) xs (u, nothing_owed) ys → Ends
-  ends_ready ready d = does_look (λ k. ap (end_start s) (stage_here k.0 ∙ ready)) d
+  pub ends_ready : (owed : Owed) → x.life.stage ≡ Ready → Does (λ k events. AllStand settings k events) (end_start s Ready) base (t, owed) xs (u, owed) ys → Ends owed
+  ends_ready owed ready d = does_look (λ k. ap (end_start s) (stage_here k.0 ∙ ready)) d
 
-  pub ends_now : is_starting x.life.stage ≡ true → Does (λ t events. Stands settings t events) (send (EndServer s)) base t xs u ys → (DocumentsStand settings nothing_owed t (behind base xs) → DocumentsStand settings nothing_owed u (behind base ys)) → Ends
-  ends_now starting d docs = does_look (λ k. ap (end_start s) (stage_here k.0) ∙ ends_starting s x.life.stage starting) (all_does settings t u nothing_owed nothing_owed base xs ys d (λ _ ds. docs ds))
+  pub ends_now : (owed : Owed) → is_starting x.life.stage ≡ true → Does (λ t events. Stands settings t events) (send (EndServer s)) base t xs u ys → (DocumentsStand settings owed t (behind base xs) → DocumentsStand settings owed u (behind base ys)) → Ends owed
+  ends_now owed starting d docs = does_look (λ k. ap (end_start s) (stage_here k.0) ∙ ends_starting s x.life.stage starting) (all_does settings t u owed owed base xs ys d (λ _ ds. docs ds))
 
-pub ends_never : (settings : Settings) (t : Tables) (base : List Event) (xs : List Out) (g s : ℕ) (x : Start) → slice_get t.lasts.items g ≡ Some x → slice_get (map number_in t.lasts.items) g ≡ Some s → is_ready x.life.stage ≡ false → is_starting x.life.stage ≡ false
-    → Does (λ k events. AllStand settings k events) (look (λ events. end_start s (life_of s events).stage)) base (t, nothing_owed) xs (t, nothing_owed) xs
-ends_never settings t base xs g s x at number ready starting = does_look (λ k. ap (end_start s) (stage_here settings t t base xs xs g s x at number k.0) ∙ ends_other s x.life.stage ready starting) does_nothing
+pub ends_never : (settings : Settings) (owed : Owed) (t : Tables) (base : List Event) (xs : List Out) (g s : ℕ) (x : Start) → slice_get t.lasts.items g ≡ Some x → slice_get (map number_in t.lasts.items) g ≡ Some s → is_ready x.life.stage ≡ false → is_starting x.life.stage ≡ false
+    → Does (λ k events. AllStand settings k events) (look (λ events. end_start s (life_of s events).stage)) base (t, owed) xs (t, owed) xs
+ends_never settings owed t base xs g s x at number ready starting = does_look (λ k. ap (end_start s) (stage_here settings t t base xs xs g s x at number k.0) ∙ ends_other s x.life.stage ready starting) does_nothing
 
 -- the group's last start, where it has one
-module _ (settings : Settings) (t u : Tables) (base : List Event) (xs ys : List Out) (g : ℕ) where
-  pub evicts_none : (Stands settings t (behind base xs) → HasEnded (start_of g (behind base xs)) (behind base xs)) → Does (λ k events. AllStand settings k events) (end_group g) base (t, nothing_owed) xs (t, nothing_owed) xs
+module _ (settings : Settings) (owed : Owed) (t u : Tables) (base : List Event) (xs ys : List Out) (g : ℕ) where
+  pub evicts_none : (Stands settings t (behind base xs) → HasEnded (start_of g (behind base xs)) (behind base xs)) → Does (λ k events. AllStand settings k events) (end_group g) base (t, owed) xs (t, owed) xs
   evicts_none none = does_knowing (λ k. by_start (start_of g (behind base xs)) refl (none k.0))
     where
-      by_start : (o : Option ℕ) → start_of g (behind base xs) ≡ o → HasEnded (start_of g (behind base xs)) (behind base xs) → Does (λ k events. AllStand settings k events) (end_group g) base (t, nothing_owed) xs (t, nothing_owed) xs
+      by_start : (o : Option ℕ) → start_of g (behind base xs) ≡ o → HasEnded (start_of g (behind base xs)) (behind base xs) → Does (λ k events. AllStand settings k events) (end_group g) base (t, owed) xs (t, owed) xs
       by_start None is ended = does_look (λ _. ap (λ o. on o nothing (λ s. end_start s (life_of s (behind base xs)).stage)) is) does_nothing
       by_start (Some s) is ended = does_look (λ _. ap (λ o. on o nothing (λ n. end_start n (life_of n (behind base xs)).stage)) is ∙ ap (end_start s) (ended s is)) does_nothing
 
-  pub evicts_some : (s : ℕ) → (Stands settings t (behind base xs) → start_of g (behind base xs) ≡ Some s) → Does (λ k events. AllStand settings k events) (look (λ events. end_start s (life_of s events).stage)) base (t, nothing_owed) xs (u, nothing_owed) ys
-      → Does (λ k events. AllStand settings k events) (end_group g) base (t, nothing_owed) xs (u, nothing_owed) ys
+  pub evicts_some : (s : ℕ) → (Stands settings t (behind base xs) → start_of g (behind base xs) ≡ Some s) → Does (λ k events. AllStand settings k events) (look (λ events. end_start s (life_of s events).stage)) base (t, owed) xs (u, owed) ys
+      → Does (λ k events. AllStand settings k events) (end_group g) base (t, owed) xs (u, owed) ys
   evicts_some s some d = record {
     done = λ k.
         let one = d.done k in
@@ -153,3 +153,10 @@ numbered_heard before e body = numbered_quiet before (heard (FromEditor e body))
 
 pub numbered_ticked : (before : List Event) (t : ℕ) → Numbered before → Numbered (with_cause before (Tick t))
 numbered_ticked before t = numbered_quiet before (heard (Tick t)) (λ s l. refl) (λ s n. refl) (λ s f. refl)
+
+-- nor do bodies to editors, and ends of their links
+pub numbered_told : (before : List Event) (e : ℕ) (body : List ℕ) → Numbered before → Numbered (before ++ said (ToEditor e body) ∷ [])
+numbered_told before e body = numbered_quiet before (said (ToEditor e body)) (λ s l. refl) (λ s n. refl) (λ s f. refl)
+
+pub numbered_closed : (before : List Event) (e : ℕ) → Numbered before → Numbered (before ++ said (CloseEditor e) ∷ [])
+numbered_closed before e = numbered_quiet before (said (CloseEditor e)) (λ s l. refl) (λ s n. refl) (λ s f. refl)

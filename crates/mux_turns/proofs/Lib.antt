@@ -7,6 +7,7 @@ pub mod Called
 pub mod Cancels
 pub mod Departing
 pub mod Evictions
+pub mod Numbering
 pub mod Folders
 pub mod Joining
 pub mod Listed

@@ -4,7 +4,7 @@ ghost use Rattle.event_model.specs.declared.stage.Stage.TheVariants.{Ready};
 ghost use Rattle.event_model.specs.Does.{Does};
 ghost use Rattle.event_model.specs.Event.{Event, behind};
 ghost use Rattle.event_model.specs.Requests.{next_number};
-ghost use Rattle.event_model.specs.Row.{look};
+ghost use Rattle.event_model.specs.Row.{each, look};
 ghost use Rattle.event_model.specs.Settings.{Settings};
 ghost use Rattle.event_model.specs.Stages.{life_of};
 ghost use Rattle.group_facts.specs.Facts.{Numbered};
@@ -14,7 +14,7 @@ ghost use Rattle.group_words.specs.declared.placed.Placed.TheVariants.{Evicts};
 ghost use Rattle.group_words.specs.Rows.{end_group, end_start, placed_row};
 ghost use Rattle.mux_tables.specs.id_rewrite.specs.Tables.{IsInOrder};
 ghost use Rattle.mux_tables.specs.declared.tables.Start.{Start};
-ghost use Rattle.mux_tables.specs.Documents.{AllStand, nothing_owed};
+ghost use Rattle.mux_tables.specs.Documents.{AllStand, Owed, nothing_owed};
 ghost use Rattle.mux_tables.specs.Stands.{number_in};
 ghost use Rattle.mux_turns.specs.Founding.{IsNext};
 
@@ -60,10 +60,10 @@ fn shut_down(tables: &mut Tables, alloc: Global, outs: &mut Outs, g: usize) -> R
     requires ready { (x : Start) → slice_get tables.old.lasts.items g ≡ Some x → x.life.stage ≡ Ready }
     ensures requests { tables.new.requests ≡ tables.old.requests }
     ensures versions { tables.new.versions ≡ tables.old.versions }
-    ensures does { (settings : Settings) (base : List Event) (s : ℕ) → slice_get (map number_in tables.old.lasts.items) g ≡ Some s
+    ensures does { (settings : Settings) (owed : Owed) (base : List Event) (s : ℕ) → slice_get (map number_in tables.old.lasts.items) g ≡ Some s
         → next_number s (behind base outs.old) ≡ (forwarding_of s (behind base outs.old)).next
         → OnOk result (Does (λ k events. AllStand settings k events)
-        (end_start s Ready) base (tables.old, nothing_owed) outs.old (tables.new, nothing_owed) outs.new) }
+        (end_start s Ready) base (tables.old, owed) outs.old (tables.new, owed) outs.new) }
 {
     let n = number_at(tables, g);
     let text = request(alloc, n as u128, "shutdown", None)?;
@@ -76,10 +76,10 @@ fn end_start(tables: &mut Tables, alloc: Global, outs: &mut Outs, g: usize) -> R
     requires { g < length tables.old.lasts.items }
     ensures requests { tables.new.requests ≡ tables.old.requests }
     ensures versions { tables.new.versions ≡ tables.old.versions }
-    ensures does { (settings : Settings) (base : List Event) (s : ℕ) → slice_get (map number_in tables.old.lasts.items) g ≡ Some s
+    ensures does { (settings : Settings) (owed : Owed) (base : List Event) (s : ℕ) → slice_get (map number_in tables.old.lasts.items) g ≡ Some s
         → Numbered (behind base outs.old)
         → OnOk result (Does (λ k events. AllStand settings k events)
-        (look (λ events. end_start s (life_of s events).stage)) base (tables.old, nothing_owed) outs.old (tables.new, nothing_owed) outs.new) }
+        (look (λ events. end_start s (life_of s events).stage)) base (tables.old, owed) outs.old (tables.new, owed) outs.new) }
 {
     let stage = stage_at(tables, g);
     if stage.is_ready() {
@@ -97,9 +97,9 @@ fn end_start(tables: &mut Tables, alloc: Global, outs: &mut Outs, g: usize) -> R
 pub fn evict(tables: &mut Tables, alloc: Global, outs: &mut Outs, g: u64) -> Result<(), Memory>
     ensures requests { tables.new.requests ≡ tables.old.requests }
     ensures versions { tables.new.versions ≡ tables.old.versions }
-    ensures does { (settings : Settings) (base : List Event) → Numbered (behind base outs.old)
+    ensures does { (settings : Settings) (owed : Owed) (base : List Event) → Numbered (behind base outs.old)
         → OnOk result (Does (λ k events. AllStand settings k events)
-        (end_group g) base (tables.old, nothing_owed) outs.old (tables.new, nothing_owed) outs.new) }
+        (end_group g) base (tables.old, owed) outs.old (tables.new, owed) outs.new) }
 {
     match tables.place_of(g) {
         None => Ok(()),
@@ -108,6 +108,25 @@ pub fn evict(tables: &mut Tables, alloc: Global, outs: &mut Outs, g: u64) -> Res
             Ok(())
         }
     }
+}
+
+/// E6 and X7: these groups end, one after the other.
+pub fn end_groups(
+    tables: &mut Tables,
+    alloc: Global,
+    outs: &mut Outs,
+    groups: &[u64],
+) -> Result<(), Memory>
+    ensures requests { tables.new.requests ≡ tables.old.requests }
+    ensures versions { tables.new.versions ≡ tables.old.versions }
+    ensures does { (settings : Settings) (owed : Owed) (base : List Event) → Numbered (behind base outs.old)
+        → OnOk result (Does (λ k events. AllStand settings k events)
+        (each end_group groups.now) base (tables.old, owed) outs.old (tables.new, owed) outs.new) }
+{
+    for g in groups {
+        evict(tables, alloc, outs, *g)?;
+    }
+    Ok(())
 }
 
 /// E7: this group ends, and a start is spawned for the new group, which has the next number.

@@ -6,7 +6,7 @@ use Rattle.group_rows.specs.Rows.{asks_lspmux, names_lspmux}
 use Rattle.group_words.specs.Houses.{is_doubled}
 use Rattle.rpc_message.specs.Message.{message_of}
 use Rattle.mux_starts.specs.mux_tables.specs.Documents.{AllStand}
-use Rattle.mux_entries.proofs.EditorBuilt.{first_of, standard_built}
+use Rattle.mux_entries.proofs.EditorBuilt.{standard_built}
 use Rattle.mux_entries.proofs.EditorRows.{asks_doubled, closes, done_alike, read_well}
 use Rattle.mux_entries.proofs.editors.from_doubled.Goals as goal
 
@@ -14,7 +14,7 @@ pub returns-in_ok-take_doubled_own-clause-does : goal.returns-in_ok-take_doubled
 returns-in_ok-take_doubled_own-clause-does c = λ settings before body read first built twice settled st ds.
     let e = c.args.e in
     done_alike (λ k events. AllStand settings k events) (closes settings before e body (read_well c.args.message.now body read) twice)
-    (c.in_ok-take_doubled_own.ensures.does settings before body (sym (c.asks_lspmux.ensures body read) ∙ c.if-asks_lspmux.true) (first_of (is_begun (desk_of e before).phase) (is_doubled before e (message_of body)) twice) first st ds)
+    (c.in_ok-take_doubled_own.ensures.does settings before body (sym (c.asks_lspmux.ensures body read) ∙ c.if-asks_lspmux.true) twice first st ds)
 
 pub returns-in_ok-take_doubled-clause-does : goal.returns-in_ok-take_doubled-clause-does
 returns-in_ok-take_doubled-clause-does c = λ settings before body read first built twice settled st ds.

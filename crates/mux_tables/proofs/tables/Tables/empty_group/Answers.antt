@@ -5,4 +5,4 @@ use Rattle.mux_tables.proofs.Idles.{over_emptied}
 use Rattle.mux_tables.proofs.tables.Tables.empty_group.Goals as goal
 
 pub returns-then-not-lives-clause-groups : goal.returns-then-not-lives-clause-groups
-returns-then-not-lives-clause-groups c = over_emptied c.args.was (stays_in c.args.self.now.editors) c.args.self.now.time c.args.g c.args.self.now.groups (sym c.lives.ensures ∙ c.if-not-lives.true)
+returns-then-not-lives-clause-groups c = over_emptied c.args.was (stays_in c.args.self.now.editors) c.args.self.now.course.time c.args.g c.args.self.now.groups (sym c.lives.ensures ∙ c.if-not-lives.true)

@@ -17,7 +17,7 @@ use Rattle.mux_tables.proofs.tables.Tables.hear_gone.Goals as goal
 pub returns-clause-stands : goal.returns-clause-stands
 returns-clause-stands c = λ settings events why st.
     gone_heard settings c.args.self.now _ events c.args.e why c.leave.new.self c.phase-phase.result c.group-home.result c.is_begun.result c.requires c.phase-phase.ensures.phase c.group-home.ensures c.is_begun.ensures c.leave.ensures
-    c.in_ok-empty.ensures.editors c.in_ok-empty.ensures.time c.in_ok-empty.ensures.lasts (ap (λ v. v.groups) c.in_ok-empty.ensures.origins) (ap (λ v. v.stopping) c.in_ok-empty.ensures.origins) (c.in_ok-forget_editor.ensures.table ∙ ap (λ v. left_each c.args.e (keys_of v.created) v.created) c.in_ok-empty.ensures.origins) (subst (λ (v : Origins). IsStrictlySortedBy nat_cmp (keys_of v.created)) c.in_ok-empty.ensures.origins c.in_ok-forget_editor.ensures.rising) c.in_ok-empty.ensures.requests c.in_ok-empty.ensures.groups st
+    c.in_ok-empty.ensures.editors c.in_ok-empty.ensures.course c.in_ok-empty.ensures.lasts (ap (λ v. v.groups) c.in_ok-empty.ensures.origins) (ap (λ v. v.stopping) c.in_ok-empty.ensures.origins) (c.in_ok-forget_editor.ensures.table ∙ ap (λ v. left_each c.args.e (keys_of v.created) v.created) c.in_ok-empty.ensures.origins) (subst (λ (v : Origins). IsStrictlySortedBy nat_cmp (keys_of v.created)) c.in_ok-empty.ensures.origins c.in_ok-forget_editor.ensures.rising) c.in_ok-empty.ensures.requests c.in_ok-empty.ensures.groups st
 
 pub returns-clause-documents : goal.returns-clause-documents
 returns-clause-documents c = λ settings events why st ds.

@@ -19,5 +19,5 @@ returns-clause-does c = λ settings base s name ps at says.
 
 pub returns-clause-documents : goal.returns-clause-documents
 returns-clause-documents c = λ settings owed base name ps says ds.
-    shut_documents settings owed c.args.self.now _ base c.args.outs.now c.push.new.self c.args.g c.start-start.result c.args.n c.args.self.now.time c.index_mut-last.result.now c.stop.new.self c.args.text name ps c.requires.group c.index_mut-last.ensures.value says c.stop.ensures
+    shut_documents settings owed c.args.self.now _ base c.args.outs.now c.push.new.self c.args.g c.start-start.result c.args.n c.args.self.now.course.time c.index_mut-last.result.now c.stop.new.self c.args.text name ps c.requires.group c.index_mut-last.ensures.value says c.stop.ensures
     refl c.unready.ensures refl c.in_ok-push.ensures.ok ds

@@ -1,0 +1,330 @@
+-- E6: what is open at an editor fails.
+use Rattle.std.proofs.Common.{◌≡◌, ℕ, zero, suc, ◌<◌, Bool, true, false, ◌&&◌, List, [], ◌∷◌, ◌++◌, filter, map, length, get_or, nat_eq, codes, if◌then◌else◌, refl, ap, ap₂, sym, subst, append-nil, ◌∙◌, arith}
+use Rattle.std.specs.List.{AllByRecursion}
+use Rattle.std.specs.Prelude.{Option, None, Some, slice_get}
+use Rattle.std.proofs.lemmas.Bool.{and_parts}
+use Rattle.mux_history.specs.declared.cause.Cause.TheVariants.{FromEditor}
+use Rattle.mux_history.specs.declared.out.Out.{Out}
+use Rattle.mux_history.specs.declared.out.Out.TheVariants.{CloseEditor, ToEditor}
+use Rattle.rpc_message.specs.Message.{Message, id_bytes, message_of}
+use Rattle.rpc_message.specs.ValueTexts.{IsIdText}
+use Rattle.rpc_message.specs.Texts.{error_text, ok_text, request_failed}
+use Rattle.rpc_message.proofs.Ids.{request_id_bytes}
+use Rattle.event_model.specs.declared.phase.Phase.{Phase}
+use Rattle.event_model.specs.declared.phase.Phase.TheVariants.{Waiting}
+use Rattle.event_model.specs.Does.{Alike, Does, Done}
+use Rattle.event_model.specs.Event.{Event, behind, heard, requests, said}
+use Rattle.event_model.specs.Phases.{Desk, desk_behind, desk_of, is_waiting, needs_server, phase_told}
+use Rattle.event_model.proofs.Frames.{one_more}
+use Rattle.group_words.proofs.Frames.{home_more}
+use Rattle.event_model.specs.Row.{Row, choose, each, nothing, on, outs, send}
+use Rattle.event_model.specs.Settings.{Settings}
+use Rattle.event_model.specs.Spawns.{start_behind, start_of}
+use Rattle.event_model.specs.Stages.{is_ready}
+use Rattle.group_words.specs.Houses.{groups_of, home_of, stops}
+use Rattle.group_words.specs.Placing.{all_from, is_live}
+use Rattle.group_words.specs.Rows.{end_group}
+use Rattle.event_model.proofs.Turns.{alike, alike_then, behind_more, does_alike, does_entry, does_false, does_knowing, does_look, does_nothing, does_then, does_true}
+use Rattle.group_rows.specs.Forwarded.{Forwarded, Forwarding, forwarding_behind, forwarding_of, is_of}
+use Rattle.group_rows.specs.Rows.{asks_lspmux}
+use Rattle.group_rows.specs.StopRows.{close_each, lose_request, lose_requests, refuse_initialize, refuse_open, stop_row, there_in}
+use Rattle.mux_tables.specs.declared.tables.Tables.{Tables}
+use Rattle.mux_tables.specs.declared.tables.Start.{Start}
+use Rattle.mux_tables.specs.Documents.{AllStand, DocumentsStand, Owed, nothing_owed}
+use Rattle.mux_tables.specs.Halts.{ids_at}
+use Rattle.mux_tables.specs.Names.{id_in}
+use Rattle.mux_tables.specs.Stands.{IsLost, Rise, Stands, forwarded_of, of_ids}
+use Rattle.mux_tables.proofs.DocumentOwing.{unready_quiet}
+use Rattle.mux_turns.proofs.Evictions.{numbered_closed, numbered_told}
+use Rattle.mux_turns.specs.Welcomes.{AllAsking}
+use Rattle.mux_turns.specs.group_facts.specs.Facts.{AllForwarded, IsForwarded, Numbered, WaitingAsked}
+use Rattle.mux_turns.specs.group_facts.specs.Settled.{IsSeated}
+use Rattle.mux_turns.specs.mux_facts.proofs.Table.{waiting_is}
+use Rattle.mux_turns.specs.mux_facts.proofs.Words.{number_same}
+use Rattle.mux_editors.proofs.Lspmux.{desk_stays, own_placed, own_stays, stop_asks}
+use Rattle.mux_editors.specs.Halting.{AllHoused, Halts, IsNamed, Refusing, Stays, lose_from, refuse_id}
+
+none_some : {A : Type 0} {x : A} → ◌≡◌ {A = Option A} None (Some x) → ⊥
+none_some e = cc
+
+some_same : {A : Type 0} {x y : A} → ◌≡◌ {A = Option A} (Some x) (Some y) → x ≡ y
+some_same e = cc
+
+module _ (settings : Settings) (t : Tables) (base : List Event) (xs : List Out) (e : ℕ) where
+  abbrev now : List Event
+  now = behind base xs
+
+  abbrev Refuses : List Out → Type 0
+  Refuses ys = Does (λ t events. Stands settings t events) (refuse_initialize e) base t xs t ys
+
+  pub unwaiting_none : (Stands settings t now → is_waiting (desk_of e now).phase ≡ false) → Refuses xs
+  unwaiting_none off = does_look (λ st. ap (λ b. choose b (send (ToEditor e (error_text (id_bytes (desk_of e now).initialize) request_failed))) nothing) (off st)) (does_false does_nothing)
+
+  -- its id is kept
+  kept : AllHoused settings now → Stands settings t now → is_waiting (desk_of e now).phase ≡ true → id_in (slice_get t.editors e) ≡ Some (id_bytes (desk_of e now).initialize)
+  kept housed st waits =
+      let at : (desk_of e now).phase ≡ Waiting = waiting_is (desk_of e now).phase waits in
+      let home = housed e at in
+      (st.house.editors.names e).own home.0 at home.1
+
+  pub refuses_none : AllHoused settings now → id_in (slice_get t.editors e) ≡ None → (Stands settings t now → is_waiting (desk_of e now).phase ≡ true) → Refuses xs
+  refuses_none housed none waits = does_knowing (λ st. absurd (none_some (sym none ∙ kept housed st (waits st))))
+
+module _ (settings : Settings) (t : Tables) (base : List Event) (xs ys : List Out) (e : ℕ) (asking : AllAsking (behind base xs)) (housed : AllHoused settings (behind base xs)) (id : List ℕ) (is : id_in (slice_get t.editors e) ≡ Some id) where
+  pub refuses_waiting : (Stands settings t (behind base xs) → is_waiting (desk_of e (behind base xs)).phase ≡ true) → (IsNamed id → Does (λ t events. Stands settings t events) (refuse_id e id) base t xs t ys)
+      → Does (λ t events. Stands settings t events) (refuse_initialize e) base t xs t ys
+  refuses_waiting waits d = does_knowing (λ st.
+      let desk = desk_of e (behind base xs) in
+      let at : desk.phase ≡ Waiting = waiting_is desk.phase (waits st) in
+      let same : id ≡ id_bytes desk.initialize = some_same (sym is ∙ kept settings t base xs e housed st (waits st)) in
+      let asks = asking e at in
+      let named : IsNamed id = (asks.name, subst (λ w. IsIdText asks.name w) (sym same) (request_id_bytes desk.initialize asks.name asks.method asks.params asks.says)) in
+      does_look (λ _. ap (λ b. choose b (send (ToEditor e (error_text (id_bytes desk.initialize) request_failed))) nothing) (waits st))
+      (does_true (subst (λ w. Does (λ t events. Stands settings t events) (send (ToEditor e (error_text w request_failed))) base t xs t ys) same (d named))))
+
+-- the tables stand, whatever is owed
+module _ (settings : Settings) (t u : Tables) (base : List Event) (xs ys : List Out) {row : Row} where
+  pub halts_does : Does (λ t events. Stands settings t events) row base t xs u ys → ((owed : Owed) → DocumentsStand settings owed t (behind base xs) → DocumentsStand settings owed u (behind base ys))
+      → Does (λ t events. Halts settings t events) row base t xs u ys
+  halts_does d go = record { done = λ k. let one = d.done k.0 in record { outs = one.outs; stands = (one.stands, (k.1.0, go k.1.0 k.1.1)) } }
+
+  pub halts_closed : Does (λ t events. Stands settings t events) row base t xs u ys → ((owed : Owed) → Stands settings t (behind base xs) → DocumentsStand settings owed t (behind base xs) → (later : Owed) × DocumentsStand settings later u (behind base ys))
+      → Does (λ t events. Halts settings t events) row base t xs u ys
+  halts_closed d go = record { done = λ k. let one = d.done k.0 in record { outs = one.outs; stands = (one.stands, go k.1.0 k.0 k.1.1) } }
+
+  pub halts_each : ((owed : Owed) → Does (λ k events. AllStand settings k events) row base (t, owed) xs (u, owed) ys) → Does (λ t events. Halts settings t events) row base t xs u ys
+  halts_each f = record { done = λ k. let d = f k.1.0 in let one = d.done (k.0, k.1.1) in record { outs = one.outs; stands = (one.stands.0, (k.1.0, one.stands.1)) } }
+
+-- what a start has to answer
+pub named_at : (ids : List (List ℕ)) (i : ℕ) (d : List ℕ) → i < length ids → AllByRecursion IsNamed ids → IsNamed (get_or ids i d)
+named_at [] i d l h = absurd (omega arith)
+named_at (x ∷ xs) zero d l h = h.0
+named_at (x ∷ xs) (suc i) d l h = named_at xs i d (omega arith) h.1
+
+pub loses_all : (settings : Settings) (t : Tables) (base : List Event) (xs ys : List Out) (e s : ℕ) (ids : List (List ℕ)) → AllByRecursion IsNamed (ids_at e (forwarding_of s (behind base xs)).open_requests)
+    → (Stands settings t (behind base xs) → ids ≡ ids_at e (forwarding_of s (behind base xs)).open_requests) → (AllByRecursion IsNamed ids → Does (λ t events. Stands settings t events) (each (refuse_id e) ids) base t xs t ys)
+    → Does (λ t events. Stands settings t events) (each (refuse_id e) (ids_at e (forwarding_of s (behind base xs)).open_requests)) base t xs t ys
+loses_all settings t base xs ys e s ids named is d = does_knowing (λ st.
+    subst (λ ws. Does (λ t events. Stands settings t events) (each (refuse_id e) ws) base t xs t ys) (is st) (d (subst (AllByRecursion IsNamed) (sym (is st)) named)))
+
+-- each is an editor's own
+own_rows : (e : ℕ) (fs : List Forwarded) → Alike (each lose_request (filter (is_of e) fs)) (each (refuse_id e) (ids_at e fs))
+own_rows e [] = alike refl
+own_rows e (f ∷ fs) = go (nat_eq f.editor e) refl
+  where
+    go : (b : Bool) → nat_eq f.editor e ≡ b → Alike (each lose_request (if b then f ∷ filter (is_of e) fs else filter (is_of e) fs)) (each (refuse_id e) (map (λ (f : Forwarded). f.id) (if b then f ∷ filter (is_of e) fs else filter (is_of e) fs)))
+    go true mine = record {
+      sends = λ events.
+          let own : f.editor ≡ e = number_same f.editor e mine in
+          ap₂ (λ x ws. x ∷ ws) (ap (λ n. ToEditor n (error_text f.id request_failed)) own)
+          (ap (λ n. outs (each lose_request (filter (is_of e) fs)) (events ++ said (ToEditor n (error_text f.id request_failed)) ∷ [])) own ∙ (own_rows e fs).sends (events ++ said (ToEditor e (error_text f.id request_failed)) ∷ []));
+    }
+    go false off = own_rows e fs
+
+named_all : (events : List Event) (e : ℕ) (fs : List Forwarded) → AllByRecursion (IsForwarded events) fs → AllByRecursion IsNamed (ids_at e fs)
+named_all events e [] h = tt
+named_all events e (f ∷ fs) h = go (nat_eq f.editor e)
+  where
+    go : (b : Bool) → AllByRecursion IsNamed (map (λ (f : Forwarded). f.id) (if b then f ∷ filter (is_of e) fs else filter (is_of e) fs))
+    go true = (((h.0).id, (h.0).text), named_all events e fs h.1)
+    go false = named_all events e fs h.1
+
+-- the start of its group
+module _ (settings : Settings) (t : Tables) (before base : List Event) (xs : List Out) (home e : ℕ) (stays : Stays settings before (behind base xs)) where
+  abbrev Loses : List Out → Type 0
+  Loses ys = Does (λ t events. Stands settings t events) (lose_from before e (start_of home before)) base t xs t ys
+
+  pub loses_lost : (Rise 0 t.lasts.items → IsLost home t.lasts.items) → Loses xs
+  loses_lost lost = does_knowing (λ st. by_start (start_of home before) refl st)
+    where
+      by_start : (o : Option ℕ) → start_of home before ≡ o → Stands settings t (behind base xs) → Does (λ t events. Stands settings t events) (lose_from before e o) base t xs t xs
+      by_start None is st = does_alike (λ _. alike refl) does_nothing
+      by_start (Some s) is st =
+          let gone = st.lasts.lost home s (lost st.lasts.rise) (stays.start home ∙ is) in
+          let ids = (gone.stands).parts of_ids in
+          let none : (forwarding_of s before).open_requests ≡ [] = sym (stays.open_requests s) ∙ (ap (λ n. (forwarding_of n (behind base xs)).open_requests) (sym gone.number) ∙ (ids.open_requests ∙ ap (map forwarded_of) gone.answered)) in
+          does_alike (λ _. alike (ap (λ fs. each lose_request (filter (is_of e) fs)) none)) does_nothing
+
+module _ (settings : Settings) (t : Tables) (before base : List Event) (xs ys : List Out) (home e s : ℕ) (stays : Stays settings before (behind base xs)) (forwarded : AllForwarded before) where
+  pub loses_some : (Stands settings t (behind base xs) → start_of home (behind base xs) ≡ Some s)
+      → (AllByRecursion IsNamed (ids_at e (forwarding_of s (behind base xs)).open_requests) → Does (λ t events. Stands settings t events) (each (refuse_id e) (ids_at e (forwarding_of s (behind base xs)).open_requests)) base t xs t ys)
+      → Does (λ t events. Stands settings t events) (lose_from before e (start_of home before)) base t xs t ys
+  loses_some at d = does_alike (λ st. alike_then (alike (ap (lose_from before e) (sym (stays.start home) ∙ at st)))
+      (alike_then (own_rows e (forwarding_of s before).open_requests) (alike (ap (λ fs. each (refuse_id e) (ids_at e fs)) (sym (stays.open_requests s))))))
+      (d (subst (λ fs. AllByRecursion IsNamed (ids_at e fs)) (sym (stays.open_requests s)) (named_all before e (forwarding_of s before).open_requests (forwarded s))))
+
+module _ (settings : Settings) (t : Tables) (before base : List Event) (xs : List Out) (e : ℕ) where
+  pub loses_homeless : Stays settings before (behind base xs) → (Stands settings t (behind base xs) → home_of settings e (behind base xs) ≡ None) → Does (λ t events. Stands settings t events) (lose_requests settings before e) base t xs t xs
+  loses_homeless stays none = does_alike (λ st. alike (ap (λ o. on o nothing (λ g. lose_from before e (start_of g before))) (sym (stays.home e) ∙ none st))) does_nothing
+
+pub loses_home : (settings : Settings) (t : Tables) (before base : List Event) (xs ys : List Out) (e home : ℕ) → Stays settings before (behind base xs) → (Stands settings t (behind base xs) → home_of settings e (behind base xs) ≡ Some home)
+    → Does (λ t events. Stands settings t events) (lose_from before e (start_of home before)) base t xs t ys → Does (λ t events. Stands settings t events) (lose_requests settings before e) base t xs t ys
+loses_home settings t before base xs ys e home stays at d = does_alike (λ st. alike (ap (λ o. on o nothing (λ g. lose_from before e (start_of g before))) (sym (stays.home e) ∙ at st))) d
+
+-- Bodies to editors
+
+abbrev IsTold : Out → Type 0
+IsTold (ToEditor e body) = Unit {0}
+IsTold other = ⊥
+
+all_join : (xs ys : List Out) → AllByRecursion IsTold xs → AllByRecursion IsTold ys → AllByRecursion IsTold (xs ++ ys)
+all_join [] ys h k = k
+all_join (x ∷ xs) ys h k = (h.0, all_join xs ys h.1 k)
+
+lost_told : (fs : List Forwarded) (events : List Event) → AllByRecursion IsTold (outs (each lose_request fs) events)
+lost_told [] events = tt
+lost_told (f ∷ fs) events = (tt, lost_told fs (events ++ said (ToEditor f.editor (error_text f.id request_failed)) ∷ []))
+
+from_told : (before : List Event) (e : ℕ) (start : Option ℕ) (events : List Event) → AllByRecursion IsTold (outs (lose_from before e start) events)
+from_told before e None events = tt
+from_told before e (Some s) events = lost_told (filter (is_of e) (forwarding_of s before).open_requests) events
+
+lose_told : (settings : Settings) (before : List Event) (e : ℕ) (events : List Event) → AllByRecursion IsTold (outs (lose_requests settings before e) events)
+lose_told settings before e events = go (home_of settings e before)
+  where
+    go : (o : Option ℕ) → AllByRecursion IsTold (outs (on o nothing (λ g. lose_from before e (start_of g before))) events)
+    go None = tt
+    go (Some g) = from_told before e (start_of g before) events
+
+first_told : (e : ℕ) (events : List Event) → AllByRecursion IsTold (outs (refuse_initialize e) events)
+first_told e events = go (is_waiting (desk_of e events).phase)
+  where
+    go : (b : Bool) → AllByRecursion IsTold (outs (choose b (send (ToEditor e (error_text (id_bytes (desk_of e events).initialize) request_failed))) nothing) events)
+    go true = (tt, tt)
+    go false = tt
+
+open_told : (settings : Settings) (before : List Event) (e : ℕ) (events : List Event) → AllByRecursion IsTold (outs (refuse_open settings before e) events)
+open_told settings before e events = all_join (outs (refuse_initialize e) events) _ (first_told e events) (lose_told settings before e (behind events (outs (refuse_initialize e) events)))
+
+told_waits : (p : Phase) (i : List ℕ) (m : Message) → phase_told p i m ≡ Waiting → p ≡ Waiting
+told_waits Waiting i m h = refl
+told_waits other i m h = h
+
+module _ (settings : Settings) (before now : List Event) (k : ℕ) (body : List ℕ) (r : Refusing settings before now) where
+  abbrev ev : Event
+  ev = said (ToEditor k body)
+
+  told_desk : (e : ℕ) → (desk_of e (now ++ ev ∷ [])).phase ≡ Waiting → ((desk_of e now).phase ≡ Waiting) × ((desk_of e (now ++ ev ∷ [])).initialize ≡ (desk_of e now).initialize)
+  told_desk e at = go (nat_eq k e) (sym (ap (λ (d : Desk). d.phase) (one_more (desk_behind e) _ _ now ev refl)) ∙ at) (one_more (desk_behind e) _ _ now ev refl)
+    where
+      go : (b : Bool) → (if b then record { phase = phase_told (desk_of e now).phase (desk_of e now).initialize (message_of body); initialize = (desk_of e now).initialize } else desk_of e now).phase ≡ Waiting
+          → desk_of e (now ++ ev ∷ []) ≡ (if b then record { phase = phase_told (desk_of e now).phase (desk_of e now).initialize (message_of body); initialize = (desk_of e now).initialize } else desk_of e now)
+          → ((desk_of e now).phase ≡ Waiting) × ((desk_of e (now ++ ev ∷ [])).initialize ≡ (desk_of e now).initialize)
+      go true h is = (told_waits (desk_of e now).phase (desk_of e now).initialize (message_of body) h, ap (λ (d : Desk). d.initialize) is)
+      go false h is = (h, ap (λ (d : Desk). d.initialize) is)
+
+  told_refusing : Refusing settings before (now ++ ev ∷ [])
+  told_refusing = record {
+    stays = record {
+      home = λ e. home_more settings e now ev ∙ r.stays.home e;
+      start = λ g. one_more (start_behind g) _ _ now ev refl ∙ r.stays.start g;
+      open_requests = λ s. ap (λ (f : Forwarding). f.open_requests) (one_more (forwarding_behind s) _ _ now ev refl) ∙ r.stays.open_requests s;
+    };
+    asking = λ e at. let d = told_desk e at in let asks = r.asking e d.0 in record { name = asks.name; method = asks.method; params = asks.params; says = ap message_of d.1 ∙ asks.says };
+    housed = λ e at. let home = r.housed e (told_desk e at).0 in (home.0, home_more settings e now ev ∙ home.1);
+  }
+
+still_refusing : (settings : Settings) (before now : List Event) (xs : List Out) → AllByRecursion IsTold xs → Refusing settings before now → Refusing settings before (behind now xs)
+still_refusing settings before now [] h r = subst (Refusing settings before) (sym (append-nil now)) r
+still_refusing settings before now (ToEditor k body ∷ xs) h r = subst (Refusing settings before) (sym (behind_more now (ToEditor k body ∷ []) xs)) (still_refusing settings before (now ++ said (ToEditor k body) ∷ []) xs h.1 (told_refusing settings before now k body r))
+still_refusing settings before now (other ∷ xs) h r = absurd h.0
+
+pub refusing_on : (settings : Settings) (t : Tables) (before base : List Event) (xs ys : List Out) {row : Row} → ((events : List Event) → AllByRecursion IsTold (outs row events)) → Does (λ t events. Stands settings t events) row base t xs t ys → Stands settings t (behind base xs)
+    → Refusing settings before (behind base xs) → Refusing settings before (behind base ys)
+refusing_on settings t before base xs ys {row} told d st r = subst (Refusing settings before) (sym (ap (behind base) (d.done st).outs ∙ behind_more base xs (outs row (behind base xs)))) (still_refusing settings before (behind base xs) (outs row (behind base xs)) (told (behind base xs)) r)
+
+pub opens_refused : (settings : Settings) (t : Tables) (before base : List Event) (xs ys zs : List Out) (e : ℕ) → Refusing settings before (behind base xs) → Does (λ t events. Stands settings t events) (refuse_initialize e) base t xs t ys
+    → (Refusing settings before (behind base ys) → Does (λ t events. Stands settings t events) (lose_requests settings before e) base t ys t zs) → Does (λ t events. Stands settings t events) (refuse_open settings before e) base t xs t zs
+opens_refused settings t before base xs ys zs e r one two = does_knowing (λ st. does_then one (two (refusing_on settings t before base xs ys (first_told e) one st r)))
+
+pub refusing_next : (settings : Settings) (t : Tables) (before base : List Event) (xs ys : List Out) (e : ℕ) → Refusing settings before (behind base xs) → Stands settings t (behind base xs) → Does (λ t events. Stands settings t events) (refuse_open settings before e) base t xs t ys → Refusing settings before (behind base ys)
+refusing_next settings t before base xs ys e r st d = refusing_on settings t before base xs ys (open_told settings before e) d st r
+
+-- the whole entry, where no start is ready behind it
+pub stops_done : (settings : Settings) (before base : List Event) (e : ℕ) (body : List ℕ) (t u v : Tables) (xs told refused closed ys : List Out) (there live : List ℕ) → xs ≡ [] → Stands settings t base → DocumentsStand settings nothing_owed t base
+    → there ≡ there_in before → live ≡ all_from 0 is_live (groups_of settings before)
+    → Does (λ t events. Halts settings t events) (send (ToEditor e (ok_text (id_bytes body) (codes "null")))) base t xs t told
+    → Does (λ t events. Halts settings t events) (each (refuse_open settings before) there) base t told t refused
+    → Does (λ t events. Halts settings t events) (close_each there) base t refused u closed
+    → Does (λ t events. Halts settings t events) (each end_group live) base u closed v ys
+    → (Stands settings v (behind base ys) → (g : ℕ) (x : Start) → slice_get v.lasts.items g ≡ Some x → is_ready x.life.stage ≡ false)
+    → Done (λ k events. AllStand settings k events) (stop_row settings before e body) base [] (v, nothing_owed) ys
+stops_done settings before base e body t u v xs told refused closed ys there live first st ds those alive tells refuses closes ends none =
+    let one = subst (λ ws. Does (λ t events. Halts settings t events) (send (ToEditor e (ok_text (id_bytes body) (codes "null")))) base t ws t told) first tells in
+    let two = subst (λ es. Does (λ t events. Halts settings t events) (each (refuse_open settings before) es) base t told t refused) those refuses in
+    let three = subst (λ es. Does (λ t events. Halts settings t events) (close_each es) base t refused u closed) those closes in
+    let four = subst (λ gs. Does (λ t events. Halts settings t events) (each end_group gs) base u closed v ys) alive ends in
+    let done = does_entry {Stands = λ t events. Halts settings t events} {row = stop_row settings before e body} (st, (nothing_owed, ds)) (does_then one (does_then two (does_then three four))) in
+    record { outs = done.outs; stands = (done.stands.0, unready_quiet settings done.stands.1.0 v (behind base ys) (none done.stands.0) done.stands.1.1) }
+
+-- Behind the message that stops all, before anything is said
+
+and_off : (a : Bool) → (a && false) ≡ false
+and_off true = refl
+and_off false = refl
+
+module _ (settings : Settings) (before : List Event) (k : ℕ) (body : List ℕ) (stop : stops before k (message_of body) ≡ true) where
+  abbrev stopping : Event
+  stopping = heard (FromEditor k body)
+
+  own : asks_lspmux (message_of body) ≡ true
+  own = stop_asks (message_of body) (and_parts (requests (codes "lspmux/stop") (message_of body)) _ stop).0
+
+  heard_desk : (e : ℕ) → (desk_of e (before ++ stopping ∷ [])).phase ≡ Waiting → ((desk_of e before).phase ≡ Waiting) × ((desk_of e (before ++ stopping ∷ [])).initialize ≡ (desk_of e before).initialize)
+  heard_desk e at = go (nat_eq k e) refl
+    where
+      go : (b : Bool) → nat_eq k e ≡ b → ((desk_of e before).phase ≡ Waiting) × ((desk_of e (before ++ stopping ∷ [])).initialize ≡ (desk_of e before).initialize)
+      go true same =
+          let is : k ≡ e = number_same k e same in
+          let was : (desk_of k before).phase ≡ Waiting = sym (own_stays before k body own) ∙ subst (λ n. (desk_of n (before ++ stopping ∷ [])).phase ≡ Waiting) (sym is) at in
+          subst (λ n. ((desk_of n before).phase ≡ Waiting) × ((desk_of n (before ++ stopping ∷ [])).initialize ≡ (desk_of n before).initialize)) is (was, desk_stays before k body own was)
+      go false off =
+          let apart : desk_of e (before ++ stopping ∷ []) ≡ desk_of e before = one_more (desk_behind e) _ _ before stopping refl ∙ rw off refl in
+          (ap (λ (d : Desk). d.phase) (sym apart) ∙ at, ap (λ (d : Desk). d.initialize) apart)
+
+  pub refusing_heard : WaitingAsked before → ((e : ℕ) → needs_server (desk_of e before).phase ≡ true → IsSeated settings before e) → Refusing settings before (before ++ stopping ∷ [])
+  refusing_heard waiting seated = record {
+    stays = record {
+      home = still_home;
+      start = λ g. one_more (start_behind g) _ _ before stopping refl;
+      open_requests = λ s. ap (λ (f : Forwarding). f.open_requests) (one_more (forwarding_behind s) _ _ before stopping refl);
+    };
+    asking = λ e at.
+        let was = heard_desk e at in
+        let asks = waiting e was.0 in
+        record { name = asks.0; method = codes "initialize"; params = (asks.1).params; says = ap message_of was.1 ∙ (asks.1).asks };
+    housed = λ e at. let seat = seated e (ap needs_server (heard_desk e at).0) in (seat.group, still_home e ∙ seat.home);
+  }
+    where
+      still_home : (e : ℕ) → home_of settings e (before ++ stopping ∷ []) ≡ home_of settings e before
+      still_home e = home_more settings e before stopping ∙ rw (own_placed before k body own, and_off (nat_eq k e)) refl
+
+-- Bodies to editors and ends of their links leave the numbers of starts alone
+
+abbrev IsAside : Out → Type 0
+IsAside (ToEditor e body) = Unit {0}
+IsAside (CloseEditor e) = Unit {0}
+IsAside other = ⊥
+
+pub numbered_asides : (xs : List Out) (events : List Event) → AllByRecursion IsAside xs → Numbered events → Numbered (behind events xs)
+numbered_asides [] events h k = subst Numbered (sym (append-nil events)) k
+numbered_asides (ToEditor e body ∷ xs) events h k = subst Numbered (sym (behind_more events (ToEditor e body ∷ []) xs)) (numbered_asides xs (events ++ said (ToEditor e body) ∷ []) h.1 (numbered_told events e body k))
+numbered_asides (CloseEditor e ∷ xs) events h k = subst Numbered (sym (behind_more events (CloseEditor e ∷ []) xs)) (numbered_asides xs (events ++ said (CloseEditor e) ∷ []) h.1 (numbered_closed events e k))
+numbered_asides (other ∷ xs) events h k = absurd h.0
+
+pub closes_aside : (es : List ℕ) (events : List Event) → AllByRecursion IsAside (outs (close_each es) events)
+closes_aside [] events = tt
+closes_aside (e ∷ es) events = (tt, closes_aside es (events ++ said (CloseEditor e) ∷ []))
+
+told_aside : (xs : List Out) → AllByRecursion IsTold xs → AllByRecursion IsAside xs
+told_aside [] h = tt
+told_aside (ToEditor e body ∷ xs) h = (tt, told_aside xs h.1)
+told_aside (other ∷ xs) h = absurd h.0
+
+aside_join : (xs ys : List Out) → AllByRecursion IsAside xs → AllByRecursion IsAside ys → AllByRecursion IsAside (xs ++ ys)
+aside_join [] ys h k = k
+aside_join (x ∷ xs) ys h k = (h.0, aside_join xs ys h.1 k)
+
+pub refuses_aside : (settings : Settings) (before : List Event) (es : List ℕ) (events : List Event) → AllByRecursion IsAside (outs (each (refuse_open settings before) es) events)
+refuses_aside settings before [] events = tt
+refuses_aside settings before (e ∷ es) events = aside_join (outs (refuse_open settings before e) events) _ (told_aside _ (open_told settings before e events)) (refuses_aside settings before es (behind events (outs (refuse_open settings before e) events)))
