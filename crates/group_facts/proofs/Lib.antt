@@ -74,3 +74,4 @@ pub mod StopRow
 pub mod StopEnds
 pub mod StopWhy
 pub mod StopEntry
+pub mod StopDown
