@@ -1,5 +1,5 @@
 -- The last start of a group that lives no more isn't up, and behind a stop no group lives: behind every legal history.
-use Rattle.std.proofs.Common.{◌≡◌, ℕ, max, ◌+◌, ◌<◌, Bool, true, false, ◌&&◌, List, [], ◌∷◌, ◌++◌, map, nat_eq, codes, if◌then◌else◌, Option, None, Some, refl, sym, ◌∙◌, ap, ap₂, subst, append-nil, append_assoc, arith}
+use Rattle.std.proofs.Common.{◌≡◌, ℕ, max, ◌+◌, ◌<◌, ◌≤◌, ◌^◌, Bool, true, false, ◌&&◌, List, [], ◌∷◌, ◌++◌, map, nat_eq, codes, if◌then◌else◌, Option, None, Some, refl, sym, ◌∙◌, ap, ap₂, subst, append-nil, append_assoc, arith}
 use Rattle.std.specs.List.{AllByRecursion}
 use Rattle.std.proofs.lemmas.Bool.{and_parts}
 use Rattle.mux_history.specs.declared.cause.Cause.{Cause}
@@ -16,10 +16,11 @@ use Rattle.event_model.specs.Requests.{next_number}
 use Rattle.event_model.specs.Row.{each, outs, send}
 use Rattle.event_model.specs.Settings.{Settings}
 use Rattle.event_model.specs.Spawns.{group_of, start_of, starts_of}
-use Rattle.event_model.specs.Stages.{Life, life_of}
+use Rattle.event_model.specs.Stages.{Life, is_ready, life_of}
 use Rattle.event_model.proofs.Frames.{never}
 use Rattle.mux_facts.proofs.Folds.{life_more, number_more, starts_more}
 use Rattle.mux_facts.proofs.Keeps.{behind_both}
+use Rattle.mux_facts.proofs.Starts.{Starts}
 use Rattle.mux_facts.proofs.Words.{number_same, same_number}
 use Rattle.group_words.specs.declared.kept.Kept.{Kept}
 use Rattle.group_words.specs.declared.placed.Placed.{Placed}
@@ -33,13 +34,14 @@ use Rattle.group_rows.specs.Rows.{close_all, members_in, outs_of, refusal, waiti
 use Rattle.group_rows.specs.StopRows.{stopped, stopped_next}
 use Rattle.group_rows.specs.Ticks.{due_of, overdue_of}
 use Rattle.group_facts.specs.Built.{built_behind}
-use Rattle.group_facts.specs.Facts.{Quit, is_refusing, is_up}
+use Rattle.group_facts.specs.Facts.{Housed, IsHoused, Quit, is_refusing, is_up}
 use Rattle.group_facts.specs.Lively.{Lively, lives_at}
+use Rattle.group_facts.specs.Settled.{IsServing}
 use Rattle.group_facts.proofs.Begun.{Begun, NoSpawn, founding_of, placed_outs, start_took}
 use Rattle.group_facts.proofs.Ceased.{IsOff, Low, Spawned, group_off, group_quiet, groups_off, is_spawned, off_ended, off_outs, off_spawn, off_took}
 use Rattle.group_facts.proofs.Exits.{exit_over, failed_groups, gone_groups}
 use Rattle.group_facts.proofs.LiveGroups.{IsFair, all_at, changed_lives, emptied_lives, lives_apart, lives_changed, lives_ended, lives_left, placed_fair}
-use Rattle.group_facts.proofs.OneStart.{N, OneStart, apart, by_founding, group_last, kept_below, start_last, start_quiet}
+use Rattle.group_facts.proofs.OneStart.{N, OneStart, by_founding, group_last, kept_below, start_last, start_quiet}
 use Rattle.group_facts.proofs.PutOut.{refused_outs}
 use Rattle.group_facts.proofs.StopDown.{stop_off}
 use Rattle.group_facts.proofs.StopEntry.{stop_outs, stopped_outs}
@@ -270,6 +272,26 @@ down_rests settings before low spawned lively one down cause begun built later g
 
 pub down_none : (settings : Settings) → Down settings []
 down_none settings g s over at = absurd (cc)
+
+-- so a start that is ready is the last one of a group that lives
+pub serving : (settings : Settings) (events : List Event) → Starts events → Housed settings events → OneStart events → Down settings events → (s : ℕ) → (life_of s events).stage ≡ Ready → IsServing settings events s
+serving settings events starts housed one down s ready = record { group = home.group; home = home.is; last = last; live = live (lives_at home.group (groups_of settings events)) refl }
+  where
+    spawned : starts_of events ≤ s → ⊥
+    spawned le = never (sym (ap is_ready ready) ∙ ap (λ (l : Life). is_ready l.stage) (starts s le))
+
+    below : (starts_of events ≤ s → ⊥) → s < starts_of events
+    below f = omega (arith, f)
+
+    home : IsHoused settings s events
+    home = housed s (below spawned)
+
+    last : start_of home.group events ≡ Some s
+    last = one s home.group home.is
+
+    live : (b : Bool) → lives_at home.group (groups_of settings events) ≡ b → b ≡ true
+    live true is = refl
+    live false over = never (sym (ap is_up ready) ∙ down home.group s over last)
 
 -- Behind a stop
 

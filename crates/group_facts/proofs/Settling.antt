@@ -28,7 +28,7 @@ use Rattle.group_facts.proofs.AskLeft.{no_seats, seats_rest}
 use Rattle.group_facts.proofs.OneStart.{OneStart, one_none, one_rests}
 use Rattle.group_facts.proofs.Begun.{Begun, begun_rests}
 use Rattle.group_facts.proofs.Ceased.{Spawned, spawned_behind, spawned_none, spawned_took}
-use Rattle.group_facts.proofs.Downs.{Down, Over, down_none, down_rests, over_none, over_rests}
+use Rattle.group_facts.proofs.Downs.{Down, Over, down_none, down_rests, over_none, over_rests, serving}
 use Rattle.group_facts.proofs.Facts.{Facts}
 use Rattle.group_facts.proofs.Keeping.{Keeps, all_did, all_took}
 use Rattle.group_facts.proofs.Known.{entry_keeps, no_facts}
@@ -135,7 +135,7 @@ module _ (settings : Settings) (range : InRange settings) where
     spelt = h.spelt;
     begun = h.begun;
     lively = h.lively;
-    own = λ s g up home. h.one s g home;
+    serving = serving settings events ((h.facts).steady).starts ((h.facts).steady).housed h.one h.down;
     down = h.down;
     over = h.over;
     unasked = λ e at. subst (λ p. OpenIf (S settings e Nobody events) p (desk_of e events).initialize (open_of e events)) at (h.opens e);

@@ -12,8 +12,8 @@ use Rattle.event_model.specs.Event.{Event, behind, heard, requests, said, with_c
 use Rattle.event_model.specs.Requests.{next_number}
 use Rattle.event_model.specs.Row.{each, outs}
 use Rattle.event_model.specs.Settings.{Settings}
-use Rattle.event_model.specs.Spawns.{group_of, start_of, starts_of}
-use Rattle.event_model.specs.Stages.{Life, is_ready, life_of, stage_ending, stage_told}
+use Rattle.event_model.specs.Spawns.{start_of}
+use Rattle.event_model.specs.Stages.{Life, life_of, stage_ending, stage_told}
 use Rattle.event_model.proofs.Frames.{never}
 use Rattle.mux_facts.specs.Ranges.{InRange}
 use Rattle.mux_facts.proofs.Folds.{life_more, number_more}
@@ -24,9 +24,9 @@ use Rattle.group_words.specs.Placing.{all_from, is_live}
 use Rattle.group_words.specs.Rows.{end_group}
 use Rattle.group_rows.specs.Forwarded.{forwarding_of}
 use Rattle.group_rows.specs.StopRows.{close_each, refuse_open, stop_row, stopped, there_in}
-use Rattle.group_facts.specs.Facts.{Bounded, IsHoused, Known, is_up}
+use Rattle.group_facts.specs.Facts.{Bounded, Known, is_up}
 use Rattle.group_facts.specs.Lively.{lives_at}
-use Rattle.group_facts.specs.Settled.{Settled}
+use Rattle.group_facts.specs.Settled.{IsServing, Settled}
 use Rattle.group_facts.proofs.Begun.{NoSpawn, start_did, start_took}
 use Rattle.group_facts.proofs.Ceased.{IsOff, Low, groups_off, groups_quiet, is_spawned, ready_spawned}
 use Rattle.group_facts.proofs.LiveGroups.{all_at}
@@ -49,42 +49,16 @@ low_of settings range events known = bounded_low settings range events known.bou
 
 -- What is ready
 
--- a start that is ready is the last one of a group that lives
-pub record IsServing (settings : Settings) (events : List Event) (s : ℕ) : Type 0 where
-  pub group : ℕ
-  pub home : group_of s events ≡ Some group
-  pub last : start_of group events ≡ Some s
-  pub live : lives_at group (groups_of settings events) ≡ true
+-- behind a stop no start is
+pub none_ready : (settings : Settings) (events : List Event) → Settled settings events → stopped events ≡ true → (s : ℕ) → (life_of s events).stage ≡ Ready → ⊥
+none_ready settings events settled over s ready = let k : IsServing settings events s = settled.serving s ready in never (sym k.live ∙ settled.over over k.group)
 
-pub serves : (settings : Settings) (events : List Event) → Known settings events → Settled settings events → (s : ℕ) → (life_of s events).stage ≡ Ready → IsServing settings events s
-serves settings events known settled s ready = record { group = home.group; home = home.is; last = last; live = live (lives_at home.group (groups_of settings events)) refl }
-  where
-    spawned : starts_of events ≤ s → ⊥
-    spawned le = never (sym (ap is_ready ready) ∙ ap (λ (l : Life). is_ready l.stage) (known.starts s le))
-
-    below : (starts_of events ≤ s → ⊥) → s < starts_of events
-    below f = omega (arith, f)
-
-    home : IsHoused settings s events
-    home = known.housed s (below spawned)
-
-    last : start_of home.group events ≡ Some s
-    last = settled.own s home.group (ap is_up ready) home.is
-
-    live : (b : Bool) → lives_at home.group (groups_of settings events) ≡ b → b ≡ true
-    live true is = refl
-    live false over = never (sym (ap is_up ready) ∙ settled.down home.group s over last)
-
--- so behind a stop none is
-pub none_ready : (settings : Settings) (events : List Event) → Known settings events → Settled settings events → stopped events ≡ true → (s : ℕ) → (life_of s events).stage ≡ Ready → ⊥
-none_ready settings events known settled over s ready = let k : IsServing settings events s = serves settings events known settled s ready in never (sym k.live ∙ settled.over over k.group)
-
--- and while one is nothing was stopped
-pub ready_unstopped : (settings : Settings) (events : List Event) → Known settings events → Settled settings events → (s : ℕ) → (life_of s events).stage ≡ Ready → stopped events ≡ false
-ready_unstopped settings events known settled s ready = go (stopped events) refl
+-- so while one is nothing was stopped
+pub ready_unstopped : (settings : Settings) (events : List Event) → Settled settings events → (s : ℕ) → (life_of s events).stage ≡ Ready → stopped events ≡ false
+ready_unstopped settings events settled s ready = go (stopped events) refl
   where
     go : (b : Bool) → stopped events ≡ b → b ≡ false
-    go true over = absurd (none_ready settings events known settled over s ready)
+    go true over = absurd (none_ready settings events settled over s ready)
     go false on = refl
 
 -- No out makes a start ready
@@ -196,5 +170,5 @@ module _ (settings : Settings) (before : List Event) (e : ℕ) (body : List ℕ)
   pub stop_unready : Known settings before → Settled settings before → Low before → stops before e (message_of body) ≡ true → (s : ℕ) → (life_of s stop_later).stage ≡ Ready → ⊥
   stop_unready known settled low stop s ready =
       let was : (life_of s before).stage ≡ Ready = sym (stood_closed.stage s) ∙ ready_outs s closed ends (groups_quiet living closed) (subst (λ z. (life_of s z).stage ≡ Ready) parts ready) in
-      let k : IsServing settings before s = serves settings before known settled s was in
+      let k : IsServing settings before s = settled.serving s was in
       never (sym (ap is_up ready) ∙ stop_off low k.group s k.live k.last (ready_spawned (life_of s before).stage was))

@@ -74,15 +74,22 @@ HasSeat settings events s a = RunsAt settings events s a.editor
 abbrev pub HasTaken : Settings → List Event → ℕ → Taking → Type 0
 HasTaken settings events s c = RunsAt settings events s c.editor
 
--- each group has a start, which is the last one of it while it is up, and isn't up where the group lives no more; an editor's group lives until
--- the editor leaves it, and behind a stop none lives; each open request of an editor that got its result was sent on, an editor that was asked
+-- a start that is ready is the last one of a group that lives
+pub record IsServing (settings : Settings) (events : List Event) (s : ℕ) : Type 0 where
+  pub group : ℕ
+  pub home : group_of s events ≡ Some group
+  pub last : start_of group events ≡ Some s
+  pub live : lives_at group (groups_of settings events) ≡ true
+
+-- each group has a start, and the last one of a group that lives no more isn't up; an editor's group lives until the editor leaves it, and
+-- behind a stop none lives; each open request of an editor that got its result was sent on, an editor that was asked
 -- runs, as long as nothing was stopped, and one that needs a server is in a group that has a start; a start that wasn't spawned created no token,
 -- and an editor that was asked to take one runs, as long as numerals tell starts apart
 pub record Settled (settings : Settings) (events : List Event) : Type 0 where
   pub spelt : AllByRecursion (λ (x : Kept). AreUtf8 x.key.folders) (groups_of settings events)
   pub begun : (g : ℕ) → (start_of g events ≡ None) ↔ (length (groups_of settings events) ≤ g)
   pub lively : Lively settings events
-  pub own : (s g : ℕ) → is_up (life_of s events).stage ≡ true → group_of s events ≡ Some g → start_of g events ≡ Some s
+  pub serving : (s : ℕ) → (life_of s events).stage ≡ Ready → IsServing settings events s
   pub down : (g s : ℕ) → lives_at g (groups_of settings events) ≡ false → start_of g events ≡ Some s → is_up (life_of s events).stage ≡ false
   pub over : stopped events ≡ true → (g : ℕ) → lives_at g (groups_of settings events) ≡ false
   pub unasked : (e : ℕ) → (desk_of e events).phase ≡ New → open_of e events ≡ []
