@@ -49,8 +49,8 @@ use Rattle.group_facts.proofs.StopEnds.{over_all}
 use Rattle.group_facts.proofs.StopWhy.{stops_places}
 use Rattle.group_facts.proofs.Quits.{stopped_more}
 
-abbrev pub Down : Settings → List Event → Type 0
-Down settings events = (g s : ℕ) → lives_at g (groups_of settings events) ≡ false → start_of g events ≡ Some s → IsOff s events
+abbrev pub AllDown : Settings → List Event → Type 0
+AllDown settings events = (g s : ℕ) → lives_at g (groups_of settings events) ≡ false → start_of g events ≡ Some s → IsOff s events
 
 abbrev pub Over : Settings → List Event → Type 0
 Over settings events = stopped events ≡ true → (g : ℕ) → lives_at g (groups_of settings events) ≡ false
@@ -176,7 +176,7 @@ module _ (settings : Settings) (before : List Event) (low : Low before) (spawned
 
     heard_ends : (b c : Bool) → places (desk_of e before).phase (message_of body) ≡ b → stops before e (message_of body) ≡ c → Ends (FromEditor e body)
     heard_ends true c here stop = placed_ends (placed_for settings before e body groups) (placed_outs settings before e body here) (hears_by true c here stop)
-    heard_ends false true off stop g s live over at = subst (λ xs. IsOff s (behind now xs)) (sym (stop_outs settings before e body stop)) (stop_off settings before e body low g s live at (spawned g s at))
+    heard_ends false true off stop = λ g s live over at. subst (λ xs. IsOff s (behind now xs)) (sym (stop_outs settings before e body stop)) (stop_off settings before e body low g s live at (spawned g s at))
     heard_ends false false off on = none_ends (FromEditor e body) (hears_by false false off on)
 
   -- S3
@@ -206,11 +206,11 @@ module _ (settings : Settings) (before : List Event) (low : Low before) (spawned
     said_ends : (b : Bool) (o : Option ℕ) → is_refusing before n (message_of body) ≡ b → group_of n before ≡ o → Ends (FromServer n body)
     said_ends false o off home = none_ends (FromServer n body) (said_by false off)
     said_ends true None refuses none = none_ends (FromServer n body) (said_by true refuses ∙ ap (λ o. at_group o (λ k. ended) groups) none)
-    said_ends true (Some i) refuses home g s live over at = go (nat_eq i g) refl
+    said_ends true (Some i) refuses home = λ g s live over at. go g s live over at (nat_eq i g) refl
       where
-        go : (b : Bool) → nat_eq i g ≡ b → IsOff s (behind (with_cause before (FromServer n body)) (outs_of settings before (FromServer n body)))
-        go true is = refused_off refuses g s (home ∙ ap (λ k. Some k) (number_same i g is)) at
-        go false other = never (sym (ap (lives_at g) (said_by true refuses ∙ ap (λ o. at_group o (λ k. ended) groups) home) ∙ (lives_apart i g ended groups (λ is. never (sym (ap (nat_eq i) is ∙ same_number i) ∙ other)) ∙ live)) ∙ over)
+        go : (g s : ℕ) → lives_at g groups ≡ true → lives_at g (groups_of settings said_now) ≡ false → start_of g before ≡ Some s → (b : Bool) → nat_eq i g ≡ b → IsOff s (behind said_now (outs_of settings before (FromServer n body)))
+        go g s live over at true is = refused_off refuses g s (home ∙ ap (λ k. Some k) (number_same i g is)) at
+        go g s live over at false other = never (sym (ap (lives_at g) (said_by true refuses ∙ ap (λ o. at_group o (λ k. ended) groups) home) ∙ (lives_apart i g ended groups (λ is. never (sym (ap (nat_eq i) is ∙ same_number i) ∙ other)) ∙ live)) ∙ over)
 
   cause_ends : (cause : Cause) → built_behind settings before cause ≡ true → Ends cause
   cause_ends (Joined n) built = none_ends (Joined n) (groups_more settings before (heard (Joined n)))
@@ -218,7 +218,7 @@ module _ (settings : Settings) (before : List Event) (low : Low before) (spawned
   cause_ends (Started n) built = none_ends (Started n) (groups_more settings before (heard (Started n)))
   cause_ends (StartFailed n) built = none_ends (StartFailed n) (failed_groups settings before n built)
   cause_ends (ServerGone n) built = none_ends (ServerGone n) (gone_groups settings before n built)
-  cause_ends (EditorGone n why) built g s live over at = never (sym live ∙ (sym (ap (lives_at g) (groups_more settings before (heard (EditorGone n why))) ∙ emptied_lives (home_of settings n before) _ _ _ g groups) ∙ over))
+  cause_ends (EditorGone n why) built = λ g s live over at. never (sym live ∙ (sym (ap (lives_at g) (groups_more settings before (heard (EditorGone n why))) ∙ emptied_lives (home_of settings n before) _ _ _ g groups) ∙ over))
   cause_ends (Tick t) built = tick_ends t
   cause_ends (FromEditor e body) built = heard_ends e body (places (desk_of e before).phase (message_of body)) (stops before e (message_of body)) refl refl
   cause_ends (FromServer n body) built = said_ends n body (is_refusing before n (message_of body)) (group_of n before) refl refl
@@ -256,8 +256,8 @@ module _ (settings : Settings) (before : List Event) (cause : Cause) (begun : Be
           fresh true same k = absurd (let its : N settings before cause begun ≡ g = the_same k in let below : g < N settings before cause begun = kept_below settings before cause begun g s at in omega (arith, its, below))
           fresh false other k = refl
 
-pub down_rests : (settings : Settings) (before : List Event) → Low before → Spawned before → Lively settings before → OneStart before → Down settings before → (cause : Cause) → Begun settings before → built_behind settings before cause ≡ true
-    → Lively settings (behind (with_cause before cause) (outs_of settings before cause)) → Down settings (behind (with_cause before cause) (outs_of settings before cause))
+pub down_rests : (settings : Settings) (before : List Event) → Low before → Spawned before → Lively settings before → OneStart before → AllDown settings before → (cause : Cause) → Begun settings before → built_behind settings before cause ≡ true
+    → Lively settings (behind (with_cause before cause) (outs_of settings before cause)) → AllDown settings (behind (with_cause before cause) (outs_of settings before cause))
 down_rests settings before low spawned lively one down cause begun built later g s over at = go (lives_at g (groups_of settings before)) refl
   where
     over_now : lives_at g (groups_of settings (with_cause before cause)) ≡ false
@@ -270,11 +270,11 @@ down_rests settings before low spawned lively one down cause begun built later g
     go true live = cause_ends settings before low spawned lively one cause built g s live over_now was
     go false dead = off_kept settings before cause begun built g s was (later.last g s at).0 (down g s dead was)
 
-pub down_none : (settings : Settings) → Down settings []
+pub down_none : (settings : Settings) → AllDown settings []
 down_none settings g s over at = absurd (cc)
 
 -- so a start that is ready is the last one of a group that lives
-pub serving : (settings : Settings) (events : List Event) → Starts events → Housed settings events → OneStart events → Down settings events → (s : ℕ) → (life_of s events).stage ≡ Ready → IsServing settings events s
+pub serving : (settings : Settings) (events : List Event) → Starts events → Housed settings events → OneStart events → AllDown settings events → (s : ℕ) → (life_of s events).stage ≡ Ready → IsServing settings events s
 serving settings events starts housed one down s ready = record { group = home.group; home = home.is; last = last; live = live (lives_at home.group (groups_of settings events)) refl }
   where
     spawned : starts_of events ≤ s → ⊥
@@ -349,7 +349,7 @@ module _ (settings : Settings) (before : List Event) (quit : Quit before) (over 
   over_now (Joined n) was = same_over (Joined n) (groups_more settings before (heard (Joined n))) was
   over_now (Drained n k) was = same_over (Drained n k) (groups_more settings before (heard (Drained n k))) was
   over_now (Started n) was = same_over (Started n) (groups_more settings before (heard (Started n))) was
-  over_now (EditorGone n why) was g = ap (lives_at g) (groups_more settings before (heard (EditorGone n why))) ∙ (emptied_lives (home_of settings n before) _ _ _ g groups_then ∙ over was g)
+  over_now (EditorGone n why) was = λ g. ap (lives_at g) (groups_more settings before (heard (EditorGone n why))) ∙ (emptied_lives (home_of settings n before) _ _ _ g groups_then ∙ over was g)
   over_now (FromEditor e body) was = heard_over e body (stops before e (message_of body)) refl was
   over_now (FromServer n body) was = back_over (FromServer n body) (λ g live. by_test (is_refusing before n (message_of body)) g (sym (ap (lives_at g) (groups_more settings before (heard (FromServer n body)))) ∙ live)) was
     where

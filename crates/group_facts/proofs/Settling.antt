@@ -28,7 +28,7 @@ use Rattle.group_facts.proofs.AskLeft.{no_seats, seats_rest}
 use Rattle.group_facts.proofs.OneStart.{OneStart, one_none, one_rests}
 use Rattle.group_facts.proofs.Begun.{Begun, begun_rests}
 use Rattle.group_facts.proofs.Ceased.{Spawned, spawned_behind, spawned_none, spawned_took}
-use Rattle.group_facts.proofs.Downs.{Down, Over, down_none, down_rests, over_none, over_rests, serving}
+use Rattle.group_facts.proofs.Downs.{AllDown, Over, down_none, down_rests, over_none, over_rests, serving}
 use Rattle.group_facts.proofs.Facts.{Facts}
 use Rattle.group_facts.proofs.Keeping.{Keeps, all_did, all_took}
 use Rattle.group_facts.proofs.Known.{entry_keeps, no_facts}
@@ -69,7 +69,7 @@ module _ (settings : Settings) (range : InRange settings) where
     uncreated : Uncreated settings events
     taken : AllTaken settings events
     spawned : Spawned events
-    down : Down settings events
+    down : AllDown settings events
     over : Over settings events
 
   -- what each event keeps, an entry keeps
