@@ -12,7 +12,7 @@ use Rattle.event_model.specs.declared.stage.Stage.TheVariants.{Unspawned, Spawni
 use Rattle.event_model.specs.Event.{Event, behind, did, heard, requests, said, took, with_cause}
 use Rattle.event_model.specs.Requests.{next_number}
 use Rattle.event_model.specs.Row.{each, nothing, on, outs}
-use Rattle.event_model.specs.Spawns.{start_behind, start_of}
+use Rattle.event_model.specs.Spawns.{start_of}
 use Rattle.event_model.specs.Stages.{Life, is_first_result, life_behind, life_of, stage_ending, stage_hears, stage_started, stage_told}
 use Rattle.event_model.proofs.Frames.{never}
 use Rattle.mux_facts.proofs.Folds.{life_more, number_more}

@@ -1,5 +1,5 @@
 -- The last start of a group that lives no more isn't up, and behind a stop no group lives: behind every legal history.
-use Rattle.std.proofs.Common.{◌≡◌, ℕ, max, ◌+◌, ◌<◌, ◌≤◌, ◌^◌, Bool, true, false, ◌&&◌, List, [], ◌∷◌, ◌++◌, map, nat_eq, codes, if◌then◌else◌, Option, None, Some, refl, sym, ◌∙◌, ap, ap₂, subst, append-nil, append_assoc, arith}
+use Rattle.std.proofs.Common.{◌≡◌, ℕ, max, ◌<◌, ◌≤◌, ◌^◌, Bool, true, false, ◌&&◌, List, [], ◌∷◌, ◌++◌, map, nat_eq, codes, if◌then◌else◌, Option, None, Some, refl, sym, ◌∙◌, ap, ap₂, subst, append-nil, append_assoc, arith}
 use Rattle.std.specs.List.{AllByRecursion}
 use Rattle.std.proofs.lemmas.Bool.{and_parts}
 use Rattle.mux_history.specs.declared.cause.Cause.{Cause}
@@ -40,7 +40,7 @@ use Rattle.group_facts.specs.Settled.{IsServing}
 use Rattle.group_facts.proofs.Begun.{Begun, NoSpawn, founding_of, placed_outs, start_took}
 use Rattle.group_facts.proofs.Ceased.{IsOff, Low, Spawned, group_off, group_quiet, groups_off, is_spawned, off_ended, off_outs, off_spawn, off_took}
 use Rattle.group_facts.proofs.Exits.{exit_over, failed_groups, gone_groups}
-use Rattle.group_facts.proofs.LiveGroups.{IsFair, all_at, changed_lives, emptied_lives, lives_apart, lives_changed, lives_ended, lives_left, placed_fair}
+use Rattle.group_facts.proofs.LiveGroups.{all_at, changed_lives, emptied_lives, lives_apart, lives_changed, lives_ended, lives_left}
 use Rattle.group_facts.proofs.OneStart.{N, OneStart, by_founding, group_last, kept_below, start_last, start_quiet}
 use Rattle.group_facts.proofs.PutOut.{refused_outs}
 use Rattle.group_facts.proofs.StopDown.{stop_off}
@@ -312,9 +312,9 @@ exit_lives restarts wanted x h = go x.live refl
     go true live = live
     go false off = sym (ap (λ (y : Kept). y.live) (exit_over restarts wanted x off)) ∙ h
 
-lost_lives : (home : Option ℕ) (f : ℕ → Kept → Kept) → ((g : ℕ) (x : Kept) → (f g x).live ≡ true → x.live ≡ true) → (g : ℕ) (groups : List Kept) → lives_at g (at_group home f groups) ≡ true → lives_at g groups ≡ true
-lost_lives None f back g groups h = h
-lost_lives (Some i) f back g groups h = lives_changed (f i) (back i) i g groups h
+lost_lives : (home : Option ℕ) (f : ℕ → Kept → Kept) → ((g : ℕ) (x : Kept) → (f g x).live ≡ true → x.live ≡ true) → (g : ℕ) (xs : List Kept) → lives_at g (at_group home f xs) ≡ true → lives_at g xs ≡ true
+lost_lives None f back g xs h = h
+lost_lives (Some i) f back g xs h = lives_changed (f i) (back i) i g xs h
 
 module _ (settings : Settings) (before : List Event) (quit : Quit before) (over : Over settings before) where
   abbrev groups_then : List Kept

@@ -1,5 +1,5 @@
 -- E6: each group that lives ends by a stop, so behind its row no start is ready, nor is one later.
-use Rattle.std.proofs.Common.{◌≡◌, ℕ, ◌+◌, ◌<◌, ◌≤◌, ◌^◌, Bool, true, false, List, [], ◌∷◌, ◌++◌, map, nat_eq, codes, if◌then◌else◌, Option, Some, refl, sym, ◌∙◌, ap, subst, append-nil, append_assoc, arith}
+use Rattle.std.proofs.Common.{◌≡◌, ℕ, ◌+◌, ◌<◌, ◌≤◌, ◌^◌, Bool, true, false, List, [], ◌∷◌, ◌++◌, map, nat_eq, codes, if◌then◌else◌, Some, refl, sym, ◌∙◌, ap, subst, append-nil, append_assoc, arith}
 use Rattle.std.specs.List.{AllByRecursion}
 use Rattle.mux_history.specs.declared.cause.Cause.TheVariants.{FromEditor}
 use Rattle.mux_history.specs.declared.out.Out.{Out}
@@ -7,8 +7,8 @@ use Rattle.mux_history.specs.declared.out.Out.TheVariants.{ToEditor, ToServer, S
 use Rattle.rpc_message.specs.Message.{Message, id_bytes, message_of}
 use Rattle.rpc_message.specs.Texts.{ok_text}
 use Rattle.event_model.specs.declared.stage.Stage.{Stage}
-use Rattle.event_model.specs.declared.stage.Stage.TheVariants.{Ready, Stopping}
-use Rattle.event_model.specs.Event.{Event, behind, heard, requests, said, with_cause}
+use Rattle.event_model.specs.declared.stage.Stage.TheVariants.{Ready}
+use Rattle.event_model.specs.Event.{Event, behind, heard, said, with_cause}
 use Rattle.event_model.specs.Requests.{next_number}
 use Rattle.event_model.specs.Row.{each, outs}
 use Rattle.event_model.specs.Settings.{Settings}
