@@ -29,7 +29,7 @@ use Rattle.mux_tables.specs.declared.tables.Tables.{Tables}
 use Rattle.mux_tables.specs.Documents.{AllTell, DocumentsStand, IsOwned, Owed, SharedStands, StartTold, StepAt, StepFrom, nothing_owed, to}
 use Rattle.mux_tables.specs.Stands.{IsPlace, Stands}
 use Rattle.mux_tables.proofs.DocumentFrames.{SentSame, sent_behind_same, untold_stays}
-use Rattle.mux_tables.proofs.DocumentLeft.{closed_away, closed_rest, kept_owners}
+use Rattle.mux_tables.proofs.DocumentLeft.{closed_away, closed_parts, closed_rest, kept_owners}
 use Rattle.mux_tables.proofs.DocumentMoves.{Rest, documents_all, documents_at, documents_set, set_same}
 use Rattle.mux_tables.proofs.Frames.{itself}
 use Rattle.mux_tables.proofs.Placed.{groups_apart}
