@@ -1,10 +1,10 @@
 -- What editors called their open requests.
-use Rattle.std.proofs.Common.{◌≡◌, ℕ, zero, suc, ◌+◌, ◌<◌, ◌≤◌, Bool, true, false, cond, List, [], ◌∷◌, ◌++◌, drop, flat_map, map, length, get_or, refl, ap, sym, ◌∙◌, append_assoc, append-nil, arith, nat_eq, if◌then◌else◌}
+use Rattle.std.proofs.Common.{◌≡◌, ℕ, zero, suc, ◌+◌, ◌<◌, ◌≤◌, Bool, true, false, cond, List, [], ◌∷◌, ◌++◌, drop, flat_map, map, length, get_or, refl, ap, sym, subst, ◌∙◌, append_assoc, append-nil, arith, nat_eq, if◌then◌else◌}
 use Rattle.std.specs.Prelude.{Option, Some, None, option_map, filter, find, slice_get}
 use Rattle.std.proofs.lemmas.Bool.Decides.{nat_tests}
 use Rattle.event_model.specs.Event.{Event}
 use Rattle.event_model.specs.Settings.{Settings}
-use Rattle.group_laws.specs.group_rows.specs.Forwarded.{forwarding_of}
+use Rattle.group_laws.specs.group_rows.specs.Forwarded.{Forwarded, forwarding_of, is_of}
 use Rattle.id_rewrite.specs.declared.pending.Numbered.{Numbered}
 use Rattle.id_rewrite.specs.Tables as tables
 use Rattle.id_rewrite.specs.Tables.{IsInOrder, RiseWithin}
@@ -31,7 +31,7 @@ kept_ids f e from to (r ∷ rs) h k = go (nat_eq r.pending.editor e) (k r.number
 
     go : (b : Bool) → f r.number ≡ r.pending.id ∷ [] → flat_map f (tables.numbers_of e rs) ≡ ids_at e (map forwarded_of rs)
         → flat_map f (map (λ (q : Numbered). q.number) (if b then r ∷ filter (tables.is_of e) rs else filter (tables.is_of e) rs))
-        ≡ (if b then r.pending.id ∷ ids_at e (map forwarded_of rs) else ids_at e (map forwarded_of rs))
+        ≡ map (λ (p : Forwarded). p.id) (if b then forwarded_of r ∷ filter (is_of e) (map forwarded_of rs) else filter (is_of e) (map forwarded_of rs))
     go true o rest = rw (o, rest) refl
     go false o rest = rest
 
@@ -51,7 +51,10 @@ ids_here settings t events g s e ids z at within read is st =
 drop_one : (xs : List ℕ) (i d : ℕ) → i < length xs → drop i xs ≡ get_or xs i d ∷ drop (i + 1) xs
 drop_one [] i d h = absurd (omega arith)
 drop_one (x ∷ xs) zero d h = refl
-drop_one (x ∷ xs) (suc i) d h = drop_one xs i d (omega arith)
+drop_one (x ∷ xs) (suc i) d h = subst (λ n. drop i xs ≡ get_or xs i d ∷ drop n (x ∷ xs)) (sym (next i)) (drop_one xs i d (omega (arith, h)))
+  where
+    next : (i : ℕ) → suc i + 1 ≡ suc (i + 1)
+    next i = omega arith
 
 drop_past : (xs : List ℕ) (i : ℕ) → length xs ≤ i → drop i xs ≡ []
 drop_past [] zero h = refl
