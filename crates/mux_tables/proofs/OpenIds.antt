@@ -40,12 +40,17 @@ ids_so e t ns ids order numbers is =
     is ∙ (ap (flat_map (λ n. id_at (tables.pending_of n t.requests))) numbers ∙ kept_ids (λ n. id_at (tables.pending_of n t.requests)) e 2 t.next t.requests order.rising (λ n l. refl))
 
 -- of a group's last start
-pub ids_here : (settings : Settings) (t : Tables) (events : List Event) (g s e : ℕ) (ids : List (List ℕ)) (z : Start) → slice_get (map number_in t.lasts.items) g ≡ Some s → g < length t.lasts.items → z ≡ get_or t.lasts.items g z
-    → (IsInOrder z.ids → ids ≡ ids_at e (map forwarded_of z.ids.requests)) → Stands settings t events → ids ≡ ids_at e (forwarding_of s events).open_requests
-ids_here settings t events g s e ids z at within read is st =
-    let here = read_here t.lasts.items g z within read in
-    let kept = (st.lasts.each g z here).parts of_ids in
-    is kept.order ∙ ap (ids_at e) (sym kept.open_requests ∙ ap (λ n. (forwarding_of n events).open_requests) (start_at_place t.lasts.items g s z here at))
+module _ (settings : Settings) (t : Tables) (events : List Event) (g : ℕ) (z : Start) (within : g < length t.lasts.items) (read : z ≡ get_or t.lasts.items g z) (st : Stands settings t events) where
+  here : slice_get t.lasts.items g ≡ Some z
+  here = read_here t.lasts.items g z within read
+
+  pub ids_order : IsInOrder z.ids
+  ids_order = ((st.lasts.each g z here).parts of_ids).order
+
+  pub ids_here : (s e : ℕ) (ids : List (List ℕ)) → slice_get (map number_in t.lasts.items) g ≡ Some s → ids ≡ ids_at e (map forwarded_of z.ids.requests) → ids ≡ ids_at e (forwarding_of s events).open_requests
+  ids_here s e ids at is =
+      let kept = (st.lasts.each g z here).parts of_ids in
+      is ∙ ap (ids_at e) (sym kept.open_requests ∙ ap (λ n. (forwarding_of n events).open_requests) (start_at_place t.lasts.items g s z here at))
 
 -- the step of the loop, and its end
 drop_one : (xs : List ℕ) (i d : ℕ) → i < length xs → drop i xs ≡ get_or xs i d ∷ drop (i + 1) xs
