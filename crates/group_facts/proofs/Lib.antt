@@ -74,3 +74,6 @@ pub mod StopRow
 pub mod StopEnds
 pub mod StopWhy
 pub mod StopEntry
+pub mod StopDown
+pub mod Ceased
+pub mod Downs
