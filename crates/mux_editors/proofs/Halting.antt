@@ -163,7 +163,7 @@ loses_home settings t before base xs ys e home stays at d = does_alike (λ st. a
 
 -- Bodies to editors
 
-abbrev IsTold : Out → Type 0
+abbrev pub IsTold : Out → Type 0
 IsTold (ToEditor e body) = Unit {0}
 IsTold other = ⊥
 
@@ -241,21 +241,21 @@ pub refusing_next : (settings : Settings) (t : Tables) (before base : List Event
 refusing_next settings t before base xs ys e r st d = refusing_on settings t before base xs ys (open_told settings before e) d st r
 
 -- the whole entry, where no start is ready behind it
-pub stops_done : (settings : Settings) (before base : List Event) (e : ℕ) (body : List ℕ) (t u v : Tables) (xs told refused closed ys : List Out) (there live : List ℕ) → xs ≡ [] → Stands settings t base → DocumentsStand settings nothing_owed t base
-    → there ≡ there_in before → live ≡ all_from 0 is_live (groups_of settings before)
-    → Does (λ t events. Halts settings t events) (send (ToEditor e (ok_text (id_bytes body) (codes "null")))) base t xs t told
-    → Does (λ t events. Halts settings t events) (each (refuse_open settings before) there) base t told t refused
-    → Does (λ t events. Halts settings t events) (close_each there) base t refused u closed
+pub stops_done : (settings : Settings) (before base : List Event) (e : ℕ) (body : List ℕ) (t u v : Tables) (told refused closed ys : List Out) (lost shut live : List ℕ) → Stands settings t base → DocumentsStand settings nothing_owed t base
+    → lost ≡ there_in before → shut ≡ there_in before → live ≡ all_from 0 is_live (groups_of settings before)
+    → Does (λ t events. Halts settings t events) (send (ToEditor e (ok_text (id_bytes body) (codes "null")))) base t [] t told
+    → Does (λ t events. Halts settings t events) (each (refuse_open settings before) lost) base t told t refused
+    → Does (λ t events. Halts settings t events) (close_each shut) base t refused u closed
     → Does (λ t events. Halts settings t events) (each end_group live) base u closed v ys
-    → (Stands settings v (behind base ys) → (g : ℕ) (x : Start) → slice_get v.lasts.items g ≡ Some x → is_ready x.life.stage ≡ false)
+    → (ys ≡ outs (stop_row settings before e body) base → Stands settings v (behind base ys) → (g : ℕ) (x : Start) → slice_get v.lasts.items g ≡ Some x → is_ready x.life.stage ≡ false)
     → Done (λ k events. AllStand settings k events) (stop_row settings before e body) base [] (v, nothing_owed) ys
-stops_done settings before base e body t u v xs told refused closed ys there live first st ds those alive tells refuses closes ends none =
-    let one = subst (λ ws. Does (λ t events. Halts settings t events) (send (ToEditor e (ok_text (id_bytes body) (codes "null")))) base t ws t told) first tells in
+stops_done settings before base e body t u v told refused closed ys lost shut live st ds those these alive one refuses closes ends none =
     let two = subst (λ es. Does (λ t events. Halts settings t events) (each (refuse_open settings before) es) base t told t refused) those refuses in
-    let three = subst (λ es. Does (λ t events. Halts settings t events) (close_each es) base t refused u closed) those closes in
+    let three = subst (λ es. Does (λ t events. Halts settings t events) (close_each es) base t refused u closed) these closes in
     let four = subst (λ gs. Does (λ t events. Halts settings t events) (each end_group gs) base u closed v ys) alive ends in
     let done = does_entry {Stands = λ t events. Halts settings t events} {row = stop_row settings before e body} (st, (nothing_owed, ds)) (does_then one (does_then two (does_then three four))) in
-    record { outs = done.outs; stands = (done.stands.0, unready_quiet settings done.stands.1.0 v (behind base ys) (none done.stands.0) done.stands.1.1) }
+    let sent : ys ≡ outs (stop_row settings before e body) base = done.outs ∙ ap (outs (stop_row settings before e body)) (append-nil base) in
+    record { outs = done.outs; stands = (done.stands.0, unready_quiet settings done.stands.1.0 v (behind base ys) (none sent done.stands.0) done.stands.1.1) }
 
 -- Behind the message that stops all, before anything is said
 
@@ -301,7 +301,7 @@ module _ (settings : Settings) (before : List Event) (k : ℕ) (body : List ℕ)
 
 -- Bodies to editors and ends of their links leave the numbers of starts alone
 
-abbrev IsAside : Out → Type 0
+abbrev pub IsAside : Out → Type 0
 IsAside (ToEditor e body) = Unit {0}
 IsAside (CloseEditor e) = Unit {0}
 IsAside other = ⊥
@@ -321,7 +321,7 @@ told_aside [] h = tt
 told_aside (ToEditor e body ∷ xs) h = (tt, told_aside xs h.1)
 told_aside (other ∷ xs) h = absurd h.0
 
-aside_join : (xs ys : List Out) → AllByRecursion IsAside xs → AllByRecursion IsAside ys → AllByRecursion IsAside (xs ++ ys)
+pub aside_join : (xs ys : List Out) → AllByRecursion IsAside xs → AllByRecursion IsAside ys → AllByRecursion IsAside (xs ++ ys)
 aside_join [] ys h k = k
 aside_join (x ∷ xs) ys h k = (h.0, aside_join xs ys h.1 k)
 
