@@ -14,7 +14,7 @@ use Rattle.rpc_message.proofs.Fixed.{id_as_response}
 use Rattle.rpc_message.proofs.Ids.{error_with_id, result_with_id}
 use Rattle.event_model.specs.declared.phase.Phase.{Phase}
 use Rattle.event_model.specs.declared.phase.Phase.TheVariants.{Absent, New, Waiting, Answered, Running, Down, Closed, Gone}
-use Rattle.event_model.specs.declared.stage.Stage.TheVariants.{Ended}
+use Rattle.event_model.specs.declared.stage.Stage.TheVariants.{Ended, Ready}
 use Rattle.event_model.specs.Does.{Alike, Does}
 use Rattle.event_model.specs.Event.{Event, behind, requests}
 use Rattle.event_model.specs.Phases.{desk_hears, desk_of, is_served, makes_running}
@@ -162,9 +162,12 @@ module _ (settings : Settings) (before : List Event) (e g s : ℕ) (body : List 
   pub ended_reply : HasEnded (start_for settings e before) before → (life_of s before).stage ≡ Ended
   ended_reply h = h s (ap (option_and_then (λ g. start_of g before)) home ∙ last)
 
-  pub ended_silent : (life_of s before).stage ≡ Ended → ((life_of s before).stage ≡ Ended → asks_of settings s before ≡ []) → AnswersOne settings s e (message_of body) before → AnswersNone settings e (message_of body) before
-  ended_silent over none one n = go (nat_eq s n) refl
+  pub ended_silent : (life_of s before).stage ≡ Ended → AnswersOne settings s e (message_of body) before → AnswersNone settings e (message_of body) before
+  ended_silent over one n ready = go (nat_eq s n) refl
     where
+      clash : Ready ≡ Ended → ⊥
+      clash q = cc
+
       go : (b : Bool) → nat_eq s n ≡ b → AllByRecursion (λ (a : Ask). is_seated e (answered_id (message_of body)) a ≡ false) (asks_of settings n before)
-      go true is = let same : s ≡ n = grind (arith, nat_tests) in subst (λ k. AllByRecursion (λ (a : Ask). is_seated e (answered_id (message_of body)) a ≡ false) (asks_of settings k before)) same (subst (λ qs. AllByRecursion (λ (a : Ask). is_seated e (answered_id (message_of body)) a ≡ false) qs) (sym (none over)) tt)
+      go true is = let same : s ≡ n = grind (arith, nat_tests) in absurd (clash (sym ready ∙ (ap (λ k. (life_of k before).stage) (sym same) ∙ over)))
       go false is = one n is

@@ -1,7 +1,6 @@
 //! E19: what an editor answers of what its group's start asked, and whether it takes a token.
 ghost use Rattle.std.specs.Prelude.{◌≡◌, ◌<◌, ℕ, List, [], Option, Some, IfSome, find, if◌then◌else◌, length, map, option_map, true, OnOk, slice_get};
 ghost use Rattle.mux_editors.specs.Running.{may_begin, running_row};
-ghost use Rattle.event_model.specs.declared.stage.Stage.TheVariants.{Ended};
 ghost use Rattle.event_model.specs.Does.{Does, Done};
 ghost use Rattle.event_model.specs.Event.{Event, behind, with_cause};
 ghost use Rattle.event_model.specs.Phases.{desk_of, is_served};
@@ -9,7 +8,6 @@ ghost use Rattle.event_model.specs.Row.{each, nothing, on, ◌⨾◌};
 ghost use Rattle.event_model.specs.Settings.{Settings};
 ghost use Rattle.event_model.specs.Spawns.{start_of};
 ghost use Rattle.event_model.specs.Requests.{answered_id};
-ghost use Rattle.event_model.specs.Stages.{life_of};
 ghost use Rattle.group_rows.specs.AskRows.{hand_back, response_row};
 ghost use Rattle.group_rows.specs.Asks.{Ask, asking_of, asks_of, is_seated};
 ghost use Rattle.group_rows.specs.Created.{Taking, accepts, created_of, is_answered};
@@ -214,8 +212,7 @@ pub fn take_reply(
     ensures versions { tables.new.versions ≡ tables.old.versions }
     ensures does { (settings : Settings) (before : List Event) (body : List ℕ) (g s : ℕ) → IsRead message.now body
         → is_response (message_of body) ≡ true → is_served (desk_of e before).phase ≡ true → home_of settings e before ≡ Some g
-        → start_of g before ≡ Some s → AnswersOne settings s e (message_of body) before → Meant before
-        → ((life_of s before).stage ≡ Ended → asks_of settings s before ≡ []) → outs.old ≡ []
+        → start_of g before ≡ Some s → AnswersOne settings s e (message_of body) before → Meant before → outs.old ≡ []
         → Settled settings before → Stands settings tables.old before → DocumentsStand settings nothing_owed tables.old before
         → OnOk result (Done (λ k events. AllStand settings k events)
         (running_row settings before e (message_of body) ⨾ response_row settings before e body (message_of body))

@@ -4,17 +4,17 @@ use Rattle.std.specs.Prelude.{Some}
 use Rattle.std.specs.List.{AllByRecursion}
 use Rattle.std.proofs.lemmas.Bool.Decides.{nat_tests}
 use Rattle.rpc_message.specs.Message.{Message}
-use Rattle.event_model.specs.declared.stage.Stage.TheVariants.{Ended, Ready}
 use Rattle.event_model.specs.Event.{Event}
 use Rattle.event_model.specs.Phases.{desk_of, is_served}
 use Rattle.event_model.specs.Requests.{answered_id}
 use Rattle.event_model.specs.Settings.{Settings}
 use Rattle.event_model.specs.Spawns.{start_of}
-use Rattle.event_model.specs.Stages.{life_of}
 use Rattle.event_model.proofs.Frames.{never}
 use Rattle.mux_starts.specs.group_facts.specs.Settled.{HasSeat, Settled}
+use Rattle.mux_starts.specs.group_facts.proofs.StopDown.{ready_unstopped}
 use Rattle.group_rows.specs.Asks.{Ask, asks_of, is_seated}
 use Rattle.group_rows.specs.Forwarded.{names}
+use Rattle.group_rows.specs.StopRows.{stopped}
 use Rattle.group_words.specs.Houses.{home_of}
 use Rattle.mux_starts.specs.mux_tables.specs.Stands.{AnswersNone, AnswersOne}
 use Rattle.mux_starts.specs.mux_tables.proofs.Lasts.{same_place}
@@ -33,15 +33,15 @@ module _ (settings : Settings) (before : List Event) (e : ℕ) (m : Message) (se
 
   -- an editor that isn't served was asked nothing
   pub asked_none : is_served (desk_of e before).phase ≡ false → AnswersNone settings e m before
-  asked_none unserved s = go (asks_of settings s before) (settled.asks s)
+  asked_none unserved s ready = go (asks_of settings s before) (settled.asks (ready_unstopped settings before settled s ready) s)
     where
       go : (asked : List Ask) → AllByRecursion (HasSeat settings before s) asked → AllByRecursion (λ (a : Ask). is_seated e (answered_id m) a ≡ false) asked
       go [] h = tt
       go (a ∷ asked) h = (unseated a (λ is. never (sym (ap is_served h.0.running) ∙ (ap (λ n. is_served (desk_of n before).phase) is ∙ unserved))), go asked h.1)
 
 -- one that is served was asked by the last start of its group alone
-pub asked_by_one : (settings : Settings) (before : List Event) (e g s : ℕ) (m : Message) → Settled settings before → home_of settings e before ≡ Some g → start_of g before ≡ Some s → AnswersOne settings s e m before
-asked_by_one settings before e g s m settled home last n away = go (asks_of settings n before) (settled.asks n)
+pub asked_by_one : (settings : Settings) (before : List Event) (e g s : ℕ) (m : Message) → stopped before ≡ false → Settled settings before → home_of settings e before ≡ Some g → start_of g before ≡ Some s → AnswersOne settings s e m before
+asked_by_one settings before e g s m on settled home last n away = go (asks_of settings n before) (settled.asks on n)
   where
     -- the group of what was asked is this one, so that its last start is n
     other : (a : Ask) → HasSeat settings before n a → a.editor ≡ e → ⊥
@@ -62,14 +62,3 @@ asked_by_one settings before e g s m settled home last n away = go (asks_of sett
     go : (asked : List Ask) → AllByRecursion (HasSeat settings before n) asked → AllByRecursion (λ (a : Ask). is_seated e (answered_id m) a ≡ false) asked
     go [] h = tt
     go (a ∷ asked) h = (unseated settings before e m settled a (other a h.0), go asked h.1)
-
--- a start whose program ended asked nothing that is open
-pub ended_unasked : (settings : Settings) (before : List Event) (s : ℕ) → Settled settings before → (life_of s before).stage ≡ Ended → asks_of settings s before ≡ []
-ended_unasked settings before s settled over = go (asks_of settings s before) (settled.asks s)
-  where
-    clash : Ready ≡ Ended → ⊥
-    clash q = cc
-
-    go : (asked : List Ask) → AllByRecursion (HasSeat settings before s) asked → asked ≡ []
-    go [] h = refl
-    go (a ∷ asked) h = absurd (clash (sym h.0.ready ∙ over))

@@ -22,6 +22,7 @@ use Rattle.event_model.proofs.Frames.{never}
 use Rattle.event_model.proofs.Turns.{alike}
 use Rattle.mux_starts.specs.group_facts.specs.Built.{built_asking, built_from_server, built_ready, built_telling}
 use Rattle.mux_starts.specs.group_facts.specs.Settled.{HasSeat, Settled}
+use Rattle.mux_starts.specs.group_facts.proofs.StopDown.{ready_unstopped}
 use Rattle.group_rows.specs.AskRows.{asking_row}
 use Rattle.group_rows.specs.Asks.{Ask, asks_of}
 use Rattle.group_rows.specs.Rows.{from_server}
@@ -63,8 +64,8 @@ malformed_asks (request id method params) h = never (sym h)
 malformed_asks other h = refl
 
 -- who was asked runs
-pub all_run : (settings : Settings) (before : List Event) (s : ℕ) → Settled settings before → AllByRecursion (λ (a : Ask). (desk_of a.editor before).phase ≡ Running) (asks_of settings s before)
-all_run settings before s settled = go (asks_of settings s before) (settled.asks s)
+pub all_run : (settings : Settings) (before : List Event) (s : ℕ) → (life_of s before).stage ≡ Ready → Settled settings before → AllByRecursion (λ (a : Ask). (desk_of a.editor before).phase ≡ Running) (asks_of settings s before)
+all_run settings before s ready settled = go (asks_of settings s before) (settled.asks (ready_unstopped settings before settled s ready) s)
   where
     go : (asked : List Ask) → AllByRecursion (HasSeat settings before s) asked → AllByRecursion (λ (a : Ask). (desk_of a.editor before).phase ≡ Running) asked
     go [] h = tt

@@ -4,3 +4,4 @@ pub mod HubLaw
 pub mod OwnTexts
 pub mod Spawned
 pub mod Sessions
+pub mod Stopped

@@ -12,7 +12,7 @@ ghost use Rattle.group_sessions.specs.group_rows.specs.Rows.{outs_of};
 ghost use Rattle.group_sessions.specs.group_facts.specs.Built.{built, built_behind};
 ghost use Rattle.group_sessions.specs.group_facts.specs.Facts.{Known};
 ghost use Rattle.group_sessions.specs.group_facts.specs.Settled.{Settled};
-ghost use Rattle.mux_hub.specs.Entries.{emits, entry_of, most_events, passes};
+ghost use Rattle.mux_hub.specs.Entries.{emits, entry_of, most_events, passes, was_stopped};
 ghost use Rattle.mux_hub.specs.Faults.{Counted};
 ghost use Rattle.mux_hub.specs.Hubs.{HubView, HubStands, TablesStand, Tells};
 ghost use Rattle.mux_hub.specs.Starts.{servers_of};
@@ -171,6 +171,13 @@ impl<J: Journal> Hub<J> {
         }
     }
 
+    /// Whether an editor stopped all.
+    pub fn stopped(&self) -> bool
+        ensures { (history : List Entry) → HubStands J.told self.now history → self.now.spent ≡ false → result ≡ was_stopped history }
+    {
+        self.tables.is_stopped()
+    }
+
     /// Whether this cause, which fits, meets only rows of the routing table that are built.
     pub fn built(&self, cause: &Cause) -> Result<bool, Memory>
         requires { body_length cause.now ≤ 268435456 }
@@ -225,11 +232,11 @@ impl<J: Journal> Hub<J> {
     }
 }
 
-/// What threads may know of the hub. No cause asks it to stop yet. Where a cause meets a row of the routing table that
-/// isn't built, its step answers that memory is wanted.
+/// What threads may know of the hub: an editor that is there asks it to stop (E6). Where a cause meets a row of the routing table
+/// that isn't built, its step answers that memory is wanted.
 impl<J: Journal> Steps for Hub<J> {
-    ghost use Rattle.std.specs.Prelude.{false};
     ghost use Rattle.mux_model.specs.Fits.{fits};
+    ghost use Rattle.mux_hub.specs.Entries.{asks_stop, was_stopped};
     ghost use Rattle.mux_hub.specs.Hubs.{HubStands};
 
     ghost stands = { λ hub history. HubStands J.told hub history };
@@ -240,9 +247,9 @@ impl<J: Journal> Steps for Hub<J> {
 
     ghost allows = { fits };
 
-    ghost asks_stop = { λ history cause. false };
+    ghost asks_stop = { asks_stop };
 
-    ghost stops = { λ history. false };
+    ghost stops = { was_stopped };
 
     fn fits(&self, cause: &Cause) -> bool {
         Hub::fits(self, cause)
@@ -253,7 +260,7 @@ impl<J: Journal> Steps for Hub<J> {
     }
 
     fn stopped(&self) -> bool {
-        false
+        Hub::stopped(self)
     }
 
     fn server_of(&self, start: u64) -> Option<u32> {

@@ -85,7 +85,7 @@ asks_later other events ev qs kept s = tt
 pub asks_by : (settings : Settings) (limit : ℕ) (x : Start) (events : List Event) (ev : Event) → OpenStay settings x.life.start events ev → PartStands of_asks settings limit x events → PartStands of_asks settings limit x (events ++ ev ∷ [])
 asks_by settings limit x events ev same s = subst (λ qs. AsksAt x.life.stage (events ++ ev ∷ []) qs x.asks) (sym (asks_more settings x.life.start events ev same)) (asks_later x.life.stage events ev (asks_of settings x.life.start events) x.asks s)
 
-same_parked : (settings : Settings) (stage : Stage) (s : ℕ) (events : List Event) (ev : Event) (kept : List route.Ask) → AsksStay settings s events ev → ParkedAt stage (asks_of settings s events) (parked_of settings s events) kept
+pub same_parked : (settings : Settings) (stage : Stage) (s : ℕ) (events : List Event) (ev : Event) (kept : List route.Ask) → AsksStay settings s events ev → ParkedAt stage (asks_of settings s events) (parked_of settings s events) kept
     → ParkedAt stage (asks_of settings s (events ++ ev ∷ [])) (parked_of settings s (events ++ ev ∷ [])) kept
 same_parked settings stage s events ev kept same h = subst (λ qs. ParkedAt stage qs (parked_of settings s (events ++ ev ∷ [])) kept) (sym (asks_more settings s events ev same.asks))
     (subst (λ ps. ParkedAt stage (asks_of settings s events) ps kept) (sym (parked_more settings s events ev same.parked)) h)
@@ -189,8 +189,8 @@ pub none_answered : (settings : Settings) (e s : ℕ) (body : List ℕ) (m : Mes
 none_answered settings e s body m events h = record { asks = none_gone (is_seated e (answered_id m)) (asks_of settings s events) h; parked = refl }
 
 -- one that is no response answers none
-pub answers_none : (settings : Settings) (e : ℕ) (m : Message) (events : List Event) → is_answer m ≡ false → AnswersNone settings e m events
-answers_none settings e m events h = λ s. go (answered_id m) h (asks_of settings s events)
+pub answers_all : (settings : Settings) (e : ℕ) (m : Message) (events : List Event) → is_answer m ≡ false → (s : ℕ) → AllByRecursion (λ (a : Ask). is_seated e (answered_id m) a ≡ false) (asks_of settings s events)
+answers_all settings e m events h s = go (answered_id m) h (asks_of settings s events)
   where
     off : (b : Bool) → (b && false) ≡ false
     off true = refl
@@ -200,3 +200,6 @@ answers_none settings e m events h = λ s. go (answered_id m) h (asks_of setting
     go (Some id) h qs = never h
     go None h [] = tt
     go None h (a ∷ qs) = (off (nat_eq a.editor e), go None h qs)
+
+pub answers_none : (settings : Settings) (e : ℕ) (m : Message) (events : List Event) → is_answer m ≡ false → AnswersNone settings e m events
+answers_none settings e m events h = λ s ready. answers_all settings e m events h s

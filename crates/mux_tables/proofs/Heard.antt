@@ -30,9 +30,9 @@ use Rattle.mux_tables.proofs.Halted.{stopped_more, stopped_now, stopped_quiet}
 use Rattle.group_laws.specs.group_rows.specs.StopRows.{stopped}
 use Rattle.mux_tables.specs.declared.tables.Tables.{Tables}
 use Rattle.mux_tables.specs.Names.{NameStands, id_in}
-use Rattle.mux_tables.specs.Stands.{AnswersNone, CountStands, EditorsStand, GroupsStand, HouseStands, Stands, ends, is_answer, phase_in, group_in, meant_in, stays_in}
+use Rattle.mux_tables.specs.Stands.{AnswersNone, CountStands, EditorsStand, GroupsStand, HouseStands, LastsStand, Stands, ends, is_answer, phase_in, group_in, meant_in, stays_in}
 use Rattle.group_laws.specs.group_rows.specs.Asks.{next_ask}
-use Rattle.mux_tables.proofs.Asking.{answers_none, none_answered}
+use Rattle.mux_tables.proofs.Asking.{answers_all, answers_none, none_answered}
 use Rattle.mux_tables.proofs.Counted.{counted_same, counted_set, next_more}
 use Rattle.mux_tables.proofs.Ends.{tick_heard}
 use Rattle.mux_tables.proofs.Exits.{stop_groups}
@@ -44,7 +44,8 @@ use Rattle.std.specs.Ordering.{nat_cmp}
 use Rattle.mux_tokens.specs.Rows.{left_each}
 use Rattle.mux_tokens.specs.Stands.{TakesNone}
 use Rattle.mux_tables.proofs.TokenMoves.{OriginsMove, origins_left, origins_stay, request_takes}
-use Rattle.mux_tables.proofs.Moves.{house_moves, quiet_moves}
+use Rattle.mux_tables.proofs.Moves.{house_and_lasts, house_moves, quiet_moves}
+use Rattle.mux_tables.proofs.Silent.{lasts_silent}
 use Rattle.mux_tables.proofs.Named.{Goes, goes_heard, goes_so, goes_then, meant_by, named_by, named_new}
 use Rattle.mux_tables.proofs.Phased.{heard_plain, heard_same, phased}
 use Rattle.mux_tables.proofs.Seated.{Seated, initialize_heard}
@@ -209,7 +210,7 @@ module _ (settings : Settings) (t u : Tables) (events : List Event) (e : ℕ) (b
   heard_groups gs goes h = subst (λ g. GroupsStand settings g (events ++ ev ∷ [])) (sym gs) (record { groups = groups_more settings events ev ∙ (rw (stays, goes) refl ∙ h.groups); limit = h.limit; idle = h.idle })
 
   all_heard : AnswersNone settings e (message_of body) events → (stopped events ≡ t.course.stopped → stopped (events ++ ev ∷ []) ≡ u.course.stopped) → (GroupsStand settings t.groups events → GroupsStand settings u.groups (events ++ ev ∷ [])) → Stands settings t events → Stands settings u (events ++ ev ∷ [])
-  all_heard silent halt go = house_moves settings t u events ev (λ n. refl) (λ n. none_answered settings e n body (message_of body) events (silent n)) refl (ap (λ v. v.items) ls) os r (heard_house halt go)
+  all_heard silent halt go = house_and_lasts settings t u events ev (λ n. refl) refl os r (λ origins lasts. subst (λ xs. LastsStand settings t.requests xs (events ++ ev ∷ [])) (sym (ap (λ v. v.items) ls)) (lasts_silent settings events e body silent t.requests t.lasts.items lasts)) (heard_house halt go)
 
   still : u.course.stopped ≡ t.course.stopped → stops events e (message_of body) ≡ false → stopped events ≡ t.course.stopped → stopped (events ++ ev ∷ []) ≡ u.course.stopped
   still keeps goes h = stopped_quiet events e body (message_of body) goes ∙ (h ∙ sym keeps)
@@ -324,7 +325,7 @@ pub initialized_moves : (settings : Settings) (before : List Event) (e : ℕ) (b
     → (p ≡ placed_for settings before e body (groups_of settings before)) × Stands settings u (before ++ took (FromEditor e body) (message_of body) ∷ [])
 initialized_moves settings before e body t u mid x p key given id first at new own k d chosen placed busy sits now ls os r s =
     let h = initialize_heard settings before e body (message_of body) t u mid x p key given id first at new own k d chosen placed busy sits now s.house in
-    (h.0, house_moves settings t u before (took (FromEditor e body) (message_of body)) (λ n. refl) (λ n. none_answered settings e n body (message_of body) before (answers_none settings e (message_of body) before (asks_silent (codes "initialize") (message_of body) first) n)) refl (ap (λ v. v.items) ls) (origins_stay settings t.origins u.origins before (took (FromEditor e body) (message_of body)) os (request_takes settings e (codes "initialize") (message_of body) before refl first)) r (λ _. h.1) s)
+    (h.0, house_moves settings t u before (took (FromEditor e body) (message_of body)) (λ n. refl) (λ n. none_answered settings e n body (message_of body) before (answers_all settings e (message_of body) before (asks_silent (codes "initialize") (message_of body) first) n)) refl (ap (λ v. v.items) ls) (origins_stay settings t.origins u.origins before (took (FromEditor e body) (message_of body)) os (request_takes settings e (codes "initialize") (message_of body) before refl first)) r (λ _. h.1) s)
 
 -- X7
 pub ticked_moves : (settings : Settings) (t u : Tables) (events : List Event) (now later : ℕ) (ns : List ℕ) → later ≡ max t.course.time now → u.editors ≡ t.editors → u.course ≡ record t.course { time = later } → ns ≡ all_from 0 (is_due t.groups.idle later) t.groups.groups

@@ -35,14 +35,14 @@ Last events s g = (start_of g events ≡ Some s) ⊎ ((life_of s events).stage �
 stage_stays : (events : List Event) (ev : Event) (s : ℕ) → names_start s ev ≡ false → (life_of s events).stage ≡ Ended → (life_of s (events ++ ev ∷ [])).stage ≡ Ended
 stage_stays events ev s h q = ap (λ (l : Life). l.stage) (one_more (life_behind s) _ _ events ev refl ∙ life_alone s _ ev h) ∙ q
 
-last_stays : (events : List Event) (ev : Event) (s g : ℕ) → spawns ev ≡ false → names_start s ev ≡ false → Last events s g → Last (events ++ ev ∷ []) s g
+pub last_stays : (events : List Event) (ev : Event) (s g : ℕ) → spawns ev ≡ false → names_start s ev ≡ false → Last events s g → Last (events ++ ev ∷ []) s g
 last_stays events ev s g k h (inl q) = inl (one_more (start_behind g) _ _ events ev q ∙ start_alone g _ ev k)
 last_stays events ev s g k h (inr q) = inr (stage_stays events ev s h q)
 
-group_before : (events : List Event) (ev : Event) (s g : ℕ) → spawns ev ≡ false → group_of s (events ++ ev ∷ []) ≡ Some g → group_of s events ≡ Some g
+pub group_before : (events : List Event) (ev : Event) (s g : ℕ) → spawns ev ≡ false → group_of s (events ++ ev ∷ []) ≡ Some g → group_of s events ≡ Some g
 group_before events ev s g k e = sym (one_more (group_behind s) _ _ events ev refl ∙ group_alone s _ ev k) ∙ e
 
-start_before : (events : List Event) (ev : Event) (g s : ℕ) → spawns ev ≡ false → start_of g (events ++ ev ∷ []) ≡ Some s → start_of g events ≡ Some s
+pub start_before : (events : List Event) (ev : Event) (g s : ℕ) → spawns ev ≡ false → start_of g (events ++ ev ∷ []) ≡ Some s → start_of g events ≡ Some s
 start_before events ev g s k e = sym (one_more (start_behind g) _ _ events ev refl ∙ start_alone g _ ev k) ∙ e
 
 -- of a group of which nothing is kept

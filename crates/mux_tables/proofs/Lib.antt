@@ -12,6 +12,7 @@ pub mod Frames
 pub mod IdMoves
 pub mod Idles
 pub mod Lasts
+pub mod Silent
 pub mod Seen
 pub mod Overdue
 pub mod Moves

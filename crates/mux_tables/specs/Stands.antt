@@ -375,9 +375,9 @@ pub record IsWorking (settings : Settings) (e s : ℕ) (events : List Event) : T
   pub asker : (asking_of settings s events).asker ≡ None
   pub runs : (asking_of settings s events).runs ≡ Some e
 
--- a message of an editor answers no ask
+-- a message of an editor answers no ask of a start that is ready
 abbrev pub AnswersNone : Settings → ℕ → Message → List Event → Type 0
-AnswersNone settings e m events = (s : ℕ) → AllByRecursion (λ (a : Ask). is_seated e (answered_id m) a ≡ false) (asks_of settings s events)
+AnswersNone settings e m events = (s : ℕ) → (life_of s events).stage ≡ Ready → AllByRecursion (λ (a : Ask). is_seated e (answered_id m) a ≡ false) (asks_of settings s events)
 
 -- this body is no request, and leaves the editor in its phase
 abbrev pub Keeps : ℕ → List ℕ → List Event → Type 0

@@ -15,17 +15,17 @@ use Rattle.mux_editors.proofs.Takings.{takes_ended}
 use Rattle.mux_editors.proofs.handed.take_reply.Goals as goal
 
 pub returns-in_ok-hear_running-in-None-clause-does : goal.returns-in_ok-hear_running-in-None-clause-does
-returns-in_ok-hear_running-in-None-clause-does c = λ settings before body g s read response served home last one meant none first settled st ds.
+returns-in_ok-hear_running-in-None-clause-does c = λ settings before body g s read response served home last one meant first settled st ds.
     let e = c.args.e in
     let m = message_of body in
     let over = ended_reply settings before e g s body home last (c.in-None.ensures.none settings before st) in
-    let silent = ended_silent settings before e g s body home last over none one in
+    let silent = ended_silent settings before e g s body home last over one in
     let untaken = takes_ended settings before settled c.args.tables.now st e g s m home last over in
     let begun = c.in_ok-hear_running-in-None.ensures.begun settings before body served (reply_makes m response) silent untaken (reply_keeps before e m response) first meant settled st ds in
     then_rest begun.done (does_alike (λ _. unready_reply settings before e g s body home last (ap is_ready over)) does_nothing)
 
 pub returns-in_ok-reply_at-in-Some-clause-does : goal.returns-in_ok-reply_at-in-Some-clause-does
-returns-in_ok-reply_at-in-Some-clause-does c = λ settings before body g s read response served home last one meant none first settled st ds.
+returns-in_ok-reply_at-in-Some-clause-does c = λ settings before body g s read response served home last one meant first settled st ds.
     let t = c.args.tables.now in
     let p = c.in-Some.g in
     let x = item_at t.lasts.items p c.in-Some.ensures.inside in

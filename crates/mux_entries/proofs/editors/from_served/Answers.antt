@@ -3,9 +3,10 @@ use Rattle.std.proofs.Common.{ap, sym, ◌∙◌}
 use Rattle.std.specs.Prelude.{Some}
 use Rattle.event_model.specs.Phases.{desk_of}
 use Rattle.mux_starts.specs.group_facts.specs.Built.{built_from_editor}
+use Rattle.mux_starts.specs.group_facts.proofs.Quits.{not_stopped}
 use Rattle.rpc_message.specs.Message.{message_of, notification, request}
 use Rattle.mux_starts.specs.mux_tables.specs.Documents.{AllStand}
-use Rattle.mux_entries.proofs.EditorAsks.{asked_by_one, ended_unasked}
+use Rattle.mux_entries.proofs.EditorAsks.{asked_by_one}
 use Rattle.mux_entries.proofs.EditorBuilt.{served_needs, served_there, standard_built, unasked_when}
 use Rattle.mux_entries.proofs.EditorRows.{answered, asks_by_sort, done_alike, is_answer, notes_by_sort, read_well, served, unasking, unnoting}
 use Rattle.mux_entries.proofs.editors.from_served.Goals as goal
@@ -38,4 +39,4 @@ returns-in_ok-take_reply-in-Result-clause-does c = λ settings before body read 
     let well = read_well c.args.message.now body read in
     let seat = settled.seated e (served_needs (desk_of e before).phase serves) in
     done_alike (λ k events. AllStand settings k events) (answered settings before e body unasked unnoted serves well single none)
-    (c.in_ok-take_reply-in-Result.ensures.does settings before body seat.group seat.start read (is_answer m unasked unnoted well) serves seat.home seat.last (asked_by_one settings before e seat.group seat.start m settled seat.home seat.last) known.meant (ended_unasked settings before seat.start settled) first settled st ds)
+    (c.in_ok-take_reply-in-Result.ensures.does settings before body seat.group seat.start read (is_answer m unasked unnoted well) serves seat.home seat.last (asked_by_one settings before e seat.group seat.start m (not_stopped before known.quit e (served_there (desk_of e before).phase serves)) settled seat.home seat.last) known.meant first settled st ds)

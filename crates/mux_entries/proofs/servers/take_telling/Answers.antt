@@ -6,6 +6,7 @@ use Rattle.group_rows.specs.AskRows.{notified_row}
 use Rattle.mux_starts.specs.mux_tables.specs.Documents.{AllStand}
 use Rattle.mux_entries.proofs.EditorRows.{done_alike}
 use Rattle.mux_entries.proofs.Questions.{all_run, broadcasts}
+use Rattle.mux_entries.proofs.Said.{stage_here}
 use Rattle.group_rows.specs.Created.{names_progress}
 use Rattle.group_rows.specs.Lists.{names_list}
 use Rattle.mux_entries.proofs.servers.take_telling.Goals as goal
@@ -14,7 +15,7 @@ pub returns-in_ok-take_recall-in-Cancel-clause-does : goal.returns-in_ok-take_re
 returns-in_ok-take_recall-in-Cancel-clause-does c = λ settings before body method params s x read says built first known settled here ready at st ds.
     let kind = sym (c.told_class.ensures body method params read says) ∙ c.in-Cancel.is in
     done_alike (λ k events. AllStand settings k events) (alike (ap (notified_row settings s before body params) kind))
-    (c.in_ok-take_recall-in-Cancel.ensures.does settings before body method params s x read says (ap names_progress kind) (ap names_list kind) (all_run settings before s settled) first here ready at st ds)
+    (c.in_ok-take_recall-in-Cancel.ensures.does settings before body method params s x read says (ap names_progress kind) (ap names_list kind) (all_run settings before s (stage_here settings c.args.tables.now before c.args.g s x here at st ∙ ready) settled) first here ready at st ds)
 
 pub returns-in_ok-take_progress-in-Progress-clause-does : goal.returns-in_ok-take_progress-in-Progress-clause-does
 returns-in_ok-take_progress-in-Progress-clause-does c = λ settings before body method params s x read says built first known settled here ready at st ds.
