@@ -16,7 +16,7 @@ use Rattle.event_model.specs.Phases.{desk_of, is_begun, is_there}
 use Rattle.event_model.specs.Row.{Row, each, outs, send, ◌⨾◌}
 use Rattle.event_model.specs.Settings.{Settings}
 use Rattle.event_model.specs.Stages.{Life, is_ready, life_of}
-use Rattle.event_model.proofs.Turns.{behind_more, does_then}
+use Rattle.event_model.proofs.Turns.{does_then}
 use Rattle.group_words.specs.Houses.{groups_of, is_doubled, stops}
 use Rattle.group_words.specs.Placing.{all_from, is_live}
 use Rattle.group_words.specs.Rows.{end_group}

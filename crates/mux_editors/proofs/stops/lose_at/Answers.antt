@@ -1,9 +1,8 @@
 -- The requests of an editor at its start fail.
-use Rattle.std.proofs.Common.{get_or, sym, subst, [], ◌∙◌}
-use Rattle.std.specs.List.{AllByRecursion}
+use Rattle.std.proofs.Common.{[]}
 use Rattle.event_model.specs.Event.{behind}
-use Rattle.event_model.proofs.Turns.{does_knowing, does_next, does_whole}
-use Rattle.mux_editors.specs.Halting.{IsNamed, refuse_id}
+use Rattle.event_model.proofs.Turns.{does_next, does_whole}
+use Rattle.mux_editors.specs.Halting.{refuse_id}
 use Rattle.mux_editors.proofs.Halting.{loses_all, named_at}
 use Rattle.mux_editors.proofs.stops.lose_at.Goals as goal
 

@@ -1,5 +1,5 @@
 -- Those before failed.
-use Rattle.std.proofs.Common.{◌≡◌, ℕ, List, take}
+use Rattle.std.proofs.Common.{List, take}
 use Rattle.std.specs.List.{AllByRecursion}
 use Rattle.event_model.specs.Does.{Does}
 use Rattle.event_model.specs.Event.{Event, behind}

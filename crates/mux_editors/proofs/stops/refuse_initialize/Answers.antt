@@ -1,5 +1,5 @@
 -- The `initialize` of an editor that waits fails.
-use Rattle.std.proofs.Common.{◌≡◌, true, false, ap, sym, subst, ◌∙◌}
+use Rattle.std.proofs.Common.{true, false, ap, sym, ◌∙◌}
 use Rattle.event_model.specs.Event.{behind}
 use Rattle.event_model.specs.Phases.{is_waiting}
 use Rattle.mux_editors.proofs.Halting.{refuses_none, refuses_waiting, unwaiting_none}

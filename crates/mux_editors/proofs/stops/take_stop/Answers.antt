@@ -1,6 +1,6 @@
 -- An editor stops all.
-use Rattle.std.proofs.Common.{◌≡◌, All, codes, length, ap, subst, sym, ◌<◌, ◌∙◌}
-use Rattle.event_model.specs.Event.{behind, with_cause}
+use Rattle.std.proofs.Common.{◌≡◌, codes, ap, sym, ◌∙◌}
+use Rattle.event_model.specs.Event.{with_cause}
 use Rattle.mux_history.specs.declared.cause.Cause.TheVariants.{FromEditor}
 use Rattle.rpc_message.specs.Message.{id_bytes}
 use Rattle.rpc_message.specs.Texts.{ok_text}
