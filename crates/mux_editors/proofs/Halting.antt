@@ -110,24 +110,24 @@ loses_all settings t base xs ys e s ids named is d = does_knowing (λ st.
 -- each is an editor's own
 own_rows : (e : ℕ) (fs : List Forwarded) → Alike (each lose_request (filter (is_of e) fs)) (each (refuse_id e) (ids_at e fs))
 own_rows e [] = alike refl
-own_rows e (f ∷ fs) = go (nat_eq f.editor e) refl
+own_rows e (f ∷ fs) = go (own_rows e fs) (nat_eq f.editor e) refl
   where
-    go : (b : Bool) → nat_eq f.editor e ≡ b → Alike (each lose_request (if b then f ∷ filter (is_of e) fs else filter (is_of e) fs)) (each (refuse_id e) (map (λ (f : Forwarded). f.id) (if b then f ∷ filter (is_of e) fs else filter (is_of e) fs)))
-    go true mine = record {
+    go : Alike (each lose_request (filter (is_of e) fs)) (each (refuse_id e) (ids_at e fs)) → (b : Bool) → nat_eq f.editor e ≡ b → Alike (each lose_request (if b then f ∷ filter (is_of e) fs else filter (is_of e) fs)) (each (refuse_id e) (map (λ (f : Forwarded). f.id) (if b then f ∷ filter (is_of e) fs else filter (is_of e) fs)))
+    go rest true mine = record {
       sends = λ events.
           let own : f.editor ≡ e = number_same f.editor e mine in
           ap₂ (λ x ws. x ∷ ws) (ap (λ n. ToEditor n (error_text f.id request_failed)) own)
-          (ap (λ n. outs (each lose_request (filter (is_of e) fs)) (events ++ said (ToEditor n (error_text f.id request_failed)) ∷ [])) own ∙ (own_rows e fs).sends (events ++ said (ToEditor e (error_text f.id request_failed)) ∷ []));
+          (ap (λ n. outs (each lose_request (filter (is_of e) fs)) (events ++ said (ToEditor n (error_text f.id request_failed)) ∷ [])) own ∙ rest.sends (events ++ said (ToEditor e (error_text f.id request_failed)) ∷ []));
     }
-    go false off = own_rows e fs
+    go rest false off = rest
 
 named_all : (events : List Event) (e : ℕ) (fs : List Forwarded) → AllByRecursion (IsForwarded events) fs → AllByRecursion IsNamed (ids_at e fs)
 named_all events e [] h = tt
-named_all events e (f ∷ fs) h = go (nat_eq f.editor e)
+named_all events e (f ∷ fs) h = go (named_all events e fs h.1) (nat_eq f.editor e)
   where
-    go : (b : Bool) → AllByRecursion IsNamed (map (λ (f : Forwarded). f.id) (if b then f ∷ filter (is_of e) fs else filter (is_of e) fs))
-    go true = (((h.0).id, (h.0).text), named_all events e fs h.1)
-    go false = named_all events e fs h.1
+    go : AllByRecursion IsNamed (ids_at e fs) → (b : Bool) → AllByRecursion IsNamed (map (λ (f : Forwarded). f.id) (if b then f ∷ filter (is_of e) fs else filter (is_of e) fs))
+    go rest true = (((h.0).id, (h.0).text), rest)
+    go rest false = rest
 
 -- the start of its group
 module _ (settings : Settings) (t : Tables) (before base : List Event) (xs : List Out) (home e : ℕ) (stays : Stays settings before (behind base xs)) where
@@ -224,10 +224,10 @@ module _ (settings : Settings) (before now : List Event) (k : ℕ) (body : List 
     housed = λ e at. let home = r.housed e (told_desk e at).0 in (home.0, home_more settings e now ev ∙ home.1);
   }
 
-still_refusing : (settings : Settings) (before now : List Event) (xs : List Out) → AllByRecursion IsTold xs → Refusing settings before now → Refusing settings before (behind now xs)
-still_refusing settings before now [] h r = subst (Refusing settings before) (sym (append-nil now)) r
-still_refusing settings before now (ToEditor k body ∷ xs) h r = subst (Refusing settings before) (sym (behind_more now (ToEditor k body ∷ []) xs)) (still_refusing settings before (now ++ said (ToEditor k body) ∷ []) xs h.1 (told_refusing settings before now k body r))
-still_refusing settings before now (other ∷ xs) h r = absurd h.0
+still_refusing : (settings : Settings) (before events : List Event) (xs : List Out) → AllByRecursion IsTold xs → Refusing settings before events → Refusing settings before (behind events xs)
+still_refusing settings before events [] h r = subst (Refusing settings before) (sym (append-nil events)) r
+still_refusing settings before events (ToEditor k body ∷ xs) h r = subst (Refusing settings before) (sym (behind_more events (ToEditor k body ∷ []) xs)) (still_refusing settings before (events ++ said (ToEditor k body) ∷ []) xs h.1 (told_refusing settings before events k body r))
+still_refusing settings before events (other ∷ xs) h r = absurd h.0
 
 pub refusing_on : (settings : Settings) (t : Tables) (before base : List Event) (xs ys : List Out) {row : Row} → ((events : List Event) → AllByRecursion IsTold (outs row events)) → Does (λ t events. Stands settings t events) row base t xs t ys → Stands settings t (behind base xs)
     → Refusing settings before (behind base xs) → Refusing settings before (behind base ys)

@@ -16,7 +16,7 @@ use Rattle.event_model.specs.Phases.{desk_of, is_begun, is_there}
 use Rattle.event_model.specs.Row.{Row, each, outs, send, ◌⨾◌}
 use Rattle.event_model.specs.Settings.{Settings}
 use Rattle.event_model.specs.Stages.{Life, is_ready, life_of}
-use Rattle.event_model.proofs.Turns.{does_then}
+use Rattle.event_model.proofs.Turns.{behind_more, does_then}
 use Rattle.group_words.specs.Houses.{groups_of, is_doubled, stops}
 use Rattle.group_words.specs.Placing.{all_from, is_live}
 use Rattle.group_words.specs.Rows.{end_group}
@@ -95,7 +95,7 @@ module _ (settings : Settings) (before : List Event) (e : ℕ) (body : List ℕ)
 
   still_numbered : (t u : Tables) (ys : List Out) (lost shut : List ℕ) → Known settings before → Halts settings t (behind base []) → Does (λ t events. Halts settings t events) (first_parts lost shut) base t [] u ys → Numbered (behind base ys)
   still_numbered t u ys lost shut known here d =
-      let sent : behind base ys ≡ behind (behind base []) (outs (first_parts lost shut) (behind base [])) = ap (behind base) (d.done here).outs in
+      let sent : behind base ys ≡ behind (behind base []) (outs (first_parts lost shut) (behind base [])) = ap (behind base) (d.done here).outs ∙ behind_more base [] (outs (first_parts lost shut) (behind base [])) in
       subst Numbered (sym sent) (numbered_asides (outs (first_parts lost shut) (behind base [])) (behind base []) (parts_aside lost shut (behind base [])) (subst Numbered (sym (append-nil base)) (numbered_heard before e body known.numbered)))
 
   pub stops_all : Known settings before → Settled settings before → (t t0 u v : Tables) → Stands settings t before → Stands settings t0 base → DocumentsStand settings nothing_owed t0 base
