@@ -66,8 +66,10 @@ use Rattle.group_rows.specs.Rows.{answer_error, begin_in, begun_row, closing_row
 use Rattle.group_rows.specs.Texts.{encoding_of, texts_of}
 use Rattle.group_rows.specs.Ticks.{due_of, overdue_of, tick_row}
 use Rattle.group_facts.specs.Built.{built_behind}
+use Rattle.group_facts.specs.Lively.{lives_at}
 use Rattle.group_facts.proofs.Exits.{failed_groups, gone_groups}
 use Rattle.group_facts.proofs.Housed.{ended_length}
+use Rattle.group_facts.proofs.LiveGroups.{lives_past}
 use Rattle.group_facts.proofs.PlacingRow.{IsNext, placed_next}
 use Rattle.group_facts.proofs.Waiting.{first_unasked, new_is, whole_is}
 
@@ -550,10 +552,11 @@ module _ (settings : Settings) where
 
   -- What an entry founds
 
-  -- none, and nothing is spawned; or the next one, and its start is the last out
+  -- none, and nothing is spawned; or the next one, which lives, and its start is the last out
   pub data Founding (before : List Event) (cause : Cause) : Type 0 where
     quiet : AllByRecursion NoSpawn (outs_of settings before cause) → count (with_cause before cause) ≡ count before → Founding before cause
-    founds : (xs : List Out) (s : ℕ) → AllByRecursion NoSpawn xs → outs_of settings before cause ≡ xs ++ Spawn s (count before) ∷ [] → count (with_cause before cause) ≡ count before + 1 → Founding before cause
+    founds : (xs : List Out) (s : ℕ) → AllByRecursion NoSpawn xs → outs_of settings before cause ≡ xs ++ Spawn s (count before) ∷ [] → count (with_cause before cause) ≡ count before + 1
+        → lives_at (count before) (groups_of settings (with_cause before cause)) ≡ true → Founding before cause
 
   module _ (before : List Event) (e : ℕ) (body : List ℕ) (here : places (desk_of e before).phase (message_of body) ≡ true) where
     abbrev now : List Event
@@ -573,8 +576,11 @@ module _ (settings : Settings) where
         joins = by_on (λ none. by_nothing) (λ s start. by_choose (λ ready. by_on (λ none. by_nothing) (λ given found. by_send tt)) (λ no. by_nothing))
     by_placed (Founds g) next sent groups = founds [] (starts_of now) tt (sent ∙ ap (λ k. Spawn (starts_of now) k ∷ []) next)
         (ap length groups ∙ length-append (groups_of settings before) (founded (key_for settings before e body) (declared_for settings before e body) ∷ []))
+        (ap (lives_at (count before)) groups ∙ lives_past (groups_of settings before) (founded (key_for settings before e body) (declared_for settings before e body)) [])
     by_placed (Evicts a g) next sent groups = founds (outs (end_group a) now) (starts_of (behind now (outs (end_group a) now))) (all_outs NoSpawn now _ (quiet_ended settings before a now).why) (sent ∙ ap (λ k. outs (end_group a) now ++ Spawn (starts_of (behind now (outs (end_group a) now))) k ∷ []) next)
         (ap length groups ∙ length-append (changed a ended (groups_of settings before)) (founded (key_for settings before e body) (declared_for settings before e body) ∷ []) ∙ ap (λ k. k + 1) (changed_length a ended (groups_of settings before)))
+        (ap (lives_at (count before)) groups ∙ (ap (λ k. lives_at k (changed a ended (groups_of settings before) ++ founded (key_for settings before e body) (declared_for settings before e body) ∷ [])) (sym (changed_length a ended (groups_of settings before)))
+        ∙ lives_past (changed a ended (groups_of settings before)) (founded (key_for settings before e body) (declared_for settings before e body)) []))
     by_placed TooMany next sent groups = quiet (subst (AllByRecursion NoSpawn) (sym sent) (tt, (tt, tt))) (ap length groups)
 
     placing : Founding before (FromEditor e body)
@@ -640,4 +646,4 @@ module _ (settings : Settings) where
     where
       go : Founding before cause → Begun (behind (with_cause before cause) (outs_of settings before cause))
       go (quiet all same) = begun_quiet before cause h (outs_of settings before cause) all same
-      go (founds xs s all sent more) = subst (λ z. Begun (behind (with_cause before cause) z)) (sym sent) (begun_spawned before cause h xs s all more)
+      go (founds xs s all sent more live) = subst (λ z. Begun (behind (with_cause before cause) z)) (sym sent) (begun_spawned before cause h xs s all more)

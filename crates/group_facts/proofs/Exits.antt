@@ -19,7 +19,7 @@ changed_over f same i [] h = refl
 changed_over f same zero (x ∷ xs) h = ap (λ y. y ∷ xs) (same x h)
 changed_over f same (suc i) (x ∷ xs) h = ap (λ ys. x ∷ ys) (changed_over f same i xs h)
 
-exit_over : (restarts : ℕ) (wanted : Bool) (x : Kept) → x.live ≡ false → exit_of restarts wanted x ≡ x
+pub exit_over : (restarts : ℕ) (wanted : Bool) (x : Kept) → x.live ≡ false → exit_of restarts wanted x ≡ x
 exit_over restarts wanted x h = ap (λ b. if b then (if wanted && nat_le (x.exits + 1) restarts then exited x else ended (exited x)) else x) h
 
 over_of : (home : Option ℕ) (groups : List Kept) → not (option_map_or (λ g. lives_at g groups) home false) ≡ true → (g : ℕ) → home ≡ Some g → lives_at g groups ≡ false

@@ -75,3 +75,5 @@ pub mod StopEnds
 pub mod StopWhy
 pub mod StopEntry
 pub mod StopDown
+pub mod Ceased
+pub mod Downs

@@ -50,7 +50,23 @@ lives_busy g xs h = go (slice_get xs g) h
     go None h = h
     go (Some x) h = (and_parts x.live (is_none x.idle) h).0
 
+-- what leaves that a group lives leaves who lives
+pub changed_lives : (f : Kept → Kept) → ((x : Kept) → (f x).live ≡ x.live) → (i g : ℕ) (xs : List Kept) → lives_at g (changed i f xs) ≡ lives_at g xs
+changed_lives f same i g [] = refl
+changed_lives f same zero zero (x ∷ xs) = same x
+changed_lives f same zero (suc g) (x ∷ xs) = refl
+changed_lives f same (suc i) zero (x ∷ xs) = refl
+changed_lives f same (suc i) (suc g) (x ∷ xs) = changed_lives f same i g xs
+
+pub lives_apart : (i g : ℕ) (f : Kept → Kept) (xs : List Kept) → (g ≡ i → ⊥) → lives_at g (changed i f xs) ≡ lives_at g xs
+lives_apart i g f xs apart = ap lives (changed_other i g f xs apart)
+
 -- A group is added
+
+pub lives_left : (g : ℕ) (xs ys : List Kept) → lives_at g xs ≡ true → lives_at g (xs ++ ys) ≡ true
+lives_left g [] ys h = absurd (cc)
+lives_left zero (x ∷ xs) ys h = h
+lives_left (suc g) (x ∷ xs) ys h = lives_left g xs ys h
 
 busy_left : (g : ℕ) (xs ys : List Kept) → is_busy_at g xs ≡ true → is_busy_at g (xs ++ ys) ≡ true
 busy_left g [] ys h = absurd (cc)
@@ -217,6 +233,18 @@ lives_emptied (Some i) was stays now g groups h = go (was && not (stays i)) h
     go true h = lives_changed (idle_if_live now) (idle_lives now) i g groups h
     go false h = h
 
+pub emptied_lives : (home : Option ℕ) (was : Bool) (stays : ℕ → Bool) (now g : ℕ) (groups : List Kept) → lives_at g (emptied home was stays now groups) ≡ lives_at g groups
+emptied_lives None was stays now g groups = refl
+emptied_lives (Some i) was stays now g groups = go (was && not (stays i))
+  where
+    same : (x : Kept) (b : Bool) → (if b then idle_from now x else x).live ≡ x.live
+    same x true = refl
+    same x false = refl
+
+    go : (b : Bool) → lives_at g (if b then changed i (idle_if_live now) groups else groups) ≡ lives_at g groups
+    go true = changed_lives (idle_if_live now) (λ x. same x x.live) i g groups
+    go false = refl
+
 pub busy_emptied : (home : Option ℕ) (was : Bool) (stays : ℕ → Bool) (now g : ℕ) (groups : List Kept) → stays g ≡ true → is_busy_at g groups ≡ true → is_busy_at g (emptied home was stays now groups) ≡ true
 busy_emptied None was stays now g groups others h = h
 busy_emptied (Some i) was stays now g groups others h = go was (stays i) refl
@@ -251,7 +279,7 @@ busy_ended limit now g [] h = h
 busy_ended limit now zero (x ∷ xs) h = ap (λ b. is_busy (Some (if b then ended x else x))) (busy_undue limit now x h) ∙ h
 busy_ended limit now (suc g) (x ∷ xs) h = busy_ended limit now g xs h
 
-lives_past : (ps : List Kept) (x : Kept) (xs : List Kept) → lives_at (length ps) (ps ++ x ∷ xs) ≡ x.live
+pub lives_past : (ps : List Kept) (x : Kept) (xs : List Kept) → lives_at (length ps) (ps ++ x ∷ xs) ≡ x.live
 lives_past [] x xs = refl
 lives_past (p ∷ ps) x xs = lives_past ps x xs
 
@@ -265,6 +293,20 @@ over_from test ps (x ∷ xs) i at = go (test x) (λ z. subst (λ zs. AllByRecurs
         → AllByRecursion (λ g. lives_at g (ps ++ (if b then ended x else x) ∷ end_where test xs) ≡ false) (if b then i ∷ all_from (i + 1) test xs else all_from (i + 1) test xs)
     go true rest = (ap (λ n. lives_at n (ps ++ ended x ∷ end_where test xs)) at ∙ lives_past ps (ended x) (end_where test xs), rest (ended x))
     go false rest = rest x
+
+-- of these each that lived and lives no more is one
+pub all_at : (P : ℕ → Type 0) (test : Kept → Bool) (xs : List Kept) (i g n : ℕ) → n ≡ i + g → AllByRecursion P (all_from i test xs) → lives_at g xs ≡ true → lives_at g (end_where test xs) ≡ false → P n
+all_at P test [] i g n same all live over = absurd (cc)
+all_at P test (x ∷ xs) i zero n same all live over = go (test x) all over
+  where
+    go : (b : Bool) → AllByRecursion P (if b then i ∷ all_from (i + 1) test xs else all_from (i + 1) test xs) → (if b then ended x else x).live ≡ false → P n
+    go true all over = subst P (omega (arith, same)) all.0
+    go false all over = never (sym live ∙ over)
+all_at P test (x ∷ xs) i (suc g) n same all live over = all_at P test xs (i + 1) g n (omega (arith, same)) (rest (test x) all) live over
+  where
+    rest : (b : Bool) → AllByRecursion P (if b then i ∷ all_from (i + 1) test xs else all_from (i + 1) test xs) → AllByRecursion P (all_from (i + 1) test xs)
+    rest true all = all.1
+    rest false all = all
 
 pub over_ended : (test : Kept → Bool) (xs : List Kept) → AllByRecursion (λ g. lives_at g (end_where test xs) ≡ false) (all_from 0 test xs)
 over_ended test xs = over_from test [] xs 0 refl

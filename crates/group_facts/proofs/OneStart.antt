@@ -13,6 +13,7 @@ use Rattle.mux_facts.proofs.Words.{number_same, same_number}
 use Rattle.group_words.specs.Houses.{groups_of}
 use Rattle.group_rows.specs.Rows.{outs_of}
 use Rattle.group_facts.specs.Built.{built_behind}
+use Rattle.group_facts.specs.Lively.{lives_at}
 use Rattle.group_facts.proofs.Begun.{Begun, Founding, NoSpawn, founding_of, founds, quiet, start_more, start_took, starts_stay}
 use Rattle.group_facts.proofs.Housed.{group_more}
 
@@ -35,14 +36,14 @@ groups_rest s events [] h = ap (group_of s) (append-nil events)
 groups_rest s events (x ∷ xs) h = ap (group_of s) (sym (append_assoc events (said x ∷ []) (map said xs))) ∙ (groups_rest s (events ++ said x ∷ []) xs h.1 ∙ group_did s events x h.0)
 
 module _ (settings : Settings) (before : List Event) (cause : Cause) (begun : Begun settings before) where
-  abbrev N : ℕ
+  abbrev pub N : ℕ
   N = length (groups_of settings before)
 
-  abbrev now : List Event
+  abbrev pub now : List Event
   now = with_cause before cause
 
   -- a group that has a start is kept
-  kept_below : (g s : ℕ) → start_of g before ≡ Some s → g < N
+  pub kept_below : (g s : ℕ) → start_of g before ≡ Some s → g < N
   kept_below g s at = within (λ le. some ((begun g).1 le))
     where
       some : start_of g before ≡ None → ⊥
@@ -51,40 +52,41 @@ module _ (settings : Settings) (before : List Event) (cause : Cause) (begun : Be
       within : (N ≤ g → ⊥) → g < N
       within f = omega (arith, f)
 
-  apart : (g : ℕ) → g < N → nat_eq N g ≡ false
+  pub apart : (g : ℕ) → g < N → nat_eq N g ≡ false
   apart g below = go (nat_eq N g) refl
     where
       go : (b : Bool) → nat_eq N g ≡ b → b ≡ false
       go true same = absurd (let is : N ≡ g = number_same N g same in omega (arith, is, below))
       go false other = refl
 
-  start_quiet : (g : ℕ) (xs : List Out) → AllByRecursion NoSpawn xs → start_of g (behind now xs) ≡ start_of g before
+  pub start_quiet : (g : ℕ) (xs : List Out) → AllByRecursion NoSpawn xs → start_of g (behind now xs) ≡ start_of g before
   start_quiet g xs all = starts_stay g now xs all ∙ start_took g before cause
 
-  group_quiet : (s : ℕ) (xs : List Out) → AllByRecursion NoSpawn xs → group_of s (behind now xs) ≡ group_of s before
+  pub group_quiet : (s : ℕ) (xs : List Out) → AllByRecursion NoSpawn xs → group_of s (behind now xs) ≡ group_of s before
   group_quiet s xs all = groups_rest s now xs all ∙ group_took s before cause
 
   -- behind its start
-  start_last : (g n : ℕ) (xs : List Out) → AllByRecursion NoSpawn xs → start_of g (behind now (xs ++ Spawn n N ∷ [])) ≡ (if nat_eq N g then Some n else start_of g before)
+  pub start_last : (g n : ℕ) (xs : List Out) → AllByRecursion NoSpawn xs → start_of g (behind now (xs ++ Spawn n N ∷ [])) ≡ (if nat_eq N g then Some n else start_of g before)
   start_last g n xs all = ap (start_of g) (behind_both now xs (Spawn n N ∷ [])) ∙ start_more g (behind now xs) (said (Spawn n N)) ∙ ap (λ o. if nat_eq N g then Some n else o) (start_quiet g xs all)
 
-  group_last : (s n : ℕ) (xs : List Out) → AllByRecursion NoSpawn xs → group_of s (behind now (xs ++ Spawn n N ∷ [])) ≡ (if nat_eq n s then Some N else group_of s before)
+  pub group_last : (s n : ℕ) (xs : List Out) → AllByRecursion NoSpawn xs → group_of s (behind now (xs ++ Spawn n N ∷ [])) ≡ (if nat_eq n s then Some N else group_of s before)
   group_last s n xs all = ap (group_of s) (behind_both now xs (Spawn n N ∷ [])) ∙ group_more s (behind now xs) (said (Spawn n N)) ∙ ap (λ o. if nat_eq n s then Some N else o) (group_quiet s xs all)
 
-  by_founding : (P : List Out → Type 0) → ((xs : List Out) → AllByRecursion NoSpawn xs → P xs) → ((xs : List Out) (n : ℕ) → AllByRecursion NoSpawn xs → P (xs ++ Spawn n N ∷ [])) → Founding settings before cause → P (outs_of settings before cause)
+  pub by_founding : (P : List Out → Type 0) → ((xs : List Out) → AllByRecursion NoSpawn xs → P xs) → ((xs : List Out) (n : ℕ) → AllByRecursion NoSpawn xs → lives_at N (groups_of settings now) ≡ true → P (xs ++ Spawn n N ∷ []))
+      → Founding settings before cause → P (outs_of settings before cause)
   by_founding P f g (quiet all same) = f (outs_of settings before cause) all
-  by_founding P f g (founds xs n all sent more) = subst P (sym sent) (g xs n all)
+  by_founding P f g (founds xs n all sent more live) = subst P (sym sent) (g xs n all live)
 
   module _ (built : built_behind settings before cause ≡ true) where
     pub start_kept : (g s : ℕ) → start_of g before ≡ Some s → start_of g (behind now (outs_of settings before cause)) ≡ Some s
     start_kept g s at = by_founding (λ xs. start_of g (behind now xs) ≡ Some s) (λ xs all. start_quiet g xs all ∙ at)
-        (λ xs n all. start_last g n xs all ∙ ap (λ b. if b then Some n else start_of g before) (apart g (kept_below g s at)) ∙ at) (founding_of settings before cause built)
+        (λ xs n all live. start_last g n xs all ∙ ap (λ b. if b then Some n else start_of g before) (apart g (kept_below g s at)) ∙ at) (founding_of settings before cause built)
 
     pub one_rests : OneStart before → OneStart (behind now (outs_of settings before cause))
     one_rests h s g = by_founding (λ xs. group_of s (behind now xs) ≡ Some g → start_of g (behind now xs) ≡ Some s) (λ xs all at. start_quiet g xs all ∙ h s g (sym (group_quiet s xs all) ∙ at)) last (founding_of settings before cause built)
       where
-        last : (xs : List Out) (n : ℕ) → AllByRecursion NoSpawn xs → group_of s (behind now (xs ++ Spawn n N ∷ [])) ≡ Some g → start_of g (behind now (xs ++ Spawn n N ∷ [])) ≡ Some s
-        last xs n all at = start_last g n xs all ∙ go (nat_eq n s) refl (sym (group_last s n xs all) ∙ at)
+        last : (xs : List Out) (n : ℕ) → AllByRecursion NoSpawn xs → lives_at N (groups_of settings now) ≡ true → group_of s (behind now (xs ++ Spawn n N ∷ [])) ≡ Some g → start_of g (behind now (xs ++ Spawn n N ∷ [])) ≡ Some s
+        last xs n all live at = start_last g n xs all ∙ go (nat_eq n s) refl (sym (group_last s n xs all) ∙ at)
           where
             go : (b : Bool) → nat_eq n s ≡ b → (if b then Some N else group_of s before) ≡ Some g → (if nat_eq N g then Some n else start_of g before) ≡ Some s
             go true same k = let is : N ≡ g = cc in ap (λ b. if b then Some n else start_of g before) (subst (λ z. nat_eq N z ≡ true) is (same_number N)) ∙ ap (λ z. Some z) (number_same n s same)

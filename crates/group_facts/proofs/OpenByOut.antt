@@ -157,4 +157,4 @@ module _ (settings : Settings) (e : ℕ) (E : Id → Type 0) where
 
         go : Founding settings before cause → Reasons R now (outs_of settings before cause) → OpenAt (behind now (outs_of settings before cause))
         go (quiet calm same) why = open_outs now (outs_of settings before cause) why calm h
-        go (founds xs s calm sent more) why = subst (λ z. OpenAt (behind now z)) (sym sent) (last xs s calm (subst (Reasons R now) sent why))
+        go (founds xs s calm sent more live) why = subst (λ z. OpenAt (behind now z)) (sym sent) (last xs s calm (subst (Reasons R now) sent why))

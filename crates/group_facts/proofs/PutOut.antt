@@ -184,7 +184,7 @@ module _ (settings : Settings) (before : List Event) (s : ℕ) (body : List ℕ)
   later = behind now (outs_of settings before (FromServer s body))
 
   module _ (refuses : is_refusing before s (message_of body) ≡ true) (g : ℕ) (home : group_of s before ≡ Some g) where
-    refused_outs : outs_of settings before (FromServer s body) ≡ outs (refused_in settings s body g) now
+    pub refused_outs : outs_of settings before (FromServer s body) ≡ outs (refused_in settings s body g) now
     refused_outs =
         let p = and_parts (is_first_error (message_of body)) (is_initializing (life_of s before).stage) refuses in
         rw (initializing_is (life_of s before).stage p.1, no_result (message_of body) p.0, p.0, home) refl

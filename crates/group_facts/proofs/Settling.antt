@@ -27,6 +27,8 @@ use Rattle.group_facts.proofs.AskEntries.{AllSeats}
 use Rattle.group_facts.proofs.AskLeft.{no_seats, seats_rest}
 use Rattle.group_facts.proofs.OneStart.{OneStart, one_none, one_rests}
 use Rattle.group_facts.proofs.Begun.{Begun, begun_rests}
+use Rattle.group_facts.proofs.Ceased.{Spawned, spawned_behind, spawned_none, spawned_took}
+use Rattle.group_facts.proofs.Downs.{AllDown, Over, down_none, down_rests, over_none, over_rests, serving}
 use Rattle.group_facts.proofs.Facts.{Facts}
 use Rattle.group_facts.proofs.Keeping.{Keeps, all_did, all_took}
 use Rattle.group_facts.proofs.Known.{entry_keeps, no_facts}
@@ -38,6 +40,7 @@ use Rattle.group_facts.proofs.Takings.{AllTaken, Uncreated, none_taken, none_unc
 use Rattle.group_facts.proofs.OpenByPhase.{IsOne, OpenIf, if_answered}
 use Rattle.group_facts.proofs.OpenByOut.{S}
 use Rattle.group_rows.specs.StopRows.{stopped}
+use Rattle.group_facts.proofs.StopDown.{bounded_low}
 use Rattle.group_facts.proofs.StopEntry.{before_on}
 
 -- Folders
@@ -65,6 +68,9 @@ module _ (settings : Settings) (range : InRange settings) where
     seats : stopped events ≡ false → AllSeats settings events
     uncreated : Uncreated settings events
     taken : AllTaken settings events
+    spawned : Spawned events
+    down : AllDown settings events
+    over : Over settings events
 
   -- what each event keeps, an entry keeps
   entry_all : (I : List Event → Type 0) → ((events : List Event) (out : Out) → I events → I (events ++ said out ∷ [])) → (events : List Event) (outs : List Out) → I events → I (behind events outs)
@@ -83,6 +89,9 @@ module _ (settings : Settings) (range : InRange settings) where
     seats = λ on. seats_rest settings range before h.facts h.one (h.seats (before_on before cause (outs_of settings before cause) on)) h.begun cause built fits on (lively_rests settings range before h.facts h.begun h.lively cause fits built);
     uncreated = uncreated_rests settings range before h.facts h.one h.begun cause built fits h.uncreated h.taken;
     taken = taken_rests settings range before h.facts h.one h.begun cause built fits h.uncreated h.taken (lively_rests settings range before h.facts h.begun h.lively cause fits built);
+    spawned = spawned_behind (with_cause before cause) (outs_of settings before cause) (spawned_took before cause h.spawned);
+    down = down_rests settings before (bounded_low settings range before ((h.facts).steady).bounded) h.spawned h.lively h.one h.down cause h.begun built (lively_rests settings range before h.facts h.begun h.lively cause fits built);
+    over = over_rests settings before (h.facts).quit h.over cause;
   }
 
   no_rests : Rests []
@@ -97,6 +106,9 @@ module _ (settings : Settings) (range : InRange settings) where
     seats = λ on. no_seats settings;
     uncreated = none_uncreated settings;
     taken = none_taken settings;
+    spawned = spawned_none;
+    down = down_none settings;
+    over = over_none settings;
   }
 
   rests_more : (before : List Entry) (entry : Entry) → IsTrue (fits_behind (events_of before) entry.cause) → IsTrue (built_behind settings (events_of before) entry.cause) → entry.outs ≡ outs_of settings (events_of before) entry.cause → Rests (events_of before) → Rests (events_of (before ++ entry ∷ []))
@@ -123,6 +135,9 @@ module _ (settings : Settings) (range : InRange settings) where
     spelt = h.spelt;
     begun = h.begun;
     lively = h.lively;
+    serving = serving settings events ((h.facts).steady).starts ((h.facts).steady).housed h.one h.down;
+    down = h.down;
+    over = h.over;
     unasked = λ e at. subst (λ p. OpenIf (S settings e Nobody events) p (desk_of e events).initialize (open_of e events)) at (h.opens e);
     waiting = λ e at. only events e h.opens at;
     sent = λ e id served still. sent_on events e id h.opens served still;

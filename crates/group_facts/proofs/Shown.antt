@@ -1,5 +1,5 @@
 -- Why a last list of diagnostics is shown to an editor that it fits.
-use Rattle.std.proofs.Common.{◌≡◌, ℕ, Bool, true, false, List, [], ◌∷◌, ◌++◌, map, Option, Some, None, refl, sym, subst, append-nil, append_assoc}
+use Rattle.std.proofs.Common.{◌≡◌, ℕ, Bool, true, false, List, [], ◌∷◌, ◌++◌, map, Option, refl, sym, subst, append-nil, append_assoc}
 use Rattle.json_text.specs.Json.{Json}
 use Rattle.mux_history.specs.declared.cause.Cause.{Cause}
 use Rattle.mux_history.specs.declared.out.Out.{Out}
@@ -21,7 +21,7 @@ use Rattle.mux_facts.proofs.Reasons.{Because, by_choose, by_nothing, by_send}
 use Rattle.group_rows.specs.diagnostics_route.specs.declared.last_list.LastList.{LastList}
 use Rattle.group_rows.specs.diagnostics_route.specs.Shown.{fits, shown_text}
 use Rattle.group_rows.specs.ListRows.{show, show_full}
-use Rattle.group_rows.specs.Lists.{agreement_at, is_publishing, names_list, version_at}
+use Rattle.group_rows.specs.Lists.{agreement_at, names_list, version_at}
 use Rattle.group_rows.proofs.ListTexts.{shown_says}
 use Rattle.group_rows.proofs.ListsKept.{IsList}
 use Rattle.group_rows.proofs.Versions.{AllMeant, meant_more, meant_said, version_number}

@@ -79,11 +79,11 @@ there_told e k events text h = ap (λ (d : Desk). is_there d.phase) (desk_more e
 
 -- Bodies to editors alone
 
-abbrev IsBody : Out → Type 0
+abbrev pub IsBody : Out → Type 0
 IsBody (ToEditor e text) = Unit {0}
 IsBody other = ⊥
 
-body_linked : (out : Out) → IsBody out → IsOnLink out
+pub body_linked : (out : Out) → IsBody out → IsOnLink out
 body_linked (ToEditor e text) is = tt
 body_linked (ToServer n text) is = absurd is
 body_linked (Spawn n g) is = absurd is
@@ -94,7 +94,7 @@ bodies_lost : (fs : List Forwarded) (events : List Event) → Because (λ places
 bodies_lost [] events = by_nothing
 bodies_lost (f ∷ fs) events = by_then (by_send tt) (bodies_lost fs _)
 
-bodies_refused : (settings : Settings) (before : List Event) (es : List ℕ) (events : List Event) → Because (λ places out. IsBody out) events (each (refuse_open settings before) es)
+pub bodies_refused : (settings : Settings) (before : List Event) (es : List ℕ) (events : List Event) → Because (λ places out. IsBody out) events (each (refuse_open settings before) es)
 bodies_refused settings before [] events = by_nothing
 bodies_refused settings before (e ∷ es) events = by_then (by_then (by_look (by_choose (λ waits. by_send tt) (λ late. by_nothing))) (losing (behind events (outs (refuse_initialize e) events))))
     (bodies_refused settings before es (behind events (outs (refuse_open settings before e) events)))
@@ -105,11 +105,11 @@ bodies_refused settings before (e ∷ es) events = by_then (by_then (by_look (by
     losing : (places : List Event) → Because (λ places out. IsBody out) places (lose_requests settings before e)
     losing places = by_on (λ none. by_nothing) (λ g home. at_group places g)
 
-links_closed : (es : List ℕ) (events : List Event) → Because (λ places out. IsOnLink out) events (close_each es)
+pub links_closed : (es : List ℕ) (events : List Event) → Because (λ places out. IsOnLink out) events (close_each es)
 links_closed [] events = by_nothing
 links_closed (e ∷ es) events = by_then (by_send tt) (links_closed es _)
 
-stops_places : (phase : Phase) (m : Message) → requests (codes "lspmux/stop") m ≡ true → places phase m ≡ false
+pub stops_places : (phase : Phase) (m : Message) → requests (codes "lspmux/stop") m ≡ true → places phase m ≡ false
 stops_places phase (request id method params) h = subst (λ w. (is_new phase && bytes_eq (codes "initialize") w) ≡ false) ((bytes_eq-Decides (codes "lspmux/stop") method).0 h) (and_off (is_new phase))
   where
     and_off : (b : Bool) → (b && false) ≡ false

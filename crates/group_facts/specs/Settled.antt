@@ -19,7 +19,8 @@ use Rattle.group_rows.specs.Asks.{Ask, asks_of}
 use Rattle.group_rows.specs.Created.{Taking, created_of, no_created}
 use Rattle.group_rows.specs.Forwarded.{Forwarded, forwarding_of}
 use Rattle.group_rows.specs.StopRows.{stopped}
-use Rattle.group_facts.specs.Lively.{Lively}
+use Rattle.group_facts.specs.Facts.{is_up}
+use Rattle.group_facts.specs.Lively.{Lively, lives_at}
 
 -- the uris and names of folders
 abbrev pub AreUtf8 : List (List ℕ × List ℕ) → Type 0
@@ -73,12 +74,24 @@ HasSeat settings events s a = RunsAt settings events s a.editor
 abbrev pub HasTaken : Settings → List Event → ℕ → Taking → Type 0
 HasTaken settings events s c = RunsAt settings events s c.editor
 
--- each group has a start, an editor's group lives until the editor leaves it, each open request of an editor that got its result was sent on, an editor that was asked runs, as long as nothing was stopped, and one that
--- needs a server is in a group that has a start; a start that wasn't spawned created no token, and an editor that was asked to take one runs, as long as numerals tell starts apart
+-- a start that is ready is the last one of a group that lives
+pub record IsServing (settings : Settings) (events : List Event) (s : ℕ) : Type 0 where
+  pub group : ℕ
+  pub home : group_of s events ≡ Some group
+  pub last : start_of group events ≡ Some s
+  pub live : lives_at group (groups_of settings events) ≡ true
+
+-- each group has a start, and the last one of a group that lives no more isn't up; an editor's group lives until the editor leaves it, and
+-- behind a stop none lives; each open request of an editor that got its result was sent on, an editor that was asked
+-- runs, as long as nothing was stopped, and one that needs a server is in a group that has a start; a start that wasn't spawned created no token,
+-- and an editor that was asked to take one runs, as long as numerals tell starts apart
 pub record Settled (settings : Settings) (events : List Event) : Type 0 where
   pub spelt : AllByRecursion (λ (x : Kept). AreUtf8 x.key.folders) (groups_of settings events)
   pub begun : (g : ℕ) → (start_of g events ≡ None) ↔ (length (groups_of settings events) ≤ g)
   pub lively : Lively settings events
+  pub serving : (s : ℕ) → (life_of s events).stage ≡ Ready → IsServing settings events s
+  pub down : (g s : ℕ) → lives_at g (groups_of settings events) ≡ false → start_of g events ≡ Some s → is_up (life_of s events).stage ≡ false
+  pub over : stopped events ≡ true → (g : ℕ) → lives_at g (groups_of settings events) ≡ false
   pub unasked : (e : ℕ) → (desk_of e events).phase ≡ New → open_of e events ≡ []
   pub waiting : (e : ℕ) → (desk_of e events).phase ≡ Waiting → IsOnly events e
   pub sent : (e : ℕ) (id : Id) → is_answered (desk_of e events).phase ≡ true → is_open id (open_of e events) ≡ true → IsSent settings events e id
