@@ -29,7 +29,8 @@ use Rattle.mux_tables.specs.Stands.{Keeps, Stands, of_life}
 use Rattle.mux_turns.specs.group_facts.specs.Facts.{AllForwarded, Known, Numbered, is_up}
 use Rattle.mux_turns.specs.group_facts.specs.Settled.{Settled}
 use Rattle.mux_turns.specs.group_facts.proofs.Quits.{asked_while}
-use Rattle.mux_turns.specs.group_facts.proofs.StopDown.{Low, stop_unready}
+use Rattle.mux_turns.specs.group_facts.proofs.Ceased.{Low}
+use Rattle.mux_turns.specs.group_facts.proofs.StopDown.{stop_unready}
 use Rattle.mux_turns.proofs.Departing.{behind_first}
 use Rattle.mux_turns.proofs.Evictions.{numbered_heard}
 use Rattle.mux_turns.proofs.Keeping.{keeps_reply, null_says, null_tree}
