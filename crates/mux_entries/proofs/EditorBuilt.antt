@@ -41,40 +41,22 @@ not_so : (a : Bool) → not a ≡ true → a ≡ false
 not_so false h = refl
 not_so true h = absurd (cc)
 
--- a method that is built isn't that which stops all
-stops_not : (method : List ℕ) → ((codes "lspmux/stop" ≡ method) → ⊥) → (before : List Event) (e : ℕ) (id : Id) (params : Option Json) → stops before e (request id method params) ≡ false
-stops_not method f before e id params = go (bytes_eq (codes "lspmux/stop") method) refl
-  where
-    go : (b : Bool) → bytes_eq (codes "lspmux/stop") method ≡ b → (b && (is_there (desk_of e before).phase && not (is_begun (desk_of e before).phase && is_doubled before e (request id method params)))) ≡ false
-    go true k = absurd (f ((bytes_eq-Decides (codes "lspmux/stop") method).0 k))
-    go false k = refl
-
-standard_stays : (method : List ℕ) → is_standard (class_of method Editor false) ≡ true → (codes "lspmux/stop" ≡ method) → ⊥
-unfolding editor_request own_request
-standard_stays method h same = let own : is_standard (class_of (codes "lspmux/stop") Editor false) ≡ true = subst (λ m. is_standard (class_of m Editor false) ≡ true) (sym same) h in cc
-
-own_stays : (method : List ℕ) → names_lspmux method ≡ true → (codes "lspmux/stop" ≡ method) → ⊥
-own_stays method h same = let clash : names_lspmux (codes "lspmux/stop") ≡ true = subst (λ m. names_lspmux m ≡ true) (sym same) h in cc
-
-request_stays : (method : List ℕ) → built_request method ≡ true → (codes "lspmux/stop" ≡ method) → ⊥
-request_stays method h = go (names_lspmux method) refl h
-  where
-    go : (b : Bool) → names_lspmux method ≡ b → (b || is_standard (class_of method Editor false)) ≡ true → (codes "lspmux/stop" ≡ method) → ⊥
-    go true k s = own_stays method k
-    go false k s = standard_stays method s
-
 -- a request that isn't the multiplexer's own
 other_built : (b c : Bool) → b ≡ false → (b || c) ≡ true → c ≡ true
 other_built true c h k = absurd (cc)
 other_built false c h k = k
 
-pub built_stays : (before : List Event) (e : ℕ) (m : Message) → built_from_editor m ≡ true → stops before e m ≡ false
-built_stays before e (request id method params) h = stops_not method (request_stays method h) before e id params
-built_stays before e (notification method params) h = refl
-built_stays before e (result id r) h = refl
-built_stays before e (error id r) h = refl
-built_stays before e not_json h = refl
-built_stays before e not_message h = refl
+-- a message that isn't the multiplexer's own stops nothing
+last_off : (a b c : Bool) → (a || (b || c)) ≡ false → c ≡ false
+last_off a b false h = refl
+last_off true b true h = absurd (cc)
+last_off false true true h = absurd (cc)
+last_off false false true h = absurd (cc)
+
+pub unasked_goes : (before : List Event) (e : ℕ) (m : Message) → asks_lspmux m ≡ false → stops before e m ≡ false
+unasked_goes before e (request id method params) none = ap (λ b. b && (is_there (desk_of e before).phase && not (is_begun (desk_of e before).phase && is_doubled before e (request id method params))))
+    (last_off (bytes_eq (codes "lspmux/open") method) (bytes_eq (codes "lspmux/status") method) (bytes_eq (codes "lspmux/stop") method) none)
+unasked_goes before e other none = refl
 
 -- a request that isn't the multiplexer's own is one of the standard
 pub standard_built : (id : Id) (method : List ℕ) (params : Option Json) → names_lspmux method ≡ false → built_from_editor (request id method params) ≡ true → is_standard (class_of method Editor false) ≡ true
