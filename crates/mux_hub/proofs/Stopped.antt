@@ -1,5 +1,5 @@
 -- A stop that an entry's cause asks for is one behind the entry, and it stays so.
-use Rattle.std.proofs.Common.{◌≡◌, List, [], ◌∷◌, ◌++◌, true, ap, ◌∙◌}
+use Rattle.std.proofs.Common.{◌≡◌, List, [], ◌∷◌, ◌++◌, true, ap, sym, ◌∙◌}
 use Rattle.mux_history.specs.declared.cause.Cause.{Cause}
 use Rattle.mux_history.specs.declared.cause.Cause.TheVariants.{FromEditor}
 use Rattle.mux_history.specs.declared.entry.Entry.{Entry}
@@ -17,7 +17,7 @@ by_cause history cause outs = ap stopped (events_more history (record { cause = 
 
 pub asked_stops : (history : List Entry) (cause : Cause) (outs : List Out) → asks_stop history cause ≡ true → was_stopped (history ++ record { cause = cause; outs = outs } ∷ []) ≡ true
 asked_stops history (FromEditor e body) outs asks = by_cause history (FromEditor e body) outs ∙ stopped_now (events_of history) e body asks
-asked_stops history other outs asks = never asks
+asked_stops history other outs asks = never (sym asks)
 
 pub stays_stopped : (history : List Entry) (cause : Cause) (outs : List Out) → was_stopped history ≡ true → was_stopped (history ++ record { cause = cause; outs = outs } ∷ []) ≡ true
 stays_stopped history cause outs was = by_cause history cause outs ∙ stopped_on (events_of history) (heard cause) was
