@@ -42,6 +42,8 @@ pub mod Sent
 pub mod SentOn
 pub mod Settling
 pub mod SharedRows
+pub mod SlowRest
+pub mod SlowRow
 pub mod Switching
 pub mod SyncRow
 pub mod Table

@@ -16,7 +16,7 @@ use Rattle.mux_facts.proofs.Reasons.{Reasons}
 use Rattle.session_laws.specs.ClientRules.{accepted_of}
 use Rattle.session_laws.specs.Progress.{Creates}
 use Rattle.group_rows.specs.Created.{created_mark}
-use Rattle.group_rows.specs.Rows.{outs_of}
+use Rattle.group_rows.specs.Rows.{row_outs}
 use Rattle.group_facts.specs.Built.{built_behind}
 use Rattle.group_facts.specs.Legal.{Legal}
 use Rattle.group_facts.specs.Why.{Telling, of_held, of_request, of_token}
@@ -53,4 +53,4 @@ Heard settings before cause events other = Unit {0}
 -- Each out of every entry is so: the part of rule 6 that is about created tokens.
 abbrev pub AllHeard : Settings → Type 0
 AllHeard settings = (before : List Entry) → Legal settings before → (cause : Cause) → fits_behind (events_of before) cause ≡ true → built_behind settings (events_of before) cause ≡ true
-    → Reasons (Heard settings (events_of before) cause) (with_cause (events_of before) cause) (outs_of settings (events_of before) cause)
+    → Reasons (Heard settings (events_of before) cause) (with_cause (events_of before) cause) (row_outs settings (events_of before) cause)

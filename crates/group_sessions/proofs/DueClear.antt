@@ -30,7 +30,7 @@ use Rattle.group_rows.specs.Asks.{Ask, Asker, Asking, asked_behind, asker_of, as
 use Rattle.group_rows.specs.Created.{Created, Taking, Token, accepts, answered, asked, created_mark, created_next, created_of, is_answered, is_creating, is_marked, left, lives, settled, token_marked, with_asked}
 use Rattle.group_rows.specs.Forwarded.{names}
 use Rattle.group_rows.specs.Live.{is_registering}
-use Rattle.group_rows.specs.Rows.{outs_of}
+use Rattle.group_rows.specs.Rows.{row_outs}
 use Rattle.group_facts.specs.Built.{built_behind}
 use Rattle.group_facts.specs.Legal.{Legal}
 use Rattle.group_facts.specs.Why.{Why, WhyToEditor, answers, asks, asks_something, calls, passes, progresses, recalls, refuses, rejects, resumes, shows, spreads, turns_away, welcomes, loses}
@@ -457,6 +457,6 @@ pub all_clear : (settings : Settings) → InRange settings → AllClear settings
 all_clear settings range before legal = clear_of settings (events_of before) (facts_hold settings range before legal) (walk settings (Orders settings) entry (record { plain = λ s. tt; set = λ s. tt; small = λ e. omega arith }) before legal)
   where
     entry : (earlier : List Entry) → Legal settings earlier → (cause : Cause) → fits_behind (events_of earlier) cause ≡ true → built_behind settings (events_of earlier) cause ≡ true
-        → Orders settings (events_of earlier) → Orders settings (behind (with_cause (events_of earlier) cause) (outs_of settings (events_of earlier) cause))
-    entry earlier so_far cause fits built h = reasons_keep (Why settings (events_of earlier) cause) (Orders settings) (orders_did settings (events_of earlier) cause) (with_cause (events_of earlier) cause) (outs_of settings (events_of earlier) cause)
+        → Orders settings (events_of earlier) → Orders settings (behind (with_cause (events_of earlier) cause) (row_outs settings (events_of earlier) cause))
+    entry earlier so_far cause fits built h = reasons_keep (Why settings (events_of earlier) cause) (Orders settings) (orders_did settings (events_of earlier) cause) (with_cause (events_of earlier) cause) (row_outs settings (events_of earlier) cause)
         (reasons settings range (events_of earlier) (facts_hold settings range earlier so_far) cause built).why (orders_took settings (events_of earlier) cause h)

@@ -12,7 +12,7 @@ use Rattle.mux_model.specs.Fits.{fits_behind}
 use Rattle.mux_facts.specs.Ranges.{InRange}
 use Rattle.mux_facts.proofs.Reasons.{Reasons}
 use Rattle.group_rows.specs.Created.{created_text}
-use Rattle.group_rows.specs.Rows.{outs_of}
+use Rattle.group_rows.specs.Rows.{row_outs}
 use Rattle.group_rows.specs.Tokens.{marked_text}
 use Rattle.group_facts.specs.Built.{built_behind}
 use Rattle.group_facts.specs.Legal.{Legal}
@@ -40,7 +40,7 @@ AllRest settings events = starts_of events ≤ 2 ^ 64 → (s k e : ℕ) → s < 
 
 module _ (settings : Settings) (range : InRange settings) where
   entry : (before : List Entry) → Legal settings before → (cause : Cause) → fits_behind (events_of before) cause ≡ true → built_behind settings (events_of before) cause ≡ true
-      → AllRest settings (events_of before) → AllRest settings (behind (with_cause (events_of before) cause) (outs_of settings (events_of before) cause))
+      → AllRest settings (events_of before) → AllRest settings (behind (with_cause (events_of before) cause) (row_outs settings (events_of before) cause))
   entry before so_far cause fits built h few s k e low small = record {
     tie = entry_tied settings range (events_of before) facts settled free (all_clear settings range before so_far) cause fits built few_before s k e low small was.tie asked;
     ran = ran_entry settings range (events_of before) facts settled cause fits built few_before s k e low small was.tie was.ran;
@@ -57,12 +57,12 @@ module _ (settings : Settings) (range : InRange settings) where
       free = all_unreserved settings range before so_far
 
       few_before : starts_of (events_of before) ≤ 2 ^ 64
-      few_before = fewer (events_of before) (heard cause ∷ []) (2 ^ 64) (fewer (with_cause (events_of before) cause) (map said (outs_of settings (events_of before) cause)) (2 ^ 64) few)
+      few_before = fewer (events_of before) (heard cause ∷ []) (2 ^ 64) (fewer (with_cause (events_of before) cause) (map said (row_outs settings (events_of before) cause)) (2 ^ 64) few)
 
       was : Rests settings (events_of before) s k e
       was = h few_before s k e low small
 
-      asked : Reasons (AskedOnce settings s k e) (with_cause (events_of before) cause) (outs_of settings (events_of before) cause)
+      asked : Reasons (AskedOnce settings s k e) (with_cause (events_of before) cause) (row_outs settings (events_of before) cause)
       asked = asked_once settings range (events_of before) facts settled cause fits built few_before s k e low small was.tie was.ran
 
   pub due_law : (history : List Entry) → Legal settings history → KeepsDue settings history

@@ -39,7 +39,7 @@ use Rattle.session_laws.proofs.Server7Law.{creates, creates_grows, free_7, notic
 use Rattle.session_laws.proofs.Tokens.{holds_open, names_freely, open_behind, or_second}
 use Rattle.group_rows.specs.Created.{Token, created_of, is_marked, token_marked}
 use Rattle.group_rows.specs.Forwarded.{Forwarded, forwarding_of, is_of}
-use Rattle.group_rows.specs.Rows.{outs_of}
+use Rattle.group_rows.specs.Rows.{row_outs}
 use Rattle.group_rows.specs.Tokens.{is_token_of, is_worked, mark, mark_text, marked_text, work_mark}
 use Rattle.group_rows.proofs.TokenTexts.{mark_is}
 use Rattle.group_facts.specs.Built.{built_behind}
@@ -201,13 +201,13 @@ record Rests (events : List Event) : Type 0 where
 
 module _ (settings : Settings) (range : InRange settings) where
   entry : (before : List Entry) → Legal settings before → (cause : Cause) → fits_behind (events_of before) cause ≡ true → built_behind settings (events_of before) cause ≡ true
-      → Rests (events_of before) → Rests (behind (with_cause (events_of before) cause) (outs_of settings (events_of before) cause))
+      → Rests (events_of before) → Rests (behind (with_cause (events_of before) cause) (row_outs settings (events_of before) cause))
   entry before so_far cause fits built h =
       let facts : Facts settings (events_of before) = facts_hold settings range before so_far in
       let now : List Event = with_cause (events_of before) cause in
       let created : (s : ℕ) → (life_of s (events_of before)).stage ≡ Ready → AllByRecursion (IsCreated s (events_of before)) (created_of settings s (events_of before)).tokens = all_created settings range before so_far in
-      let last : At settings range (events_of before) facts cause built created (behind now (outs_of settings (events_of before) cause)) = reasons_keep (λ events out. Why settings (events_of before) cause events out) (At settings range (events_of before) facts cause built created)
-      (step settings range (events_of before) facts cause built created) now (outs_of settings (events_of before) cause) (reasons settings range (events_of before) facts cause built).why
+      let last : At settings range (events_of before) facts cause built created (behind now (row_outs settings (events_of before) cause)) = reasons_keep (λ events out. Why settings (events_of before) cause events out) (At settings range (events_of before) facts cause built created)
+      (step settings range (events_of before) facts cause built created) now (row_outs settings (events_of before) cause) (reasons settings range (events_of before) facts cause built).why
       (record {
         here = here_took settings range (events_of before) cause fits built facts;
         outs = [];

@@ -22,7 +22,7 @@ use Rattle.mux_facts.specs.Ranges.{InRange}
 use Rattle.mux_facts.proofs.Lists.{all_filtered}
 use Rattle.mux_facts.proofs.Reasons.{reasons_keep}
 use Rattle.group_rows.specs.Forwarded.{Forwarded, Forwarding, answered_by, cancelled_by, forwarding_behind, forwarding_of, forwards, is_written, no_forwarding, numbered, token_in}
-use Rattle.group_rows.specs.Rows.{outs_of, sync_bodies}
+use Rattle.group_rows.specs.Rows.{row_outs, sync_bodies}
 use Rattle.group_rows.specs.Texts.{texts_of}
 use Rattle.group_rows.specs.Tokens.{is_reserved}
 use Rattle.group_facts.specs.Built.{built_behind}
@@ -172,8 +172,8 @@ module _ (settings : Settings) (range : InRange settings) where
   did before cause events (EndServer n) why h = by_event events (events ++ said (EndServer n) ∷ []) (said (EndServer n)) refl h
 
   entry : (before : List Entry) → Legal settings before → (cause : Cause) → fits_behind (events_of before) cause ≡ true → built_behind settings (events_of before) cause ≡ true
-      → Unreserved (events_of before) → Unreserved (behind (with_cause (events_of before) cause) (outs_of settings (events_of before) cause))
-  entry before so_far cause fits built h = reasons_keep (λ events out. Why settings (events_of before) cause events out) Unreserved (did (events_of before) cause) (with_cause (events_of before) cause) (outs_of settings (events_of before) cause)
+      → Unreserved (events_of before) → Unreserved (behind (with_cause (events_of before) cause) (row_outs settings (events_of before) cause))
+  entry before so_far cause fits built h = reasons_keep (λ events out. Why settings (events_of before) cause events out) Unreserved (did (events_of before) cause) (with_cause (events_of before) cause) (row_outs settings (events_of before) cause)
       (reasons settings range (events_of before) (facts_hold settings range before so_far) cause built).why (took (events_of before) cause h)
 
   pub all_unreserved : (before : List Entry) → Legal settings before → Unreserved (events_of before)

@@ -6,7 +6,7 @@ use Rattle.event_model.specs.Event.{Event, behind, events_of, with_cause}
 use Rattle.event_model.specs.Settings.{Settings}
 use Rattle.mux_model.specs.Fits.{fits_behind}
 use Rattle.mux_facts.proofs.Keeps.{events_more}
-use Rattle.group_rows.specs.Rows.{outs_of}
+use Rattle.group_rows.specs.Rows.{row_outs}
 use Rattle.group_facts.specs.Built.{built_behind}
 use Rattle.group_facts.specs.Legal.{Legal, LegalFrom}
 
@@ -17,10 +17,10 @@ legal_more settings before (x ∷ xs) entry legal last = (legal.0, legal.1, lega
 -- what is to be shown: an entry keeps it
 abbrev pub Keeps : Settings → (List Event → Type 0) → Type 0
 Keeps settings I = (before : List Entry) → Legal settings before → (cause : Cause) → fits_behind (events_of before) cause ≡ true → built_behind settings (events_of before) cause ≡ true
-    → I (events_of before) → I (behind (with_cause (events_of before) cause) (outs_of settings (events_of before) cause))
+    → I (events_of before) → I (behind (with_cause (events_of before) cause) (row_outs settings (events_of before) cause))
 
 module _ (settings : Settings) (I : List Event → Type 0) (keeps : Keeps settings I) where
-  one_entry : (before : List Entry) (entry : Entry) → Legal settings before → IsTrue (fits_behind (events_of before) entry.cause) → IsTrue (built_behind settings (events_of before) entry.cause) → entry.outs ≡ outs_of settings (events_of before) entry.cause
+  one_entry : (before : List Entry) (entry : Entry) → Legal settings before → IsTrue (fits_behind (events_of before) entry.cause) → IsTrue (built_behind settings (events_of before) entry.cause) → entry.outs ≡ row_outs settings (events_of before) entry.cause
       → I (events_of before) → I (events_of (before ++ entry ∷ []))
   one_entry before entry so_far fits built sent h = subst I (sym (events_more before entry)) (subst (λ z. I (behind (with_cause (events_of before) entry.cause) z)) (sym sent) (keeps before so_far entry.cause fits built h))
 
