@@ -38,21 +38,19 @@ module _ (settings : Settings) (range : InRange settings) where
 
   turns : (es : List ℕ) (place : List Event) → Facts settings place → Turns place (outs (each (close_slow settings) es) place)
   turns [] place h = record { slow = []; parts = refl; leave = tt }
-  turns (e ∷ es) place h = go (is_slow settings e place) refl
+  turns (e ∷ es) place h = go (is_slow settings e place) refl (λ z k. turns es z k)
     where
-      abbrev xs : Bool → List Out
-      xs b = outs (choose b (send (CloseEditor e) ⨾ leave_row settings place e) nothing) place
-
-      go : (b : Bool) → is_slow settings e place ≡ b → Turns place (xs b ++ outs (each (close_slow settings) es) (behind place (xs b)))
-      go true slow =
-          let rest : Turns (behind place (parting settings place e)) (outs (each (close_slow settings) es) (behind place (parting settings place e))) = turns es (behind place (parting settings place e)) (slow_keeps_facts settings range place e slow h) in
+      go : (b : Bool) → is_slow settings e place ≡ b → ((z : List Event) → Facts settings z → Turns z (outs (each (close_slow settings) es) z)) → Turns place (outs (choose b (send (CloseEditor e) ⨾ leave_row settings place e) nothing) place
+          ++ outs (each (close_slow settings) es) (behind place (outs (choose b (send (CloseEditor e) ⨾ leave_row settings place e) nothing) place)))
+      go true slow others =
+          let rest : Turns (behind place (parting settings place e)) (outs (each (close_slow settings) es) (behind place (parting settings place e))) = others (behind place (parting settings place e)) (slow_keeps_facts settings range place e slow h) in
           record {
             slow = record { editor = e; outs = parting settings place e } ∷ rest.slow;
             parts = ap (λ z. parting settings place e ++ z) rest.parts;
             leave = (slow, (all_why place (quitting e) place (parting settings place e) (parting_why settings range place h e slow), rest.leave));
           }
-      go false quick =
-          let rest : Turns (behind place []) (outs (each (close_slow settings) es) (behind place [])) = turns es (behind place []) (subst (Facts settings) (sym (behind_nothing place)) h) in
+      go false quick others =
+          let rest : Turns (behind place []) (outs (each (close_slow settings) es) (behind place [])) = others (behind place []) (subst (Facts settings) (sym (behind_nothing place)) h) in
           record { slow = rest.slow; parts = rest.parts; leave = subst (λ z. AllSlow settings z rest.slow) (behind_nothing place) rest.leave }
 
   entry_parts : (before : List Event) (cause : Cause) → fits_behind before cause ≡ true → built_behind settings before cause ≡ true → Facts settings before → HasParts settings before cause (outs_of settings before cause)

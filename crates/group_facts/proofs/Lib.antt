@@ -34,6 +34,7 @@ pub mod PartingRows
 pub mod PlacingRow
 pub mod Plain
 pub mod PutOut
+pub mod Reached
 pub mod RefusedRow
 pub mod RequestRow
 pub mod RestLaws

@@ -80,7 +80,7 @@ module _ (settings : Settings) (range : InRange settings) where
   entry_all I did events [] h = subst I (sym (append-nil events)) h
   entry_all I did events (out ∷ outs) h = subst I (append_assoc events (said out ∷ []) (map said outs)) (entry_all I did (events ++ said out ∷ []) outs (did events out h))
 
-  entry_rests : (before : List Event) (cause : Cause) → fits_behind before cause ≡ true → built_behind settings before cause ≡ true → Rests before → Rests (behind (with_cause before cause) (row_outs settings before cause))
+  pub entry_rests : (before : List Event) (cause : Cause) → fits_behind before cause ≡ true → built_behind settings before cause ≡ true → Rests before → Rests (behind (with_cause before cause) (row_outs settings before cause))
   entry_rests before cause fits built h = record {
     facts = entry_keeps settings range before cause fits built h.facts;
     spelt = entry_all (AllSpelt settings) (all_did Spelt spelt_keeps settings) (with_cause before cause) (row_outs settings before cause) (all_took Spelt spelt_keeps settings before cause built (λ e body. folders_utf8 body) h.spelt);
@@ -98,7 +98,7 @@ module _ (settings : Settings) (range : InRange settings) where
   }
 
   -- an editor that is slow leaves
-  slow_rests : (place : List Event) (e : ℕ) → is_slow settings e place ≡ true → Rests place → Rests (behind place (parting settings place e))
+  pub slow_rests : (place : List Event) (e : ℕ) → is_slow settings e place ≡ true → Rests place → Rests (behind place (parting settings place e))
   slow_rests place e slow h =
       let lively : Lively settings (behind place (parting settings place e)) = lively_slow settings range place h.facts e slow h.lively in
       record {
@@ -120,7 +120,7 @@ module _ (settings : Settings) (range : InRange settings) where
   whole_rests : (before : List Event) (cause : Cause) → fits_behind before cause ≡ true → built_behind settings before cause ≡ true → Rests before → Rests (behind (with_cause before cause) (outs_of settings before cause))
   whole_rests before cause fits built h = whole_entry settings Rests slow_rests before cause (entry_rests before cause fits built h)
 
-  no_rests : Rests []
+  pub no_rests : Rests []
   no_rests = record {
     facts = no_facts settings range;
     spelt = tt;

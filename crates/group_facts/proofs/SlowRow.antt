@@ -42,7 +42,7 @@ use Rattle.event_model.proofs.Frames.{never}
 use Rattle.group_facts.proofs.Asides.{answer_aside, spoken_aside, unsynced}
 use Rattle.group_facts.specs.Built.{built_behind, built_from_editor}
 use Rattle.group_facts.specs.Facts.{ends_link, is_parting, is_put_out, turned_away}
-use Rattle.group_facts.specs.Why.{Why, WhyToServer, begins, cancels, cancels_work, exits, forwarded, greets, notes, quitting, resolves, responds, shuts, tells}
+use Rattle.group_facts.specs.Why.{IsWorkCancel, Why, WhyToServer, begins, cancels, cancels_work, exits, forwarded, greets, notes, quitting, resolves, responds, shuts, tells}
 use Rattle.group_facts.proofs.Asks.{asked_by_more}
 use Rattle.group_facts.proofs.Begun.{NoSpawn, all_outs, leave_by}
 use Rattle.group_facts.proofs.Facts.{Facts}
@@ -74,6 +74,10 @@ the_body h = cc
 the_method : {x y : List ℕ} {p q : Option Json} → notification x p ≡ notification y q → x ≡ y
 the_method h = cc
 
+-- it cancels no work
+pub quit_works : (settings : Settings) (before : List Event) (e : ℕ) (events : List Event) (s : ℕ) (body : List ℕ) → IsWorkCancel settings before (quitting e) events s body → ⊥
+quit_works settings before e events s body k = never (sym ((bytes_eq-Decides (codes "exit") (codes "window/workDoneProgress/cancel")).1 (the_method (sym exit_says ∙ (ap message_of (sym (the_body k.from)) ∙ k.notified)))) ∙ refl)
+
 pub quit_unsynced : (settings : Settings) (before : List Event) (e : ℕ) (events : List Event) (s : ℕ) (body : List ℕ) → WhyToServer settings before (quitting e) events s body → is_synced (message_of body) ≡ true → ⊥
 quit_unsynced settings before e events s body (begins k) goes = unsynced body _ k.says refl goes
 quit_unsynced settings before e events s body (greets k) goes = unsynced body _ k.says refl goes
@@ -97,6 +101,10 @@ none_second false b h = refl
 none_first : (a b : Bool) → a ≡ false → (a && b) ≡ false
 none_first true b h = absurd (cc)
 none_first false b h = refl
+
+-- nor does an editor begin again by it
+pub quit_again : (e n : ℕ) (b : Bool) → (nat_eq e n && (b && requests (codes "initialize") (message_of exit_text))) ≡ false
+quit_again e n b = none_second (nat_eq e n) _ (none_second b (requests (codes "initialize") (message_of exit_text)) (exit_asks (codes "initialize")))
 
 abbrev IsToStart : Out → Type 0
 IsToStart (ToServer s body) = Unit {0}
@@ -171,6 +179,33 @@ module _ (settings : Settings) where
   pub parting_keeps : (I : List Event → Type 0) (e : ℕ) → ((events : List Event) → I events → I (events ++ said (CloseEditor e) ∷ [])) → ((events : List Event) (s : ℕ) (body : List ℕ) → I events → I (events ++ said (ToServer s body) ∷ []))
       → (place : List Event) → I place → I (behind place (parting place e))
   parting_keeps I e closes sends place h = parting_behind I place e (leave_keeps I sends place e (place ++ said (CloseEditor e) ∷ []) (closes place h))
+
+  -- and with the reasons of the bodies
+  zip_reasons : (R : List Event → Out → Type 0) (P : Out → Type 0) (events : List Event) (xs : List Out) → Reasons R events xs → AllByRecursion P xs → Reasons (λ places out. R places out × P out) events xs
+  zip_reasons R P events [] r p = tt
+  zip_reasons R P events (x ∷ xs) r p = ((r.0, p.0), zip_reasons R P (events ++ said x ∷ []) xs r.1 p.1)
+
+  module _ (range : InRange settings) (place : List Event) (facts : Facts settings place) (e : ℕ) (slow : is_slow settings e place ≡ true) where
+    abbrev closed : List Event
+    closed = place ++ said (CloseEditor e) ∷ []
+
+    abbrev rest : List Out
+    rest = outs (leave_row settings place e) closed
+
+    all_to_start : AllByRecursion IsToStart rest
+    all_to_start = all_outs IsToStart closed rest (leave_by (λ places out. IsToStart out) (λ places s body. tt) settings place e closed).why
+
+    pub parting_walk : (I : List Event → Type 0) → ((events : List Event) → I events → I (events ++ said (CloseEditor e) ∷ []))
+        → ((events : List Event) (s : ℕ) (body : List ℕ) → WhyToServer settings place (quitting e) events s body → I events → I (events ++ said (ToServer s body) ∷ [])) → I place → I (behind place (parting place e))
+    parting_walk I closes sends h = parting_behind I place e (reasons_keep (λ places out. Why settings place (quitting e) places out × IsToStart out) I go closed rest
+        (zip_reasons (Why settings place (quitting e)) IsToStart closed rest (parting_why range place facts e slow).1 all_to_start) (closes place h))
+      where
+        go : (places : List Event) (out : Out) → Why settings place (quitting e) places out × IsToStart out → I places → I (places ++ said out ∷ [])
+        go places (ToServer s body) why k = sends places s body why.0 k
+        go places (ToEditor n body) why k = absurd why.1
+        go places (Spawn s g) why k = absurd why.1
+        go places (CloseEditor n) why k = absurd why.1
+        go places (EndServer s) why k = absurd why.1
 
   -- what each of them keeps
   module _ (I : List Event → Type 0) (keeps : (place : List Event) (e : ℕ) → is_slow settings e place ≡ true → I place → I (behind place (parting place e))) where

@@ -52,5 +52,5 @@ Heard settings before cause events other = Unit {0}
 
 -- Each out of every entry is so: the part of rule 6 that is about created tokens.
 abbrev pub AllHeard : Settings → Type 0
-AllHeard settings = (before : List Entry) → Legal settings before → (cause : Cause) → fits_behind (events_of before) cause ≡ true → built_behind settings (events_of before) cause ≡ true
-    → Reasons (Heard settings (events_of before) cause) (with_cause (events_of before) cause) (row_outs settings (events_of before) cause)
+AllHeard settings = (before : List Event) → Reached settings before → (cause : Cause) → fits_behind before cause ≡ true → built_behind settings before cause ≡ true
+    → Reasons (Heard settings before cause) (with_cause before cause) (row_outs settings before cause)

@@ -352,6 +352,8 @@ law settings = record {
   end = λ before cause events s starting known here h i. λ e other. one_more e events (said (EndServer s)) (i e other) (λ same. tt) (i e other).link;
   spawn = λ before cause events g inside known here h i. λ e other. one_more e events (said (Spawn (starts_of events) g)) (i e other) (λ same. tt) (i e other).link;
   rest = λ before cause fits known h i. rests settings before cause (known.steady).asks (known.base).meant fits known.waiting h i;
+  turn = λ place e slow known h. λ n other. h n;
+  left = λ place e slow known h i. λ n. i n (quit_again place e n);
 }
 
 pub client_3_law : (settings : Settings) → InRange settings → (history : List Entry) → Legal settings history → KeepsClient3 history

@@ -208,20 +208,20 @@ record Rests (events : List Event) : Type 0 where
 
 -- where what editors are told of created tokens is as it should be
 module _ (settings : Settings) (range : InRange settings) (all_heard : AllHeard settings) where
-  entry : (before : List Entry) → Legal settings before → (cause : Cause) → fits_behind (events_of before) cause ≡ true → built_behind settings (events_of before) cause ≡ true
-      → Rests (events_of before) → Rests (behind (with_cause (events_of before) cause) (row_outs settings (events_of before) cause))
+  entry : (before : List Event) → Reached settings before → (cause : Cause) → fits_behind before cause ≡ true → built_behind settings before cause ≡ true
+      → Rests before → Rests (behind (with_cause before cause) (row_outs settings before cause))
   entry before so_far cause fits built h =
-      let facts : Facts settings (events_of before) = facts_hold settings range before so_far in
-      let now : List Event = with_cause (events_of before) cause in
-      let last : At settings range (events_of before) facts cause built (behind now (row_outs settings (events_of before) cause)) = reasons_keep (Both settings range (events_of before) facts cause built) (At settings range (events_of before) facts cause built) (step settings range (events_of before) facts cause built)
-      now (row_outs settings (events_of before) cause)
-      (both settings range (events_of before) facts cause built now (row_outs settings (events_of before) cause) (reasons settings range (events_of before) facts cause built).why (all_heard before so_far cause fits built))
+      let facts : Facts settings before = facts_at settings range before so_far in
+      let now : List Event = with_cause before cause in
+      let last : At settings range before facts cause built (behind now (row_outs settings before cause)) = reasons_keep (Both settings range before facts cause built) (At settings range before facts cause built) (step settings range before facts cause built)
+      now (row_outs settings before cause)
+      (both settings range before facts cause built now (row_outs settings before cause) (reasons settings range before facts cause built).why (all_heard before so_far cause fits built))
       (record {
-        here = here_took settings range (events_of before) cause fits built facts;
+        here = here_took settings range before cause fits built facts;
         outs = [];
         place = sym (behind_nothing now);
-        ties = λ on. ties_took (events_of before) cause (h.ties (stopped_back (events_of before) (heard cause) on));
-        rules = rules_took settings range (events_of before) facts cause built cause h.rules;
+        ties = λ on. ties_took before cause (h.ties (stopped_back before (heard cause) on));
+        rules = rules_took settings range before facts cause built cause h.rules;
       }) in
       record { ties = last.ties; rules = last.rules }
 

@@ -22,8 +22,8 @@ pub record IsCreated (s : ℕ) (events : List Event) (t : Token) : Type 0 where
   pub text : IsIdText t.id t.text
   pub there : is_open t.id (creates s events).created ≡ true
 
-pub all_created : (settings : Settings) → InRange settings → (before : List Entry) → Legal settings before → (s : ℕ) → (life_of s (events_of before)).stage ≡ Ready → AllByRecursion (IsCreated s (events_of before)) (created_of settings s (events_of before)).tokens
+pub all_created : (settings : Settings) → InRange settings → (before : List Event) → Reached settings before → (s : ℕ) → (life_of s before).stage ≡ Ready → AllByRecursion (IsCreated s before) (created_of settings s before).tokens
 all_created settings range before legal s ready =
-    let tie : Tie settings (events_of before) = walk settings (Tie settings) (λ earlier so_far cause fits built h. tie_rests settings range (events_of earlier) (facts_hold settings range earlier so_far) h cause fits built) (no_tie settings) before legal in
-    zip_all (IsLive (created_of settings s (events_of before)).next) (λ (t : Token). is_open t.id (creates s (events_of before)).created ≡ true) (IsCreated s (events_of before)) (λ t a b. record { text = a.text; there = b })
-    (created_of settings s (events_of before)).tokens (created_orderly settings s (events_of before)).live (tie.there s ready)
+    let tie : Tie settings before = walk settings (Tie settings) (λ earlier so_far cause fits built h. tie_rests settings range earlier (facts_at settings range earlier so_far) h cause fits built) (no_tie settings) before legal in
+    zip_all (IsLive (created_of settings s before).next) (λ (t : Token). is_open t.id (creates s before).created ≡ true) (IsCreated s before) (λ t a b. record { text = a.text; there = b })
+    (created_of settings s before).tokens (created_orderly settings s before).live (tie.there s ready)

@@ -454,9 +454,9 @@ clear_of settings events facts o = record { one = one; apart = apart }
             number = same_named id a.number c.number (number_low a.editor a.number None a_plain) (number_low c.editor c.number (Some (created_mark s c.token)) c_set) a_parts.1 c_parts.1
 
 pub all_clear : (settings : Settings) → InRange settings → AllClear settings
-all_clear settings range before legal = clear_of settings (events_of before) (facts_hold settings range before legal) (walk settings (Orders settings) entry (record { plain = λ s. tt; set = λ s. tt; small = λ e. omega arith }) before legal)
+all_clear settings range before legal = clear_of settings before (facts_at settings range before legal) (walk settings (Orders settings) entry (record { plain = λ s. tt; set = λ s. tt; small = λ e. omega arith }) before legal)
   where
-    entry : (earlier : List Entry) → Legal settings earlier → (cause : Cause) → fits_behind (events_of earlier) cause ≡ true → built_behind settings (events_of earlier) cause ≡ true
-        → Orders settings (events_of earlier) → Orders settings (behind (with_cause (events_of earlier) cause) (row_outs settings (events_of earlier) cause))
-    entry earlier so_far cause fits built h = reasons_keep (Why settings (events_of earlier) cause) (Orders settings) (orders_did settings (events_of earlier) cause) (with_cause (events_of earlier) cause) (row_outs settings (events_of earlier) cause)
-        (reasons settings range (events_of earlier) (facts_hold settings range earlier so_far) cause built).why (orders_took settings (events_of earlier) cause h)
+    entry : (earlier : List Event) → Reached settings earlier → (cause : Cause) → fits_behind earlier cause ≡ true → built_behind settings earlier cause ≡ true
+        → Orders settings earlier → Orders settings (behind (with_cause earlier cause) (row_outs settings earlier cause))
+    entry earlier so_far cause fits built h = reasons_keep (Why settings earlier cause) (Orders settings) (orders_did settings earlier cause) (with_cause earlier cause) (row_outs settings earlier cause)
+        (reasons settings range earlier (facts_at settings range earlier so_far) cause built).why (orders_took settings earlier cause h)

@@ -39,31 +39,31 @@ abbrev AllRest : Settings → List Event → Type 0
 AllRest settings events = starts_of events ≤ 2 ^ 64 → (s k e : ℕ) → s < 2 ^ 64 → k < 2 ^ 64 → Rests settings events s k e
 
 module _ (settings : Settings) (range : InRange settings) where
-  entry : (before : List Entry) → Legal settings before → (cause : Cause) → fits_behind (events_of before) cause ≡ true → built_behind settings (events_of before) cause ≡ true
-      → AllRest settings (events_of before) → AllRest settings (behind (with_cause (events_of before) cause) (row_outs settings (events_of before) cause))
+  entry : (before : List Event) → Reached settings before → (cause : Cause) → fits_behind before cause ≡ true → built_behind settings before cause ≡ true
+      → AllRest settings before → AllRest settings (behind (with_cause before cause) (row_outs settings before cause))
   entry before so_far cause fits built h few s k e low small = record {
-    tie = entry_tied settings range (events_of before) facts settled free (all_clear settings range before so_far) cause fits built few_before s k e low small was.tie asked;
-    ran = ran_entry settings range (events_of before) facts settled cause fits built few_before s k e low small was.tie was.ran;
-    same = entry_due settings range (events_of before) facts settled free (all_clear settings range before so_far) cause fits built few_before s k e low small was.tie asked was.same;
+    tie = entry_tied settings range before facts settled free (all_clear settings range before so_far) cause fits built few_before s k e low small was.tie asked;
+    ran = ran_entry settings range before facts settled cause fits built few_before s k e low small was.tie was.ran;
+    same = entry_due settings range before facts settled free (all_clear settings range before so_far) cause fits built few_before s k e low small was.tie asked was.same;
   }
     where
-      facts : Facts settings (events_of before)
-      facts = facts_hold settings range before so_far
+      facts : Facts settings before
+      facts = facts_at settings range before so_far
 
-      settled : Settled settings (events_of before)
-      settled = settled_holds settings range before so_far
+      settled : Settled settings before
+      settled = settled_at settings range before so_far
 
-      free : Unreserved (events_of before)
+      free : Unreserved before
       free = all_unreserved settings range before so_far
 
-      few_before : starts_of (events_of before) ≤ 2 ^ 64
-      few_before = fewer (events_of before) (heard cause ∷ []) (2 ^ 64) (fewer (with_cause (events_of before) cause) (map said (row_outs settings (events_of before) cause)) (2 ^ 64) few)
+      few_before : starts_of before ≤ 2 ^ 64
+      few_before = fewer before (heard cause ∷ []) (2 ^ 64) (fewer (with_cause before cause) (map said (row_outs settings before cause)) (2 ^ 64) few)
 
-      was : Rests settings (events_of before) s k e
+      was : Rests settings before s k e
       was = h few_before s k e low small
 
-      asked : Reasons (AskedOnce settings s k e) (with_cause (events_of before) cause) (row_outs settings (events_of before) cause)
-      asked = asked_once settings range (events_of before) facts settled cause fits built few_before s k e low small was.tie was.ran
+      asked : Reasons (AskedOnce settings s k e) (with_cause before cause) (row_outs settings before cause)
+      asked = asked_once settings range before facts settled cause fits built few_before s k e low small was.tie was.ran
 
   pub due_law : (history : List Entry) → Legal settings history → KeepsDue settings history
   due_law history legal few s k e low small = (walk settings (AllRest settings) entry (λ few s k e low small. record { tie = tied_first settings s k e; ran = λ asked. never (sym asked); same = refl }) history legal few s k e low small).same

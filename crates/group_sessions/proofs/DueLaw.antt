@@ -59,7 +59,7 @@ pub record IsClear (settings : Settings) (events : List Event) : Type 0 where
   pub apart : (s e : ℕ) (id : Option Id) (c : Taking) → find (is_answered e id) (created_of settings s events).takings ≡ Some c → find (is_seated e id) (asks_of settings s events) ≡ None
 
 abbrev pub AllClear : Settings → Type 0
-AllClear settings = (before : List Entry) → Legal settings before → IsClear settings (events_of before)
+AllClear settings = (before : List Event) → Reached settings before → IsClear settings before
 
 class_progress : (c : Class) → names_progress c ≡ true → c ≡ Progress
 class_progress Progress h = refl

@@ -130,5 +130,5 @@ module _ (settings : Settings) (before : List Event) (facts : Facts settings bef
   heard_outs events (out ∷ outs) h = (heard_out events out h.0, heard_outs (events ++ said out ∷ []) outs h.1)
 
 pub all_heard : (settings : Settings) → InRange settings → AllHeard settings
-all_heard settings range before so_far cause fits built = heard_outs settings (events_of before) (facts_hold settings range before so_far) (all_rests settings range before so_far) cause (with_cause (events_of before) cause) (row_outs settings (events_of before) cause)
-    (all_known settings (events_of before) (one_start settings range before so_far) cause)
+all_heard settings range before so_far cause fits built = heard_outs settings before (facts_at settings range before so_far) (all_rests settings range before so_far) cause (with_cause before cause) (row_outs settings before cause)
+    (all_known settings before (one_start settings range before so_far) cause)

@@ -200,21 +200,21 @@ record Rests (events : List Event) : Type 0 where
   rules : (s : ℕ) → Always ServerRule7 (server_part s events)
 
 module _ (settings : Settings) (range : InRange settings) where
-  entry : (before : List Entry) → Legal settings before → (cause : Cause) → fits_behind (events_of before) cause ≡ true → built_behind settings (events_of before) cause ≡ true
-      → Rests (events_of before) → Rests (behind (with_cause (events_of before) cause) (row_outs settings (events_of before) cause))
+  entry : (before : List Event) → Reached settings before → (cause : Cause) → fits_behind before cause ≡ true → built_behind settings before cause ≡ true
+      → Rests before → Rests (behind (with_cause before cause) (row_outs settings before cause))
   entry before so_far cause fits built h =
-      let facts : Facts settings (events_of before) = facts_hold settings range before so_far in
-      let now : List Event = with_cause (events_of before) cause in
-      let created : (s : ℕ) → (life_of s (events_of before)).stage ≡ Ready → AllByRecursion (IsCreated s (events_of before)) (created_of settings s (events_of before)).tokens = all_created settings range before so_far in
-      let last : At settings range (events_of before) facts cause built created (behind now (row_outs settings (events_of before) cause)) = reasons_keep (λ events out. Why settings (events_of before) cause events out) (At settings range (events_of before) facts cause built created)
-      (step settings range (events_of before) facts cause built created) now (row_outs settings (events_of before) cause) (reasons settings range (events_of before) facts cause built).why
+      let facts : Facts settings before = facts_at settings range before so_far in
+      let now : List Event = with_cause before cause in
+      let created : (s : ℕ) → (life_of s before).stage ≡ Ready → AllByRecursion (IsCreated s before) (created_of settings s before).tokens = all_created settings range before so_far in
+      let last : At settings range before facts cause built created (behind now (row_outs settings before cause)) = reasons_keep (λ events out. Why settings before cause events out) (At settings range before facts cause built created)
+      (step settings range before facts cause built created) now (row_outs settings before cause) (reasons settings range before facts cause built).why
       (record {
-        here = here_took settings range (events_of before) cause fits built facts;
+        here = here_took settings range before cause fits built facts;
         outs = [];
         place = sym (behind_nothing now);
         first = h.ties;
-        ties = ties_took (events_of before) cause h.ties;
-        rules = rules_took settings range (events_of before) facts cause built created cause h.rules;
+        ties = ties_took before cause h.ties;
+        rules = rules_took settings range before facts cause built created cause h.rules;
       }) in
       record { ties = last.ties; rules = last.rules }
 

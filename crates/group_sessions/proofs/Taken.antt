@@ -487,7 +487,7 @@ module _ (settings : Settings) (range : InRange settings) (before : List Event) 
       last : At later
       last = reasons_keep Both At step now (row_outs settings before cause) (both now (row_outs settings before cause) (reasons settings range before facts cause built).why (all_known settings before one cause)) (first h)
 
-pub all_rests : (settings : Settings) → InRange settings → (before : List Entry) → Legal settings before → Rests settings (events_of before)
+pub all_rests : (settings : Settings) → InRange settings → (before : List Event) → Reached settings before → Rests settings before
 all_rests settings range before legal = walk settings (Rests settings)
-    (λ earlier so_far cause fits built h. entry_rests settings range (events_of earlier) (facts_hold settings range earlier so_far) (settled_holds settings range earlier so_far) (all_unreserved settings range earlier so_far) cause fits built (one_start settings range earlier so_far) h)
+    (λ earlier so_far cause fits built h. entry_rests settings range earlier (facts_at settings range earlier so_far) (settled_at settings range earlier so_far) (all_unreserved settings range earlier so_far) cause fits built (one_start settings range earlier so_far) h)
     (record { tied = λ s. tt; ran = λ s. tt }) before legal

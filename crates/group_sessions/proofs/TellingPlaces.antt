@@ -314,5 +314,5 @@ all_known settings before one (Drained e k) = silent settings before (Drained e 
 all_known settings before one (Tick t) = silent settings before (Tick t) refl refl
 
 -- A group has one start, in every legal history
-pub one_start : (settings : Settings) → InRange settings → (before : List Entry) → Legal settings before → OneStart (events_of before)
-one_start settings range before legal = walk settings OneStart (λ earlier so_far cause fits built h. one_rests settings (events_of earlier) cause (settled_holds settings range earlier so_far).begun built h) one_none before legal
+pub one_start : (settings : Settings) → InRange settings → (before : List Event) → Reached settings before → OneStart before
+one_start settings range before legal = walk settings OneStart (λ earlier so_far cause fits built h. one_rests settings earlier cause (settled_at settings range earlier so_far).begun built h) one_none before legal

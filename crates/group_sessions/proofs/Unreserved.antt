@@ -171,10 +171,10 @@ module _ (settings : Settings) (range : InRange settings) where
   did before cause events (CloseEditor e) why h = by_event events (events ++ said (CloseEditor e) ∷ []) (said (CloseEditor e)) refl h
   did before cause events (EndServer n) why h = by_event events (events ++ said (EndServer n) ∷ []) (said (EndServer n)) refl h
 
-  entry : (before : List Entry) → Legal settings before → (cause : Cause) → fits_behind (events_of before) cause ≡ true → built_behind settings (events_of before) cause ≡ true
-      → Unreserved (events_of before) → Unreserved (behind (with_cause (events_of before) cause) (row_outs settings (events_of before) cause))
-  entry before so_far cause fits built h = reasons_keep (λ events out. Why settings (events_of before) cause events out) Unreserved (did (events_of before) cause) (with_cause (events_of before) cause) (row_outs settings (events_of before) cause)
-      (reasons settings range (events_of before) (facts_hold settings range before so_far) cause built).why (took (events_of before) cause h)
+  entry : (before : List Event) → Reached settings before → (cause : Cause) → fits_behind before cause ≡ true → built_behind settings before cause ≡ true
+      → Unreserved before → Unreserved (behind (with_cause before cause) (row_outs settings before cause))
+  entry before so_far cause fits built h = reasons_keep (λ events out. Why settings before cause events out) Unreserved (did before cause) (with_cause before cause) (row_outs settings before cause)
+      (reasons settings range before (facts_at settings range before so_far) cause built).why (took before cause h)
 
-  pub all_unreserved : (before : List Entry) → Legal settings before → Unreserved (events_of before)
+  pub all_unreserved : (before : List Event) → Reached settings before → Unreserved before
   all_unreserved before so_far = walk settings Unreserved entry (λ s. tt) before so_far
