@@ -1,5 +1,5 @@
 -- What is settled where an editor that is slow leaves.
-use Rattle.std.proofs.Common.{◌≡◌, ℕ, ◌^◌, ◌≤◌, Bool, true, false, List, [], ◌∷◌, ◌++◌, filter, length, nat_eq, Some, None, refl, sym, ◌∙◌, ap, subst}
+use Rattle.std.proofs.Common.{◌≡◌, ℕ, ◌^◌, ◌≤◌, true, false, List, [], ◌∷◌, ◌++◌, filter, length, nat_eq, Some, None, refl, sym, ◌∙◌, ap, subst}
 use Rattle.std.specs.Prelude.{◌↔◌}
 use Rattle.std.specs.List.{AllByRecursion}
 use Rattle.mux_history.specs.declared.out.Out.{Out}
@@ -16,7 +16,7 @@ use Rattle.mux_model.specs.Fits.{fits_behind}
 use Rattle.mux_facts.specs.Ranges.{InRange}
 use Rattle.mux_facts.proofs.Folds.{desk_more}
 use Rattle.group_words.specs.Houses.{groups_of, home_of}
-use Rattle.group_rows.specs.Asks.{Ask, asks_of, is_with}
+use Rattle.group_rows.specs.Asks.{asks_of, is_with}
 use Rattle.group_rows.specs.Created.{created_of}
 use Rattle.group_rows.specs.SlowRows.{is_slow}
 use Rattle.group_facts.specs.Facts.{is_unready}
@@ -54,6 +54,10 @@ there_linked Down h = refl
 there_linked Closed h = refl
 there_linked Absent h = never (sym h)
 there_linked Gone h = never (sym h)
+
+-- its `exit` would be taken
+pub quit_fits : (settings : Settings) (place : List Event) (e : ℕ) → is_slow settings e place ≡ true → fits_behind place (quitting e) ≡ true
+quit_fits settings place e slow = there_linked (desk_of e place).phase (slow_there settings e place slow)
 
 module _ (settings : Settings) (range : InRange settings) (place : List Event) (facts : Facts settings place) (e : ℕ) (slow : is_slow settings e place ≡ true) where
   abbrev xs : List Out
@@ -111,12 +115,9 @@ module _ (settings : Settings) (range : InRange settings) (place : List Event) (
   -- What starts asked
 
   module _ (one : OneStart place) (seats : AllSeats settings place) where
-    linked : fits_behind place (quitting e) ≡ true
-    linked = there_linked (desk_of e place).phase (slow_there settings e place slow)
-
     away : (s : ℕ) → AllByRecursion (Away e) (asks_of settings s later)
     away s = parting_behind settings (λ z. AllByRecursion (Away e) (asks_of settings s z)) place e (leave_clean settings place (quitting e) (facts.steady).asks e (place ++ said (CloseEditor e) ∷ [])
-        (λ t. did_all settings (MidSeat settings place (quitting e) t) t place (CloseEditor e) tt (all_of (HasSeat settings place t) (MidSeat settings place (quitting e) t) (λ a k. seat_now settings place facts (quitting e) linked t a k) (asks_of settings t place) (seats t)))
+        (λ t. did_all settings (MidSeat settings place (quitting e) t) t place (CloseEditor e) tt (all_of (HasSeat settings place t) (MidSeat settings place (quitting e) t) (λ a k. seat_now settings place facts (quitting e) (quit_fits settings place e slow) t a k) (asks_of settings t place) (seats t)))
         (λ t. did_all settings (Pending e (filter (is_with e) (asks_of settings t place))) t place (CloseEditor e) tt (all_pending e (asks_of settings t place))) s)
 
     asked_before : (s : ℕ) → AllByRecursion (HasSeat settings place s) (asks_of settings s later)

@@ -1,5 +1,5 @@
 -- Z1: an editor that is slow leaves as one does that sends `exit` where its link is to be ended: each of the outs has its reason, and what each such editor's outs keep is kept behind the entry.
-use Rattle.std.proofs.Common.{◌≡◌, ℕ, Bool, true, false, ◌&&◌, ◌||◌, List, [], ◌∷◌, ◌++◌, append_assoc, bytes_eq, codes, decimal, map, nat_eq, refl, sym, ◌∙◌, ap, ap₂, subst, None, Option}
+use Rattle.std.proofs.Common.{◌≡◌, ℕ, Bool, true, false, ◌&&◌, ◌||◌, List, [], ◌∷◌, ◌++◌, append_assoc, codes, decimal, map, nat_eq, refl, sym, ◌∙◌, ap, ap₂, subst, None, Option}
 use Rattle.std.specs.List.{AllByRecursion, range_with_len}
 use Rattle.std.proofs.lemmas.Bool.{and_parts}
 use Rattle.std.proofs.lemmas.Slice.Eq.{bytes_eq-Decides}
@@ -195,10 +195,10 @@ module _ (settings : Settings) where
     all_to_start : AllByRecursion IsToStart rest
     all_to_start = all_outs IsToStart closed rest (leave_by (λ places out. IsToStart out) (λ places s body. tt) settings place e closed).why
 
-    pub parting_walk : (I : List Event → Type 0) → ((events : List Event) → I events → I (events ++ said (CloseEditor e) ∷ []))
+    pub parting_walk : (I : List Event → Type 0) → (I place → I closed)
         → ((events : List Event) (s : ℕ) (body : List ℕ) → WhyToServer settings place (quitting e) events s body → I events → I (events ++ said (ToServer s body) ∷ [])) → I place → I (behind place (parting place e))
     parting_walk I closes sends h = parting_behind I place e (reasons_keep (λ places out. Why settings place (quitting e) places out × IsToStart out) I go closed rest
-        (zip_reasons (Why settings place (quitting e)) IsToStart closed rest (parting_why range place facts e slow).1 all_to_start) (closes place h))
+        (zip_reasons (Why settings place (quitting e)) IsToStart closed rest (parting_why range place facts e slow).1 all_to_start) (closes h))
       where
         go : (places : List Event) (out : Out) → Why settings place (quitting e) places out × IsToStart out → I places → I (places ++ said out ∷ [])
         go places (ToServer s body) why k = sends places s body why.0 k
