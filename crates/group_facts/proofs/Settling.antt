@@ -67,7 +67,7 @@ module _ (settings : Settings) (range : InRange settings) where
     lively : Lively settings events
     opens : OpenAll settings events
     placed : AllPlaced settings events
-    one : OneStart events
+    pub one : OneStart events
     seats : stopped events ≡ false → AllSeats settings events
     uncreated : Uncreated settings events
     taken : AllTaken settings events

@@ -20,6 +20,7 @@ use Rattle.group_rows.specs.Rows.{row_outs}
 use Rattle.group_facts.specs.Built.{built_behind}
 use Rattle.group_facts.specs.Legal.{Legal}
 use Rattle.group_facts.specs.Why.{Telling, of_held, of_request, of_token}
+use Rattle.group_facts.proofs.Reached.{Reached}
 
 abbrev pub accepted : ℕ → List Event → Creates
 accepted e events = accepted_of (editor_part e events)

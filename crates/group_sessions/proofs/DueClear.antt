@@ -36,7 +36,7 @@ use Rattle.group_facts.specs.Legal.{Legal}
 use Rattle.group_facts.specs.Why.{Why, WhyToEditor, answers, asks, asks_something, calls, passes, progresses, recalls, refuses, rejects, resumes, shows, spreads, turns_away, welcomes, loses}
 use Rattle.group_facts.proofs.AskSeats.{asks_more, did_all, took_all}
 use Rattle.group_facts.proofs.Asks.{call_hurried, is_question, listed, registering_made, response_asks_none, resumed_here, resumed_off, taken}
-use Rattle.group_facts.proofs.Known.{facts_hold}
+use Rattle.group_facts.proofs.Reached.{Reached, facts_at}
 use Rattle.group_facts.proofs.Facts.{Facts}
 use Rattle.group_facts.proofs.Marks.{mark_number}
 use Rattle.group_facts.proofs.Table.{reasons}
@@ -44,9 +44,11 @@ use Rattle.group_sessions.proofs.CreatedFold.{all_flat, created_orderly}
 use Rattle.group_sessions.proofs.CreatedTies.{created_more}
 use Rattle.group_sessions.proofs.HeldFold.{created_fair}
 use Rattle.group_sessions.proofs.TakingTies.{aside_all, find_true, is_aside, left_all}
-use Rattle.group_sessions.proofs.Walk.{walk}
+use Rattle.group_sessions.proofs.Walk.{KeepsSlow, walk}
 use Rattle.group_sessions.proofs.DueFold.{head_passes, is_own, own}
 use Rattle.group_sessions.proofs.DueLaw.{AllClear, IsClear, found_kept}
+use Rattle.group_facts.proofs.SlowRow.{parting, parting_why}
+use Rattle.group_facts.specs.Why.{quitting}
 
 -- The token that the n-th request to an editor asks it to take
 
@@ -454,9 +456,12 @@ clear_of settings events facts o = record { one = one; apart = apart }
             number = same_named id a.number c.number (number_low a.editor a.number None a_plain) (number_low c.editor c.number (Some (created_mark s c.token)) c_set) a_parts.1 c_parts.1
 
 pub all_clear : (settings : Settings) → InRange settings → AllClear settings
-all_clear settings range before legal = clear_of settings before (facts_at settings range before legal) (walk settings (Orders settings) entry (record { plain = λ s. tt; set = λ s. tt; small = λ e. omega arith }) before legal)
+all_clear settings range before legal = clear_of settings before (facts_at settings range before legal) (walk settings (Orders settings) entry slow (record { plain = λ s. tt; set = λ s. tt; small = λ e. omega arith }) before legal)
   where
     entry : (earlier : List Event) → Reached settings earlier → (cause : Cause) → fits_behind earlier cause ≡ true → built_behind settings earlier cause ≡ true
         → Orders settings earlier → Orders settings (behind (with_cause earlier cause) (row_outs settings earlier cause))
     entry earlier so_far cause fits built h = reasons_keep (Why settings earlier cause) (Orders settings) (orders_did settings earlier cause) (with_cause earlier cause) (row_outs settings earlier cause)
         (reasons settings range earlier (facts_at settings range earlier so_far) cause built).why (orders_took settings earlier cause h)
+
+    slow : KeepsSlow settings (Orders settings)
+    slow place at e is h = reasons_keep (Why settings place (quitting e)) (Orders settings) (orders_did settings place (quitting e)) place (parting settings place e) (parting_why settings range place (facts_at settings range place at) e is) h

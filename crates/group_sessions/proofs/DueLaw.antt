@@ -48,6 +48,7 @@ use Rattle.group_sessions.proofs.DueExact.{handed_exactly, told_exactly}
 use Rattle.group_sessions.proofs.DueFold.{head_passes, is_own, own, own_accepted}
 use Rattle.group_sessions.proofs.DueSent.{Source, hears, nothing_or, sent_behind, sent_heard, sent_outs, takes}
 use Rattle.group_sessions.proofs.DueStates.{Seat, State, fresh, gained, goes, handed, over, rose, sits, waits}
+use Rattle.group_facts.proofs.Reached.{Reached}
 
 -- An editor is asked once to take a token, at each place of an entry
 abbrev pub AskedOnce : Settings → ℕ → ℕ → ℕ → List Event → Out → Type 0

@@ -22,7 +22,7 @@ use Rattle.group_rows.specs.Rows.{row_outs}
 use Rattle.group_rows.specs.Tokens.{marked_text}
 use Rattle.group_facts.specs.Why.{Telling, of_held, of_request, of_token}
 use Rattle.group_facts.proofs.Facts.{Facts}
-use Rattle.group_facts.proofs.Known.{facts_hold}
+use Rattle.group_facts.proofs.Reached.{facts_at}
 use Rattle.group_sessions.proofs.Accepted.{AllHeard, Heard, Hears, NamesToken, accepted}
 use Rattle.group_sessions.proofs.Client6Law.{created_id}
 use Rattle.group_sessions.proofs.HeldFold.{IsFair, LastEnds, NameTokens, NoneEnds, created_fair, none_before}

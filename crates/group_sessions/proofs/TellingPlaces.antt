@@ -45,10 +45,9 @@ use Rattle.group_facts.specs.Legal.{Legal}
 use Rattle.group_facts.specs.Why.{IsNotified, IsTaken, Telling, of_held, of_request, of_token}
 use Rattle.group_facts.proofs.AskingRows.{running_is}
 use Rattle.group_facts.proofs.OneStart.{OneStart, one_none, one_rests}
-use Rattle.group_facts.proofs.Settling.{settled_holds}
+use Rattle.group_facts.proofs.Reached.{Reached, rests_at}
 use Rattle.group_sessions.proofs.Accepted.{accepted}
 use Rattle.group_sessions.proofs.TakingTies.{accepted_more}
-use Rattle.group_sessions.proofs.Walk.{walk}
 
 -- An editor that runs, at home in the group whose last start is s
 pub record RunsIn (settings : Settings) (events : List Event) (s e : ℕ) : Type 0 where
@@ -315,4 +314,4 @@ all_known settings before one (Tick t) = silent settings before (Tick t) refl re
 
 -- A group has one start, in every legal history
 pub one_start : (settings : Settings) → InRange settings → (before : List Event) → Reached settings before → OneStart before
-one_start settings range before legal = walk settings OneStart (λ earlier so_far cause fits built h. one_rests settings earlier cause (settled_at settings range earlier so_far).begun built h) one_none before legal
+one_start settings range before at = (rests_at settings range before at).one

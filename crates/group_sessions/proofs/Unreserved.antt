@@ -30,13 +30,15 @@ use Rattle.group_facts.specs.Legal.{Legal}
 use Rattle.group_facts.specs.Why.{IsForward, Why, WhyToServer, begins, cancels, cancels_work, exits, forwarded, greets, notes, resolves, responds, shuts, tells}
 use Rattle.group_facts.proofs.Apart.{grow, new}
 use Rattle.group_facts.proofs.Forwards.{forwarding_more}
-use Rattle.group_facts.proofs.Known.{facts_hold}
+use Rattle.group_facts.proofs.Reached.{Reached, facts_at}
 use Rattle.group_facts.proofs.Table.{reasons}
 use Rattle.group_sessions.proofs.Brought.{Brought, brought}
 use Rattle.group_sessions.proofs.CreatedFold.{free_of, is_free}
 use Rattle.group_sessions.proofs.Telling.{Adds}
 use Rattle.group_sessions.proofs.TellingSent.{AtWork, at_work, sender_still}
-use Rattle.group_sessions.proofs.Walk.{walk}
+use Rattle.group_sessions.proofs.Walk.{KeepsSlow, walk}
+use Rattle.group_facts.proofs.SlowRow.{parting, parting_why}
+use Rattle.group_facts.specs.Why.{quitting}
 
 -- the text of an id that an editor may choose as a token
 pub record IsFreeText (bytes : List ℕ) : Type 0 where
@@ -176,5 +178,8 @@ module _ (settings : Settings) (range : InRange settings) where
   entry before so_far cause fits built h = reasons_keep (λ events out. Why settings before cause events out) Unreserved (did before cause) (with_cause before cause) (row_outs settings before cause)
       (reasons settings range before (facts_at settings range before so_far) cause built).why (took before cause h)
 
+  slow : KeepsSlow settings Unreserved
+  slow place at e is h = reasons_keep (Why settings place (quitting e)) Unreserved (did place (quitting e)) place (parting settings place e) (parting_why settings range place (facts_at settings range place at) e is) h
+
   pub all_unreserved : (before : List Event) → Reached settings before → Unreserved before
-  all_unreserved before so_far = walk settings Unreserved entry (λ s. tt) before so_far
+  all_unreserved before so_far = walk settings Unreserved entry slow (λ s. tt) before so_far
