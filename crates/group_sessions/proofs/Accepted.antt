@@ -2,11 +2,10 @@
 use Rattle.std.proofs.Common.{◌≡◌, ℕ, true, List, codes, Option, is_some}
 use Rattle.json_text.specs.Json.{Json}
 use Rattle.mux_history.specs.declared.cause.Cause.{Cause}
-use Rattle.mux_history.specs.declared.entry.Entry.{Entry}
 use Rattle.mux_history.specs.declared.out.Out.{Out}
 use Rattle.mux_history.specs.declared.out.Out.TheVariants.{ToEditor}
 use Rattle.rpc_message.specs.Message.{message_of, notification, text}
-use Rattle.event_model.specs.Event.{Event, events_of, with_cause}
+use Rattle.event_model.specs.Event.{Event, with_cause}
 use Rattle.event_model.specs.Members.{named_of}
 use Rattle.event_model.specs.Parts.{editor_part}
 use Rattle.event_model.specs.Requests.{is_open}
@@ -18,7 +17,6 @@ use Rattle.session_laws.specs.Progress.{Creates}
 use Rattle.group_rows.specs.Created.{created_mark}
 use Rattle.group_rows.specs.Rows.{row_outs}
 use Rattle.group_facts.specs.Built.{built_behind}
-use Rattle.group_facts.specs.Legal.{Legal}
 use Rattle.group_facts.specs.Why.{Telling, of_held, of_request, of_token}
 use Rattle.group_facts.proofs.Reached.{Reached}
 

@@ -1,5 +1,5 @@
 -- What an editor is told of registrations fits what it was told before.
-use Rattle.std.proofs.Common.{◌≡◌, ℕ, Bool, true, false, not, ◌&&◌, List, [], ◌∷◌, ◌++◌, append-nil, append_assoc, codes, nat_eq, IsTrue, if◌then◌else◌, Some, refl, sym, ◌∙◌, ap, subst, inl, inr, ◌⊎◌}
+use Rattle.std.proofs.Common.{◌≡◌, ℕ, Bool, true, false, not, ◌&&◌, List, [], ◌∷◌, ◌++◌, codes, nat_eq, if◌then◌else◌, Some, refl, sym, ◌∙◌, ap, subst, inl, inr}
 use Rattle.std.proofs.lemmas.Bool.{and_parts}
 use Rattle.mux_history.specs.declared.cause.Cause.{Cause}
 use Rattle.mux_history.specs.declared.cause.Cause.TheVariants.{Joined, FromEditor, EditorGone, Started, StartFailed, FromServer, ServerGone, Drained, Tick}
@@ -23,7 +23,6 @@ use Rattle.mux_model.specs.Fits.{fits_behind}
 use Rattle.mux_facts.specs.Ranges.{InRange}
 use Rattle.mux_facts.proofs.DocumentRow.{ready_is}
 use Rattle.mux_facts.proofs.Folds.{desk_more, life_more}
-use Rattle.mux_facts.proofs.Keeps.{events_more}
 use Rattle.mux_facts.proofs.Reasons.{reasons_keep}
 use Rattle.mux_facts.proofs.Starts.{Starts}
 use Rattle.mux_facts.proofs.Words.{number_same}
@@ -35,14 +34,14 @@ use Rattle.group_rows.specs.Live.{live_by, live_next, live_of}
 use Rattle.group_rows.specs.Rows.{row_outs}
 use Rattle.group_facts.specs.Built.{built_behind}
 use Rattle.group_facts.specs.Facts.{is_unready}
-use Rattle.group_facts.specs.Legal.{Legal, LegalFrom}
+use Rattle.group_facts.specs.Legal.{Legal}
 use Rattle.group_facts.specs.Settled.{Settled}
 use Rattle.group_facts.specs.Why.{Why}
 use Rattle.group_facts.proofs.Facts.{Facts}
 use Rattle.group_facts.proofs.Known.{Here, here_did, here_took}
 use Rattle.group_facts.proofs.Levels.{Fresh, falls_back, unready_falls}
 use Rattle.group_facts.proofs.Numbers.{spawn_fresh}
-use Rattle.group_facts.proofs.OneStart.{OneStart, one_none, one_rests}
+use Rattle.group_facts.proofs.OneStart.{OneStart}
 use Rattle.group_facts.proofs.Reached.{facts_at, reached, rests_at, settled_at}
 use Rattle.group_facts.proofs.SlowRow.{parting, parting_calm, parting_keeps}
 use Rattle.group_facts.proofs.Table.{reasons}

@@ -1,17 +1,15 @@
 -- The tokens that live at a ready start, in every legal history: each has its text, and is one that the start created, by its part.
 use Rattle.std.proofs.Common.{◌≡◌, ℕ, true, List}
 use Rattle.std.specs.List.{AllByRecursion}
-use Rattle.mux_history.specs.declared.entry.Entry.{Entry}
 use Rattle.rpc_message.specs.ValueTexts.{IsIdText}
 use Rattle.event_model.specs.declared.stage.Stage.TheVariants.{Ready}
-use Rattle.event_model.specs.Event.{Event, events_of}
+use Rattle.event_model.specs.Event.{Event}
 use Rattle.event_model.specs.Requests.{is_open}
 use Rattle.event_model.specs.Settings.{Settings}
 use Rattle.event_model.specs.Stages.{life_of}
 use Rattle.mux_facts.specs.Ranges.{InRange}
 use Rattle.session_laws.proofs.Server7Law.{creates}
 use Rattle.group_rows.specs.Created.{Token, created_of}
-use Rattle.group_facts.specs.Legal.{Legal}
 use Rattle.group_facts.proofs.Forwards.{zip_all}
 use Rattle.group_facts.proofs.Reached.{Reached, facts_at}
 use Rattle.group_sessions.proofs.CreatedFold.{IsLive, created_orderly}

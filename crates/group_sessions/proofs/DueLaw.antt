@@ -6,7 +6,6 @@ use Rattle.std.proofs.lemmas.List.{map-append}
 use Rattle.json_text.specs.Json.{Json}
 use Rattle.mux_history.specs.declared.cause.Cause.{Cause}
 use Rattle.mux_history.specs.declared.cause.Cause.TheVariants.{Joined, FromEditor, EditorGone, Started, StartFailed, FromServer, ServerGone, Drained, Tick}
-use Rattle.mux_history.specs.declared.entry.Entry.{Entry}
 use Rattle.mux_history.specs.declared.out.Out.{Out}
 use Rattle.mux_history.specs.declared.out.Out.TheVariants.{ToEditor, ToServer, Spawn, CloseEditor, EndServer}
 use Rattle.lsp_method.specs.Class.{class_of}
@@ -14,7 +13,7 @@ use Rattle.lsp_method.specs.declared.variants.Class.{Class}
 use Rattle.lsp_method.specs.declared.variants.Class.TheVariants.{Progress}
 use Rattle.lsp_method.specs.declared.variants.Origin.TheVariants.{Server}
 use Rattle.rpc_message.specs.Message.{Id, Message, request, notification, result, error, not_json, not_message, message_of}
-use Rattle.event_model.specs.Event.{Event, behind, did, events_of, heard, requests, said, took, with_cause}
+use Rattle.event_model.specs.Event.{Event, behind, did, heard, requests, said, took, with_cause}
 use Rattle.event_model.specs.Requests.{answered_id}
 use Rattle.event_model.specs.Settings.{Settings}
 use Rattle.event_model.specs.Spawns.{starts_behind, starts_of}
@@ -34,7 +33,6 @@ use Rattle.group_rows.specs.Forwarded.{names}
 use Rattle.group_rows.specs.Rows.{row_outs}
 use Rattle.group_rows.specs.Tokens.{marked_text}
 use Rattle.group_facts.specs.Built.{built_behind}
-use Rattle.group_facts.specs.Legal.{Legal}
 use Rattle.group_facts.specs.Settled.{HasTaken, RunsAt, Settled}
 use Rattle.group_facts.specs.Why.{IsNotified, IsTaken, Why}
 use Rattle.group_facts.proofs.Facts.{Facts}

@@ -7,7 +7,7 @@ use Rattle.mux_history.specs.declared.cause.Cause.TheVariants.{FromEditor, FromS
 use Rattle.mux_history.specs.declared.out.Out.{Out}
 use Rattle.mux_history.specs.declared.out.Out.TheVariants.{ToEditor, ToServer, Spawn, CloseEditor, EndServer}
 use Rattle.rpc_message.specs.Message.{Id, message_of, notification, text}
-use Rattle.event_model.specs.Event.{Event, behind, events_of, heard, said, with_cause}
+use Rattle.event_model.specs.Event.{Event, behind, heard, said, with_cause}
 use Rattle.event_model.specs.Requests.{answered_id, is_open, without}
 use Rattle.event_model.specs.Settings.{Settings}
 use Rattle.event_model.proofs.Frames.{never}

@@ -22,7 +22,7 @@ use Rattle.mux_model.specs.Rows.{malformed_row}
 use Rattle.mux_facts.specs.Ranges.{InRange}
 use Rattle.mux_facts.proofs.DocumentRow.{ready_is}
 use Rattle.mux_facts.proofs.Folds.{desk_more}
-use Rattle.mux_facts.proofs.Keeps.{behind_both, events_more}
+use Rattle.mux_facts.proofs.Keeps.{behind_both}
 use Rattle.mux_facts.proofs.Lists.{all_join, all_of}
 use Rattle.mux_facts.proofs.Reasons.{Reasons, by_send, by_then}
 use Rattle.mux_facts.proofs.Words.{number_same, same_number}

@@ -6,13 +6,12 @@ use Rattle.std.proofs.lemmas.Fmt.{decimal_injective}
 use Rattle.json_text.specs.Json.{Json}
 use Rattle.mux_history.specs.declared.cause.Cause.{Cause}
 use Rattle.mux_history.specs.declared.cause.Cause.TheVariants.{Joined, FromEditor, EditorGone, Started, StartFailed, FromServer, ServerGone, Drained, Tick}
-use Rattle.mux_history.specs.declared.entry.Entry.{Entry}
 use Rattle.mux_history.specs.declared.out.Out.{Out}
 use Rattle.mux_history.specs.declared.out.Out.TheVariants.{ToEditor, ToServer, Spawn, CloseEditor, EndServer}
 use Rattle.rpc_message.specs.Message.{Id, Message, request, notification, result, error, not_json, not_message, message_of, text}
 use Rattle.event_model.specs.declared.phase.Phase.{Phase}
 use Rattle.event_model.specs.declared.phase.Phase.TheVariants.{Answered, Running, Down, Gone}
-use Rattle.event_model.specs.Event.{Event, behind, did, events_of, heard, requests, said, same_id, took, with_cause}
+use Rattle.event_model.specs.Event.{Event, behind, did, heard, requests, said, same_id, took, with_cause}
 use Rattle.event_model.specs.Members.{named_of}
 use Rattle.event_model.specs.Phases.{Desk, desk_hears, desk_of, is_new, is_running, makes_running, needs_server}
 use Rattle.event_model.specs.Requests.{answered_id, is_open, without}
@@ -37,7 +36,6 @@ use Rattle.group_rows.specs.Rows.{row_outs}
 use Rattle.group_rows.specs.Tokens.{is_told, marked_text}
 use Rattle.group_facts.specs.Built.{built_behind}
 use Rattle.group_facts.specs.Facts.{shuts}
-use Rattle.group_facts.specs.Legal.{Legal}
 use Rattle.group_facts.specs.Settled.{Settled}
 use Rattle.group_facts.specs.Why.{IsNotified, IsTaken, Telling, Why, WhyToEditor, answers, asks, calls, of_held, of_request, of_token, passes, progresses, recalls, refuses, rejects, resumes, shows, spreads, turns_away, welcomes, loses}
 use Rattle.group_facts.proofs.Facts.{Facts}
