@@ -63,7 +63,7 @@ exit_asks method = ap (requests method) exit_says
 pub exit_stops_none : (before : List Event) (e : ℕ) → stops before e (message_of exit_text) ≡ false
 exit_stops_none before e = ap (stops before e) exit_says
 
--- it goes nowhere behind a sync
+-- as a request it is itself
 exit_forwarded : (n : ℕ) → forwarded_text n exit_text ≡ exit_text
 unfolding computes named message_of no_name_twice is_integer member_bytes id_edits escape_byte digits chars lib.Utf8.encode
 exit_forwarded n = refl
@@ -76,8 +76,9 @@ the_method h = cc
 
 -- it cancels no work
 pub quit_works : (settings : Settings) (before : List Event) (e : ℕ) (events : List Event) (s : ℕ) (body : List ℕ) → IsWorkCancel settings before (quitting e) events s body → ⊥
-quit_works settings before e events s body k = never (sym ((bytes_eq-Decides (codes "exit") (codes "window/workDoneProgress/cancel")).1 (the_method (sym exit_says ∙ (ap message_of (sym (the_body k.from)) ∙ k.notified)))) ∙ refl)
+quit_works settings before e events s body k = never (sym ((bytes_eq-Decides (codes "exit") (codes "window/workDoneProgress/cancel")).1 (the_method (sym exit_says ∙ (ap message_of (sym (the_body k.from)) ∙ k.notified)))))
 
+-- and nothing that goes behind a sync is sent for it
 pub quit_unsynced : (settings : Settings) (before : List Event) (e : ℕ) (events : List Event) (s : ℕ) (body : List ℕ) → WhyToServer settings before (quitting e) events s body → is_synced (message_of body) ≡ true → ⊥
 quit_unsynced settings before e events s body (begins k) goes = unsynced body _ k.says refl goes
 quit_unsynced settings before e events s body (greets k) goes = unsynced body _ k.says refl goes
@@ -105,6 +106,8 @@ none_first false b h = refl
 -- nor does an editor begin again by it
 pub quit_again : (e n : ℕ) (b : Bool) → (nat_eq e n && (b && requests (codes "initialize") (message_of exit_text))) ≡ false
 quit_again e n b = none_second (nat_eq e n) _ (none_second b (requests (codes "initialize") (message_of exit_text)) (exit_asks (codes "initialize")))
+
+-- Outs where an editor leaves so
 
 abbrev IsToStart : Out → Type 0
 IsToStart (ToServer s body) = Unit {0}
