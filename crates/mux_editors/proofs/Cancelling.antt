@@ -16,11 +16,13 @@ use Rattle.rpc_message.specs.Message.{Id, message_of, notification, same_id}
 use Rattle.rpc_message.specs.Envelopes.{not_null}
 use Rattle.rpc_message.specs.Parsed.{IsRead, Parsed, params_in}
 use Rattle.rpc_message.specs.ValueTexts.{IsIdText}
+use Rattle.event_model.specs.declared.phase.Phase.{Phase}
+use Rattle.event_model.specs.declared.phase.Phase.TheVariants.{Absent, New, Waiting, Answered, Running, Down, Closed, Gone}
 use Rattle.event_model.specs.declared.stage.Stage.{Stage}
 use Rattle.event_model.specs.Does.{Alike, Does}
 use Rattle.event_model.specs.Event.{Event, behind}
 use Rattle.event_model.specs.Members.{named_of, params_of}
-use Rattle.event_model.specs.Phases.{desk_of, is_served}
+use Rattle.event_model.specs.Phases.{desk_of, is_served, is_there}
 use Rattle.event_model.specs.Row.{Row, choose, nothing, on, send}
 use Rattle.event_model.specs.Settings.{Settings}
 use Rattle.event_model.specs.Spawns.{start_of}
@@ -48,6 +50,17 @@ use Rattle.mux_editors.specs.Cancels.{HaveIds}
 use Rattle.mux_editors.proofs.Asides.{and_off}
 use Rattle.mux_turns.proofs.Numbers.{decimals}
 use Rattle.mux_turns.proofs.Rows.{ended_start, is_first, is_second, some_start}
+
+-- one that is served is there
+pub served_there : (p : Phase) → is_served p ≡ true → is_there p ≡ true
+served_there Answered h = refl
+served_there Running h = refl
+served_there Absent h = absurd (cc)
+served_there New h = absurd (cc)
+served_there Waiting h = absurd (cc)
+served_there Down h = absurd (cc)
+served_there Closed h = absurd (cc)
+served_there Gone h = absurd (cc)
 
 -- A request that is found is the one of its number
 

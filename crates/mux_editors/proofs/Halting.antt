@@ -110,24 +110,24 @@ loses_all settings t base xs ys e s ids named is d = does_knowing (λ st.
 -- each is an editor's own
 own_rows : (e : ℕ) (fs : List Forwarded) → Alike (each lose_request (filter (is_of e) fs)) (each (refuse_id e) (ids_at e fs))
 own_rows e [] = alike refl
-own_rows e (f ∷ fs) = go (nat_eq f.editor e) refl
+own_rows e (f ∷ fs) = go (own_rows e fs) (nat_eq f.editor e) refl
   where
-    go : (b : Bool) → nat_eq f.editor e ≡ b → Alike (each lose_request (if b then f ∷ filter (is_of e) fs else filter (is_of e) fs)) (each (refuse_id e) (map (λ (f : Forwarded). f.id) (if b then f ∷ filter (is_of e) fs else filter (is_of e) fs)))
-    go true mine = record {
+    go : Alike (each lose_request (filter (is_of e) fs)) (each (refuse_id e) (ids_at e fs)) → (b : Bool) → nat_eq f.editor e ≡ b → Alike (each lose_request (if b then f ∷ filter (is_of e) fs else filter (is_of e) fs)) (each (refuse_id e) (map (λ (f : Forwarded). f.id) (if b then f ∷ filter (is_of e) fs else filter (is_of e) fs)))
+    go rest true mine = record {
       sends = λ events.
           let own : f.editor ≡ e = number_same f.editor e mine in
           ap₂ (λ x ws. x ∷ ws) (ap (λ n. ToEditor n (error_text f.id request_failed)) own)
-          (ap (λ n. outs (each lose_request (filter (is_of e) fs)) (events ++ said (ToEditor n (error_text f.id request_failed)) ∷ [])) own ∙ (own_rows e fs).sends (events ++ said (ToEditor e (error_text f.id request_failed)) ∷ []));
+          (ap (λ n. outs (each lose_request (filter (is_of e) fs)) (events ++ said (ToEditor n (error_text f.id request_failed)) ∷ [])) own ∙ rest.sends (events ++ said (ToEditor e (error_text f.id request_failed)) ∷ []));
     }
-    go false off = own_rows e fs
+    go rest false off = rest
 
 named_all : (events : List Event) (e : ℕ) (fs : List Forwarded) → AllByRecursion (IsForwarded events) fs → AllByRecursion IsNamed (ids_at e fs)
 named_all events e [] h = tt
-named_all events e (f ∷ fs) h = go (nat_eq f.editor e)
+named_all events e (f ∷ fs) h = go (named_all events e fs h.1) (nat_eq f.editor e)
   where
-    go : (b : Bool) → AllByRecursion IsNamed (map (λ (f : Forwarded). f.id) (if b then f ∷ filter (is_of e) fs else filter (is_of e) fs))
-    go true = (((h.0).id, (h.0).text), named_all events e fs h.1)
-    go false = named_all events e fs h.1
+    go : AllByRecursion IsNamed (ids_at e fs) → (b : Bool) → AllByRecursion IsNamed (map (λ (f : Forwarded). f.id) (if b then f ∷ filter (is_of e) fs else filter (is_of e) fs))
+    go rest true = (((h.0).id, (h.0).text), rest)
+    go rest false = rest
 
 -- the start of its group
 module _ (settings : Settings) (t : Tables) (before base : List Event) (xs : List Out) (home e : ℕ) (stays : Stays settings before (behind base xs)) where
@@ -163,7 +163,7 @@ loses_home settings t before base xs ys e home stays at d = does_alike (λ st. a
 
 -- Bodies to editors
 
-abbrev IsTold : Out → Type 0
+abbrev pub IsTold : Out → Type 0
 IsTold (ToEditor e body) = Unit {0}
 IsTold other = ⊥
 
@@ -224,10 +224,10 @@ module _ (settings : Settings) (before now : List Event) (k : ℕ) (body : List 
     housed = λ e at. let home = r.housed e (told_desk e at).0 in (home.0, home_more settings e now ev ∙ home.1);
   }
 
-still_refusing : (settings : Settings) (before now : List Event) (xs : List Out) → AllByRecursion IsTold xs → Refusing settings before now → Refusing settings before (behind now xs)
-still_refusing settings before now [] h r = subst (Refusing settings before) (sym (append-nil now)) r
-still_refusing settings before now (ToEditor k body ∷ xs) h r = subst (Refusing settings before) (sym (behind_more now (ToEditor k body ∷ []) xs)) (still_refusing settings before (now ++ said (ToEditor k body) ∷ []) xs h.1 (told_refusing settings before now k body r))
-still_refusing settings before now (other ∷ xs) h r = absurd h.0
+still_refusing : (settings : Settings) (before events : List Event) (xs : List Out) → AllByRecursion IsTold xs → Refusing settings before events → Refusing settings before (behind events xs)
+still_refusing settings before events [] h r = subst (Refusing settings before) (sym (append-nil events)) r
+still_refusing settings before events (ToEditor k body ∷ xs) h r = subst (Refusing settings before) (sym (behind_more events (ToEditor k body ∷ []) xs)) (still_refusing settings before (events ++ said (ToEditor k body) ∷ []) xs h.1 (told_refusing settings before events k body r))
+still_refusing settings before events (other ∷ xs) h r = absurd h.0
 
 pub refusing_on : (settings : Settings) (t : Tables) (before base : List Event) (xs ys : List Out) {row : Row} → ((events : List Event) → AllByRecursion IsTold (outs row events)) → Does (λ t events. Stands settings t events) row base t xs t ys → Stands settings t (behind base xs)
     → Refusing settings before (behind base xs) → Refusing settings before (behind base ys)
@@ -241,21 +241,21 @@ pub refusing_next : (settings : Settings) (t : Tables) (before base : List Event
 refusing_next settings t before base xs ys e r st d = refusing_on settings t before base xs ys (open_told settings before e) d st r
 
 -- the whole entry, where no start is ready behind it
-pub stops_done : (settings : Settings) (before base : List Event) (e : ℕ) (body : List ℕ) (t u v : Tables) (xs told refused closed ys : List Out) (there live : List ℕ) → xs ≡ [] → Stands settings t base → DocumentsStand settings nothing_owed t base
-    → there ≡ there_in before → live ≡ all_from 0 is_live (groups_of settings before)
-    → Does (λ t events. Halts settings t events) (send (ToEditor e (ok_text (id_bytes body) (codes "null")))) base t xs t told
-    → Does (λ t events. Halts settings t events) (each (refuse_open settings before) there) base t told t refused
-    → Does (λ t events. Halts settings t events) (close_each there) base t refused u closed
+pub stops_done : (settings : Settings) (before base : List Event) (e : ℕ) (body : List ℕ) (t u v : Tables) (told refused closed ys : List Out) (lost shut live : List ℕ) → Stands settings t base → DocumentsStand settings nothing_owed t base
+    → lost ≡ there_in before → shut ≡ there_in before → live ≡ all_from 0 is_live (groups_of settings before)
+    → Does (λ t events. Halts settings t events) (send (ToEditor e (ok_text (id_bytes body) (codes "null")))) base t [] t told
+    → Does (λ t events. Halts settings t events) (each (refuse_open settings before) lost) base t told t refused
+    → Does (λ t events. Halts settings t events) (close_each shut) base t refused u closed
     → Does (λ t events. Halts settings t events) (each end_group live) base u closed v ys
-    → (Stands settings v (behind base ys) → (g : ℕ) (x : Start) → slice_get v.lasts.items g ≡ Some x → is_ready x.life.stage ≡ false)
+    → (ys ≡ outs (stop_row settings before e body) base → Stands settings v (behind base ys) → (g : ℕ) (x : Start) → slice_get v.lasts.items g ≡ Some x → is_ready x.life.stage ≡ false)
     → Done (λ k events. AllStand settings k events) (stop_row settings before e body) base [] (v, nothing_owed) ys
-stops_done settings before base e body t u v xs told refused closed ys there live first st ds those alive tells refuses closes ends none =
-    let one = subst (λ ws. Does (λ t events. Halts settings t events) (send (ToEditor e (ok_text (id_bytes body) (codes "null")))) base t ws t told) first tells in
+stops_done settings before base e body t u v told refused closed ys lost shut live st ds those these alive one refuses closes ends none =
     let two = subst (λ es. Does (λ t events. Halts settings t events) (each (refuse_open settings before) es) base t told t refused) those refuses in
-    let three = subst (λ es. Does (λ t events. Halts settings t events) (close_each es) base t refused u closed) those closes in
+    let three = subst (λ es. Does (λ t events. Halts settings t events) (close_each es) base t refused u closed) these closes in
     let four = subst (λ gs. Does (λ t events. Halts settings t events) (each end_group gs) base u closed v ys) alive ends in
     let done = does_entry {Stands = λ t events. Halts settings t events} {row = stop_row settings before e body} (st, (nothing_owed, ds)) (does_then one (does_then two (does_then three four))) in
-    record { outs = done.outs; stands = (done.stands.0, unready_quiet settings done.stands.1.0 v (behind base ys) (none done.stands.0) done.stands.1.1) }
+    let sent : ys ≡ outs (stop_row settings before e body) base = done.outs ∙ ap (outs (stop_row settings before e body)) (append-nil base) in
+    record { outs = done.outs; stands = (done.stands.0, unready_quiet settings done.stands.1.0 v (behind base ys) (none sent done.stands.0) done.stands.1.1) }
 
 -- Behind the message that stops all, before anything is said
 
@@ -301,7 +301,7 @@ module _ (settings : Settings) (before : List Event) (k : ℕ) (body : List ℕ)
 
 -- Bodies to editors and ends of their links leave the numbers of starts alone
 
-abbrev IsAside : Out → Type 0
+abbrev pub IsAside : Out → Type 0
 IsAside (ToEditor e body) = Unit {0}
 IsAside (CloseEditor e) = Unit {0}
 IsAside other = ⊥
@@ -321,7 +321,7 @@ told_aside [] h = tt
 told_aside (ToEditor e body ∷ xs) h = (tt, told_aside xs h.1)
 told_aside (other ∷ xs) h = absurd h.0
 
-aside_join : (xs ys : List Out) → AllByRecursion IsAside xs → AllByRecursion IsAside ys → AllByRecursion IsAside (xs ++ ys)
+pub aside_join : (xs ys : List Out) → AllByRecursion IsAside xs → AllByRecursion IsAside ys → AllByRecursion IsAside (xs ++ ys)
 aside_join [] ys h k = k
 aside_join (x ∷ xs) ys h k = (h.0, aside_join xs ys h.1 k)
 

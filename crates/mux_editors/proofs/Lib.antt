@@ -15,6 +15,7 @@ pub mod Passing
 pub mod Runs
 pub mod Showing
 pub mod Serving
+pub mod Stopping
 pub mod Synced
 pub mod Taking
 pub mod Takings

@@ -4,7 +4,7 @@ ghost use Rattle.std.specs.List.{AllByRecursion};
 ghost use Rattle.capability_meet.specs.Parts.{bracketed};
 ghost use Rattle.event_model.specs.Does.{Done};
 ghost use Rattle.event_model.specs.Event.{Event, requests, with_cause};
-ghost use Rattle.event_model.specs.Phases.{desk_of, is_begun, is_there};
+ghost use Rattle.event_model.specs.Phases.{desk_of, is_begun};
 ghost use Rattle.event_model.specs.Settings.{Settings};
 ghost use Rattle.mux_turns.specs.group_facts.specs.Settled.{Settled};
 ghost use Rattle.group_rows.specs.Rows.{status_row};

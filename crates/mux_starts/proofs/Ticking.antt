@@ -1,39 +1,29 @@
 -- X7: groups end, and then programs.
-use Rattle.std.proofs.Common.{◌≡◌, ℕ, zero, suc, ◌<◌, ◌^◌, Bool, true, false, List, [], ◌∷◌, ◌++◌, length, take, get_or, nat_eq, codes, if◌then◌else◌, refl, ap, sym, subst, ◌∙◌, append-nil, append_assoc, arith}
-use Rattle.std.specs.Prelude.{Option, Some, None, slice_get, map}
+use Rattle.std.proofs.Common.{◌≡◌, ℕ, zero, suc, ◌<◌, ◌^◌, true, false, List, [], ◌∷◌, ◌++◌, length, take, get_or, ap, sym, subst, ◌∙◌, append-nil, append_assoc, arith}
+use Rattle.std.specs.Prelude.{Some, slice_get, map}
 use Rattle.mux_history.specs.declared.cause.Cause.TheVariants.{Tick}
 use Rattle.mux_history.specs.declared.out.Out.{Out}
 use Rattle.mux_history.specs.declared.out.Out.TheVariants.{ToEditor, ToServer, Spawn, CloseEditor, EndServer}
-use Rattle.rpc_message.specs.Message.{message_of}
-use Rattle.rpc_message.specs.Texts.{request_text}
 use Rattle.event_model.specs.declared.stage.Stage.{Stage}
-use Rattle.event_model.specs.declared.stage.Stage.TheVariants.{Spawning, Initializing, Ready, Stopping, Ended}
+use Rattle.event_model.specs.declared.stage.Stage.TheVariants.{Stopping, Ended}
 use Rattle.event_model.specs.Does.{Does, Done}
-use Rattle.event_model.specs.Event.{Event, behind, requests, said, with_cause}
-use Rattle.event_model.specs.Requests.{next_number}
-use Rattle.event_model.specs.Row.{each, nothing, on, outs, send}
+use Rattle.event_model.specs.Event.{Event, behind, said, with_cause}
+use Rattle.event_model.specs.Row.{each, outs, send}
 use Rattle.event_model.specs.Settings.{Settings}
-use Rattle.event_model.specs.Spawns.{start_of}
-use Rattle.event_model.specs.Stages.{Life, life_of, stage_ending, stage_told}
+use Rattle.event_model.specs.Stages.{life_of}
 use Rattle.event_model.proofs.Frames.{never}
 use Rattle.event_model.proofs.Turns.{behind_more, does_entry, does_knowing, does_then}
-use Rattle.mux_turns.specs.mux_facts.proofs.Folds.{life_more, number_more}
 use Rattle.mux_turns.specs.mux_facts.proofs.Reasons.{Because, Reasons}
 use Rattle.mux_turns.specs.group_facts.specs.Facts.{Known, Numbered}
-use Rattle.mux_turns.specs.group_facts.proofs.Forwards.{forwarding_more}
-use Rattle.mux_turns.specs.group_facts.proofs.GroupEnds.{shutdown_says}
-use Rattle.mux_turns.specs.group_facts.proofs.Numbers.{forwarding_other, number_other}
-use Rattle.mux_turns.specs.group_facts.proofs.TickRow.{ending_not, programs_stop, told_not}
-use Rattle.group_rows.specs.Forwarded.{Forwarding, forwarding_of}
+use Rattle.mux_turns.specs.group_facts.proofs.TickRow.{programs_stop}
 use Rattle.group_rows.specs.Ticks.{due_of, is_stopping, overdue_of, tick_row}
-use Rattle.group_words.specs.Rows.{end_group, end_start}
+use Rattle.group_words.specs.Rows.{end_group}
 use Rattle.mux_tables.specs.declared.tables.Start.{Start}
 use Rattle.mux_tables.specs.declared.tables.Tables.{Tables}
 use Rattle.mux_tables.specs.Documents.{AllStand, DocumentsStand, nothing_owed}
-use Rattle.mux_tables.specs.Stands.{Stands, is_over, number_in, of_ids}
+use Rattle.mux_tables.specs.Stands.{Stands, is_over, number_in}
 use Rattle.mux_starts.specs.Stops.{AreStopping}
 use Rattle.mux_turns.proofs.Evictions.{numbered_ticked, stage_here}
-use Rattle.mux_turns.proofs.Ready.{has_start}
 
 -- Programs end
 

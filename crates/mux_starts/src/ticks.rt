@@ -1,15 +1,14 @@
 //! X7: groups without editors end, and programs that don't answer `shutdown`.
-ghost use Rattle.std.specs.Prelude.{◌≡◌, ℕ, List, [], OnOk};
+ghost use Rattle.std.specs.Prelude.{◌≡◌, List, [], OnOk};
 ghost use Rattle.event_model.specs.declared.stage.Stage.TheVariants.{Stopping};
 ghost use Rattle.event_model.specs.Does.{Does, Done};
 ghost use Rattle.event_model.specs.Event.{Event, behind, with_cause};
 ghost use Rattle.event_model.specs.Row.{each, send};
 ghost use Rattle.event_model.specs.Settings.{Settings};
 ghost use Rattle.event_model.specs.Stages.{life_of};
-ghost use Rattle.mux_turns.specs.group_facts.specs.Facts.{Known, Numbered};
+ghost use Rattle.mux_turns.specs.group_facts.specs.Facts.{Known};
 ghost use Rattle.group_rows.specs.Rows.{row_of};
 ghost use Rattle.group_rows.specs.Ticks.{is_stopping};
-ghost use Rattle.group_words.specs.Rows.{end_group};
 ghost use Rattle.mux_history.specs.declared.cause.Cause.TheVariants.{Tick};
 ghost use Rattle.mux_history.specs.declared.out.Out.TheVariants.{EndServer};
 ghost use Rattle.mux_starts.specs.Stops.{AreStopping};

@@ -1,5 +1,5 @@
 -- The tables of a multiplexer that heard nothing.
-use Rattle.std.proofs.Common.{◌≡◌, ℕ, ◌<◌, ◌≤◌, ◌^◌, [], refl, sym, arith}
+use Rattle.std.proofs.Common.{◌≡◌, ℕ, ◌<◌, ◌≤◌, ◌^◌, [], false, refl, sym, arith}
 use Rattle.std.specs.Prelude.{Option, Some, None}
 use Rattle.event_model.specs.Settings.{Settings}
 use Rattle.mux_tokens.proofs.Standing.{created_begins}

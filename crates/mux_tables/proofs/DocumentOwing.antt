@@ -12,13 +12,14 @@ use Rattle.event_model.specs.Settings.{Settings}
 use Rattle.event_model.specs.Stages.{is_ready}
 use Rattle.event_model.proofs.Places.{item_at}
 use Rattle.event_model.proofs.Turns.{behind_more}
-use Rattle.document_model.specs.Texts.{Open, Texts}
+use Rattle.document_model.specs.Opens.{Open}
+use Rattle.document_model.specs.Texts.{Texts}
 use Rattle.editor_session.specs.Sessions.{session_of}
 use Rattle.focus_switch.specs.Documents.{Documents}
 use Rattle.focus_switch.specs.Rows.{leave_row}
-use Rattle.group_laws.specs.mux_model.specs.Documents.{held_at}
+use Rattle.group_laws.specs.mux_model.specs.Documents.{held_at, without_editor}
 use Rattle.group_laws.specs.group_rows.specs.Leaves as departures
-use Rattle.group_laws.specs.group_rows.specs.Texts.{encoding_of, texts_of, without_editor}
+use Rattle.group_laws.specs.group_rows.specs.Texts.{encoding_of, texts_of}
 use Rattle.group_laws.specs.Stands.{HeldStands, TextsStand}
 use Rattle.group_laws.proofs.Entries.{encoding_told, known_sent, texts_told}
 use Rattle.group_laws.proofs.Leaving.{leave_orderly, leave_outs, leave_speaks, leave_spelt, leave_stays, leave_texts}
@@ -29,7 +30,7 @@ use Rattle.mux_tables.specs.declared.tables.Tables.{Tables}
 use Rattle.mux_tables.specs.Documents.{AllTell, DocumentsStand, IsOwned, Owed, SharedStands, StartTold, StepAt, StepFrom, nothing_owed, to}
 use Rattle.mux_tables.specs.Stands.{IsPlace, Stands}
 use Rattle.mux_tables.proofs.DocumentFrames.{SentSame, sent_behind_same, untold_stays}
-use Rattle.mux_tables.proofs.DocumentLeft.{closed_away, closed_rest, kept_owners}
+use Rattle.mux_tables.proofs.DocumentLeft.{closed_away, closed_parts, closed_rest, kept_owners}
 use Rattle.mux_tables.proofs.DocumentMoves.{Rest, documents_all, documents_at, documents_set, set_same}
 use Rattle.mux_tables.proofs.Frames.{itself}
 use Rattle.mux_tables.proofs.Placed.{groups_apart}

@@ -1,10 +1,10 @@
 -- What editors called their open requests.
-use Rattle.std.proofs.Common.{◌≡◌, ℕ, zero, suc, ◌+◌, ◌<◌, ◌≤◌, Bool, true, false, cond, List, [], ◌∷◌, ◌++◌, drop, flat_map, map, length, get_or, refl, ap, sym, ◌∙◌, append_assoc, append-nil, arith, nat_eq, if◌then◌else◌}
+use Rattle.std.proofs.Common.{◌≡◌, ℕ, zero, suc, ◌+◌, ◌<◌, ◌≤◌, Bool, true, false, cond, List, [], ◌∷◌, ◌++◌, drop, flat_map, map, length, get_or, refl, ap, sym, subst, ◌∙◌, append_assoc, append-nil, arith, nat_eq, if◌then◌else◌}
 use Rattle.std.specs.Prelude.{Option, Some, None, option_map, filter, find, slice_get}
 use Rattle.std.proofs.lemmas.Bool.Decides.{nat_tests}
 use Rattle.event_model.specs.Event.{Event}
 use Rattle.event_model.specs.Settings.{Settings}
-use Rattle.group_laws.specs.group_rows.specs.Forwarded.{forwarding_of}
+use Rattle.group_laws.specs.group_rows.specs.Forwarded.{Forwarded, forwarding_of, is_of}
 use Rattle.id_rewrite.specs.declared.pending.Numbered.{Numbered}
 use Rattle.id_rewrite.specs.Tables as tables
 use Rattle.id_rewrite.specs.Tables.{IsInOrder, RiseWithin}
@@ -31,7 +31,7 @@ kept_ids f e from to (r ∷ rs) h k = go (nat_eq r.pending.editor e) (k r.number
 
     go : (b : Bool) → f r.number ≡ r.pending.id ∷ [] → flat_map f (tables.numbers_of e rs) ≡ ids_at e (map forwarded_of rs)
         → flat_map f (map (λ (q : Numbered). q.number) (if b then r ∷ filter (tables.is_of e) rs else filter (tables.is_of e) rs))
-        ≡ (if b then r.pending.id ∷ ids_at e (map forwarded_of rs) else ids_at e (map forwarded_of rs))
+        ≡ map (λ (p : Forwarded). p.id) (if b then forwarded_of r ∷ filter (is_of e) (map forwarded_of rs) else filter (is_of e) (map forwarded_of rs))
     go true o rest = rw (o, rest) refl
     go false o rest = rest
 
@@ -40,18 +40,26 @@ ids_so e t ns ids order numbers is =
     is ∙ (ap (flat_map (λ n. id_at (tables.pending_of n t.requests))) numbers ∙ kept_ids (λ n. id_at (tables.pending_of n t.requests)) e 2 t.next t.requests order.rising (λ n l. refl))
 
 -- of a group's last start
-pub ids_here : (settings : Settings) (t : Tables) (events : List Event) (g s e : ℕ) (ids : List (List ℕ)) (z : Start) → slice_get (map number_in t.lasts.items) g ≡ Some s → g < length t.lasts.items → z ≡ get_or t.lasts.items g z
-    → (IsInOrder z.ids → ids ≡ ids_at e (map forwarded_of z.ids.requests)) → Stands settings t events → ids ≡ ids_at e (forwarding_of s events).open_requests
-ids_here settings t events g s e ids z at within read is st =
-    let here = read_here t.lasts.items g z within read in
-    let kept = (st.lasts.each g z here).parts of_ids in
-    is kept.order ∙ ap (ids_at e) (sym kept.open_requests ∙ ap (λ n. (forwarding_of n events).open_requests) (start_at_place t.lasts.items g s z here at))
+module _ (settings : Settings) (t : Tables) (events : List Event) (g : ℕ) (z : Start) (within : g < length t.lasts.items) (read : z ≡ get_or t.lasts.items g z) (st : Stands settings t events) where
+  here : slice_get t.lasts.items g ≡ Some z
+  here = read_here t.lasts.items g z within read
+
+  pub ids_order : IsInOrder z.ids
+  ids_order = ((st.lasts.each g z here).parts of_ids).order
+
+  pub ids_here : (s e : ℕ) (ids : List (List ℕ)) → slice_get (map number_in t.lasts.items) g ≡ Some s → ids ≡ ids_at e (map forwarded_of z.ids.requests) → ids ≡ ids_at e (forwarding_of s events).open_requests
+  ids_here s e ids at is =
+      let kept = (st.lasts.each g z here).parts of_ids in
+      is ∙ ap (ids_at e) (sym kept.open_requests ∙ ap (λ n. (forwarding_of n events).open_requests) (start_at_place t.lasts.items g s z here at))
 
 -- the step of the loop, and its end
 drop_one : (xs : List ℕ) (i d : ℕ) → i < length xs → drop i xs ≡ get_or xs i d ∷ drop (i + 1) xs
 drop_one [] i d h = absurd (omega arith)
 drop_one (x ∷ xs) zero d h = refl
-drop_one (x ∷ xs) (suc i) d h = drop_one xs i d (omega arith)
+drop_one (x ∷ xs) (suc i) d h = subst (λ n. drop i xs ≡ get_or xs i d ∷ drop n (x ∷ xs)) (sym (next i)) (drop_one xs i d (omega (arith, h)))
+  where
+    next : (i : ℕ) → suc i + 1 ≡ suc (i + 1)
+    next i = omega arith
 
 drop_past : (xs : List ℕ) (i : ℕ) → length xs ≤ i → drop i xs ≡ []
 drop_past [] zero h = refl

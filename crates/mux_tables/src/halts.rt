@@ -1,5 +1,5 @@
 // What a stop of all looks at (E6), and what is left of it (J1).
-ghost use Rattle.std.specs.Prelude.{◌≡◌, ◌<◌, ◌++◌, ℕ, List, map, filter, Some, length, option_map_or, IfOk, OnOk, slice_get};
+ghost use Rattle.std.specs.Prelude.{◌≡◌, ◌<◌, ◌++◌, ℕ, List, map, filter, Some, length, IfOk, OnOk, slice_get};
 ghost use Rattle.std.specs.List.{All};
 ghost use Rattle.event_model.specs.Event.{Event};
 ghost use Rattle.event_model.specs.Settings.{Settings};

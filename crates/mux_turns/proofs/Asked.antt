@@ -11,7 +11,7 @@ use Rattle.rpc_message.proofs.Ids.{request_id_bytes}
 use Rattle.event_model.specs.declared.phase.Phase.{Phase}
 use Rattle.event_model.specs.declared.phase.Phase.TheVariants.{Absent, New, Waiting, Answered, Running, Down, Closed, Gone}
 use Rattle.event_model.specs.Event.{Event}
-use Rattle.event_model.specs.Phases.{desk_of, has_id, is_begun, needs_server}
+use Rattle.event_model.specs.Phases.{desk_of, has_id, is_begun, is_there, needs_server}
 use Rattle.event_model.specs.Requests.{is_open, open_of}
 use Rattle.event_model.specs.Settings.{Settings}
 use Rattle.event_model.specs.Spawns.{start_of}
@@ -79,6 +79,17 @@ module _ (settings : Settings) (t : Tables) (before : List Event) (e : ℕ) (i :
     where
       clash : Absent ≡ Waiting → ⊥
       clash q = cc
+
+-- an editor that got its result is there
+pub answered_there : (p : Phase) → is_answered p ≡ true → is_there p ≡ true
+answered_there Answered h = refl
+answered_there Running h = refl
+answered_there Down h = refl
+answered_there New h = absurd (cc)
+answered_there Waiting h = absurd (cc)
+answered_there Absent h = absurd (cc)
+answered_there Closed h = absurd (cc)
+answered_there Gone h = absurd (cc)
 
 -- of one that got its result
 module _ (settings : Settings) (t : Tables) (before : List Event) (e : ℕ) (i : Id) (known : Settled settings before) (served : is_answered (desk_of e before).phase ≡ true) where

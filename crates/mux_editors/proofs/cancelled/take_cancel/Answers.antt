@@ -2,6 +2,7 @@
 use Rattle.std.proofs.Common.{◌<◌, ap, codes, map, refl, subst, sym, ◌∙◌}
 use Rattle.std.specs.Prelude.{Some}
 use Rattle.event_model.specs.Event.{requests, with_cause}
+use Rattle.event_model.specs.Phases.{desk_of}
 use Rattle.event_model.proofs.Places.{item_at}
 use Rattle.event_model.proofs.Turns.{does_alike, does_nothing}
 use Rattle.mux_history.specs.declared.cause.Cause.TheVariants.{FromEditor}
@@ -14,7 +15,7 @@ use Rattle.mux_tables.proofs.DocumentOwed.{number_there}
 use Rattle.mux_tables.specs.mux_tokens.proofs.Stays.{takes_none}
 use Rattle.mux_editors.specs.Cancels.{Names}
 use Rattle.mux_editors.proofs.Beginning.{same_kept, same_length}
-use Rattle.mux_editors.proofs.Cancelling.{cancel_keeps}
+use Rattle.mux_editors.proofs.Cancelling.{cancel_keeps, served_there}
 use Rattle.mux_editors.proofs.Runs.{then_rest}
 use Rattle.mux_editors.proofs.Serving.{notice_makes}
 use Rattle.mux_turns.specs.group_facts.proofs.Quits.{asked_while}

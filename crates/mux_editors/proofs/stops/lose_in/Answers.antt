@@ -1,5 +1,4 @@
 -- The requests of an editor at the last start of its group fail.
-use Rattle.std.proofs.Common.{sym, ◌∙◌}
 use Rattle.event_model.specs.Event.{behind}
 use Rattle.mux_tables.proofs.Starts.{start_there}
 use Rattle.mux_editors.proofs.Halting.{loses_lost, loses_some}

@@ -1,5 +1,5 @@
 -- The requests of an editor fail.
-use Rattle.std.proofs.Common.{sym, ◌∙◌}
+use Rattle.std.proofs.Common.{◌∙◌}
 use Rattle.event_model.specs.Event.{behind}
 use Rattle.mux_tables.proofs.DocumentLeft.{home_seen}
 use Rattle.mux_editors.proofs.Halting.{loses_homeless, loses_home}

@@ -1,5 +1,5 @@
 -- Those before were refused.
-use Rattle.std.proofs.Common.{◌≡◌, List, take}
+use Rattle.std.proofs.Common.{List, take}
 use Rattle.event_model.specs.Does.{Does}
 use Rattle.event_model.specs.Event.{Event, behind}
 use Rattle.event_model.specs.Row.{each}
