@@ -24,8 +24,8 @@ use Rattle.mux_facts.proofs.Lists.{all_join, all_of}
 use Rattle.mux_facts.proofs.Reasons.{reasons_keep}
 use Rattle.mux_facts.proofs.Words.{number_same}
 use Rattle.group_rows.specs.Asks.{Ask, Asker, Asking, asker_of, asks_of, next_ask, put}
-use Rattle.group_rows.specs.Rows.{row_outs}
-use Rattle.group_rows.specs.SlowRows.{is_slow}
+use Rattle.group_rows.specs.Rows.{outs_of}
+use Rattle.group_facts.specs.SlowRows.{is_slow}
 use Rattle.group_facts.specs.Built.{built_behind}
 use Rattle.group_facts.specs.Facts.{ends_link, is_unready, is_up, leaves, shuts}
 use Rattle.group_facts.specs.Settled.{HasSeat}
@@ -139,8 +139,8 @@ module _ (settings : Settings) (range : InRange settings) (before : List Event) 
     begun = λ s h. not_back s events (said out) (fresh_out events out why (((i.here).mid).steady).starts s) (i.begun s h);
   }
 
-  pub onward_rests : fits_behind before cause ≡ true → (s : ℕ) → is_unready (life_of s before).stage ≡ false → is_unready (life_of s (behind (with_cause before cause) (row_outs settings before cause))).stage ≡ false
-  onward_rests fits = (reasons_keep (λ events out. Why settings before cause events out) Onward onward_did (with_cause before cause) (row_outs settings before cause) (reasons settings range before facts cause built).why
+  pub onward_rests : fits_behind before cause ≡ true → (s : ℕ) → is_unready (life_of s before).stage ≡ false → is_unready (life_of s (behind (with_cause before cause) (outs_of settings before cause))).stage ≡ false
+  onward_rests fits = (reasons_keep (λ events out. Why settings before cause events out) Onward onward_did (with_cause before cause) (outs_of settings before cause) (reasons settings range before facts cause built).why
       (record { here = here_took settings range before cause fits built facts; begun = λ s h. not_back s before (heard cause) (fresh_cause cause s) h })).begun
 
 -- also where an editor that is slow leaves
@@ -251,5 +251,5 @@ module _ (settings : Settings) (range : InRange settings) (before : List Event) 
     runs = λ e stays at. did_runs events out why e stays (i.runs e stays at);
   }
 
-  pub inner_rests : fits_behind before cause ≡ true → Inner (behind (with_cause before cause) (row_outs settings before cause))
-  inner_rests fits = reasons_keep (λ events out. Why settings before cause events out) Inner inner_did (with_cause before cause) (row_outs settings before cause) (reasons settings range before facts cause built).why (inner_took fits)
+  pub inner_rests : fits_behind before cause ≡ true → Inner (behind (with_cause before cause) (outs_of settings before cause))
+  inner_rests fits = reasons_keep (λ events out. Why settings before cause events out) Inner inner_did (with_cause before cause) (outs_of settings before cause) (reasons settings range before facts cause built).why (inner_took fits)

@@ -29,7 +29,7 @@ use Rattle.mux_facts.proofs.Words.{number_same, same_number}
 use Rattle.group_words.specs.Houses.{groups_of, home_of, is_doubled, is_first_error, is_home, placed_for, places, stops}
 use Rattle.group_rows.specs.Asks.{Ask, asks_of, is_with}
 use Rattle.group_rows.specs.Leaves.{leave_row}
-use Rattle.group_rows.specs.Rows.{closing_row, from_editor, gone_row, row_outs, shutdown_row}
+use Rattle.group_rows.specs.Rows.{closing_row, from_editor, gone_row, outs_of, shutdown_row}
 use Rattle.group_facts.specs.Built.{built_behind}
 use Rattle.group_facts.specs.Facts.{is_in, is_parting, is_refusing, is_too_many, is_unready, ends_link, leaves, shuts, turned_away, is_crowded, is_put_out}
 use Rattle.group_facts.specs.Lively.{Lively}
@@ -85,7 +85,7 @@ module _ (settings : Settings) (before : List Event) (n : ℕ) (body : List ℕ)
 
 module _ (settings : Settings) (range : InRange settings) (before : List Event) (facts : Facts settings before) (one : OneStart before) (seats : AllSeats settings before) where
   abbrev later : Cause → List Event
-  later cause = behind (with_cause before cause) (row_outs settings before cause)
+  later cause = behind (with_cause before cause) (outs_of settings before cause)
 
   -- none of an editor that leaves and didn't run
   unrun_away : (cause : Cause) (e s : ℕ) (xs : List Ask) → AllByRecursion (MidSeat settings before cause s) xs → leaves settings before cause e ≡ true → is_running (desk_of e before).phase ≡ false → AllByRecursion (Away e) xs
@@ -112,7 +112,7 @@ module _ (settings : Settings) (range : InRange settings) (before : List Event) 
         go (inl parts) = parts
         go (inr stop) = never (sym (and_parts (stops before n (message_of body)) (is_there (desk_of e before).phase) stop).0 ∙ on)
 
-    parted : (out : Out) → Unsaid out → row_outs settings before (FromEditor n body) ≡ out ∷ outs (leave_row settings before n) (with_cause before (FromEditor n body) ++ said out ∷ []) → (s : ℕ) → AllByRecursion (Away n) (asks_of settings s (later (FromEditor n body)))
+    parted : (out : Out) → Unsaid out → outs_of settings before (FromEditor n body) ≡ out ∷ outs (leave_row settings before n) (with_cause before (FromEditor n body) ++ said out ∷ []) → (s : ℕ) → AllByRecursion (Away n) (asks_of settings s (later (FromEditor n body)))
     parted out none is s = subst (λ xs. AllByRecursion (Away n) (asks_of settings s (behind heard_now xs))) (sym is)
         (subst (λ z. AllByRecursion (Away n) (asks_of settings s z)) (append_assoc heard_now (said out ∷ []) (map said (outs (leave_row settings before n) (heard_now ++ said out ∷ []))))
         (leave_clean settings before (FromEditor n body) (facts.steady).asks n (heard_now ++ said out ∷ [])
@@ -123,7 +123,7 @@ module _ (settings : Settings) (range : InRange settings) (before : List Event) 
         heard_now = with_cause before (FromEditor n body)
 
     module _ (at : (desk_of n before).phase ≡ Running) where
-      row_is : row_outs settings before (FromEditor n body) ≡ outs (from_editor settings before n body (message_of body) Running) (with_cause before (FromEditor n body))
+      row_is : outs_of settings before (FromEditor n body) ≡ outs (from_editor settings before n body (message_of body) Running) (with_cause before (FromEditor n body))
       row_is = ap (λ p. outs (from_editor settings before n body (message_of body) p) (with_cause before (FromEditor n body))) at
 
       closed_away : outs (from_editor settings before n body (message_of body) Running) (with_cause before (FromEditor n body)) ≡ outs (closing_row settings before n) (with_cause before (FromEditor n body)) → (s : ℕ) → AllByRecursion (Away n) (asks_of settings s (later (FromEditor n body)))
@@ -215,14 +215,14 @@ module _ (settings : Settings) (range : InRange settings) (before : List Event) 
 
     by_cause : (c : Cause) → cause ≡ c → (e : ℕ) → leaves settings before c e ≡ true → is_running (desk_of e before).phase ≡ true → AllAway e
     by_cause (FromEditor n body) is e h runs = subst (λ c. (s : ℕ) → AllByRecursion (Away e) (asks_of settings s (later c))) (sym is)
-        (let on : stops before n (message_of body) ≡ false = unstopped before n body (row_outs settings before (FromEditor n body)) (ap (λ c. stopped (later c)) (sym is) ∙ goes_on) in
+        (let on : stops before n (message_of body) ≡ false = unstopped before n body (outs_of settings before (FromEditor n body)) (ap (λ c. stopped (later c)) (sym is) ∙ goes_on) in
         let same : n ≡ e = leaves_itself n body (ap (fits_behind before) (sym is) ∙ fits) on e h in subst (λ k. (s : ℕ) → AllByRecursion (Away k) (asks_of settings s (later (FromEditor n body)))) same
         (own_away n body (ap (fits_behind before) (sym is) ∙ fits) on (running_is settings before (desk_of n before).phase (ap (λ k. is_running (desk_of k before).phase) same ∙ runs)) e h))
     by_cause (EditorGone n why) is e h runs = subst (λ c. (s : ℕ) → AllByRecursion (Away e) (asks_of settings s (later c))) (sym is)
         (let same : n ≡ e = number_same n e h in subst (λ k. (s : ℕ) → AllByRecursion (Away k) (asks_of settings s (later (EditorGone n why)))) same
         (gone_away n why (ap (fits_behind before) (sym is) ∙ fits) (running_is settings before (desk_of n before).phase (ap (λ k. is_running (desk_of k before).phase) same ∙ runs))))
     by_cause (FromServer t body) is e h runs = λ s. none_with settings before (FromServer t body) e s (asks_of settings s (later cause)) (subst (λ c. AllByRecursion (MidSeat settings before c s) (asks_of settings s (later cause))) is (inside.seated s)) (refused_none t body e h s)
-    by_cause (Joined n) is e h runs = never (sym (and_parts (nat_eq n e) (stopped before) (joined_leaves n e h)).1 ∙ before_on before cause (row_outs settings before cause) goes_on)
+    by_cause (Joined n) is e h runs = never (sym (and_parts (nat_eq n e) (stopped before) (joined_leaves n e h)).1 ∙ before_on before cause (outs_of settings before cause) goes_on)
     by_cause other is e h runs = never (sym h)
 
     left_away : (e : ℕ) → leaves settings before cause e ≡ true → AllAway e
@@ -240,7 +240,7 @@ module _ (settings : Settings) (range : InRange settings) (before : List Event) 
     one_seat : Lively settings (later cause) → (s : ℕ) (a : Ask) → MidSeat settings before cause s a → leaves settings before cause a.editor ≡ false → HasSeat settings (later cause) s a
     one_seat lively s a k stays =
         let running : (desk_of a.editor (later cause)).phase ≡ Running = inside.runs a.editor stays (k.running stays) in
-        let home : home_of settings a.editor (later cause) ≡ Some k.group = homes_stay settings a.editor (with_cause before cause) (row_outs settings before cause)
+        let home : home_of settings a.editor (later cause) ≡ Some k.group = homes_stay settings a.editor (with_cause before cause) (outs_of settings before cause)
         ∙ took_home settings before a.editor k.old cause (off_both (ends_link settings before cause a.editor) (shuts cause a.editor) stays).1 ∙ k.home in
         let last : start_of k.group (later cause) ≡ Some s = start_kept settings before cause begun built k.group s k.last in
         let kept : group_of s (later cause) ≡ Some k.group = (lively.last k.group s last).0 in

@@ -62,7 +62,7 @@ use Rattle.group_rows.specs.Answers.{answer_row, hand_on}
 use Rattle.group_rows.specs.Created.{Token, created_of, created_text}
 use Rattle.group_rows.specs.CreatedRows.{create_text, created_row, created_work, offer, takers, taking_row, tell, tell_takers, work_at, work_row}
 use Rattle.group_rows.specs.Tokens.{marked_text, tell_progress}
-use Rattle.group_rows.specs.Rows.{answer_error, begin_in, begun_row, closing_row, document_at, document_bodies, document_row, down_row, early_row, exit_row, first_result, from_server, gone_row, lspmux_row, message_row, named_row, notice_at, notice_row, open_row, row_outs, ready_row, replay_bodies, request_at, request_row, result_in, row_of, served_request, served_row, started, sync_bodies, taken_row, waiting_in, welcome, hasty_row, close_all, refusal, refused_row}
+use Rattle.group_rows.specs.Rows.{answer_error, begin_in, begun_row, closing_row, document_at, document_bodies, document_row, down_row, early_row, exit_row, first_result, from_server, gone_row, lspmux_row, message_row, named_row, notice_at, notice_row, open_row, outs_of, ready_row, replay_bodies, request_at, request_row, result_in, row_of, served_request, served_row, started, sync_bodies, taken_row, waiting_in, welcome, hasty_row, close_all, refusal, refused_row}
 use Rattle.group_rows.specs.Texts.{encoding_of, texts_of}
 use Rattle.group_rows.specs.Ticks.{due_of, overdue_of, tick_row}
 use Rattle.group_facts.specs.Built.{built_behind}
@@ -554,21 +554,21 @@ module _ (settings : Settings) where
 
   -- none, and nothing is spawned; or the next one, which lives, and its start is the last out
   pub data Founding (before : List Event) (cause : Cause) : Type 0 where
-    quiet : AllByRecursion NoSpawn (row_outs settings before cause) → count (with_cause before cause) ≡ count before → Founding before cause
-    founds : (xs : List Out) (s : ℕ) → AllByRecursion NoSpawn xs → row_outs settings before cause ≡ xs ++ Spawn s (count before) ∷ [] → count (with_cause before cause) ≡ count before + 1
+    quiet : AllByRecursion NoSpawn (outs_of settings before cause) → count (with_cause before cause) ≡ count before → Founding before cause
+    founds : (xs : List Out) (s : ℕ) → AllByRecursion NoSpawn xs → outs_of settings before cause ≡ xs ++ Spawn s (count before) ∷ [] → count (with_cause before cause) ≡ count before + 1
         → lives_at (count before) (groups_of settings (with_cause before cause)) ≡ true → Founding before cause
 
   module _ (before : List Event) (e : ℕ) (body : List ℕ) (here : places (desk_of e before).phase (message_of body) ≡ true) where
     abbrev now : List Event
     now = with_cause before (FromEditor e body)
 
-    pub placed_outs : row_outs settings before (FromEditor e body) ≡ outs (initialize_row settings before e body) now
+    pub placed_outs : outs_of settings before (FromEditor e body) ≡ outs (initialize_row settings before e body) now
     placed_outs = let place = and_parts (is_new (desk_of e before).phase) (requests (codes "initialize") (message_of body)) here in rw (whole_is (message_of body) place.1, new_is (desk_of e before).phase place.0, first_unasked (message_of body) place.1, place.1) refl
 
     groups_now : groups_of settings now ≡ with_editor (placed_for settings before e body (groups_of settings before)) (key_for settings before e body) (declared_for settings before e body) (groups_of settings before)
     groups_now = groups_more settings before (heard (FromEditor e body)) ∙ rw here refl
 
-    by_placed : (p : Placed) → IsNext (count before) p → row_outs settings before (FromEditor e body) ≡ outs (placed_row e body before p) now
+    by_placed : (p : Placed) → IsNext (count before) p → outs_of settings before (FromEditor e body) ≡ outs (placed_row e body before p) now
         → groups_of settings now ≡ with_editor p (key_for settings before e body) (declared_for settings before e body) (groups_of settings before) → Founding before (FromEditor e body)
     by_placed (Joins g) next sent groups = quiet (subst (AllByRecursion NoSpawn) (sym sent) (all_outs NoSpawn now _ joins.why)) (ap length groups ∙ changed_length g busy (groups_of settings before))
       where
@@ -641,9 +641,9 @@ module _ (settings : Settings) where
         go true same = (λ none. absurd (cc), λ le. absurd (let is : count before ≡ g = number_same (count before) g same in omega (arith, is, le)))
         go false far = (λ none. other far ((h g).0 none), λ le. (h g).1 (omega (arith, le)))
 
-  pub begun_rests : (before : List Event) (cause : Cause) → built_behind settings before cause ≡ true → Begun before → Begun (behind (with_cause before cause) (row_outs settings before cause))
+  pub begun_rests : (before : List Event) (cause : Cause) → built_behind settings before cause ≡ true → Begun before → Begun (behind (with_cause before cause) (outs_of settings before cause))
   begun_rests before cause built h = go (founding_of before cause built)
     where
-      go : Founding before cause → Begun (behind (with_cause before cause) (row_outs settings before cause))
-      go (quiet all same) = begun_quiet before cause h (row_outs settings before cause) all same
+      go : Founding before cause → Begun (behind (with_cause before cause) (outs_of settings before cause))
+      go (quiet all same) = begun_quiet before cause h (outs_of settings before cause) all same
       go (founds xs s all sent more live) = subst (λ z. Begun (behind (with_cause before cause) z)) (sym sent) (begun_spawned before cause h xs s all more)

@@ -30,7 +30,7 @@ use Rattle.group_words.specs.Keys.{Common}
 use Rattle.group_words.specs.Placing.{busy, changed, end_where, ended, founded, is_due, is_live, with_editor}
 use Rattle.group_words.specs.Rows.{end_group, placed_row}
 use Rattle.group_words.proofs.Frames.{groups_more, groups_stay}
-use Rattle.group_rows.specs.Rows.{close_all, members_in, row_outs, refusal, waiting_in}
+use Rattle.group_rows.specs.Rows.{close_all, members_in, outs_of, refusal, waiting_in}
 use Rattle.group_rows.specs.StopRows.{stopped, stopped_next}
 use Rattle.group_rows.specs.Ticks.{due_of, overdue_of}
 use Rattle.group_facts.specs.Built.{built_behind}
@@ -94,7 +94,7 @@ module _ (settings : Settings) (before : List Event) (low : Low before) (spawned
 
   -- a group lived, and lives no more behind the cause: its last start isn't up behind the entry
   abbrev Ends : Cause → Type 0
-  Ends cause = (g s : ℕ) → lives_at g groups ≡ true → lives_at g (groups_of settings (with_cause before cause)) ≡ false → start_of g before ≡ Some s → IsOff s (behind (with_cause before cause) (row_outs settings before cause))
+  Ends cause = (g s : ℕ) → lives_at g groups ≡ true → lives_at g (groups_of settings (with_cause before cause)) ≡ false → start_of g before ≡ Some s → IsOff s (behind (with_cause before cause) (outs_of settings before cause))
 
   none_ends : (cause : Cause) → groups_of settings (with_cause before cause) ≡ groups → Ends cause
   none_ends cause same g s live over at = never (sym live ∙ (sym (ap (lives_at g) same) ∙ over))
@@ -128,7 +128,7 @@ module _ (settings : Settings) (before : List Event) (low : Low before) (spawned
     now = with_cause before (FromEditor e body)
 
     abbrev later : List Event
-    later = behind now (row_outs settings before (FromEditor e body))
+    later = behind now (outs_of settings before (FromEditor e body))
 
     abbrev key : Common
     key = key_for settings before e body
@@ -139,7 +139,7 @@ module _ (settings : Settings) (before : List Event) (low : Low before) (spawned
     low_heard : Low now
     low_heard = low_now (FromEditor e body) (λ n. life_more n before (heard (FromEditor e body))) (λ n. number_more n before (heard (FromEditor e body)))
 
-    evicted : (a h s : ℕ) → row_outs settings before (FromEditor e body) ≡ outs (placed_row e body before (Evicts a h)) now → start_of a before ≡ Some s → IsOff s later
+    evicted : (a h s : ℕ) → outs_of settings before (FromEditor e body) ≡ outs (placed_row e body before (Evicts a h)) now → start_of a before ≡ Some s → IsOff s later
     evicted a h s sent at = subst (λ xs. IsOff s (behind now xs)) (sym sent) (subst (IsOff s) (sym (behind_both now ones (Spawn (starts_of mid) h ∷ [])))
         (off_spawn s (starts_of mid) h mid (other (nat_eq (starts_of mid) s) refl) (group_off a now low_heard s (start_took a before (FromEditor e body) ∙ at) (ap (λ (l : Life). is_spawned l.stage) (life_more s before (heard (FromEditor e body))) ∙ spawned a s at))))
       where
@@ -159,7 +159,7 @@ module _ (settings : Settings) (before : List Event) (low : Low before) (spawned
         other true same = absurd (let is : starts_of mid ≡ s = number_same (starts_of mid) s same in omega (arith, is, count, below))
         other false apart = refl
 
-    placed_ends : (p : Placed) → row_outs settings before (FromEditor e body) ≡ outs (placed_row e body before p) now → groups_of settings now ≡ with_editor p key declared groups → Ends (FromEditor e body)
+    placed_ends : (p : Placed) → outs_of settings before (FromEditor e body) ≡ outs (placed_row e body before p) now → groups_of settings now ≡ with_editor p key declared groups → Ends (FromEditor e body)
     placed_ends (Joins h) sent same g s live over at = never (sym live ∙ (sym (ap (lives_at g) same ∙ changed_lives busy (λ x. refl) h g groups) ∙ over))
     placed_ends (Founds h) sent same g s live over at = never (sym (ap (lives_at g) same ∙ lives_left g groups (founded key declared ∷ []) live) ∙ over)
     placed_ends (Evicts a h) sent same g s live over at = go (nat_eq a g) refl
@@ -187,7 +187,7 @@ module _ (settings : Settings) (before : List Event) (low : Low before) (spawned
     abbrev said_now : List Event
     said_now = with_cause before (FromServer n body)
 
-    refused_last : is_refusing before n (message_of body) ≡ true → (g : ℕ) → group_of n before ≡ Some g → IsOff n (behind said_now (row_outs settings before (FromServer n body)))
+    refused_last : is_refusing before n (message_of body) ≡ true → (g : ℕ) → group_of n before ≡ Some g → IsOff n (behind said_now (outs_of settings before (FromServer n body)))
     refused_last refuses g home = subst (λ xs. IsOff n (behind said_now xs)) (sym (refused_outs settings before n body refuses g home))
         (subst (IsOff n) (sym (behind_both said_now errors (closes ++ EndServer n ∷ []) ∙ behind_both mid closes (EndServer n ∷ []))) (off_ended n (behind mid closes)))
       where
@@ -200,15 +200,15 @@ module _ (settings : Settings) (before : List Event) (low : Low before) (spawned
         closes : List Out
         closes = outs (close_all (members_in settings g mid)) mid
 
-    refused_off : is_refusing before n (message_of body) ≡ true → (g s : ℕ) → group_of n before ≡ Some g → start_of g before ≡ Some s → IsOff s (behind (with_cause before (FromServer n body)) (row_outs settings before (FromServer n body)))
-    refused_off refuses g s home at = subst (λ k. IsOff k (behind (with_cause before (FromServer n body)) (row_outs settings before (FromServer n body)))) (the_same (sym (one n g home) ∙ at)) (refused_last refuses g home)
+    refused_off : is_refusing before n (message_of body) ≡ true → (g s : ℕ) → group_of n before ≡ Some g → start_of g before ≡ Some s → IsOff s (behind (with_cause before (FromServer n body)) (outs_of settings before (FromServer n body)))
+    refused_off refuses g s home at = subst (λ k. IsOff k (behind (with_cause before (FromServer n body)) (outs_of settings before (FromServer n body)))) (the_same (sym (one n g home) ∙ at)) (refused_last refuses g home)
 
     said_ends : (b : Bool) (o : Option ℕ) → is_refusing before n (message_of body) ≡ b → group_of n before ≡ o → Ends (FromServer n body)
     said_ends false o off home = none_ends (FromServer n body) (said_by false off)
     said_ends true None refuses none = none_ends (FromServer n body) (said_by true refuses ∙ ap (λ o. at_group o (λ k. ended) groups) none)
     said_ends true (Some i) refuses home = λ g s live over at. go g s live over at (nat_eq i g) refl
       where
-        go : (g s : ℕ) → lives_at g groups ≡ true → lives_at g (groups_of settings said_now) ≡ false → start_of g before ≡ Some s → (b : Bool) → nat_eq i g ≡ b → IsOff s (behind said_now (row_outs settings before (FromServer n body)))
+        go : (g s : ℕ) → lives_at g groups ≡ true → lives_at g (groups_of settings said_now) ≡ false → start_of g before ≡ Some s → (b : Bool) → nat_eq i g ≡ b → IsOff s (behind said_now (outs_of settings before (FromServer n body)))
         go g s live over at true is = refused_off refuses g s (home ∙ ap (λ k. Some k) (number_same i g is)) at
         go g s live over at false other = never (sym (ap (lives_at g) (said_by true refuses ∙ ap (λ o. at_group o (λ k. ended) groups) home) ∙ (lives_apart i g ended groups (λ is. never (sym (ap (nat_eq i) is ∙ same_number i) ∙ other)) ∙ live)) ∙ over)
 
@@ -227,7 +227,7 @@ module _ (settings : Settings) (before : List Event) (low : Low before) (spawned
 
 module _ (settings : Settings) (before : List Event) (cause : Cause) (begun : Begun settings before) (built : built_behind settings before cause ≡ true) where
   abbrev after : List Event
-  after = behind (with_cause before cause) (row_outs settings before cause)
+  after = behind (with_cause before cause) (outs_of settings before cause)
 
   -- the last start of a group that lives no more was there before
   start_back : (g s : ℕ) → lives_at g (groups_of settings (with_cause before cause)) ≡ false → start_of g after ≡ Some s → start_of g before ≡ Some s
@@ -257,16 +257,16 @@ module _ (settings : Settings) (before : List Event) (cause : Cause) (begun : Be
           fresh false other k = refl
 
 pub down_rests : (settings : Settings) (before : List Event) → Low before → Spawned before → Lively settings before → OneStart before → AllDown settings before → (cause : Cause) → Begun settings before → built_behind settings before cause ≡ true
-    → Lively settings (behind (with_cause before cause) (row_outs settings before cause)) → AllDown settings (behind (with_cause before cause) (row_outs settings before cause))
+    → Lively settings (behind (with_cause before cause) (outs_of settings before cause)) → AllDown settings (behind (with_cause before cause) (outs_of settings before cause))
 down_rests settings before low spawned lively one down cause begun built later g s over at = go (lives_at g (groups_of settings before)) refl
   where
     over_now : lives_at g (groups_of settings (with_cause before cause)) ≡ false
-    over_now = sym (lives_outs settings g (with_cause before cause) (row_outs settings before cause)) ∙ over
+    over_now = sym (lives_outs settings g (with_cause before cause) (outs_of settings before cause)) ∙ over
 
     was : start_of g before ≡ Some s
     was = start_back settings before cause begun built g s over_now at
 
-    go : (b : Bool) → lives_at g (groups_of settings before) ≡ b → IsOff s (behind (with_cause before cause) (row_outs settings before cause))
+    go : (b : Bool) → lives_at g (groups_of settings before) ≡ b → IsOff s (behind (with_cause before cause) (outs_of settings before cause))
     go true live = cause_ends settings before low spawned lively one cause built g s live over_now was
     go false dead = off_kept settings before cause begun built g s was (later.last g s at).0 (down g s dead was)
 
@@ -362,9 +362,9 @@ module _ (settings : Settings) (before : List Event) (quit : Quit before) (over 
       (sym (ap (lives_at g) (groups_more settings before (heard (ServerGone n)))) ∙ live)) was
   over_now (Tick t) was = back_over (Tick t) (λ g live. lives_ended (is_due settings.limits.idle (max (time_of before) t)) g groups_then (sym (ap (lives_at g) (groups_more settings before (heard (Tick t)))) ∙ live)) was
 
-  pub over_rests : (cause : Cause) → Over settings (behind (with_cause before cause) (row_outs settings before cause))
-  over_rests cause stop g = lives_outs settings g (with_cause before cause) (row_outs settings before cause)
-      ∙ over_now cause (sym (stopped_more before (heard cause)) ∙ (sym (stopped_outs (with_cause before cause) (row_outs settings before cause)) ∙ stop)) g
+  pub over_rests : (cause : Cause) → Over settings (behind (with_cause before cause) (outs_of settings before cause))
+  over_rests cause stop g = lives_outs settings g (with_cause before cause) (outs_of settings before cause)
+      ∙ over_now cause (sym (stopped_more before (heard cause)) ∙ (sym (stopped_outs (with_cause before cause) (outs_of settings before cause)) ∙ stop)) g
 
 pub over_none : (settings : Settings) → Over settings []
 over_none settings stop g = absurd (cc)

@@ -26,7 +26,7 @@ use Rattle.mux_facts.proofs.Words.{number_same, same_number}
 use Rattle.group_words.specs.Houses.{groups_of, placed_for, places, is_doubled, stops}
 use Rattle.group_rows.specs.Forwarded.{Forwarded, answered_by, forwarding_of}
 use Rattle.group_rows.specs.Answers.{answer_row, hand_on, own_version}
-use Rattle.group_rows.specs.Rows.{from_server, row_outs, ready_row}
+use Rattle.group_rows.specs.Rows.{from_server, outs_of, ready_row}
 use Rattle.group_rows.proofs.Versions.{own_flat}
 use Rattle.group_facts.specs.Built.{built_behind, built_from_server, is_left}
 use Rattle.group_facts.specs.Facts.{is_too_many, is_up, turned_away, is_crowded}
@@ -52,7 +52,7 @@ OpenAll settings events = (e : ℕ) → OpenAt settings e Nobody events
 
 module _ (settings : Settings) (range : InRange settings) (before : List Event) (facts : Facts settings before) (begun : Begun settings before) (lively : Lively settings before) (h : OpenAll settings before) where
   abbrev later : Cause → List Event
-  later cause = behind (with_cause before cause) (row_outs settings before cause)
+  later cause = behind (with_cause before cause) (outs_of settings before cause)
 
   -- Entries of editors
 

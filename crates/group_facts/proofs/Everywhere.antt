@@ -14,8 +14,8 @@ use Rattle.mux_facts.proofs.Keeps.{behind_nothing}
 use Rattle.mux_facts.proofs.Reasons.{Reasons}
 use Rattle.mux_model.specs.Fits.{fits_behind}
 use Rattle.group_rows.specs.Leaves.{leave_row}
-use Rattle.group_rows.specs.Rows.{outs_of, row_outs}
-use Rattle.group_rows.specs.SlowRows.{close_slow, is_slow, slow_row}
+use Rattle.group_rows.specs.Rows.{outs_of}
+use Rattle.group_facts.specs.SlowRows.{close_slow, entry_outs, is_slow, slow_row}
 use Rattle.group_facts.specs.Built.{built_behind}
 use Rattle.group_facts.specs.Facts.{Known}
 use Rattle.group_facts.specs.Legal.{Legal, LegalFrom}
@@ -53,15 +53,15 @@ module _ (settings : Settings) (range : InRange settings) where
           let rest : Turns (behind place []) (outs (each (close_slow settings) es) (behind place [])) = others (behind place []) (subst (Facts settings) (sym (behind_nothing place)) h) in
           record { slow = rest.slow; parts = rest.parts; leave = subst (λ z. AllSlow settings z rest.slow) (behind_nothing place) rest.leave }
 
-  entry_parts : (before : List Event) (cause : Cause) → fits_behind before cause ≡ true → built_behind settings before cause ≡ true → Facts settings before → HasParts settings before cause (outs_of settings before cause)
+  entry_parts : (before : List Event) (cause : Cause) → fits_behind before cause ≡ true → built_behind settings before cause ≡ true → Facts settings before → HasParts settings before cause (entry_outs settings before cause)
   entry_parts before cause fits built h =
-      let later : List Event = behind (with_cause before cause) (row_outs settings before cause) in
+      let later : List Event = behind (with_cause before cause) (outs_of settings before cause) in
       let slow : Turns later (outs (slow_row settings) later) = turns (range_with_len 0 (editors_of later)) later (entry_keeps settings range before cause fits built h) in
       record {
-        row = row_outs settings before cause;
+        row = outs_of settings before cause;
         slow = slow.slow;
-        parts = ap (λ z. row_outs settings before cause ++ z) slow.parts;
-        why = all_why before cause (with_cause before cause) (row_outs settings before cause) (reasons settings range before h cause built).why;
+        parts = ap (λ z. outs_of settings before cause ++ z) slow.parts;
+        why = all_why before cause (with_cause before cause) (outs_of settings before cause) (reasons settings range before h cause built).why;
         leave = slow.leave;
       }
 

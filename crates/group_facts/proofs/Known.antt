@@ -28,8 +28,8 @@ use Rattle.mux_facts.proofs.Tellings.{sent_more}
 use Rattle.mux_facts.proofs.Words.{number_same}
 use Rattle.group_words.specs.Houses.{groups_of}
 use Rattle.group_rows.specs.Forwarded.{Forwarding, forwarding_of}
-use Rattle.group_rows.specs.Rows.{outs_of, row_outs}
-use Rattle.group_rows.specs.SlowRows.{is_slow}
+use Rattle.group_rows.specs.Rows.{outs_of}
+use Rattle.group_facts.specs.SlowRows.{entry_outs, is_slow}
 use Rattle.group_rows.specs.StopRows.{stopped as is_stopped}
 use Rattle.group_rows.proofs.Versions.{meant_heard, meant_more, meant_said}
 use Rattle.group_facts.specs.Built.{built_behind}
@@ -248,10 +248,10 @@ module _ (settings : Settings) where
     pub here_did : (before : List Event) (cause : Cause) → Facts settings before → built_behind settings before cause ≡ true → (events : List Event) (out : Out) → Why settings before cause events out → Here before cause events → Here before cause (events ++ said out ∷ [])
     here_did before cause facts built events out why h = record { base = base_did events out (fresh_out before cause events out why ((h.mid).steady).starts) h.base; mid = mid_did range before cause facts built events out why h.mid }
 
-    pub entry_keeps : (before : List Event) (cause : Cause) → fits_behind before cause ≡ true → built_behind settings before cause ≡ true → Facts settings before → Facts settings (behind (with_cause before cause) (row_outs settings before cause))
+    pub entry_keeps : (before : List Event) (cause : Cause) → fits_behind before cause ≡ true → built_behind settings before cause ≡ true → Facts settings before → Facts settings (behind (with_cause before cause) (outs_of settings before cause))
     entry_keeps before cause fits built h =
-        let last : Here before cause (behind (with_cause before cause) (row_outs settings before cause)) = reasons_keep (λ events out. Why settings before cause events out) (Here before cause) (here_did before cause h built)
-        (with_cause before cause) (row_outs settings before cause) (reasons settings range before h cause built).why (here_took before cause fits built h) in
+        let last : Here before cause (behind (with_cause before cause) (outs_of settings before cause)) = reasons_keep (λ events out. Why settings before cause events out) (Here before cause) (here_did before cause h built)
+        (with_cause before cause) (outs_of settings before cause) (reasons settings range before h cause built).why (here_took before cause fits built h) in
         record { base = last.base; steady = (last.mid).steady; tied = tied_rests settings before cause fits (h.steady).starts (h.steady).unbegun (h.steady).housed (h.base).written (last.mid).tied; waiting = waiting_rests settings before cause (h.steady).editors (last.mid).waiting; quit = quit_rests settings before (h.steady).editors h.quit cause }
 
     -- an editor that is slow leaves: the facts are kept
@@ -265,7 +265,7 @@ module _ (settings : Settings) where
         record { base = last.base; steady = (last.mid).steady; tied = λ s. (last.mid).tied s refl; waiting = λ n. (last.mid).waiting n (quit_turns_none settings place e n); quit = λ over. never (sym over ∙ (stopped_outs place (parting settings place e) ∙ not_stopped place h.quit e (slow_there settings e place slow))) }
 
     -- all outs of an entry
-    pub whole_keeps : (before : List Event) (cause : Cause) → fits_behind before cause ≡ true → built_behind settings before cause ≡ true → Facts settings before → Facts settings (behind (with_cause before cause) (outs_of settings before cause))
+    pub whole_keeps : (before : List Event) (cause : Cause) → fits_behind before cause ≡ true → built_behind settings before cause ≡ true → Facts settings before → Facts settings (behind (with_cause before cause) (entry_outs settings before cause))
     whole_keeps before cause fits built h = whole_entry settings (Facts settings) slow_keeps_facts before cause (entry_keeps before cause fits built h)
 
     pub no_facts : Facts settings []
@@ -278,7 +278,7 @@ module _ (settings : Settings) where
     }
 
     pub one_entry : (before : List Entry) (entry : Entry) → IsTrue (fits_behind (events_of before) entry.cause) → IsTrue (built_behind settings (events_of before) entry.cause)
-        → entry.outs ≡ outs_of settings (events_of before) entry.cause → Facts settings (events_of before) → Facts settings (events_of (before ++ entry ∷ []))
+        → entry.outs ≡ entry_outs settings (events_of before) entry.cause → Facts settings (events_of before) → Facts settings (events_of (before ++ entry ∷ []))
     one_entry before entry fits built outs h = subst (Facts settings) (sym (events_more before entry)) (subst (λ z. Facts settings (behind (with_cause (events_of before) entry.cause) z)) (sym outs)
         (whole_keeps (events_of before) entry.cause fits built h))
 

@@ -80,3 +80,4 @@ pub mod StopEntry
 pub mod StopDown
 pub mod Ceased
 pub mod Downs
+pub mod WorkedSlow

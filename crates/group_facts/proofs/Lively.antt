@@ -32,8 +32,8 @@ use Rattle.group_words.specs.declared.placed.Placed.{Placed}
 use Rattle.group_words.specs.Houses.{at_group, declared_for, groups_lose, groups_next, groups_of, has_editor, home_next, home_of, house_of, is_first_error, is_home, key_for, placed_for, places, stops, time_of}
 use Rattle.group_words.specs.Placing.{end_where, ended, home_by, is_due, is_live, with_editor}
 use Rattle.group_words.proofs.Frames.{groups_more, home_more}
-use Rattle.group_rows.specs.Rows.{row_outs}
-use Rattle.group_rows.specs.SlowRows.{is_slow}
+use Rattle.group_rows.specs.Rows.{outs_of}
+use Rattle.group_facts.specs.SlowRows.{is_slow}
 use Rattle.group_facts.specs.Built.{built_behind, is_left}
 use Rattle.group_facts.specs.Facts.{is_put_out, is_refusing, is_up}
 use Rattle.group_facts.specs.Lively.{IsDying, Lively, is_busy_at, is_unplaced, lives_at}
@@ -490,22 +490,22 @@ module _ (settings : Settings) (range : InRange settings) (before : List Event) 
     here : Here settings before cause events
     lively : Mostly settings (is_put_out settings before cause) events
 
-  pub lively_rests : (cause : Cause) → fits_behind before cause ≡ true → built_behind settings before cause ≡ true → Lively settings (behind (with_cause before cause) (row_outs settings before cause))
+  pub lively_rests : (cause : Cause) → fits_behind before cause ≡ true → built_behind settings before cause ≡ true → Lively settings (behind (with_cause before cause) (outs_of settings before cause))
   lively_rests cause fits built =
       let first : Here settings before cause (with_cause before cause) = here_took settings range before cause fits built facts in
-      let last : At cause (behind (with_cause before cause) (row_outs settings before cause)) = reasons_keep (λ events out. Why settings before cause events out) (At cause)
+      let last : At cause (behind (with_cause before cause) (outs_of settings before cause)) = reasons_keep (λ events out. Why settings before cause events out) (At cause)
       (λ events out why i. let next : Here settings before cause (events ++ said out ∷ []) = here_did settings range before cause facts built events out why i.here in
       record { here = next; lively = did settings (is_put_out settings before cause) events i.lively before cause out why ((next.mid).steady).editors })
-      (with_cause before cause) (row_outs settings before cause) (reasons settings range before facts cause built).why
+      (with_cause before cause) (outs_of settings before cause) (reasons settings range before facts cause built).why
       (record { here = first; lively = took settings before cause fits built (facts.steady).editors ((first.mid).steady).editors begun h }) in
       all_lively cause last.lively
     where
       -- those that were left out are in no group any more
-      all_lively : (cause : Cause) → Mostly settings (is_put_out settings before cause) (behind (with_cause before cause) (row_outs settings before cause)) → Lively settings (behind (with_cause before cause) (row_outs settings before cause))
+      all_lively : (cause : Cause) → Mostly settings (is_put_out settings before cause) (behind (with_cause before cause) (outs_of settings before cause)) → Lively settings (behind (with_cause before cause) (outs_of settings before cause))
       all_lively cause k = record { unplaced = k.unplaced; busy = λ e g. busy e g (is_put_out settings before cause e) refl; last = k.last; up = k.up }
         where
-          busy : (e g : ℕ) (b : Bool) → is_put_out settings before cause e ≡ b → is_begun (desk_of e (behind (with_cause before cause) (row_outs settings before cause))).phase ≡ true
-              → home_of settings e (behind (with_cause before cause) (row_outs settings before cause)) ≡ Some g → is_busy_at g (groups_of settings (behind (with_cause before cause) (row_outs settings before cause))) ≡ true
+          busy : (e g : ℕ) (b : Bool) → is_put_out settings before cause e ≡ b → is_begun (desk_of e (behind (with_cause before cause) (outs_of settings before cause))).phase ≡ true
+              → home_of settings e (behind (with_cause before cause) (outs_of settings before cause)) ≡ Some g → is_busy_at g (groups_of settings (behind (with_cause before cause) (outs_of settings before cause))) ≡ true
           busy e g false rest begun at = k.busy e g rest begun at
           busy e g true out begun at = never (sym begun ∙ put_out_ends settings before cause (facts.steady).editors e out)
 

@@ -29,7 +29,7 @@ use Rattle.group_words.specs.Houses.{groups_of}
 use Rattle.group_words.specs.Rows.{initialize_of}
 use Rattle.group_rows.specs.Forwarded.{Forwarding, forwarding_of, numbered}
 use Rattle.mux_facts.specs.Allowed.{is_response}
-use Rattle.group_rows.specs.Rows.{row_outs, started}
+use Rattle.group_rows.specs.Rows.{outs_of, started}
 use Rattle.group_facts.specs.Built.{built_behind}
 use Rattle.group_facts.specs.Facts.{Housed, IsHoused, IsWritten, Unbegun, Written}
 use Rattle.group_facts.specs.Why.{IsForward, WhyToServer, begins, greets, forwarded, notes, tells, shuts, cancels, responds, IsShutting, exits, resolves, cancels_work}
@@ -217,11 +217,11 @@ module _ (settings : Settings) (before : List Event) (n : ℕ) where
   begun_tied starts unbegun housed written Ended at may = absurd (cc)
 
 pub tied_rests : (settings : Settings) (before : List Event) (cause : Cause) → fits_behind before cause ≡ true → Starts before → Unbegun before → Housed settings before → Written settings before
-    → OthersTied cause (behind (with_cause before cause) (row_outs settings before cause)) → AllTied (behind (with_cause before cause) (row_outs settings before cause))
+    → OthersTied cause (behind (with_cause before cause) (outs_of settings before cause)) → AllTied (behind (with_cause before cause) (outs_of settings before cause))
 tied_rests settings before (Started n) fits starts unbegun housed written h = λ s. go s (nat_eq n s) refl
   where
-    go : (s : ℕ) (b : Bool) → nat_eq n s ≡ b → Tied (behind (with_cause before (Started n)) (row_outs settings before (Started n))) s
+    go : (s : ℕ) (b : Bool) → nat_eq n s ≡ b → Tied (behind (with_cause before (Started n)) (outs_of settings before (Started n))) s
     go s false other = h s other
-    go s true same = subst (Tied (behind (with_cause before (Started n)) (row_outs settings before (Started n)))) (number_same n s same)
+    go s true same = subst (Tied (behind (with_cause before (Started n)) (outs_of settings before (Started n)))) (number_same n s same)
         (begun_tied settings before n starts unbegun housed written (life_of n before).stage refl (and_parts (may_begin (life_of n before).stage) (not (life_of n before).started) fits).0)
 tied_rests settings before cause fits starts unbegun housed written h = λ s. h s refl

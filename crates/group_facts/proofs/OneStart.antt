@@ -11,7 +11,7 @@ use Rattle.event_model.specs.Spawns.{group_of, start_of}
 use Rattle.mux_facts.proofs.Keeps.{behind_both}
 use Rattle.mux_facts.proofs.Words.{number_same, same_number}
 use Rattle.group_words.specs.Houses.{groups_of}
-use Rattle.group_rows.specs.Rows.{row_outs}
+use Rattle.group_rows.specs.Rows.{outs_of}
 use Rattle.group_facts.specs.Built.{built_behind}
 use Rattle.group_facts.specs.Lively.{lives_at}
 use Rattle.group_facts.proofs.Begun.{Begun, Founding, NoSpawn, founding_of, founds, quiet, start_more, start_took, starts_stay}
@@ -73,16 +73,16 @@ module _ (settings : Settings) (before : List Event) (cause : Cause) (begun : Be
   group_last s n xs all = ap (group_of s) (behind_both now xs (Spawn n N ∷ [])) ∙ group_more s (behind now xs) (said (Spawn n N)) ∙ ap (λ o. if nat_eq n s then Some N else o) (group_quiet s xs all)
 
   pub by_founding : (P : List Out → Type 0) → ((xs : List Out) → AllByRecursion NoSpawn xs → P xs) → ((xs : List Out) (n : ℕ) → AllByRecursion NoSpawn xs → lives_at N (groups_of settings now) ≡ true → P (xs ++ Spawn n N ∷ []))
-      → Founding settings before cause → P (row_outs settings before cause)
-  by_founding P f g (quiet all same) = f (row_outs settings before cause) all
+      → Founding settings before cause → P (outs_of settings before cause)
+  by_founding P f g (quiet all same) = f (outs_of settings before cause) all
   by_founding P f g (founds xs n all sent more live) = subst P (sym sent) (g xs n all live)
 
   module _ (built : built_behind settings before cause ≡ true) where
-    pub start_kept : (g s : ℕ) → start_of g before ≡ Some s → start_of g (behind now (row_outs settings before cause)) ≡ Some s
+    pub start_kept : (g s : ℕ) → start_of g before ≡ Some s → start_of g (behind now (outs_of settings before cause)) ≡ Some s
     start_kept g s at = by_founding (λ xs. start_of g (behind now xs) ≡ Some s) (λ xs all. start_quiet g xs all ∙ at)
         (λ xs n all live. start_last g n xs all ∙ ap (λ b. if b then Some n else start_of g before) (apart g (kept_below g s at)) ∙ at) (founding_of settings before cause built)
 
-    pub one_rests : OneStart before → OneStart (behind now (row_outs settings before cause))
+    pub one_rests : OneStart before → OneStart (behind now (outs_of settings before cause))
     one_rests h s g = by_founding (λ xs. group_of s (behind now xs) ≡ Some g → start_of g (behind now xs) ≡ Some s) (λ xs all at. start_quiet g xs all ∙ h s g (sym (group_quiet s xs all) ∙ at)) last (founding_of settings before cause built)
       where
         last : (xs : List Out) (n : ℕ) → AllByRecursion NoSpawn xs → lives_at N (groups_of settings now) ≡ true → group_of s (behind now (xs ++ Spawn n N ∷ [])) ≡ Some g → start_of g (behind now (xs ++ Spawn n N ∷ [])) ≡ Some s

@@ -18,7 +18,7 @@ use Rattle.mux_facts.proofs.Reasons.{Reasons}
 use Rattle.mux_facts.proofs.Words.{number_same, same_number}
 use Rattle.group_words.specs.Houses.{groups_of}
 use Rattle.mux_facts.proofs.Why.{is_early}
-use Rattle.group_rows.specs.Rows.{row_outs}
+use Rattle.group_rows.specs.Rows.{outs_of}
 use Rattle.group_facts.specs.Built.{built_behind}
 use Rattle.group_facts.specs.Facts.{turned_away}
 use Rattle.group_facts.proofs.Listens.{listens_late}
@@ -148,13 +148,13 @@ module _ (settings : Settings) (e : ℕ) (E : Id → Type 0) where
     open_outs events (x ∷ xs) why calm h = subst OpenAt (append_assoc events (said x ∷ []) (map said xs)) (open_outs (events ++ said x ∷ []) xs why.1 calm.1 (open_did events x why.0 calm.0 h))
 
     -- all outs of an entry
-    pub open_entry : InRange settings → Facts settings before → Begun settings before → built_behind settings before cause ≡ true → OpenAt (with_cause before cause) → OpenAt (behind (with_cause before cause) (row_outs settings before cause))
+    pub open_entry : InRange settings → Facts settings before → Begun settings before → built_behind settings before cause ≡ true → OpenAt (with_cause before cause) → OpenAt (behind (with_cause before cause) (outs_of settings before cause))
     open_entry range facts begun built h = go (founding_of settings before cause built) (reasons settings range before facts cause built).why
       where
         last : (xs : List Out) (s : ℕ) → AllByRecursion NoSpawn xs → Reasons R now (xs ++ Spawn s N ∷ []) → OpenAt (behind now (xs ++ Spawn s N ∷ []))
         last xs s calm why = subst OpenAt (sym (behind_both now xs (Spawn s N ∷ [])))
             (open_spawned (behind now xs) s N (starts_stay N now xs calm ∙ start_took N before cause ∙ (begun N).1 (omega arith)) (open_outs now xs (reasons_left R now xs (Spawn s N ∷ []) why) calm h))
 
-        go : Founding settings before cause → Reasons R now (row_outs settings before cause) → OpenAt (behind now (row_outs settings before cause))
-        go (quiet calm same) why = open_outs now (row_outs settings before cause) why calm h
+        go : Founding settings before cause → Reasons R now (outs_of settings before cause) → OpenAt (behind now (outs_of settings before cause))
+        go (quiet calm same) why = open_outs now (outs_of settings before cause) why calm h
         go (founds xs s calm sent more live) why = subst (λ z. OpenAt (behind now z)) (sym sent) (last xs s calm (subst (Reasons R now) sent why))

@@ -55,7 +55,7 @@ use Rattle.group_rows.specs.Leaves.{leave_row}
 use Rattle.group_rows.specs.Created.{Taking, accepts, created_of, created_text, is_answered as is_settled}
 use Rattle.group_rows.specs.CreatedRows.{created_work, hand_out, taking_row, tell, work_at, work_row}
 use Rattle.group_rows.specs.Tokens.{forwarded_text, marked_text, reserves}
-use Rattle.group_rows.specs.Rows.{answer_error, asks_lspmux, begun_row, can_ask, closing_row, document_at, document_bodies, document_row, early_code, early_row, exit_row, forward, from_editor, is_misplaced, lspmux_row, message_row, named_row, names_lspmux, notice_at, notice_row, open_row, row_outs, request_at, request_row, served_request, served_row, shutdown_row, status_row, sync_bodies, sync_row, taken_row, told_row, wrong_code}
+use Rattle.group_rows.specs.Rows.{answer_error, asks_lspmux, begun_row, can_ask, closing_row, document_at, document_bodies, document_row, early_code, early_row, exit_row, forward, from_editor, is_misplaced, lspmux_row, message_row, named_row, names_lspmux, notice_at, notice_row, open_row, outs_of, request_at, request_row, served_request, served_row, shutdown_row, status_row, sync_bodies, sync_row, taken_row, told_row, wrong_code}
 use Rattle.group_rows.specs.Status.{items_of, status_text}
 use Rattle.group_rows.proofs.Statuses.{told_tree}
 use Rattle.group_rows.specs.Texts.{encoding_of, texts_of}
@@ -673,7 +673,7 @@ module _ (settings : Settings) (before : List Event) (n : ℕ) (body : List ℕ)
       own_rests m says Closed at off = other_rests m says Closed at (λ same. absurd (cc)) off
       own_rests m says Gone at off = other_rests m says Gone at (λ same. absurd (cc)) off
 
-      pub message_rests : places (desk_of n before).phase (message_of body) ≡ false → OpenAt settings n Nobody (behind now (row_outs settings before (FromEditor n body)))
+      pub message_rests : places (desk_of n before).phase (message_of body) ≡ false → OpenAt settings n Nobody (behind now (outs_of settings before (FromEditor n body)))
       message_rests off = own_rests (message_of body) refl (desk_of n before).phase refl off
 
     -- Its first `initialize`
@@ -703,6 +703,6 @@ module _ (settings : Settings) (before : List Event) (n : ℕ) (body : List ℕ)
     placed_open place = let p = and_parts (is_new (desk_of n before).phase) (requests (codes "initialize") (message_of body)) place in first_open (message_of body) refl (new_is (desk_of n before).phase p.0) p.1
 
   -- one that is turned away
-  pub turned_rests : is_crowded settings before n body n ≡ true → OpenAt settings n Nobody (behind now (row_outs settings before (FromEditor n body)))
+  pub turned_rests : is_crowded settings before n body n ≡ true → OpenAt settings n Nobody (behind now (outs_of settings before (FromEditor n body)))
   turned_rests turned = subst (λ xs. OpenAt settings n Nobody (behind now xs)) (sym (turned_outs settings before n body n turned))
       (subst (OpenAt settings n Nobody) (append_assoc now (said (ToEditor n (error_text (id_bytes body) request_failed)) ∷ []) (said (CloseEditor n) ∷ [])) (open_closed settings n Nobody (now ++ said (ToEditor n (error_text (id_bytes body) request_failed)) ∷ [])))

@@ -30,8 +30,8 @@ use Rattle.group_rows.specs.Answers.{agreed_version, answer_row, held_version, m
 use Rattle.group_rows.specs.AskRows.{ask_edit, asking_row, current_version, edited, focused_row, is_edit, question_row}
 use Rattle.group_rows.specs.Asks.{next_ask}
 use Rattle.group_rows.specs.Forwarded.{Forwarded, answered_by, forwarding_of}
-use Rattle.group_rows.specs.Rows.{from_server, outs_of, row_outs, ready_row}
-use Rattle.group_rows.specs.SlowRows.{slow_row}
+use Rattle.group_rows.specs.Rows.{from_server, outs_of, ready_row}
+use Rattle.group_facts.specs.SlowRows.{entry_outs, slow_row}
 use Rattle.group_rows.proofs.Versions.{own_flat}
 use Rattle.group_facts.specs.Facts.{IsAsker, IsForwarded}
 use Rattle.group_facts.specs.Legal.{Legal, LegalFrom}
@@ -154,21 +154,21 @@ module _ (settings : Settings) (before : List Event) (facts : Facts settings bef
   from_ready Ended at = tt
 
 module _ (settings : Settings) (range : InRange settings) where
-  on_entry : (before : List Event) → Facts settings before → AllSentOn before → (cause : Cause) → AllByRecursion (OnOwnVersions settings before cause) (row_outs settings before cause)
+  on_entry : (before : List Event) → Facts settings before → AllSentOn before → (cause : Cause) → AllByRecursion (OnOwnVersions settings before cause) (outs_of settings before cause)
   on_entry before facts asked (FromServer s answer) = from_ready settings before facts asked s answer (life_of s before).stage refl
-  on_entry before facts asked (Joined e) = unsaid settings before (Joined e) (λ out. tt) (row_outs settings before (Joined e))
-  on_entry before facts asked (FromEditor e body) = unsaid settings before (FromEditor e body) (λ out. tt) (row_outs settings before (FromEditor e body))
-  on_entry before facts asked (EditorGone e why) = unsaid settings before (EditorGone e why) (λ out. tt) (row_outs settings before (EditorGone e why))
-  on_entry before facts asked (Started s) = unsaid settings before (Started s) (λ out. tt) (row_outs settings before (Started s))
-  on_entry before facts asked (StartFailed s) = unsaid settings before (StartFailed s) (λ out. tt) (row_outs settings before (StartFailed s))
-  on_entry before facts asked (ServerGone s) = unsaid settings before (ServerGone s) (λ out. tt) (row_outs settings before (ServerGone s))
-  on_entry before facts asked (Drained e k) = unsaid settings before (Drained e k) (λ out. tt) (row_outs settings before (Drained e k))
-  on_entry before facts asked (Tick t) = unsaid settings before (Tick t) (λ out. tt) (row_outs settings before (Tick t))
+  on_entry before facts asked (Joined e) = unsaid settings before (Joined e) (λ out. tt) (outs_of settings before (Joined e))
+  on_entry before facts asked (FromEditor e body) = unsaid settings before (FromEditor e body) (λ out. tt) (outs_of settings before (FromEditor e body))
+  on_entry before facts asked (EditorGone e why) = unsaid settings before (EditorGone e why) (λ out. tt) (outs_of settings before (EditorGone e why))
+  on_entry before facts asked (Started s) = unsaid settings before (Started s) (λ out. tt) (outs_of settings before (Started s))
+  on_entry before facts asked (StartFailed s) = unsaid settings before (StartFailed s) (λ out. tt) (outs_of settings before (StartFailed s))
+  on_entry before facts asked (ServerGone s) = unsaid settings before (ServerGone s) (λ out. tt) (outs_of settings before (ServerGone s))
+  on_entry before facts asked (Drained e k) = unsaid settings before (Drained e k) (λ out. tt) (outs_of settings before (Drained e k))
+  on_entry before facts asked (Tick t) = unsaid settings before (Tick t) (λ out. tt) (outs_of settings before (Tick t))
 
   -- no editor is told by what one leaves that is slow
-  on_whole : (before : List Event) → Facts settings before → AllSentOn before → (cause : Cause) → AllByRecursion (OnOwnVersions settings before cause) (outs_of settings before cause)
-  on_whole before facts asked cause = all_join (OnOwnVersions settings before cause) (row_outs settings before cause) (outs (slow_row settings) (behind (with_cause before cause) (row_outs settings before cause))) (on_entry before facts asked cause)
-      (slow_all settings (OnOwnVersions settings before cause) (closes cause) (sends cause) (behind (with_cause before cause) (row_outs settings before cause)))
+  on_whole : (before : List Event) → Facts settings before → AllSentOn before → (cause : Cause) → AllByRecursion (OnOwnVersions settings before cause) (entry_outs settings before cause)
+  on_whole before facts asked cause = all_join (OnOwnVersions settings before cause) (outs_of settings before cause) (outs (slow_row settings) (behind (with_cause before cause) (outs_of settings before cause))) (on_entry before facts asked cause)
+      (slow_all settings (OnOwnVersions settings before cause) (closes cause) (sends cause) (behind (with_cause before cause) (outs_of settings before cause)))
     where
       closes : (cause : Cause) (n : ℕ) → OnOwnVersions settings before cause (CloseEditor n)
       closes (FromServer s heard) n = tt

@@ -25,7 +25,7 @@ use Rattle.mux_facts.proofs.Table.{waiting_is}
 use Rattle.mux_facts.proofs.Words.{number_same, same_number}
 use Rattle.group_words.specs.Houses.{home_of, is_first_error, is_home}
 use Rattle.group_words.proofs.Frames.{home_stays}
-use Rattle.group_rows.specs.Rows.{close_all, members_in, row_outs, refused_in, refusal, waiting_in}
+use Rattle.group_rows.specs.Rows.{close_all, members_in, outs_of, refused_in, refusal, waiting_in}
 use Rattle.group_facts.specs.Facts.{is_in, is_put_out, is_refusing, turned_away}
 use Rattle.group_facts.specs.Lively.{is_unplaced}
 
@@ -181,10 +181,10 @@ module _ (settings : Settings) (before : List Event) (s : ℕ) (body : List ℕ)
   now = with_cause before (FromServer s body)
 
   abbrev later : List Event
-  later = behind now (row_outs settings before (FromServer s body))
+  later = behind now (outs_of settings before (FromServer s body))
 
   module _ (refuses : is_refusing before s (message_of body) ≡ true) (g : ℕ) (home : group_of s before ≡ Some g) where
-    pub refused_outs : row_outs settings before (FromServer s body) ≡ outs (refused_in settings s body g) now
+    pub refused_outs : outs_of settings before (FromServer s body) ≡ outs (refused_in settings s body g) now
     refused_outs =
         let p = and_parts (is_first_error (message_of body)) (is_initializing (life_of s before).stage) refuses in
         rw (initializing_is (life_of s before).stage p.1, no_result (message_of body) p.0, p.0, home) refl
@@ -255,4 +255,4 @@ module _ (settings : Settings) (before : List Event) (s : ℕ) (body : List ℕ)
   turned_placed e turned h =
       let p = and_parts (is_refusing before s (message_of body)) (is_waiting (desk_of e before).phase && is_in settings before s e) turned in
       let q = and_parts (is_waiting (desk_of e before).phase) (is_in settings before s e) p.1 in
-      never (sym (sym (ap (λ (d : Desk). is_unplaced d.phase) (desk_more e before (heard (FromServer s body)))) ∙ unplaced_outs e now (row_outs settings before (FromServer s body)) h) ∙ ap is_unplaced (waiting_is (desk_of e before).phase q.0))
+      never (sym (sym (ap (λ (d : Desk). is_unplaced d.phase) (desk_more e before (heard (FromServer s body)))) ∙ unplaced_outs e now (outs_of settings before (FromServer s body)) h) ∙ ap is_unplaced (waiting_is (desk_of e before).phase q.0))

@@ -7,8 +7,8 @@ use Rattle.event_model.specs.Settings.{Settings}
 use Rattle.mux_model.specs.Fits.{fits_behind}
 use Rattle.mux_facts.specs.Ranges.{InRange}
 use Rattle.mux_facts.proofs.Keeps.{events_more}
-use Rattle.group_rows.specs.Rows.{row_outs}
-use Rattle.group_rows.specs.SlowRows.{is_slow}
+use Rattle.group_rows.specs.Rows.{outs_of}
+use Rattle.group_facts.specs.SlowRows.{is_slow}
 use Rattle.group_facts.specs.Built.{built_behind}
 use Rattle.group_facts.specs.Legal.{Legal, LegalFrom}
 use Rattle.group_facts.specs.Settled.{Settled}
@@ -19,11 +19,11 @@ use Rattle.group_facts.proofs.SlowRow.{parting, whole_entry}
 
 pub data Reached (settings : Settings) : List Event → Type 0 where
   at_first : Reached settings []
-  row_behind : (before : List Event) (cause : Cause) → fits_behind before cause ≡ true → built_behind settings before cause ≡ true → Reached settings before → Reached settings (behind (with_cause before cause) (row_outs settings before cause))
+  row_behind : (before : List Event) (cause : Cause) → fits_behind before cause ≡ true → built_behind settings before cause ≡ true → Reached settings before → Reached settings (behind (with_cause before cause) (outs_of settings before cause))
   slow_behind : (place : List Event) (e : ℕ) → is_slow settings e place ≡ true → Reached settings place → Reached settings (behind place (parting settings place e))
 
 module _ (settings : Settings) (I : List Event → Type 0) (start : I [])
-    (row : (before : List Event) (cause : Cause) → fits_behind before cause ≡ true → built_behind settings before cause ≡ true → Reached settings before → I before → I (behind (with_cause before cause) (row_outs settings before cause)))
+    (row : (before : List Event) (cause : Cause) → fits_behind before cause ≡ true → built_behind settings before cause ≡ true → Reached settings before → I before → I (behind (with_cause before cause) (outs_of settings before cause)))
     (slow : (place : List Event) (e : ℕ) → is_slow settings e place ≡ true → Reached settings place → I place → I (behind place (parting settings place e))) where
   pub reached_keeps : (events : List Event) → Reached settings events → I events
   reached_keeps events at_first = start

@@ -13,8 +13,8 @@ use Rattle.mux_facts.specs.Ranges.{InRange}
 use Rattle.mux_facts.proofs.Keeps.{events_more}
 use Rattle.mux_facts.proofs.Reasons.{reasons_keep}
 use Rattle.group_words.specs.Houses.{groups_of}
-use Rattle.group_rows.specs.Rows.{outs_of, row_outs}
-use Rattle.group_rows.specs.SlowRows.{is_slow}
+use Rattle.group_rows.specs.Rows.{outs_of}
+use Rattle.group_facts.specs.SlowRows.{entry_outs, is_slow}
 use Rattle.group_facts.specs.Built.{built_behind}
 use Rattle.group_facts.specs.Facts.{ends_link}
 use Rattle.group_facts.specs.Legal.{Legal, LegalFrom}
@@ -36,7 +36,7 @@ pub record RestLaw (settings : Settings) (I : List Event → Type 0) (M : List E
   pub end : (before : List Event) (cause : Cause) (events : List Event) (s : ℕ) → WhyEnd settings events s → Facts settings before → Mid settings before cause events → I before → M before cause events → M before cause (events ++ said (EndServer s) ∷ [])
   pub spawn : (before : List Event) (cause : Cause) (events : List Event) (g : ℕ) → g < length (groups_of settings events) → Facts settings before → Mid settings before cause events → I before → M before cause events
       → M before cause (events ++ said (Spawn (starts_of events) g) ∷ [])
-  pub rest : (before : List Event) (cause : Cause) → fits_behind before cause ≡ true → Facts settings before → I before → M before cause (behind (with_cause before cause) (row_outs settings before cause)) → I (behind (with_cause before cause) (row_outs settings before cause))
+  pub rest : (before : List Event) (cause : Cause) → fits_behind before cause ≡ true → Facts settings before → I before → M before cause (behind (with_cause before cause) (outs_of settings before cause)) → I (behind (with_cause before cause) (outs_of settings before cause))
   -- an editor that is slow leaves (Z1)
   pub turn : (place : List Event) (e : ℕ) → is_slow settings e place ≡ true → Facts settings place → I place → M place (quitting e) place
   pub left : (place : List Event) (e : ℕ) → is_slow settings e place ≡ true → Facts settings place → I place → M place (quitting e) (behind place (parting settings place e)) → I (behind place (parting settings place e))
@@ -58,11 +58,11 @@ module _ (settings : Settings) (range : InRange settings) (I : List Event → Ty
     known : Facts settings events
     kept : I events
 
-  entry_rests : (before : List Event) (cause : Cause) → fits_behind before cause ≡ true → built_behind settings before cause ≡ true → Rests before → Rests (behind (with_cause before cause) (row_outs settings before cause))
+  entry_rests : (before : List Event) (cause : Cause) → fits_behind before cause ≡ true → built_behind settings before cause ≡ true → Rests before → Rests (behind (with_cause before cause) (outs_of settings before cause))
   entry_rests before cause fits built h =
-      let last : At before cause (behind (with_cause before cause) (row_outs settings before cause)) = reasons_keep (λ events out. Why settings before cause events out) (At before cause)
+      let last : At before cause (behind (with_cause before cause) (outs_of settings before cause)) = reasons_keep (λ events out. Why settings before cause events out) (At before cause)
       (λ events out why i. record { known = here_did settings range before cause h.known built events out why i.known; kept = one_out before cause events out why h.known (i.known).mid h.kept i.kept })
-      (with_cause before cause) (row_outs settings before cause) (reasons settings range before h.known cause built).why
+      (with_cause before cause) (outs_of settings before cause) (reasons settings range before h.known cause built).why
       (record { known = here_took settings range before cause fits built h.known; kept = law.took before cause fits built h.known h.kept }) in
       record { known = entry_keeps settings range before cause fits built h.known; kept = law.rest before cause fits h.known h.kept last.kept }
 
@@ -74,10 +74,10 @@ module _ (settings : Settings) (range : InRange settings) (I : List Event → Ty
       (record { known = here_slow settings range place e h.known; kept = law.turn place e slow h.known h.kept }) in
       record { known = slow_keeps_facts settings range place e slow h.known; kept = law.left place e slow h.known h.kept last.kept }
 
-  whole_rests : (before : List Event) (cause : Cause) → fits_behind before cause ≡ true → built_behind settings before cause ≡ true → Rests before → Rests (behind (with_cause before cause) (outs_of settings before cause))
+  whole_rests : (before : List Event) (cause : Cause) → fits_behind before cause ≡ true → built_behind settings before cause ≡ true → Rests before → Rests (behind (with_cause before cause) (entry_outs settings before cause))
   whole_rests before cause fits built h = whole_entry settings Rests slow_rests before cause (entry_rests before cause fits built h)
 
-  one_entry : (before : List Entry) (entry : Entry) → IsTrue (fits_behind (events_of before) entry.cause) → IsTrue (built_behind settings (events_of before) entry.cause) → entry.outs ≡ outs_of settings (events_of before) entry.cause
+  one_entry : (before : List Entry) (entry : Entry) → IsTrue (fits_behind (events_of before) entry.cause) → IsTrue (built_behind settings (events_of before) entry.cause) → entry.outs ≡ entry_outs settings (events_of before) entry.cause
       → Rests (events_of before) → Rests (events_of (before ++ entry ∷ []))
   one_entry before entry fits built outs h = subst Rests (sym (events_more before entry)) (subst (λ z. Rests (behind (with_cause (events_of before) entry.cause) z)) (sym outs) (whole_rests (events_of before) entry.cause fits built h))
 

@@ -27,7 +27,7 @@ use Rattle.group_words.specs.Houses.{declared_for, groups_of, home_of, key_for, 
 use Rattle.group_words.specs.Keys.{Common}
 use Rattle.group_words.specs.Placing.{changed, ended, evicting, first_from, founded, founding, home_by, idlest_from, joining, live_count, placed_in, takes, with_editor}
 use Rattle.group_words.proofs.Frames.{changed_length, groups_more, home_more, home_stays}
-use Rattle.group_rows.specs.Rows.{row_outs}
+use Rattle.group_rows.specs.Rows.{outs_of}
 use Rattle.group_facts.specs.Built.{built_behind}
 use Rattle.group_facts.specs.Facts.{is_too_many, turned_away, is_crowded}
 use Rattle.group_facts.specs.Settled.{IsSeated}
@@ -256,7 +256,7 @@ module _ (settings : Settings) where
     placed_took (ServerGone s) built longer e stays = stays_placed e before (heard (ServerGone s)) (home_stays settings e before (heard (ServerGone s)) refl) longer (by_desk e before (heard (ServerGone s)) (λ needs. needs)) (h e)
 
     -- one that is turned away is closed
-    turned_none : (n : ℕ) (body : List ℕ) (e : ℕ) → is_crowded settings before n body e ≡ true → needs_server (desk_of e (behind (with_cause before (FromEditor n body)) (row_outs settings before (FromEditor n body)))).phase ≡ false
+    turned_none : (n : ℕ) (body : List ℕ) (e : ℕ) → is_crowded settings before n body e ≡ true → needs_server (desk_of e (behind (with_cause before (FromEditor n body)) (outs_of settings before (FromEditor n body)))).phase ≡ false
     turned_none n body e turned = ap (λ xs. needs_server (desk_of e (behind (with_cause before (FromEditor n body)) xs)).phase) (turned_outs settings before n body e turned)
         ∙ ap (λ z. needs_server (desk_of e z).phase) (sym (append_assoc (with_cause before (FromEditor n body)) (said (ToEditor n answer) ∷ []) (said (CloseEditor n) ∷ [])))
         ∙ ap (λ (d : Desk). needs_server d.phase) (desk_more e mid (said (CloseEditor n)))
@@ -272,21 +272,21 @@ module _ (settings : Settings) where
         closed true same = closed_none (desk_of e mid).phase
         closed false same = never (sym same)
 
-    turned_placed : (cause : Cause) → Editors before → (e : ℕ) → turned_away settings before cause e ≡ true → PlacedAt settings e (behind (with_cause before cause) (row_outs settings before cause))
+    turned_placed : (cause : Cause) → Editors before → (e : ℕ) → turned_away settings before cause e ≡ true → PlacedAt settings e (behind (with_cause before cause) (outs_of settings before cause))
     turned_placed (FromEditor n body) absent e turned = go (one_of (is_crowded settings before n body e) (stops before n (message_of body) && is_waiting (desk_of e before).phase) turned)
       where
-        go : (is_crowded settings before n body e ≡ true) ⊎ ((stops before n (message_of body) && is_waiting (desk_of e before).phase) ≡ true) → PlacedAt settings e (behind (with_cause before (FromEditor n body)) (row_outs settings before (FromEditor n body)))
+        go : (is_crowded settings before n body e ≡ true) ⊎ ((stops before n (message_of body) && is_waiting (desk_of e before).phase) ≡ true) → PlacedAt settings e (behind (with_cause before (FromEditor n body)) (outs_of settings before (FromEditor n body)))
         go (inl many) = λ needs. never (sym needs ∙ turned_none n body e many)
         go (inr stop) = λ needs. never (sym (needs_begun _ needs) ∙ unthere_unbegun _ (none_there settings before n body (and_parts (stops before n (message_of body)) (is_waiting (desk_of e before).phase) stop).0 absent e))
     turned_placed (FromServer s body) absent e turned = λ needs. never (sym (needs_begun _ needs) ∙ turned_ends settings before s body absent e turned)
     turned_placed cause absent e turned = never (sym turned)
 
-    pub placed_rests : (cause : Cause) → built_behind settings before cause ≡ true → Editors before → AllPlaced settings (behind (with_cause before cause) (row_outs settings before cause))
+    pub placed_rests : (cause : Cause) → built_behind settings before cause ≡ true → Editors before → AllPlaced settings (behind (with_cause before cause) (outs_of settings before cause))
     placed_rests cause built absent e = go (turned_away settings before cause e) refl
       where
-        go : (b : Bool) → turned_away settings before cause e ≡ b → PlacedAt settings e (behind (with_cause before cause) (row_outs settings before cause))
+        go : (b : Bool) → turned_away settings before cause e ≡ b → PlacedAt settings e (behind (with_cause before cause) (outs_of settings before cause))
         go true turned = turned_placed cause absent e turned
-        go false stays = placed_outs e (with_cause before cause) (row_outs settings before cause) (placed_took cause built (longer_took settings before cause built) e stays)
+        go false stays = placed_outs e (with_cause before cause) (outs_of settings before cause) (placed_took cause built (longer_took settings before cause built) e stays)
 
   -- a group that is kept has a start
   pub seat : (events : List Event) (e : ℕ) → Begun settings events → IsPlaced settings events e → IsSeated settings events e

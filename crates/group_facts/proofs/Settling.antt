@@ -17,8 +17,8 @@ use Rattle.mux_facts.proofs.Keeps.{events_more}
 use Rattle.group_words.specs.declared.kept.Kept.{Kept}
 use Rattle.group_words.specs.Houses.{groups_of}
 use Rattle.group_words.proofs.Openings.{folders_utf8}
-use Rattle.group_rows.specs.Rows.{outs_of, row_outs}
-use Rattle.group_rows.specs.SlowRows.{is_slow}
+use Rattle.group_rows.specs.Rows.{outs_of}
+use Rattle.group_facts.specs.SlowRows.{entry_outs, is_slow}
 use Rattle.group_facts.specs.Built.{built_behind}
 use Rattle.group_facts.specs.Legal.{Legal, LegalFrom}
 use Rattle.group_facts.specs.Lively.{Lively}
@@ -80,19 +80,19 @@ module _ (settings : Settings) (range : InRange settings) where
   entry_all I did events [] h = subst I (sym (append-nil events)) h
   entry_all I did events (out ∷ outs) h = subst I (append_assoc events (said out ∷ []) (map said outs)) (entry_all I did (events ++ said out ∷ []) outs (did events out h))
 
-  pub entry_rests : (before : List Event) (cause : Cause) → fits_behind before cause ≡ true → built_behind settings before cause ≡ true → Rests before → Rests (behind (with_cause before cause) (row_outs settings before cause))
+  pub entry_rests : (before : List Event) (cause : Cause) → fits_behind before cause ≡ true → built_behind settings before cause ≡ true → Rests before → Rests (behind (with_cause before cause) (outs_of settings before cause))
   entry_rests before cause fits built h = record {
     facts = entry_keeps settings range before cause fits built h.facts;
-    spelt = entry_all (AllSpelt settings) (all_did Spelt spelt_keeps settings) (with_cause before cause) (row_outs settings before cause) (all_took Spelt spelt_keeps settings before cause built (λ e body. folders_utf8 body) h.spelt);
+    spelt = entry_all (AllSpelt settings) (all_did Spelt spelt_keeps settings) (with_cause before cause) (outs_of settings before cause) (all_took Spelt spelt_keeps settings before cause built (λ e body. folders_utf8 body) h.spelt);
     begun = begun_rests settings before cause built h.begun;
     lively = lively_rests settings range before h.facts h.begun h.lively cause fits built;
     opens = open_rests settings range before h.facts h.begun h.lively h.opens cause fits built;
     placed = placed_rests settings before h.placed cause built ((h.facts).steady).editors;
     one = one_rests settings before cause h.begun built h.one;
-    seats = λ on. seats_rest settings range before h.facts h.one (h.seats (before_on before cause (row_outs settings before cause) on)) h.begun cause built fits on (lively_rests settings range before h.facts h.begun h.lively cause fits built);
+    seats = λ on. seats_rest settings range before h.facts h.one (h.seats (before_on before cause (outs_of settings before cause) on)) h.begun cause built fits on (lively_rests settings range before h.facts h.begun h.lively cause fits built);
     uncreated = uncreated_rests settings range before h.facts h.one h.begun cause built fits h.uncreated h.taken;
     taken = taken_rests settings range before h.facts h.one h.begun cause built fits h.uncreated h.taken (lively_rests settings range before h.facts h.begun h.lively cause fits built);
-    spawned = spawned_behind (with_cause before cause) (row_outs settings before cause) (spawned_took before cause h.spawned);
+    spawned = spawned_behind (with_cause before cause) (outs_of settings before cause) (spawned_took before cause h.spawned);
     down = down_rests settings before (bounded_low settings range before ((h.facts).steady).bounded) h.spawned h.lively h.one h.down cause h.begun built (lively_rests settings range before h.facts h.begun h.lively cause fits built);
     over = over_rests settings before (h.facts).quit h.over cause;
   }
@@ -117,7 +117,7 @@ module _ (settings : Settings) (range : InRange settings) where
         over = slow_over settings range place h.facts e slow;
       }
 
-  whole_rests : (before : List Event) (cause : Cause) → fits_behind before cause ≡ true → built_behind settings before cause ≡ true → Rests before → Rests (behind (with_cause before cause) (outs_of settings before cause))
+  whole_rests : (before : List Event) (cause : Cause) → fits_behind before cause ≡ true → built_behind settings before cause ≡ true → Rests before → Rests (behind (with_cause before cause) (entry_outs settings before cause))
   whole_rests before cause fits built h = whole_entry settings Rests slow_rests before cause (entry_rests before cause fits built h)
 
   pub no_rests : Rests []
@@ -137,7 +137,7 @@ module _ (settings : Settings) (range : InRange settings) where
     over = over_none settings;
   }
 
-  rests_more : (before : List Entry) (entry : Entry) → IsTrue (fits_behind (events_of before) entry.cause) → IsTrue (built_behind settings (events_of before) entry.cause) → entry.outs ≡ outs_of settings (events_of before) entry.cause → Rests (events_of before) → Rests (events_of (before ++ entry ∷ []))
+  rests_more : (before : List Entry) (entry : Entry) → IsTrue (fits_behind (events_of before) entry.cause) → IsTrue (built_behind settings (events_of before) entry.cause) → entry.outs ≡ entry_outs settings (events_of before) entry.cause → Rests (events_of before) → Rests (events_of (before ++ entry ∷ []))
   rests_more before entry fits built sent h = subst Rests (sym (events_more before entry)) (subst (λ z. Rests (behind (with_cause (events_of before) entry.cause) z)) (sym sent) (whole_rests (events_of before) entry.cause fits built h))
 
   from_here : (before rest : List Entry) → LegalFrom settings before rest → Rests (events_of before) → Rests (events_of (before ++ rest))

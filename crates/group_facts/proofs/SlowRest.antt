@@ -18,7 +18,7 @@ use Rattle.mux_facts.proofs.Folds.{desk_more}
 use Rattle.group_words.specs.Houses.{groups_of, home_of}
 use Rattle.group_rows.specs.Asks.{asks_of, is_with}
 use Rattle.group_rows.specs.Created.{created_of}
-use Rattle.group_rows.specs.SlowRows.{is_slow}
+use Rattle.group_facts.specs.SlowRows.{is_slow}
 use Rattle.group_facts.specs.Facts.{is_unready}
 use Rattle.group_facts.specs.Lively.{Lively}
 use Rattle.group_facts.specs.Settled.{HasSeat, RunsAt, is_answered}

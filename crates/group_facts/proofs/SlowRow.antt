@@ -32,8 +32,8 @@ use Rattle.group_words.specs.Houses.{stops}
 use Rattle.group_rows.specs.Ends.{exit_text}
 use Rattle.group_rows.specs.Forwarded.{Forwarding, forwarding_of}
 use Rattle.group_rows.specs.Leaves.{leave_row}
-use Rattle.group_rows.specs.Rows.{outs_of, row_outs}
-use Rattle.group_rows.specs.SlowRows.{close_slow, is_slow, slow_row}
+use Rattle.group_rows.specs.Rows.{outs_of}
+use Rattle.group_facts.specs.SlowRows.{close_slow, entry_outs, is_slow, slow_row}
 use Rattle.group_rows.specs.Texts.{is_synced}
 use Rattle.group_rows.specs.Tokens.{forwarded_text}
 use Rattle.group_rows.proofs.Exits.{exit_says}
@@ -229,6 +229,6 @@ module _ (settings : Settings) where
     slow_keeps events h = each_slow (range_with_len 0 (editors_of events)) events h
 
     -- behind those of the cause's row
-    pub whole_entry : (before : List Event) (cause : Cause) → I (behind (with_cause before cause) (row_outs settings before cause)) → I (behind (with_cause before cause) (outs_of settings before cause))
-    whole_entry before cause h = subst I (sym (behind_both (with_cause before cause) (row_outs settings before cause) (outs (slow_row settings) (behind (with_cause before cause) (row_outs settings before cause)))))
-        (slow_keeps (behind (with_cause before cause) (row_outs settings before cause)) h)
+    pub whole_entry : (before : List Event) (cause : Cause) → I (behind (with_cause before cause) (outs_of settings before cause)) → I (behind (with_cause before cause) (entry_outs settings before cause))
+    whole_entry before cause h = subst I (sym (behind_both (with_cause before cause) (outs_of settings before cause) (outs (slow_row settings) (behind (with_cause before cause) (outs_of settings before cause)))))
+        (slow_keeps (behind (with_cause before cause) (outs_of settings before cause)) h)

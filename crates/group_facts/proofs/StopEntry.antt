@@ -23,7 +23,7 @@ use Rattle.mux_facts.proofs.Keeps.{behind_both}
 use Rattle.group_words.specs.Houses.{groups_of, is_doubled, stops}
 use Rattle.group_words.specs.Placing.{all_from, is_live}
 use Rattle.group_words.specs.Rows.{end_group}
-use Rattle.group_rows.specs.Rows.{closing_row, from_editor, lspmux_row, row_outs, taken_row, told_row}
+use Rattle.group_rows.specs.Rows.{closing_row, from_editor, lspmux_row, outs_of, taken_row, told_row}
 use Rattle.group_rows.specs.StopRows.{close_each, refuse_open, stop_row, stopped, stopped_next, there_in}
 use Rattle.group_facts.specs.Facts.{Quit, is_put_out}
 use Rattle.group_facts.proofs.PutOut.{named_in, outs_tested, refused_ends}
@@ -125,7 +125,7 @@ module _ (settings : Settings) (before : List Event) (n : ℕ) (body : List ℕ)
   now = with_cause before (FromEditor n body)
 
   abbrev later : List Event
-  later = behind now (row_outs settings before (FromEditor n body))
+  later = behind now (outs_of settings before (FromEditor n body))
 
   abbrev Stops : Message → Type 0
   Stops m = stops before n m ≡ true → outs (from_editor settings before n body m (desk_of n before).phase) now ≡ outs (stop_row settings before n body) now
@@ -144,7 +144,7 @@ module _ (settings : Settings) (before : List Event) (n : ℕ) (body : List ℕ)
   stops_row not_json h = absurd (cc)
   stops_row not_message h = absurd (cc)
 
-  pub stop_outs : stops before n (message_of body) ≡ true → row_outs settings before (FromEditor n body) ≡ outs (stop_row settings before n body) now
+  pub stop_outs : stops before n (message_of body) ≡ true → outs_of settings before (FromEditor n body) ≡ outs (stop_row settings before n body) now
   stop_outs stop = stops_row (message_of body) stop
 
   -- Behind it
@@ -193,7 +193,7 @@ module _ (settings : Settings) (before : List Event) (n : ℕ) (body : List ℕ)
     none_absent e there = go (is_absent (desk_of e later).phase) refl
       where
         go : (b : Bool) → is_absent (desk_of e later).phase ≡ b → b ≡ false
-        go true gone = never (sym (outs_tested is_absent absent_told absent_closed e now (row_outs settings before (FromEditor n body)) gone) ∙ there_present (desk_of e now).phase there)
+        go true gone = never (sym (outs_tested is_absent absent_told absent_closed e now (outs_of settings before (FromEditor n body)) gone) ∙ there_present (desk_of e now).phase there)
         go false present = refl
 
     pub none_there : (e : ℕ) → is_there (desk_of e later).phase ≡ false
@@ -206,9 +206,9 @@ module _ (settings : Settings) (before : List Event) (n : ℕ) (body : List ℕ)
 -- J1: one that joins behind a stop is sent away
 module _ (settings : Settings) (before : List Event) (n : ℕ) (over : stopped before ≡ true) where
   abbrev joined : List Event
-  joined = behind (with_cause before (Joined n)) (row_outs settings before (Joined n))
+  joined = behind (with_cause before (Joined n)) (outs_of settings before (Joined n))
 
-  joined_outs : row_outs settings before (Joined n) ≡ CloseEditor n ∷ []
+  joined_outs : outs_of settings before (Joined n) ≡ CloseEditor n ∷ []
   joined_outs = ap (λ b. outs (choose b (send (CloseEditor n)) nothing) (with_cause before (Joined n))) over
 
   pub joined_gone : (e : ℕ) → (nat_eq n e ≡ false → is_there (desk_of e before).phase ≡ false) → is_there (desk_of e joined).phase ≡ false
@@ -258,18 +258,18 @@ unstopped before n body xs h = go (stops before n (message_of body)) refl
 
 module _ (settings : Settings) (before : List Event) (absent : Editors before) (quit : Quit before) where
   abbrev After : Cause → List Event
-  After cause = behind (with_cause before cause) (row_outs settings before cause)
+  After cause = behind (with_cause before cause) (outs_of settings before cause)
 
   -- it was stopped before
   still_none : (cause : Cause) → stopped before ≡ true → ((n : ℕ) → cause ≡ Joined n → ⊥) → (e : ℕ) → is_there (desk_of e (After cause)).phase ≡ false
   still_none cause over joins e = go (is_there (desk_of e (After cause)).phase) refl
     where
       go : (b : Bool) → is_there (desk_of e (After cause)).phase ≡ b → b ≡ false
-      go true here = never (sym (there_caused before cause e joins (there_outs e (with_cause before cause) (row_outs settings before cause) here)) ∙ quit over e)
+      go true here = never (sym (there_caused before cause e joins (there_outs e (with_cause before cause) (outs_of settings before cause) here)) ∙ quit over e)
       go false gone = refl
 
   was_stopped : (cause : Cause) → stopped (After cause) ≡ true → stopped_next before (stopped before) (heard cause) ≡ true
-  was_stopped cause h = sym (stopped_more before (heard cause)) ∙ (sym (stopped_outs (with_cause before cause) (row_outs settings before cause)) ∙ h)
+  was_stopped cause h = sym (stopped_more before (heard cause)) ∙ (sym (stopped_outs (with_cause before cause) (outs_of settings before cause)) ∙ h)
 
   pub quit_rests : (cause : Cause) → Quit (After cause)
   quit_rests (Joined n) h e = let over : stopped before ≡ true = was_stopped (Joined n) h in joined_gone settings before n over e (λ other. quit over e)
@@ -308,7 +308,7 @@ unthere_unbegun Answered h = never h
 unthere_unbegun Running h = never h
 unthere_unbegun Down h = never h
 
-pub put_out_ends : (settings : Settings) (before : List Event) (cause : Cause) → Editors before → (e : ℕ) → is_put_out settings before cause e ≡ true → is_begun (desk_of e (behind (with_cause before cause) (row_outs settings before cause))).phase ≡ false
+pub put_out_ends : (settings : Settings) (before : List Event) (cause : Cause) → Editors before → (e : ℕ) → is_put_out settings before cause e ≡ true → is_begun (desk_of e (behind (with_cause before cause) (outs_of settings before cause))).phase ≡ false
 put_out_ends settings before (FromServer s body) absent e out = refused_ends settings before s body absent e out
 put_out_ends settings before (FromEditor n body) absent e out = unthere_unbegun _ (none_there settings before n body (and_parts (stops before n (message_of body)) (is_there (desk_of e before).phase) out).0 absent e)
 put_out_ends settings before (Joined n) absent e out =

@@ -32,7 +32,7 @@ use Rattle.group_rows.specs.Asks.{asking_of, is_patient, is_taken, next_ask}
 use Rattle.group_rows.specs.Created.{Created, Taking, Token, accepts, answered, asked, created_mark, created_next, created_of, created_token, is_answered, is_at, is_begin, is_creating, is_marked, is_over, is_progress, left, lives, may_hold, named_token, no_created, progressed, settled, told, token_called, token_marked, with_asked, with_token}
 use Rattle.group_rows.specs.Live.{is_heard, is_registering, live_of}
 use Rattle.group_rows.specs.CreatedRows.{create_text}
-use Rattle.group_rows.specs.Rows.{row_outs}
+use Rattle.group_rows.specs.Rows.{outs_of}
 use Rattle.group_rows.proofs.CreatedTexts.{create_says, create_tree}
 use Rattle.group_rows.proofs.LiveTexts.{again_written, live_written, register_says, registered_written, unregister_says}
 use Rattle.group_facts.specs.Built.{built_behind}
@@ -417,7 +417,7 @@ AllTaken settings events = starts_of events ≤ 2 ^ 64 → (s : ℕ) → AllByRe
 module _ (settings : Settings) (range : InRange settings) (before : List Event) (facts : Facts settings before) (one : OneStart before) (begun : Begun settings before) (cause : Cause) (built : built_behind settings before cause ≡ true) (fits : fits_behind before cause ≡ true)
     (none : Uncreated settings before) (taken : AllTaken settings before) where
   abbrev there : List Event
-  there = behind (with_cause before cause) (row_outs settings before cause)
+  there = behind (with_cause before cause) (outs_of settings before cause)
 
   place_took : Place settings before cause (with_cause before cause)
   place_took = record {
@@ -427,14 +427,14 @@ module _ (settings : Settings) (range : InRange settings) (before : List Event) 
   }
 
   place_rests : Place settings before cause there
-  place_rests = reasons_keep (λ events out. Why settings before cause events out) (Place settings before cause) (place_did settings before cause one (facts.steady).starts) (with_cause before cause) (row_outs settings before cause) (reasons settings range before facts cause built).why place_took
+  place_rests = reasons_keep (λ events out. Why settings before cause events out) (Place settings before cause) (place_did settings before cause one (facts.steady).starts) (with_cause before cause) (outs_of settings before cause) (reasons settings range before facts cause built).why place_took
 
   pub uncreated_rests : Uncreated settings there
   uncreated_rests = place_rests.none
 
   runs_there : Lively settings there → (s e : ℕ) → Taker settings before cause there s e → RunsAt settings there s e
   runs_there lively s e k =
-      let home : home_of settings e there ≡ Some k.group = homes_stay settings e (with_cause before cause) (row_outs settings before cause) ∙ k.home in
+      let home : home_of settings e there ≡ Some k.group = homes_stay settings e (with_cause before cause) (outs_of settings before cause) ∙ k.home in
       let last : start_of k.group there ≡ Some s = start_kept settings before cause begun built k.group s k.last in
       let kept : group_of s there ≡ Some k.group = (lively.last k.group s last).0 in
       record {

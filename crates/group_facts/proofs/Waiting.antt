@@ -25,7 +25,7 @@ use Rattle.group_words.specs.declared.placed.Placed.{Placed}
 use Rattle.group_words.specs.declared.placed.Placed.TheVariants.{Joins, New as Founds, Evicts, TooMany}
 use Rattle.group_words.specs.Houses.{groups_of, placed_for, places, stops}
 use Rattle.mux_facts.proofs.Why.{is_early}
-use Rattle.group_rows.specs.Rows.{asks_lspmux, names_lspmux, row_outs}
+use Rattle.group_rows.specs.Rows.{asks_lspmux, names_lspmux, outs_of}
 use Rattle.group_facts.specs.Facts.{is_crowded, is_too_many, turned_away}
 use Rattle.group_facts.proofs.Facts.{OthersWait}
 use Rattle.group_facts.proofs.PutOut.{turned_ends}
@@ -161,7 +161,7 @@ module _ (settings : Settings) (before : List Event) (n : ℕ) (body : List ℕ)
   abbrev answer : List ℕ
   answer = error_text (id_bytes body) request_failed
 
-  pub turned_outs : (e : ℕ) → is_crowded settings before n body e ≡ true → row_outs settings before (FromEditor n body) ≡ ToEditor n answer ∷ CloseEditor n ∷ []
+  pub turned_outs : (e : ℕ) → is_crowded settings before n body e ≡ true → outs_of settings before (FromEditor n body) ≡ ToEditor n answer ∷ CloseEditor n ∷ []
   turned_outs e turned =
       let parts = and_parts (nat_eq n e) (places (desk_of n before).phase (message_of body) && is_too_many (placed_for settings before n body (groups_of settings before))) turned in
       let more = and_parts (places (desk_of n before).phase (message_of body)) (is_too_many (placed_for settings before n body (groups_of settings before))) parts.1 in
@@ -179,20 +179,20 @@ module _ (settings : Settings) (before : List Event) (n : ℕ) (body : List ℕ)
       closed true same = closed_waits (desk_of e mid).phase (desk_of e mid).initialize (open_of e mid)
       closed false same = absurd (cc)
 
-  all_wait : Editors before → OthersWait settings before (FromEditor n body) (behind (with_cause before (FromEditor n body)) (row_outs settings before (FromEditor n body))) → AllWaiting (behind (with_cause before (FromEditor n body)) (row_outs settings before (FromEditor n body)))
+  all_wait : Editors before → OthersWait settings before (FromEditor n body) (behind (with_cause before (FromEditor n body)) (outs_of settings before (FromEditor n body))) → AllWaiting (behind (with_cause before (FromEditor n body)) (outs_of settings before (FromEditor n body)))
   all_wait absent h e = go (turned_away settings before (FromEditor n body) e) refl
     where
-      go : (b : Bool) → turned_away settings before (FromEditor n body) e ≡ b → WaitsAt (desk_of e (behind (with_cause before (FromEditor n body)) (row_outs settings before (FromEditor n body)))) (open_of e (behind (with_cause before (FromEditor n body)) (row_outs settings before (FromEditor n body))))
+      go : (b : Bool) → turned_away settings before (FromEditor n body) e ≡ b → WaitsAt (desk_of e (behind (with_cause before (FromEditor n body)) (outs_of settings before (FromEditor n body)))) (open_of e (behind (with_cause before (FromEditor n body)) (outs_of settings before (FromEditor n body))))
       go false rest = h e rest
       go true turned = by_reason (one_of (is_crowded settings before n body e) (stops before n (message_of body) && is_waiting (desk_of e before).phase) turned)
         where
-          by_reason : (is_crowded settings before n body e ≡ true) ⊎ ((stops before n (message_of body) && is_waiting (desk_of e before).phase) ≡ true) → WaitsAt (desk_of e (behind (with_cause before (FromEditor n body)) (row_outs settings before (FromEditor n body)))) (open_of e (behind (with_cause before (FromEditor n body)) (row_outs settings before (FromEditor n body))))
+          by_reason : (is_crowded settings before n body e ≡ true) ⊎ ((stops before n (message_of body) && is_waiting (desk_of e before).phase) ≡ true) → WaitsAt (desk_of e (behind (with_cause before (FromEditor n body)) (outs_of settings before (FromEditor n body)))) (open_of e (behind (with_cause before (FromEditor n body)) (outs_of settings before (FromEditor n body))))
           by_reason (inl many) = subst (λ xs. WaitsAt (desk_of e (behind (with_cause before (FromEditor n body)) xs)) (open_of e (behind (with_cause before (FromEditor n body)) xs))) (sym (turned_outs e many)) (turned_closed e many (with_cause before (FromEditor n body)))
           by_reason (inr stop) = unbegun_waits _ _ _ (unthere_unbegun _ (none_there settings before n body (and_parts (stops before n (message_of body)) (is_waiting (desk_of e before).phase) stop).0 absent e))
 
 module _ (settings : Settings) (before : List Event) (s : ℕ) (body : List ℕ) (absent : Editors before) where
   abbrev later : List Event
-  later = behind (with_cause before (FromServer s body)) (row_outs settings before (FromServer s body))
+  later = behind (with_cause before (FromServer s body)) (outs_of settings before (FromServer s body))
 
   none_wait : OthersWait settings before (FromServer s body) later → AllWaiting later
   none_wait h e = go (turned_away settings before (FromServer s body) e) refl
@@ -201,7 +201,7 @@ module _ (settings : Settings) (before : List Event) (s : ℕ) (body : List ℕ)
       go false rest = h e rest
       go true turned = unbegun_waits (desk_of e later).phase (desk_of e later).initialize (open_of e later) (turned_ends settings before s body absent e turned)
 
-pub waiting_rests : (settings : Settings) (before : List Event) (cause : Cause) → Editors before → OthersWait settings before cause (behind (with_cause before cause) (row_outs settings before cause)) → AllWaiting (behind (with_cause before cause) (row_outs settings before cause))
+pub waiting_rests : (settings : Settings) (before : List Event) (cause : Cause) → Editors before → OthersWait settings before cause (behind (with_cause before cause) (outs_of settings before cause)) → AllWaiting (behind (with_cause before cause) (outs_of settings before cause))
 waiting_rests settings before (FromEditor n body) absent h = all_wait settings before n body absent h
 waiting_rests settings before (FromServer s body) absent h = none_wait settings before s body absent h
 waiting_rests settings before cause absent h = λ e. h e refl

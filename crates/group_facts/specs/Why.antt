@@ -55,7 +55,7 @@ use Rattle.group_rows.specs.Leaves.{cancel_text}
 use Rattle.group_rows.specs.Lists.{agreement_at, lists_of, sayings_of, version_at}
 use Rattle.group_rows.specs.Live.{is_registering, live_of, register_text, taken_back, unregister_text}
 use Rattle.group_rows.specs.Rows.{sync_bodies}
-use Rattle.group_rows.specs.SlowRows.{is_slow}
+use Rattle.group_facts.specs.SlowRows.{is_slow}
 use Rattle.group_rows.specs.StopRows.{stopped as is_stopped}
 use Rattle.group_rows.specs.Texts.{texts_of}
 use Rattle.group_rows.specs.Tokens.{forwarded_text, is_told, is_worked, listens, mark_text, marked_text, own_token, reserves, work_mark}

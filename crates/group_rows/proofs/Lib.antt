@@ -20,7 +20,6 @@ pub mod WorkedCreated
 pub mod CreatedTexts
 pub mod CreatedKept
 pub mod WorkedLists
-pub mod WorkedSlow
 pub mod WorkedStop
 pub mod ListTexts
 pub mod ListsKept

@@ -6,8 +6,6 @@ pub mod Ends
 pub mod Example
 pub mod Forwarded
 pub mod Rows
-pub mod SlowExample
-pub mod SlowRows
 pub mod StopExample
 pub mod StopRows
 pub mod Texts

@@ -1,4 +1,4 @@
--- The routing table over several editors and groups, in part: J1, J2, E2 to E10, E11, E12 to E17, E19, S1, S2 with X4, S3, S4, S5 with V1 and V2, S6 to S12 with V3, S13 to S15, L2, X1 to X3 of groups that live no more, X5 to X7, and Z1.
+-- The routing table over several editors and groups, in part: J1, J2, E2 to E10, E11, E12 to E17, E19, S1, S2 with X4, S3, S4, S5 with V1 and V2, S6 to S12 with V3, S13 to S15, L2, X1 to X3 of groups that live no more, and X5 to X7.
 use Rattle.std.specs.Prelude.{ℕ, Bool, true, false, ◌&&◌, ◌||◌, List, [], ◌∷◌, ◌++◌, filter, flat_map, codes, nat_eq, nat_lt, bytes_eq, if◌then◌else◌}
 use Rattle.std.specs.Prelude.{Option, Some, None, slice_get}
 use Rattle.std.specs.List.{list_any}
@@ -44,7 +44,6 @@ use Rattle.group_rows.specs.Ends.{answers_shutdown, exit_server}
 use Rattle.group_rows.specs.Forwarded.{forwarding_of}
 use Rattle.group_rows.specs.Leaves.{leave_row}
 use Rattle.group_rows.specs.ListRows.{show_opened}
-use Rattle.group_rows.specs.SlowRows.{slow_row}
 use Rattle.group_rows.specs.Status.{items_of, status_text}
 use Rattle.group_rows.specs.StopRows.{joined_row, stop_row}
 use Rattle.group_rows.specs.Texts.{encoding_of, texts_of}
@@ -291,12 +290,8 @@ row_of settings before (Started s) = started settings s before (life_of s before
 row_of settings before (Tick t) = tick_row settings before t
 row_of settings before other = nothing
 
--- the outs of the cause's row, and behind them those of Z1
-abbrev pub row_outs : Settings → List Event → Cause → List Out
-row_outs settings before cause = outs (row_of settings before cause) (with_cause before cause)
-
 abbrev pub outs_of : Settings → List Event → Cause → List Out
-outs_of settings before cause = let xs = row_outs settings before cause in xs ++ outs (slow_row settings) (behind (with_cause before cause) xs)
+outs_of settings before cause = outs (row_of settings before cause) (with_cause before cause)
 
 -- the outs of each of these causes in turn, behind these events
 abbrev pub outs_from : Settings → List Event → List Cause → List (List Out)

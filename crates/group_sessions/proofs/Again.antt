@@ -30,7 +30,7 @@ use Rattle.session_laws.proofs.Client3Law.{Expects, Here, Link, LinkAt, asks_aga
 use Rattle.group_words.specs.Houses.{is_doubled}
 use Rattle.group_rows.specs.AskRows.{run_row}
 use Rattle.group_rows.specs.Leaves.{leave_row}
-use Rattle.group_rows.specs.Rows.{closing_row, from_editor, row_outs}
+use Rattle.group_rows.specs.Rows.{closing_row, from_editor, outs_of}
 use Rattle.group_rows.proofs.Versions.{AllMeant}
 use Rattle.group_facts.specs.Facts.{Asks}
 use Rattle.group_facts.specs.Why.{IsQuestion, has_method}
@@ -262,10 +262,10 @@ module _ (settings : Settings) (before : List Event) (asks : Asks settings befor
 
 -- of the editor whose second `initialize` it was
 pub again_rests : (settings : Settings) (before : List Event) (cause : Cause) (e : ℕ) → Asks settings before → AllMeant before → fits_behind before cause ≡ true → AllWaiting before → asks_again before cause e ≡ true → Here e before
-    → Here e (behind (with_cause before cause) (row_outs settings before cause))
+    → Here e (behind (with_cause before cause) (outs_of settings before cause))
 again_rests settings before (FromEditor n body) e asks meant fits waiting again h =
     let p = and_parts (nat_eq n e) (not (is_new (desk_of n before).phase) && requests (codes "initialize") (message_of body)) again in
     let same : n ≡ e = number_same n e p.0 in
-    subst (λ k. Here k (behind (with_cause before (FromEditor n body)) (row_outs settings before (FromEditor n body)))) same
+    subst (λ k. Here k (behind (with_cause before (FromEditor n body)) (outs_of settings before (FromEditor n body)))) same
     (by_message settings before asks meant n body fits (subst (λ k. Here k before) (sym same) h) (λ at. waits_at before n at waiting) (message_of body) refl p.1)
 again_rests settings before cause e asks meant fits waiting again h = absurd (cc)

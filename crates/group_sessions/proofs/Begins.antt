@@ -32,7 +32,7 @@ use Rattle.group_rows.specs.Asks.{Parked, has_number, next_ask, parked_of}
 use Rattle.group_rows.specs.Leaves.{leave_row}
 use Rattle.group_rows.specs.Live.{is_registering, live_of, register_text}
 use Rattle.group_rows.specs.LiveRows.{call, has_some, restore}
-use Rattle.group_rows.specs.Rows.{asks_lspmux, closing_row, from_editor, lspmux_row, message_row, row_outs, served_row, taken_row, told_row}
+use Rattle.group_rows.specs.Rows.{asks_lspmux, closing_row, from_editor, lspmux_row, message_row, outs_of, served_row, taken_row, told_row}
 use Rattle.group_rows.proofs.LiveTexts.{live_written}
 use Rattle.mux_model.specs.Rows.{malformed_row}
 use Rattle.group_facts.specs.Built.{built_behind}
@@ -129,7 +129,7 @@ module _ (settings : Settings) (range : InRange settings) (before : List Event) 
   now = with_cause before (FromEditor e body)
 
   abbrev later : List Event
-  later = behind now (row_outs settings before (FromEditor e body))
+  later = behind now (outs_of settings before (FromEditor e body))
 
   at_now : At e [] now
   at_now = at_took e [] before (FromEditor e body) (record { always = all.always e; has = all.early e (ap has_run was) })
@@ -148,7 +148,7 @@ module _ (settings : Settings) (range : InRange settings) (before : List Event) 
     pub at : At e xs later
     pub tied : (g t : ℕ) → (desk_of e later).phase ≡ Running → home_of settings e later ≡ Some g → start_of g later ≡ Some t → IsTied settings e t (ids e later) later
 
-  first_row : row_outs settings before (FromEditor e body) ≡ outs (message_row settings before e body (message_of body) Answered) now
+  first_row : outs_of settings before (FromEditor e body) ≡ outs (message_row settings before e body (message_of body) Answered) now
   first_row = ap (λ p. outs (from_editor settings before e body (message_of body) p) now) was ∙ ap (λ b. outs (choose b (malformed_row e (message_of body) Answered) (message_row settings before e body (message_of body) Answered)) now) (well_formed (message_of body) runs).0
 
   -- its link is to be ended

@@ -25,7 +25,7 @@ use Rattle.mux_facts.proofs.Words.{id_same, number_same}
 use Rattle.session_laws.specs.ClientRules.{ClientRule3, KeepsClient3, Opening, may_hear, opening_behind, opening_told}
 use Rattle.session_laws.proofs.Client3Law as client_3
 use Rattle.session_laws.proofs.Client3Law.{Expects, Link, LinkAt, asks_again, closed_link, late_told, may_answer, may_welcome, none_open, opening, same_request, took_it, welcomed}
-use Rattle.group_rows.specs.Rows.{row_outs}
+use Rattle.group_rows.specs.Rows.{outs_of}
 use Rattle.group_rows.specs.Tokens.{listens}
 use Rattle.group_facts.specs.Facts.{Asks}
 use Rattle.group_facts.specs.Legal.{Legal}
@@ -336,12 +336,12 @@ closed events n e h = one_more e events (said (CloseEditor n)) h (λ same. tt)
 
 -- Behind the entry the one that sent it is tied as well
 
-rests : (settings : Settings) (before : List Event) (cause : Cause) → Asks settings before → AllMeant before → fits_behind before cause ≡ true → AllWaiting before → Everywhere before → Within before cause (behind (with_cause before cause) (row_outs settings before cause))
-    → Everywhere (behind (with_cause before cause) (row_outs settings before cause))
+rests : (settings : Settings) (before : List Event) (cause : Cause) → Asks settings before → AllMeant before → fits_behind before cause ≡ true → AllWaiting before → Everywhere before → Within before cause (behind (with_cause before cause) (outs_of settings before cause))
+    → Everywhere (behind (with_cause before cause) (outs_of settings before cause))
 rests settings before cause everywhere meant fits waiting h i e = go (asks_again before cause e) refl
   where
-    go : (b : Bool) → asks_again before cause e ≡ b → Here e (behind (with_cause before cause) (row_outs settings before cause))
-    go true again = later e (behind (with_cause before cause) (row_outs settings before cause)) (again_rests settings before cause e everywhere meant fits waiting again (now e before waiting (h e)))
+    go : (b : Bool) → asks_again before cause e ≡ b → Here e (behind (with_cause before cause) (outs_of settings before cause))
+    go true again = later e (behind (with_cause before cause) (outs_of settings before cause)) (again_rests settings before cause e everywhere meant fits waiting again (now e before waiting (h e)))
     go false other = i e other
 
 law : (settings : Settings) → RestLaw settings Everywhere Within

@@ -33,7 +33,7 @@ use Rattle.session_laws.proofs.Client6Law.{free_6, tokened}
 use Rattle.session_laws.proofs.Tokens.{holds_open, names_freely, open_behind, or_second}
 use Rattle.group_rows.specs.Created.{created_mark, created_of, created_text}
 use Rattle.group_rows.specs.Forwarded.{Forwarded, Forwarding, answered_by, forwarding_of}
-use Rattle.group_rows.specs.Rows.{row_outs}
+use Rattle.group_rows.specs.Rows.{outs_of}
 use Rattle.group_rows.specs.Tokens.{is_mark, is_told, marked_text, own_token, partial_mark, work_mark, listens}
 use Rattle.group_rows.proofs.CreatedTexts.{created_is}
 use Rattle.group_facts.specs.Built.{built_behind}
@@ -211,13 +211,13 @@ record Rests (events : List Event) : Type 0 where
 -- where what editors are told of created tokens is as it should be
 module _ (settings : Settings) (range : InRange settings) (all_heard : AllHeard settings) where
   entry : (before : List Event) → Reached settings before → (cause : Cause) → fits_behind before cause ≡ true → built_behind settings before cause ≡ true
-      → Rests before → Rests (behind (with_cause before cause) (row_outs settings before cause))
+      → Rests before → Rests (behind (with_cause before cause) (outs_of settings before cause))
   entry before so_far cause fits built h =
       let facts : Facts settings before = facts_at settings range before so_far in
       let now : List Event = with_cause before cause in
-      let last : At settings range before facts cause built (behind now (row_outs settings before cause)) = reasons_keep (Both settings range before facts cause built) (At settings range before facts cause built) (step settings range before facts cause built)
-      now (row_outs settings before cause)
-      (both settings range before facts cause built now (row_outs settings before cause) (reasons settings range before facts cause built).why (all_heard before so_far cause fits built))
+      let last : At settings range before facts cause built (behind now (outs_of settings before cause)) = reasons_keep (Both settings range before facts cause built) (At settings range before facts cause built) (step settings range before facts cause built)
+      now (outs_of settings before cause)
+      (both settings range before facts cause built now (outs_of settings before cause) (reasons settings range before facts cause built).why (all_heard before so_far cause fits built))
       (record {
         here = here_took settings range before cause fits built facts;
         outs = [];

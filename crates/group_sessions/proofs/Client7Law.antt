@@ -31,7 +31,7 @@ use Rattle.registrations.specs.declared.registration.Registration.{Registration}
 use Rattle.group_words.specs.Houses.{home_of}
 use Rattle.group_rows.specs.Asks.{asking_of, is_taken}
 use Rattle.group_rows.specs.Live.{live_by, live_next, live_of}
-use Rattle.group_rows.specs.Rows.{row_outs}
+use Rattle.group_rows.specs.Rows.{outs_of}
 use Rattle.group_facts.specs.Built.{built_behind}
 use Rattle.group_facts.specs.Facts.{is_unready}
 use Rattle.group_facts.specs.Legal.{Legal}
@@ -51,7 +51,7 @@ use Rattle.group_sessions.proofs.Registered.{At, begins, ids, is_answered, is_ch
 use Rattle.group_sessions.proofs.Tied.{All, IsTied, early_here, has_run, live_here, ordinary, ordinary_tied}
 use Rattle.group_sessions.proofs.Told.{change_outcome}
 use Rattle.group_sessions.proofs.Walk.{Keeps, KeepsSlow, walk}
-use Rattle.group_rows.specs.SlowRows.{is_slow}
+use Rattle.group_facts.specs.SlowRows.{is_slow}
 use Rattle.group_facts.proofs.AskEntries.{onward_slow}
 use Rattle.group_facts.proofs.AskingRows.{running_is}
 use Rattle.group_facts.proofs.Begun.{starts_stay}
@@ -100,8 +100,8 @@ module _ (settings : Settings) (range : InRange settings) (before : List Event) 
   level_took : Level (with_cause before cause)
   level_took = record { here = here_took settings range before cause fits built facts; begun = λ s h. not_back s before (heard cause) (fresh_cause cause s) h }
 
-  pub begun_later : (s : ℕ) → is_unready (life_of s before).stage ≡ false → is_unready (life_of s (behind (with_cause before cause) (row_outs settings before cause))).stage ≡ false
-  begun_later = (reasons_keep (λ events out. Why settings before cause events out) Level level_did (with_cause before cause) (row_outs settings before cause) (reasons settings range before facts cause built).why level_took).begun
+  pub begun_later : (s : ℕ) → is_unready (life_of s before).stage ≡ false → is_unready (life_of s (behind (with_cause before cause) (outs_of settings before cause))).stage ≡ false
+  begun_later = (reasons_keep (λ events out. Why settings before cause events out) Level level_did (with_cause before cause) (outs_of settings before cause) (reasons settings range before facts cause built).why level_took).begun
 
 heard_unready : (settings : Settings) (before : List Event) (n s : ℕ) (body : List ℕ) (m : Message) (live : List Registration) → is_ready (life_of s before).stage ≡ false → live_next settings s before live (took (FromServer n body) m) ≡ live
 heard_unready settings before n s body (request id method params) live off = ap (λ b. if nat_eq n s && (b && not (is_taken (Some id) (asking_of settings s before))) then live_by (class_of method Server false) body live else live) off ∙ go (nat_eq n s)
@@ -137,7 +137,7 @@ answered_is Gone h = never (sym h)
 
 module _ (settings : Settings) (range : InRange settings) (before : List Event) (facts : Facts settings before) (settled : Settled settings before) (one : OneStart before) (all : All settings before) where
   abbrev later : Cause → List Event
-  later cause = behind (with_cause before cause) (row_outs settings before cause)
+  later cause = behind (with_cause before cause) (outs_of settings before cause)
 
   -- what an entry leaves at an editor
   record Whole (cause : Cause) (e : ℕ) : Type 0 where

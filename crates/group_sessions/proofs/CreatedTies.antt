@@ -41,7 +41,7 @@ use Rattle.group_rows.specs.Created.{Created, Token, answered, begun_by, created
 use Rattle.group_rows.specs.CreatedRows.{offer}
 use Rattle.group_rows.specs.Live.{is_heard}
 use Rattle.group_rows.specs.LiveRows.{accept, decline}
-use Rattle.group_rows.specs.Rows.{from_server, row_outs}
+use Rattle.group_rows.specs.Rows.{from_server, outs_of}
 use Rattle.group_facts.specs.Built.{built_behind}
 use Rattle.group_facts.specs.Facts.{IsHoused, is_unready}
 use Rattle.group_facts.proofs.Facts.{Facts}
@@ -53,7 +53,7 @@ use Rattle.group_sessions.proofs.CreatedFold.{AllApart, IsApart, IsNew, created_
 use Rattle.group_sessions.proofs.TellingSent.{one_token}
 use Rattle.group_facts.proofs.SlowRow.{parting}
 use Rattle.group_facts.proofs.AskEntries.{onward_slow}
-use Rattle.group_rows.specs.SlowRows.{is_slow}
+use Rattle.group_facts.specs.SlowRows.{is_slow}
 
 abbrev AllOpen : ℕ → List Event → List Token → Type 0
 AllOpen s events ts = AllByRecursion (λ (t : Token). is_open t.id (creates s events).created ≡ true) ts
@@ -202,10 +202,10 @@ module _ (settings : Settings) (range : InRange settings) (before : List Event) 
   now = with_cause before cause
 
   abbrev later : List Event
-  later = behind now (row_outs settings before cause)
+  later = behind now (outs_of settings before cause)
 
   tokens_here : (s : ℕ) → (created_of settings s later).tokens ≡ (created_next settings s before (created_of settings s before) (heard cause)).tokens
-  tokens_here s = outs_tokens settings s now (row_outs settings before cause) ∙ ap (λ (x : Created). x.tokens) (created_more settings s before (heard cause))
+  tokens_here s = outs_tokens settings s now (outs_of settings before cause) ∙ ap (λ (x : Created). x.tokens) (created_more settings s before (heard cause))
 
   none_here : (s : ℕ) → is_unready (life_of s before).stage ≡ true → (created_of settings s later).tokens ≡ []
   none_here s un = tokens_here s ∙ by_cause cause
@@ -278,7 +278,7 @@ module _ (settings : Settings) (range : InRange settings) (before : List Event) 
 
   -- what is created at `now` stays
   from_now : (s : ℕ) (ts : List Token) → AllOpen s now ts → AllOpen s later ts
-  from_now s ts k = all_of (λ (t : Token). is_open t.id (creates s now).created ≡ true) (λ (t : Token). is_open t.id (creates s later).created ≡ true) (λ t o. created_behind s now (row_outs settings before cause) t.id o) ts k
+  from_now s ts k = all_of (λ (t : Token). is_open t.id (creates s now).created ≡ true) (λ (t : Token). is_open t.id (creates s later).created ≡ true) (λ t o. created_behind s now (outs_of settings before cause) t.id o) ts k
 
 -- A ready start's create, which is answered at once
 
@@ -308,7 +308,7 @@ module _ (settings : Settings) (range : InRange settings) (before : List Event) 
       go Create e k = e
       go _ e k = never (sym k)
 
-  sends : row_outs settings before (FromServer s body) ≡ ToServer s answer ∷ outs (each (λ e. offer s e t) (running_in settings housed.group before)) there
+  sends : outs_of settings before (FromServer s body) ≡ ToServer s answer ∷ outs (each (λ e. offer s e t) (running_in settings housed.group before)) there
   sends = ap (λ z. outs (from_server settings s before body (message_of body) z) asked) ready ∙ ap (λ m. outs (from_server settings s before body m Ready) asked) says
       ∙ ap (λ b. outs (choose b nothing (on (group_of s before) nothing (λ g. asking_row settings before g s body method (class_of method Server false)))) asked) fresh
       ∙ ap (λ o. outs (on o nothing (λ g. asking_row settings before g s body method (class_of method Server false))) asked) housed.is
@@ -332,7 +332,7 @@ module _ (settings : Settings) (range : InRange settings) (before : List Event) 
       asked_now = ap (λ (x : Creates). x.asked) (creates_more s before (heard (FromServer s body)) ∙ ap₂ (λ b m. cond b (creates_told (creates s before) m) (creates s before)) (same_number s) says
           ∙ ap (λ b. if b then record { asked = (creates s before).asked ++ record { id = id; tokens = tokens_at (codes "token") params } ∷ []; created = (creates s before).created } else creates s before) (create_is method creating))
 
-  pub open_later : is_open t.id (creates s (behind asked (row_outs settings before (FromServer s body)))).created ≡ true
+  pub open_later : is_open t.id (creates s (behind asked (outs_of settings before (FromServer s body)))).created ≡ true
   open_later = subst (λ z. is_open t.id (creates s z).created ≡ true) (sym (ap (behind asked) sends ∙ behind_both asked (ToServer s answer ∷ []) (outs (each (λ e. offer s e t) (running_in settings housed.group before)) there)))
       (created_behind s there (outs (each (λ e. offer s e t) (running_in settings housed.group before)) there) t.id open_there)
 
@@ -406,7 +406,7 @@ module _ (settings : Settings) (range : InRange settings) (before : List Event) 
     heard_now = with_cause before (FromServer s body)
 
     abbrev after : List Event
-    after = behind heard_now (row_outs settings before (FromServer s body))
+    after = behind heard_now (outs_of settings before (FromServer s body))
 
     part_is : (m : Message) → message_of body ≡ m → creates s heard_now ≡ creates_told X m
     part_is m says = creates_more s before (heard (FromServer s body)) ∙ ap₂ (λ b z. cond b (creates_told X z) X) (same_number s) says
@@ -458,34 +458,34 @@ module _ (settings : Settings) (range : InRange settings) (before : List Event) 
 -- All of it
 
 module _ (settings : Settings) (range : InRange settings) (before : List Event) (facts : Facts settings before) (h : Tie settings before) where
-  there_here : (cause : Cause) → fits_behind before cause ≡ true → built_behind settings before cause ≡ true → (s : ℕ) → (life_of s (behind (with_cause before cause) (row_outs settings before cause))).stage ≡ Ready
-      → AllOpen s (behind (with_cause before cause) (row_outs settings before cause)) (created_of settings s (behind (with_cause before cause) (row_outs settings before cause))).tokens
-  there_here cause fits built s ready = go (was settings range before facts h cause fits built s (ready_outs s (with_cause before cause) (row_outs settings before cause) (ap is_ready ready)))
+  there_here : (cause : Cause) → fits_behind before cause ≡ true → built_behind settings before cause ≡ true → (s : ℕ) → (life_of s (behind (with_cause before cause) (outs_of settings before cause))).stage ≡ Ready
+      → AllOpen s (behind (with_cause before cause) (outs_of settings before cause)) (created_of settings s (behind (with_cause before cause) (outs_of settings before cause))).tokens
+  there_here cause fits built s ready = go (was settings range before facts h cause fits built s (ready_outs s (with_cause before cause) (outs_of settings before cause) (ap is_ready ready)))
     where
       after : Cause → List Event
-      after c = behind (with_cause before c) (row_outs settings before c)
+      after c = behind (with_cause before c) (outs_of settings before c)
 
       x : Created
       x = created_of settings s before
 
-      still : (c : Cause) → fits_behind before c ≡ true → built_behind settings before c ≡ true → is_from_server (heard c) ≡ false → (life_of s before).stage ≡ Ready → AllOpen s (behind (with_cause before c) (row_outs settings before c)) x.tokens
+      still : (c : Cause) → fits_behind before c ≡ true → built_behind settings before c ≡ true → is_from_server (heard c) ≡ false → (life_of s before).stage ≡ Ready → AllOpen s (behind (with_cause before c) (outs_of settings before c)) x.tokens
       still c f b off rd = from_now settings range before facts h c f b s x.tokens
           (all_of (λ (t : Token). is_open t.id (creates s before).created ≡ true) (λ (t : Token). is_open t.id (creates s (with_cause before c)).created ≡ true) (λ t o. creates_grows s before (heard c) off t.id o) x.tokens (h.there s rd))
 
-      ended : (c : Cause) (b : Bool) → AllOpen s (behind (with_cause before c) (row_outs settings before c)) x.tokens → AllOpen s (behind (with_cause before c) (row_outs settings before c)) (if b then no_created else x).tokens
+      ended : (c : Cause) (b : Bool) → AllOpen s (behind (with_cause before c) (outs_of settings before c)) x.tokens → AllOpen s (behind (with_cause before c) (outs_of settings before c)) (if b then no_created else x).tokens
       ended c true k = tt
       ended c false k = k
 
-      by_cause : (c : Cause) → fits_behind before c ≡ true → built_behind settings before c ≡ true → (life_of s before).stage ≡ Ready → AllOpen s (behind (with_cause before c) (row_outs settings before c)) (created_next settings s before x (heard c)).tokens
+      by_cause : (c : Cause) → fits_behind before c ≡ true → built_behind settings before c ≡ true → (life_of s before).stage ≡ Ready → AllOpen s (behind (with_cause before c) (outs_of settings before c)) (created_next settings s before x (heard c)).tokens
       by_cause (FromServer n body) f b rd = by_start (nat_eq n s) refl
         where
-          by_start : (z : Bool) → nat_eq n s ≡ z → AllOpen s (behind (with_cause before (FromServer n body)) (row_outs settings before (FromServer n body))) (created_next settings s before x (heard (FromServer n body))).tokens
-          by_start true same = subst (λ k. AllOpen s (behind (with_cause before (FromServer k body)) (row_outs settings before (FromServer k body))) (created_next settings s before x (heard (FromServer k body))).tokens) (sym (number_same n s same))
+          by_start : (z : Bool) → nat_eq n s ≡ z → AllOpen s (behind (with_cause before (FromServer n body)) (outs_of settings before (FromServer n body))) (created_next settings s before x (heard (FromServer n body))).tokens
+          by_start true same = subst (λ k. AllOpen s (behind (with_cause before (FromServer k body)) (outs_of settings before (FromServer k body))) (created_next settings s before x (heard (FromServer k body))).tokens) (sym (number_same n s same))
               (heard_open settings range before facts h s rd body (subst (λ k. fits_behind before (FromServer k body) ≡ true) (number_same n s same) f) (subst (λ k. built_behind settings before (FromServer k body) ≡ true) (number_same n s same) b))
-          by_start false other = subst (AllOpen s (behind (with_cause before (FromServer n body)) (row_outs settings before (FromServer n body)))) (sym (other_tokens settings s before x n body (message_of body) other))
+          by_start false other = subst (AllOpen s (behind (with_cause before (FromServer n body)) (outs_of settings before (FromServer n body)))) (sym (other_tokens settings s before x n body (message_of body) other))
               (from_now settings range before facts h (FromServer n body) f b s x.tokens (subst (λ (y : Creates). AllByRecursion (λ (t : Token). is_open t.id y.created ≡ true) x.tokens)
               (sym (creates_more s before (heard (FromServer n body)) ∙ ap (λ z. cond z (creates_told (creates s before) (message_of body)) (creates s before)) other)) (h.there s rd)))
-      by_cause (FromEditor e body) f b rd = subst (AllOpen s (behind (with_cause before (FromEditor e body)) (row_outs settings before (FromEditor e body)))) (sym (spoken_tokens settings s before x e body (message_of body))) (still (FromEditor e body) f b refl rd)
+      by_cause (FromEditor e body) f b rd = subst (AllOpen s (behind (with_cause before (FromEditor e body)) (outs_of settings before (FromEditor e body)))) (sym (spoken_tokens settings s before x e body (message_of body))) (still (FromEditor e body) f b refl rd)
       by_cause (StartFailed n) f b rd = ended (StartFailed n) (nat_eq n s) (still (StartFailed n) f b refl rd)
       by_cause (ServerGone n) f b rd = ended (ServerGone n) (nat_eq n s) (still (ServerGone n) f b refl rd)
       by_cause (EditorGone e why) f b rd = still (EditorGone e why) f b refl rd
@@ -498,7 +498,7 @@ module _ (settings : Settings) (range : InRange settings) (before : List Event) 
       go (inl rd) = subst (AllOpen s (after cause)) (sym (tokens_here settings range before facts h cause fits built s)) (by_cause cause fits built (ready_is (life_of s before).stage rd))
       go (inr un) = subst (AllOpen s (after cause)) (sym (none_here settings range before facts h cause fits built s un)) tt
 
-  pub tie_rests : (cause : Cause) → fits_behind before cause ≡ true → built_behind settings before cause ≡ true → Tie settings (behind (with_cause before cause) (row_outs settings before cause))
+  pub tie_rests : (cause : Cause) → fits_behind before cause ≡ true → built_behind settings before cause ≡ true → Tie settings (behind (with_cause before cause) (outs_of settings before cause))
   tie_rests cause fits built = record {
     unready = λ s un. unready_here settings range before facts h cause fits built s un;
     there = λ s ready. there_here cause fits built s ready;

@@ -14,7 +14,7 @@ use Rattle.mux_model.specs.Fits.{fits_behind}
 use Rattle.mux_facts.specs.Ranges.{InRange}
 use Rattle.mux_facts.proofs.Reasons.{Reasons, reasons_keep}
 use Rattle.group_rows.specs.Created.{created_text}
-use Rattle.group_rows.specs.Rows.{row_outs}
+use Rattle.group_rows.specs.Rows.{outs_of}
 use Rattle.group_rows.specs.Tokens.{marked_text}
 use Rattle.group_facts.specs.Built.{built_behind}
 use Rattle.group_facts.specs.Legal.{Legal}
@@ -61,7 +61,7 @@ module _ (settings : Settings) (s k e : ℕ) where
 
 module _ (settings : Settings) (range : InRange settings) where
   entry : (before : List Event) → Reached settings before → (cause : Cause) → fits_behind before cause ≡ true → built_behind settings before cause ≡ true
-      → AllRest settings before → AllRest settings (behind (with_cause before cause) (row_outs settings before cause))
+      → AllRest settings before → AllRest settings (behind (with_cause before cause) (outs_of settings before cause))
   entry before so_far cause fits built h few s k e low small = record {
     tie = entry_tied settings range before facts settled free (all_clear settings range before so_far) cause fits built few_before s k e low small was.tie asked;
     ran = ran_entry settings range before facts settled cause fits built few_before s k e low small was.tie was.ran;
@@ -78,12 +78,12 @@ module _ (settings : Settings) (range : InRange settings) where
       free = all_unreserved settings range before so_far
 
       few_before : starts_of before ≤ 2 ^ 64
-      few_before = fewer before (heard cause ∷ []) (2 ^ 64) (fewer (with_cause before cause) (map said (row_outs settings before cause)) (2 ^ 64) few)
+      few_before = fewer before (heard cause ∷ []) (2 ^ 64) (fewer (with_cause before cause) (map said (outs_of settings before cause)) (2 ^ 64) few)
 
       was : Rests settings before s k e
       was = h few_before s k e low small
 
-      asked : Reasons (AskedOnce settings s k e) (with_cause before cause) (row_outs settings before cause)
+      asked : Reasons (AskedOnce settings s k e) (with_cause before cause) (outs_of settings before cause)
       asked = asked_once settings range before facts settled cause fits built few_before s k e low small was.tie was.ran
 
   slow : KeepsSlow settings (AllRest settings)

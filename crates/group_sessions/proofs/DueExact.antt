@@ -33,7 +33,7 @@ use Rattle.group_rows.specs.Asks.{asks_of, is_seated, running_in}
 use Rattle.group_rows.specs.Created.{Created, Taking, Token, accepts, created_mark, created_of, created_text, has_accepted, is_answered, is_at, is_called, is_progress, named_token, names_progress, token_called}
 use Rattle.group_rows.specs.CreatedRows.{created_row, hand_out, takers, taking_row, tell, tell_takers}
 use Rattle.group_rows.specs.Forwarded.{Forwarded, forwarding_of, names as names_number}
-use Rattle.group_rows.specs.Rows.{from_editor, from_server, row_outs}
+use Rattle.group_rows.specs.Rows.{from_editor, from_server, outs_of}
 use Rattle.group_rows.specs.Tokens.{is_mark, is_told, listens, mark, marked_text, own_token, partial_mark, tell_progress, work_mark}
 use Rattle.group_facts.specs.Settled.{HasTaken, RunsAt, Settled}
 use Rattle.group_facts.specs.Why.{IsNotified, IsTaken, Showing, Why, WhyToEditor, answers, asks, begins_by, calls, comes, opened_by, passes, progresses, recalls, refuses, rejects, resumes, shows, spreads, turns_away, welcomes, loses}
@@ -110,7 +110,7 @@ module _ (settings : Settings) (before : List Event) (facts : Facts settings bef
         none : own_token (named_of (codes "token") given) f ≡ None
         none = ap₂ (λ a b. if a then f.work else if b then f.partial else None) (off (work_mark f.number)) (off (partial_mark f.number))
 
-    row_is : row_outs settings before (FromServer s body) ≡ map (λ n. ToEditor n told) (takers settings before runs.group s t)
+    row_is : outs_of settings before (FromServer s body) ≡ map (λ n. ToEditor n told) (takers settings before runs.group s t)
     row_is = ap (λ z. outs (from_server settings s before body (message_of body) z) now) notified.ready
         ∙ (ap (λ m. outs (from_server settings s before body m Ready) now) notified.asks
         ∙ (ap (λ c. outs (notified_row settings s before body given c) now) notified.class
@@ -155,7 +155,7 @@ module _ (settings : Settings) (before : List Event) (facts : Facts settings bef
     here : in_all e ≡ told ∷ []
     here = ap (λ a. if a then (if Q e then of_one e else []) else []) passes_p ∙ (ap (λ a. if a then of_one e else []) passes_q ∙ ap₂ (λ a b. if a && b then told ∷ [] else []) (same_number e) named)
 
-    pub told_exactly : sent_outs s t.number e (row_outs settings before (FromServer s body)) ≡ told ∷ []
+    pub told_exactly : sent_outs s t.number e (outs_of settings before (FromServer s body)) ≡ told ∷ []
     told_exactly = ap (sent_outs s t.number e) row_is
         ∙ (flat_map_map (λ (out : Out). sent_by s t.number e (said out)) (λ n. ToEditor n told) (takers settings before runs.group s t)
         ∙ (flat_kept of_one Q (running_in settings runs.group before)
@@ -164,7 +164,7 @@ module _ (settings : Settings) (before : List Event) (facts : Facts settings bef
 
   -- E19
   module _ (body : List ℕ) (c : Taking) (taken : IsTaken settings before (FromEditor e body) e s c) (token : c.token ≡ k) (unasked : find (is_seated e (answered_id (message_of body))) (asks_of settings s before) ≡ None) (found : find (is_answered e (answered_id (message_of body))) x.takings ≡ Some c) (agrees : accepts (message_of body) ≡ true)
-      (why : Reasons (Why settings before (FromEditor e body)) (with_cause before (FromEditor e body)) (row_outs settings before (FromEditor e body))) where
+      (why : Reasons (Why settings before (FromEditor e body)) (with_cause before (FromEditor e body)) (outs_of settings before (FromEditor e body))) where
     abbrev moment : List Event
     moment = with_cause before (FromEditor e body)
 
@@ -186,7 +186,7 @@ module _ (settings : Settings) (before : List Event) (facts : Facts settings bef
     by_message not_json h = never (sym h)
     by_message not_message h = never (sym h)
 
-    handed_is : row_outs settings before (FromEditor e body) ≡ map handed c.held
+    handed_is : outs_of settings before (FromEditor e body) ≡ map handed c.held
     handed_is = ap (λ p. outs (from_editor settings before e body (message_of body) p) moment) seat.running
         ∙ (by_message (message_of body) agrees
         ∙ (ap (λ o. outs (on o nothing (λ g. on (start_of g before) nothing (response_at settings before e body (message_of body)))) moment) (seat.home ∙ seat.kept)
@@ -245,7 +245,7 @@ module _ (settings : Settings) (before : List Event) (facts : Facts settings bef
         named = tells_as s c.token (text (created_mark s c.token)) (created_text s c.token) held n.method m
             ∙ ap₂ (λ a b. a && b) (progress_named n.method (progress_of events (marked_text (created_text s c.token) held) r.0 n.method m.params m.says)) (same_id_itself (text (created_mark s c.token)))
 
-    pub handed_exactly : sent_outs s c.token e (row_outs settings before (FromEditor e body)) ≡ map (marked_text (created_text s c.token)) c.held
+    pub handed_exactly : sent_outs s c.token e (outs_of settings before (FromEditor e body)) ≡ map (marked_text (created_text s c.token)) c.held
     handed_exactly = ap (sent_outs s c.token e) handed_is ∙ all_sent c.held fair_one.held moment (subst (Reasons (Why settings before (FromEditor e body)) moment) handed_is why)
       where
         fair_one : IsFair x.tokens c

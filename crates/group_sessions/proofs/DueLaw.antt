@@ -30,7 +30,7 @@ use Rattle.mux_facts.proofs.Words.{number_same, same_number}
 use Rattle.group_rows.specs.Asks.{asks_of, is_seated}
 use Rattle.group_rows.specs.Created.{Created, Taking, Token, accepts, created_of, created_text, has_accepted, is_answered, is_at, is_numbered, is_progress, named_token, names_progress, token_called}
 use Rattle.group_rows.specs.Forwarded.{names}
-use Rattle.group_rows.specs.Rows.{row_outs}
+use Rattle.group_rows.specs.Rows.{outs_of}
 use Rattle.group_rows.specs.Tokens.{marked_text}
 use Rattle.group_facts.specs.Built.{built_behind}
 use Rattle.group_facts.specs.Settled.{HasTaken, RunsAt, Settled}
@@ -101,7 +101,7 @@ module _ (settings : Settings) (range : InRange settings) (before : List Event) 
   abbrev now : List Event
   now = with_cause before cause
 
-  why : Reasons (Why settings before cause) now (row_outs settings before cause)
+  why : Reasons (Why settings before cause) now (outs_of settings before cause)
   why = (reasons settings range before facts cause built).why
 
   abbrev From : Type 0
@@ -129,7 +129,7 @@ module _ (settings : Settings) (range : InRange settings) (before : List Event) 
   gains = gain settings s k e before (heard cause)
 
   abbrev Sends : Type 0
-  Sends = sent_outs s k e (row_outs settings before cause) ≡ map (marked_text (created_text s k)) gains
+  Sends = sent_outs s k e (outs_of settings before cause) ≡ map (marked_text (created_text s k)) gains
 
   gain_heard : (asked : List ℕ) (given : Option Json) (t : Token) (notified : IsNotified before cause s asked given) → token_called (named_token given) x ≡ Some t → t.number ≡ k → has_accepted e k x ≡ true → gains ≡ asked ∷ []
   gain_heard asked given t n called number accepted = ap (λ c. gain settings s k e before (heard c)) n.from
@@ -160,17 +160,17 @@ module _ (settings : Settings) (range : InRange settings) (before : List Event) 
   by_source (hears asked given t notified called number accepted) = go cause refl notified
     where
       go : (c : Cause) → c ≡ cause → IsNotified before c s asked given → Sends
-      go c is n = subst (λ z. sent_outs s k e (row_outs settings before z) ≡ map (marked_text (created_text s k)) gains) (sym n.from ∙ is)
-          (ap (λ j. sent_outs s j e (row_outs settings before (FromServer s asked))) (sym number)
+      go c is n = subst (λ z. sent_outs s k e (outs_of settings before z) ≡ map (marked_text (created_text s k)) gains) (sym n.from ∙ is)
+          (ap (λ j. sent_outs s j e (outs_of settings before (FromServer s asked))) (sym number)
           ∙ (told_exactly settings before facts settled few s k e asked given t (record { method = n.method; from = refl; ready = n.ready; asks = n.asks; class = n.class }) called number accepted
           ∙ (ap (λ j. marked_text (created_text s j) asked ∷ []) number ∙ sym (ap (map (marked_text (created_text s k))) (gain_heard asked given t notified called number accepted)))))
   by_source (takes c taken token) = go cause refl taken
     where
       go : (d : Cause) → d ≡ cause → IsTaken settings before d e s c → Sends
-      go d is n = subst (λ z. sent_outs s k e (row_outs settings before z) ≡ map (marked_text (created_text s k)) gains) (sym n.from ∙ is)
-          (ap (λ j. sent_outs s j e (row_outs settings before (FromEditor e n.answer))) (sym token)
+      go d is n = subst (λ z. sent_outs s k e (outs_of settings before z) ≡ map (marked_text (created_text s k)) gains) (sym n.from ∙ is)
+          (ap (λ j. sent_outs s j e (outs_of settings before (FromEditor e n.answer))) (sym token)
           ∙ (handed_exactly settings before facts settled few s k e n.answer c (record { answer = n.answer; from = refl; ran = n.ran; ready = n.ready; found = n.found; accepted = n.accepted }) token
-          (clear.apart s e (answered_id (message_of n.answer)) c n.found) n.found n.accepted (subst (λ z. Reasons (Why settings before z) (with_cause before z) (row_outs settings before z)) (sym is ∙ n.from) why)
+          (clear.apart s e (answered_id (message_of n.answer)) c n.found) n.found n.accepted (subst (λ z. Reasons (Why settings before z) (with_cause before z) (outs_of settings before z)) (sym is ∙ n.from) why)
           ∙ (ap (λ j. map (marked_text (created_text s j)) c.held) token ∙ sym (ap (map (marked_text (created_text s k))) (gain_taken c taken token)))))
 
   -- what is due has such a source
@@ -245,9 +245,9 @@ module _ (settings : Settings) (range : InRange settings) (before : List Event) 
   any_gain (Tick t) is = inl refl
 
   sends : Sends
-  sends = go (any_gain cause refl) (nothing_or settings before facts settled free few cause s k e low small now (row_outs settings before cause) why)
+  sends = go (any_gain cause refl) (nothing_or settings before facts settled free few cause s k e low small now (outs_of settings before cause) why)
     where
-      go : (gains ≡ []) ⊎ From → (sent_outs s k e (row_outs settings before cause) ≡ []) ⊎ From → Sends
+      go : (gains ≡ []) ⊎ From → (sent_outs s k e (outs_of settings before cause) ≡ []) ⊎ From → Sends
       go (inr from) sent = by_source from
       go (inl none) (inr from) = by_source from
       go (inl none) (inl nothing) = nothing ∙ sym (ap (map (marked_text (created_text s k))) none)
@@ -293,21 +293,21 @@ module _ (settings : Settings) (range : InRange settings) (before : List Event) 
       none (EndServer n) = refl
 
   abbrev later : List Event
-  later = behind now (row_outs settings before cause)
+  later = behind now (outs_of settings before cause)
 
   moved : Moves settings s k e before (heard cause)
   moved = moved_took settings s k e before tie cause
 
-  last : Reasons (AskedOnce settings s k e) now (row_outs settings before cause) → At later
-  last once = reasons_keep Both At step now (row_outs settings before cause) (both now (row_outs settings before cause) why once)
+  last : Reasons (AskedOnce settings s k e) now (outs_of settings before cause) → At later
+  last once = reasons_keep Both At step now (outs_of settings before cause) (both now (outs_of settings before cause) why once)
       (record { here = here_took settings range before cause fits built facts; tied = moved.tie; same = refl })
 
-  pub entry_tied : Reasons (AskedOnce settings s k e) now (row_outs settings before cause) → Tie settings s k e later
+  pub entry_tied : Reasons (AskedOnce settings s k e) now (outs_of settings before cause) → Tie settings s k e later
   entry_tied once = (last once).tied
 
-  pub entry_due : Reasons (AskedOnce settings s k e) now (row_outs settings before cause) → progress_sent s k e before ≡ map (marked_text (created_text s k)) (due (words settings s k e before))
+  pub entry_due : Reasons (AskedOnce settings s k e) now (outs_of settings before cause) → progress_sent s k e before ≡ map (marked_text (created_text s k)) (due (words settings s k e before))
       → progress_sent s k e later ≡ map (marked_text (created_text s k)) (due (words settings s k e later))
-  entry_due once h = sent_behind s k e now (row_outs settings before cause)
+  entry_due once h = sent_behind s k e now (outs_of settings before cause)
       ∙ (ap₂ (λ u v. u ++ v) (sent_heard s k e before cause ∙ h) sends
       ∙ (sym (map-append (marked_text (created_text s k)) (due (words settings s k e before)) gains)
       ∙ ap (map (marked_text (created_text s k))) (sym ((last once).same ∙ moved.grows))))

@@ -42,7 +42,7 @@ use Rattle.group_rows.specs.CreatedRows.{create_text, offer, offer_all}
 use Rattle.group_rows.specs.Leaves.{leave_row}
 use Rattle.group_rows.specs.Live.{live_of, register_text}
 use Rattle.group_rows.specs.LiveRows.{accept, call, decline, has_some, restore}
-use Rattle.group_rows.specs.Rows.{asks_lspmux, closing_row, from_editor, from_server, lspmux_row, message_row, row_outs, served_row, taken_row, told_row}
+use Rattle.group_rows.specs.Rows.{asks_lspmux, closing_row, from_editor, from_server, lspmux_row, message_row, outs_of, served_row, taken_row, told_row}
 use Rattle.group_rows.proofs.CreatedTexts.{create_says, create_tree}
 use Rattle.group_rows.proofs.LiveTexts.{again_written, live_written, register_says, registered_written, unregister_says}
 use Rattle.group_facts.specs.Built.{built_behind}
@@ -419,7 +419,7 @@ module _ (settings : Settings) (range : InRange settings) (before : List Event) 
     offers_once [] events differ u = by_nothing
     offers_once (n ∷ ns) events differ u = by_then (offer_once events n (first_of events n ns u)) (offers_once ns (behind events (outs (offer s n t) events)) differ.1 (offer_next events n ns differ.0 u))
 
-  made_once : (asked : List ℕ) (t : Token) → cause ≡ FromServer s asked → IsChange settings before cause e s asked Create → created_token asked x ≡ Some t → t.number ≡ k → (life_of s before).stage ≡ Ready → Reasons Once (with_cause before (FromServer s asked)) (row_outs settings before (FromServer s asked))
+  made_once : (asked : List ℕ) (t : Token) → cause ≡ FromServer s asked → IsChange settings before cause e s asked Create → created_token asked x ≡ Some t → t.number ≡ k → (life_of s before).stage ≡ Ready → Reasons Once (with_cause before (FromServer s asked)) (outs_of settings before (FromServer s asked))
   made_once asked t from c found number ready = subst (Reasons Once there) (sym row_is) whole.why
     where
       there : List Event
@@ -444,7 +444,7 @@ module _ (settings : Settings) (range : InRange settings) (before : List Event) 
       whole : Because Once there (accept s asked ⨾ each (λ n. offer s n t) (running_in settings c.group before))
       whole = by_then (by_send (λ h. never (sym h))) (offers_once t (running_in settings c.group before) (behind there (outs (accept s asked) there)) differ (inl unasked_there))
 
-      row_is : row_outs settings before (FromServer s asked) ≡ outs (accept s asked ⨾ each (λ n. offer s n t) (running_in settings c.group before)) there
+      row_is : outs_of settings before (FromServer s asked) ≡ outs (accept s asked ⨾ each (λ n. offer s n t) (running_in settings c.group before)) there
       row_is = ap (λ z. outs (from_server settings s before asked (message_of asked) z) there) ready
           ∙ (ap (λ m. outs (from_server settings s before asked m Ready) there) c.asks
           ∙ (ap (λ b. outs (choose b nothing (on (group_of s before) nothing (λ g. asking_row settings before g s asked c.method (class_of c.method Server false)))) there) c.fresh
@@ -568,10 +568,10 @@ module _ (settings : Settings) (range : InRange settings) (before : List Event) 
     unasked_there : Unasked there
     unasked_there = unasked_now (FromEditor e body) (unasked_by (λ h. let clash : true ≡ false = sym (ran h) ∙ ap has_run was in cc))
 
-    first_row : row_outs settings before (FromEditor e body) ≡ outs (message_row settings before e body (message_of body) Answered) there
+    first_row : outs_of settings before (FromEditor e body) ≡ outs (message_row settings before e body (message_of body) Answered) there
     first_row = ap (λ p. outs (from_editor settings before e body (message_of body) p) there) was ∙ ap (λ b. outs (choose b (malformed_row e (message_of body) Answered) (message_row settings before e body (message_of body) Answered)) there) (well_formed (message_of body) runs).0
 
-    doubled : is_doubled before e (message_of body) ≡ true → Reasons Once there (row_outs settings before (FromEditor e body))
+    doubled : is_doubled before e (message_of body) ≡ true → Reasons Once there (outs_of settings before (FromEditor e body))
     doubled twice = subst (Reasons Once there) (sym (first_row ∙ ap (λ b. outs (choose b (closing_row settings before e) (told_row settings before e body (message_of body) Answered)) there) twice))
         ((λ h. never (sym h ∙ closed_off there e)), to_start_once parted (behind there (CloseEditor e ∷ [])) (all_outs ToStart (behind there (CloseEditor e ∷ [])) parted (leave_by (λ places out. ToStart out) (λ places n b. tt) settings before e (behind there (CloseEditor e ∷ []))).why))
       where
@@ -588,16 +588,16 @@ module _ (settings : Settings) (range : InRange settings) (before : List Event) 
     begun_part = by_on {o = home_of settings e before} {p = nothing} {row = λ g. on (start_of g before) nothing (run_at settings before e)} (λ none. by_nothing)
         (λ g home. by_on {o = start_of g before} {p = nothing} {row = run_at settings before e} (λ none. by_nothing) (λ t start. run_once t there unasked_there))
 
-    single : is_doubled before e (message_of body) ≡ false → Reasons Once there (row_outs settings before (FromEditor e body))
+    single : is_doubled before e (message_of body) ≡ false → Reasons Once there (outs_of settings before (FromEditor e body))
     single once = subst (Reasons Once there) (sym (first_row ∙ (ap (λ b. outs (choose b (closing_row settings before e) (told_row settings before e body (message_of body) Answered)) there) once
         ∙ (ap (λ b. outs (choose b (lspmux_row settings before e body (message_of body)) (taken_row settings before e body (message_of body) Answered)) there) (well_formed (message_of body) runs).1
         ∙ ap (λ b. outs (choose b (run_row settings before e) nothing ⨾ served) there) runs))))
         (reasons_both Once there (outs (run_row settings before e) there) (outs served mid) begun_part.why (going_once (outs served mid) mid ((still_served settings before e body (ap is_running was) (message_of body) refl runs).goes mid (meant_behind there (outs (run_row settings before e) there) (meant_more before (heard (FromEditor e body)) (facts.base).meant (meant_heard (FromEditor e body)))))))
 
-    begun_once : Reasons Once there (row_outs settings before (FromEditor e body))
+    begun_once : Reasons Once there (outs_of settings before (FromEditor e body))
     begun_once = go (is_doubled before e (message_of body)) refl
       where
-        go : (b : Bool) → is_doubled before e (message_of body) ≡ b → Reasons Once there (row_outs settings before (FromEditor e body))
+        go : (b : Bool) → is_doubled before e (message_of body) ≡ b → Reasons Once there (outs_of settings before (FromEditor e body))
         go true twice = doubled twice
         go false once = single once
 
@@ -615,14 +615,14 @@ module _ (settings : Settings) (range : InRange settings) (before : List Event) 
       go false true h = refl
       go false false h = absurd (cc)
 
-  by_origin : Origin → Reasons Once now (row_outs settings before cause)
-  by_origin (made asked t c found number ready) = subst (λ z. Reasons Once (with_cause before z) (row_outs settings before z)) (sym c.from) (made_once asked t c.from c found number ready)
-  by_origin (begun t r) = subst (λ z. Reasons Once (with_cause before z) (row_outs settings before z)) (sym r.from) (begun_once r.text r.waited (runs_by r.text r.waited (subst (λ z. (desk_of e (with_cause before z)).phase ≡ Running) r.from r.began)))
+  by_origin : Origin → Reasons Once now (outs_of settings before cause)
+  by_origin (made asked t c found number ready) = subst (λ z. Reasons Once (with_cause before z) (outs_of settings before z)) (sym c.from) (made_once asked t c.from c found number ready)
+  by_origin (begun t r) = subst (λ z. Reasons Once (with_cause before z) (outs_of settings before z)) (sym r.from) (begun_once r.text r.waited (runs_by r.text r.waited (subst (λ z. (desk_of e (with_cause before z)).phase ≡ Running) r.from r.began)))
 
-  pub asked_once : Reasons Once now (row_outs settings before cause)
-  asked_once = go (none_or now (row_outs settings before cause) (reasons settings range before facts cause built).why)
+  pub asked_once : Reasons Once now (outs_of settings before cause)
+  asked_once = go (none_or now (outs_of settings before cause) (reasons settings range before facts cause built).why)
     where
-      go : (Reasons Once now (row_outs settings before cause)) ⊎ Origin → Reasons Once now (row_outs settings before cause)
+      go : (Reasons Once now (outs_of settings before cause)) ⊎ Origin → Reasons Once now (outs_of settings before cause)
       go (inl r) = r
       go (inr from) = by_origin from
 
@@ -657,6 +657,6 @@ module _ (settings : Settings) (range : InRange settings) (before : List Event) 
   ran_did events (CloseEditor n) why h = ran_more events (said (CloseEditor n)) (runs_later events (CloseEditor n)) (λ asked. never (sym asked ∙ closed_off events n)) h
   ran_did events (EndServer n) why h = ran_more events (said (EndServer n)) (runs_later events (EndServer n)) (λ asked. never (sym asked)) h
 
-  pub ran_entry : Ran (behind now (row_outs settings before cause))
-  ran_entry = reasons_keep (Why settings before cause) Ran ran_did now (row_outs settings before cause) (reasons settings range before facts cause built).why
+  pub ran_entry : Ran (behind now (outs_of settings before cause))
+  ran_entry = reasons_keep (Why settings before cause) Ran ran_did now (outs_of settings before cause) (reasons settings range before facts cause built).why
       (ran_more before (heard cause) (λ h. run_later (has_run (desk_of e before).phase) (has_run (desk_of e now).phase) (unrun settings range before facts settled cause fits built e) h) (λ asked. never (sym asked ∙ heard_off cause)) ran)

@@ -18,7 +18,7 @@ use Rattle.mux_facts.proofs.Reasons.{Reasons}
 use Rattle.mux_facts.proofs.Words.{number_same, same_number}
 use Rattle.session_laws.specs.Progress.{Creates, is_end, token_at}
 use Rattle.group_rows.specs.Created.{Taking, created_mark, created_of, created_text, is_answered, is_at}
-use Rattle.group_rows.specs.Rows.{row_outs}
+use Rattle.group_rows.specs.Rows.{outs_of}
 use Rattle.group_rows.specs.Tokens.{marked_text}
 use Rattle.group_facts.specs.Why.{Telling, of_held, of_request, of_token}
 use Rattle.group_facts.proofs.Facts.{Facts}
@@ -130,5 +130,5 @@ module _ (settings : Settings) (before : List Event) (facts : Facts settings bef
   heard_outs events (out ∷ outs) h = (heard_out events out h.0, heard_outs (events ++ said out ∷ []) outs h.1)
 
 pub all_heard : (settings : Settings) → InRange settings → AllHeard settings
-all_heard settings range before so_far cause fits built = heard_outs settings before (facts_at settings range before so_far) (all_rests settings range before so_far) cause (with_cause before cause) (row_outs settings before cause)
+all_heard settings range before so_far cause fits built = heard_outs settings before (facts_at settings range before so_far) (all_rests settings range before so_far) cause (with_cause before cause) (outs_of settings before cause)
     (all_known settings before (one_start settings range before so_far) cause)

@@ -32,7 +32,7 @@ use Rattle.group_rows.specs.AskRows.{run_row}
 use Rattle.group_rows.specs.Asks.{serves}
 use Rattle.group_rows.specs.Leaves.{leave_row}
 use Rattle.group_rows.specs.Lists.{is_publishing, names_list, sayings_of}
-use Rattle.group_rows.specs.Rows.{closing_row, document_row, from_editor, lspmux_row, message_row, row_outs, served_row, taken_row, told_row}
+use Rattle.group_rows.specs.Rows.{closing_row, document_row, from_editor, lspmux_row, message_row, outs_of, served_row, taken_row, told_row}
 use Rattle.group_rows.proofs.Versions.{AllMeant, meant_heard, meant_more}
 use Rattle.group_facts.specs.Built.{built_behind}
 use Rattle.group_facts.specs.Legal.{Legal, LegalFrom}
@@ -56,7 +56,7 @@ use Rattle.group_sessions.proofs.ListsShown.{comes_exactly}
 use Rattle.group_sessions.proofs.TellingPlaces.{one_start}
 use Rattle.group_sessions.proofs.Tied.{runs_on}
 use Rattle.group_sessions.specs.LastLists.{KeepsLists, at_start, due_beginning, due_coming, due_opening, due_own, gives_list, lists_due, lists_to, shown}
-use Rattle.group_rows.specs.SlowRows.{slow_row}
+use Rattle.group_facts.specs.SlowRows.{slow_row}
 
 -- Editors that run
 
@@ -94,7 +94,7 @@ module _ (settings : Settings) (range : InRange settings) (before : List Event) 
     now = with_cause before (FromEditor e body)
 
     abbrev xs : List Out
-    xs = row_outs settings before (FromEditor e body)
+    xs = outs_of settings before (FromEditor e body)
 
     abbrev after : List Event
     after = behind now xs
@@ -294,8 +294,8 @@ module _ (settings : Settings) (range : InRange settings) (before : List Event) 
         go false off = by_now off (is_running (desk_of e now).phase) refl
 
   -- by a message of another editor
-  other_editor : (n : ℕ) (body : List ℕ) → nat_eq n e ≡ false → built_behind settings before (FromEditor n body) ≡ true → lists_to e (row_outs settings before (FromEditor n body)) ≡ []
-  other_editor n body apart built = all_off settings before (FromEditor n body) e (λ events text k. hidden events text k.start k.shown) (with_cause before (FromEditor n body)) (row_outs settings before (FromEditor n body)) (reasons settings range before facts (FromEditor n body) built).why
+  other_editor : (n : ℕ) (body : List ℕ) → nat_eq n e ≡ false → built_behind settings before (FromEditor n body) ≡ true → lists_to e (outs_of settings before (FromEditor n body)) ≡ []
+  other_editor n body apart built = all_off settings before (FromEditor n body) e (λ events text k. hidden events text k.start k.shown) (with_cause before (FromEditor n body)) (outs_of settings before (FromEditor n body)) (reasons settings range before facts (FromEditor n body) built).why
     where
       mine : (words : List ℕ) → FromEditor n body ≡ FromEditor e words → ⊥
       mine words from = never (sym (same_number e) ∙ (ap (λ z. nat_eq z e) (sym same) ∙ apart))
@@ -313,8 +313,8 @@ module _ (settings : Settings) (range : InRange settings) (before : List Event) 
     abbrev told : List Event
     told = with_cause before (FromServer s body)
 
-    unpublished : (gives_list (message_of body) ≡ true → is_ready (life_of s before).stage ≡ true → ⊥) → lists_to e (row_outs settings before (FromServer s body)) ≡ []
-    unpublished none = all_off settings before (FromServer s body) e (λ events text k. hidden events text k.start (ap is_ready k.ready) k.shown) told (row_outs settings before (FromServer s body)) (reasons settings range before facts (FromServer s body) built).why
+    unpublished : (gives_list (message_of body) ≡ true → is_ready (life_of s before).stage ≡ true → ⊥) → lists_to e (outs_of settings before (FromServer s body)) ≡ []
+    unpublished none = all_off settings before (FromServer s body) e (λ events text k. hidden events text k.start (ap is_ready k.ready) k.shown) told (outs_of settings before (FromServer s body)) (reasons settings range before facts (FromServer s body) built).why
       where
         hidden : (events : List Event) (text : List ℕ) (t : ℕ) → is_ready (life_of t before).stage ≡ true → Showing settings before (FromServer s body) events e t text → ⊥
         hidden events text t ready (comes asked method given list from notified class came fitting) =
@@ -325,21 +325,21 @@ module _ (settings : Settings) (range : InRange settings) (before : List Event) 
         hidden events text t ready (opened_by words u l v x list from says found full fitting) = let clash : FromServer s body ≡ FromEditor e words = from in cc
         hidden events text t ready (begins_by list earlier later restoring order full fitting) = let clash : FromServer s body ≡ FromEditor e restoring.text = restoring.from in cc
 
-    start_lists : lists_to e (row_outs settings before (FromServer s body)) ≡ (if gives_list (message_of body) then due_coming settings s e before body else [])
+    start_lists : lists_to e (outs_of settings before (FromServer s body)) ≡ (if gives_list (message_of body) then due_coming settings s e before body else [])
     start_lists = go (message_of body) refl
       where
-        published_by : (method : List ℕ) (params : Option Json) → message_of body ≡ notification method params → is_publishing method ≡ true → (b : Bool) → is_ready (life_of s before).stage ≡ b → lists_to e (row_outs settings before (FromServer s body)) ≡ due_coming settings s e before body
+        published_by : (method : List ℕ) (params : Option Json) → message_of body ≡ notification method params → is_publishing method ≡ true → (b : Bool) → is_ready (life_of s before).stage ≡ b → lists_to e (outs_of settings before (FromServer s body)) ≡ due_coming settings s e before body
         published_by method params says class true ready = comes_exactly settings before facts settled one e s body method params says class (ready_is (life_of s before).stage ready)
         published_by method params says class false off = unpublished (λ gives ready. never (sym ready ∙ off))
             ∙ sym (ap (λ b. if b && (is_running (desk_of e before).phase && serves settings before s e) then option_map_or (shown settings s e before) (published (sayings_of s before) body) [] else []) off)
 
-        unlisted : gives_list (message_of body) ≡ false → lists_to e (row_outs settings before (FromServer s body)) ≡ (if gives_list (message_of body) then due_coming settings s e before body else [])
+        unlisted : gives_list (message_of body) ≡ false → lists_to e (outs_of settings before (FromServer s body)) ≡ (if gives_list (message_of body) then due_coming settings s e before body else [])
         unlisted none = unpublished (λ gives ready. never (sym gives ∙ none)) ∙ sym (ap (λ b. if b then due_coming settings s e before body else []) none)
 
-        go : (z : Message) → message_of body ≡ z → lists_to e (row_outs settings before (FromServer s body)) ≡ (if gives_list (message_of body) then due_coming settings s e before body else [])
+        go : (z : Message) → message_of body ≡ z → lists_to e (outs_of settings before (FromServer s body)) ≡ (if gives_list (message_of body) then due_coming settings s e before body else [])
         go (notification method params) says = by_class (is_publishing method) refl
           where
-            by_class : (b : Bool) → is_publishing method ≡ b → lists_to e (row_outs settings before (FromServer s body)) ≡ (if gives_list (message_of body) then due_coming settings s e before body else [])
+            by_class : (b : Bool) → is_publishing method ≡ b → lists_to e (outs_of settings before (FromServer s body)) ≡ (if gives_list (message_of body) then due_coming settings s e before body else [])
             by_class true class = published_by method params says class (is_ready (life_of s before).stage) refl ∙ sym (ap (λ b. if b then due_coming settings s e before body else []) (ap gives_list says ∙ class))
             by_class false other = unlisted (ap gives_list says ∙ other)
         go (request id method params) says = unlisted (ap gives_list says)
@@ -349,19 +349,19 @@ module _ (settings : Settings) (range : InRange settings) (before : List Event) 
         go not_message says = unlisted (ap gives_list says)
 
   -- by none
-  silent : (cause : Cause) → talks cause ≡ false → built_behind settings before cause ≡ true → lists_to e (row_outs settings before cause) ≡ []
-  silent cause quiet built = all_off settings before cause e (λ events text k. never (sym (spoken events text k.start k.shown) ∙ quiet)) (with_cause before cause) (row_outs settings before cause) (reasons settings range before facts cause built).why
+  silent : (cause : Cause) → talks cause ≡ false → built_behind settings before cause ≡ true → lists_to e (outs_of settings before cause) ≡ []
+  silent cause quiet built = all_off settings before cause e (λ events text k. never (sym (spoken events text k.start k.shown) ∙ quiet)) (with_cause before cause) (outs_of settings before cause) (reasons settings range before facts cause built).why
     where
       spoken : (events : List Event) (text : List ℕ) (s : ℕ) → Showing settings before cause events e s text → talks cause ≡ true
       spoken events text s (comes asked method given list from notified class came fitting) = ap talks from
       spoken events text s (opened_by words u l v t list from says found full fitting) = ap talks from
       spoken events text s (begins_by list earlier later restoring order full fitting) = ap talks restoring.from
 
-  pub entry_lists : (cause : Cause) → built_behind settings before cause ≡ true → lists_to e (row_outs settings before cause) ≡ lists_due settings e before cause (behind (with_cause before cause) (row_outs settings before cause))
+  pub entry_lists : (cause : Cause) → built_behind settings before cause ≡ true → lists_to e (outs_of settings before cause) ≡ lists_due settings e before cause (behind (with_cause before cause) (outs_of settings before cause))
   entry_lists (FromEditor n body) built = go (nat_eq n e) refl
     where
       Holds : ℕ → Bool → Type 0
-      Holds k b = lists_to e (row_outs settings before (FromEditor k body)) ≡ (if b then due_own settings e before (message_of body) (behind (with_cause before (FromEditor k body)) (row_outs settings before (FromEditor k body))) else [])
+      Holds k b = lists_to e (outs_of settings before (FromEditor k body)) ≡ (if b then due_own settings e before (message_of body) (behind (with_cause before (FromEditor k body)) (outs_of settings before (FromEditor k body))) else [])
 
       go : (b : Bool) → nat_eq n e ≡ b → Holds n b
       go true same = subst (λ z. Holds z true) (sym (number_same n e same)) (own_lists body (subst (λ z. built_behind settings before (FromEditor z body) ≡ true) (number_same n e same) built))
@@ -384,10 +384,10 @@ legal_parts settings before (x ∷ xs) ys legal =
     ((legal.0, legal.1, legal.2, rest.0), subst (λ z. LegalFrom settings z ys) (append_assoc before (x ∷ []) xs) rest.1)
 
 module _ (settings : Settings) (range : InRange settings) where
-  at_entry : (before later : List Entry) (entry : Entry) → Legal settings before → LegalFrom settings before (entry ∷ later) → (e : ℕ) → lists_to e entry.outs ≡ lists_due settings e (events_of before) entry.cause (behind (with_cause (events_of before) entry.cause) (row_outs settings (events_of before) entry.cause))
+  at_entry : (before later : List Entry) (entry : Entry) → Legal settings before → LegalFrom settings before (entry ∷ later) → (e : ℕ) → lists_to e entry.outs ≡ lists_due settings e (events_of before) entry.cause (behind (with_cause (events_of before) entry.cause) (outs_of settings (events_of before) entry.cause))
   at_entry before later entry so_far legal e =
       let at : Reached settings (events_of before) = reached settings before so_far in
-      let row : List Out = row_outs settings (events_of before) entry.cause in
+      let row : List Out = outs_of settings (events_of before) entry.cause in
       let slow : List Out = outs (slow_row settings) (behind (with_cause (events_of before) entry.cause) row) in
       ap (lists_to e) legal.2 ∙ (lists_join e row slow ∙ (ap (λ z. lists_to e row ++ z) (lists_none e slow (slow_all settings (Listless e) (λ n. refl) (λ s body. refl) (behind (with_cause (events_of before) entry.cause) row)))
       ∙ (append-nil (lists_to e row) ∙ entry_lists settings range (events_of before) (facts_at settings range (events_of before) at) (settled_at settings range (events_of before) at) (one_start settings range (events_of before) at) e entry.cause legal.1)))

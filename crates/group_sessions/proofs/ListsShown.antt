@@ -28,7 +28,7 @@ use Rattle.group_rows.specs.AskRows.{notified_row}
 use Rattle.group_rows.specs.Asks.{running_in, serves}
 use Rattle.group_rows.specs.ListRows.{list_row, show, show_full}
 use Rattle.group_rows.specs.Lists.{agreement_at, is_publishing, lists_of, sayings_of}
-use Rattle.group_rows.specs.Rows.{from_server, row_outs}
+use Rattle.group_rows.specs.Rows.{from_server, outs_of}
 use Rattle.group_rows.proofs.ListsKept.{IsList, published_body}
 use Rattle.group_rows.proofs.Versions.{AllMeant}
 use Rattle.group_facts.specs.Settled.{Settled}
@@ -140,7 +140,7 @@ module _ (settings : Settings) (before : List Event) (facts : Facts settings bef
     abbrev now : List Event
     now = with_cause before (FromServer s body)
 
-    row_is : (life_of s before).stage ≡ Ready → row_outs settings before (FromServer s body) ≡ outs (list_row settings s before body) now
+    row_is : (life_of s before).stage ≡ Ready → outs_of settings before (FromServer s body) ≡ outs (list_row settings s before body) now
     row_is ready = ap (λ z. outs (from_server settings s before body (message_of body) z) now) ready
         ∙ (ap (λ m. outs (from_server settings s before body m Ready) now) says
         ∙ ap (λ c. outs (notified_row settings s before body params c) now) (list_is (class_of method Server true) class))
@@ -218,7 +218,7 @@ module _ (settings : Settings) (before : List Event) (facts : Facts settings bef
         go (Some g) hears = to_group l came g ∙ ap (λ b. if b then shown settings s e before l else []) (sym hears)
         go None hears = ap (λ b. if b then shown settings s e before l else []) (sym (hears ∙ off (is_running (desk_of e before).phase)))
 
-    pub comes_exactly : (life_of s before).stage ≡ Ready → lists_to e (row_outs settings before (FromServer s body)) ≡ due_coming settings s e before body
+    pub comes_exactly : (life_of s before).stage ≡ Ready → lists_to e (outs_of settings before (FromServer s body)) ≡ due_coming settings s e before body
     comes_exactly ready = ap (lists_to e) (row_is ready) ∙ go (published (sayings_of s before) body) refl
       where
         nowhere : (a : Bool) → ◌≡◌ {A = List (List ℕ)} [] (if a then [] else [])

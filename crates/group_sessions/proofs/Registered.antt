@@ -26,7 +26,7 @@ use Rattle.session_laws.specs.ClientRules.{ClientRule7, after_told, may_register
 use Rattle.session_laws.proofs.Client4Law.{is_told}
 use Rattle.session_laws.proofs.Client7Law.{free_7}
 use Rattle.group_rows.specs.Live.{changes_live, is_registering}
-use Rattle.group_rows.specs.Rows.{row_outs}
+use Rattle.group_rows.specs.Rows.{outs_of}
 use Rattle.group_facts.specs.Built.{built_behind}
 use Rattle.group_facts.specs.Why.{progresses, IsAsk, IsChange, IsResumed, Calling, Why, WhyToEditor, answers, asks, displaces, enrols, passes, recalls, refuses, calls, rejects, releases, restores, creates, revives, resumes, shows, spreads, turns_away, welcomes, loses}
 use Rattle.group_facts.proofs.Asks.{call_hurried}
@@ -161,5 +161,5 @@ module _ (settings : Settings) (before : List Event) (cause : Cause) (same : is_
     out_keeps events (CloseEditor n) why h = at_free e xs events (said (CloseEditor n)) refl h
     out_keeps events (EndServer s) why h = at_free e xs events (said (EndServer s)) refl h
 
-    pub entry_keeps : InRange settings → Facts settings before → built_behind settings before cause ≡ true → At e xs before → At e xs (behind (with_cause before cause) (row_outs settings before cause))
-    entry_keeps range facts built h = reasons_keep (λ events out. Why settings before cause events out) (At e xs) out_keeps (with_cause before cause) (row_outs settings before cause) (reasons settings range before facts cause built).why (at_took e xs before cause h)
+    pub entry_keeps : InRange settings → Facts settings before → built_behind settings before cause ≡ true → At e xs before → At e xs (behind (with_cause before cause) (outs_of settings before cause))
+    entry_keeps range facts built h = reasons_keep (λ events out. Why settings before cause events out) (At e xs) out_keeps (with_cause before cause) (outs_of settings before cause) (reasons settings range before facts cause built).why (at_took e xs before cause h)

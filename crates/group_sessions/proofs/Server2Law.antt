@@ -32,7 +32,7 @@ use Rattle.session_laws.proofs.Server2Law.{HandAt, Link, begun_hand, begun_stage
 use Rattle.group_words.specs.declared.kept.Kept.{Kept}
 use Rattle.group_words.specs.Houses.{groups_of}
 use Rattle.group_words.specs.Rows.{initialize_of}
-use Rattle.group_rows.specs.Rows.{row_outs, result_in}
+use Rattle.group_rows.specs.Rows.{outs_of, result_in}
 use Rattle.group_facts.specs.Facts.{Housed, IsHoused, IsWritten, Written, is_unready}
 use Rattle.group_rows.proofs.Going.{no_initialized}
 use Rattle.group_facts.specs.Legal.{Legal}
@@ -294,10 +294,10 @@ was_spawned events s none some = within (λ le. some (ap (λ (l : Life). l.stage
 
 module _ (settings : Settings) (before : List Event) (n : ℕ) (none : Starts before) (housed : Housed settings before) where
   -- the daemon's own `initialize` is sent
-  begun_sends : (g : ℕ) (x : Kept) → (life_of n before).stage ≡ Spawning → group_of n before ≡ Some g → slice_get (groups_of settings before) g ≡ Some x → row_outs settings before (Started n) ≡ ToServer n (initialize_of x) ∷ []
+  begun_sends : (g : ℕ) (x : Kept) → (life_of n before).stage ≡ Spawning → group_of n before ≡ Some g → slice_get (groups_of settings before) g ≡ Some x → outs_of settings before (Started n) ≡ ToServer n (initialize_of x) ∷ []
   begun_sends g x at home item = rw (at, home, item) refl
 
-  begun_rests : Written settings before → (life_of n before).stage ≡ Spawning → hand n before ≡ silent → HandAt n (behind (with_cause before (Started n)) (row_outs settings before (Started n)))
+  begun_rests : Written settings before → (life_of n before).stage ≡ Spawning → hand n before ≡ silent → HandAt n (behind (with_cause before (Started n)) (outs_of settings before (Started n)))
   begun_rests written at h =
       let home : IsHoused settings n before = housed n (was_spawned before n none (λ unspawned. let other : Spawning ≡ Unspawned = sym at ∙ unspawned in cc)) in
       let item : (x : Kept) × (slice_get (groups_of settings before) home.group ≡ Some x) = item_at (groups_of settings before) home.group home.kept in
@@ -326,15 +326,15 @@ module _ (settings : Settings) (before : List Event) (n : ℕ) (none : Starts be
     result_outs : (g : ℕ) → (rest : List Out) × (outs (result_in settings before n body g) now ≡ ToServer n initialized_text ∷ rest)
     result_outs g = (_, refl)
 
-    result_sends : (g : ℕ) → group_of n before ≡ Some g → row_outs settings before (FromServer n body) ≡ outs (result_in settings before n body g) now
+    result_sends : (g : ℕ) → group_of n before ≡ Some g → outs_of settings before (FromServer n body) ≡ outs (result_in settings before n body g) now
     result_sends g home = rw (at, first, home) refl
 
-    greeting : (rest : List Out) × (row_outs settings before (FromServer n body) ≡ ToServer n initialized_text ∷ rest)
+    greeting : (rest : List Out) × (outs_of settings before (FromServer n body) ≡ ToServer n initialized_text ∷ rest)
     greeting = let home : IsHoused settings n before = housed n (was_spawned before n none (λ unspawned. let other : Initializing ≡ Unspawned = sym at ∙ unspawned in cc)) in
         let r = result_outs home.group in (r.0, result_sends home.group home.is ∙ r.1)
 
-    greeted_rests : hand n before ≡ asked → is_unready (life_of n (behind now (row_outs settings before (FromServer n body)))).stage ≡ false → HandAt n (behind now (row_outs settings before (FromServer n body)))
-    greeted_rests h past = past_link (life_of n (behind now (row_outs settings before (FromServer n body)))).stage _ past
+    greeted_rests : hand n before ≡ asked → is_unready (life_of n (behind now (outs_of settings before (FromServer n body)))).stage ≡ false → HandAt n (behind now (outs_of settings before (FromServer n body)))
+    greeted_rests h past = past_link (life_of n (behind now (outs_of settings before (FromServer n body)))).stage _ past
         (ap (λ xs. hand n (behind now xs)) greeting.1
         ∙ ap (hand n) (sym (append_assoc now (said (ToServer n initialized_text) ∷ []) (map said greeting.0)))
         ∙ open_later (now ++ said (ToServer n initialized_text) ∷ []) greeting.0
@@ -343,7 +343,7 @@ module _ (settings : Settings) (before : List Event) (n : ℕ) (none : Starts be
 
 module _ (settings : Settings) (before : List Event) where
   abbrev after : Cause → List Event
-  after cause = behind (with_cause before cause) (row_outs settings before cause)
+  after cause = behind (with_cause before cause) (outs_of settings before cause)
 
   moved_rests : (cause : Cause) → Facts settings before → Hands before → (s : ℕ) → moves before cause s ≡ true → Moved cause (life_of s (after cause)).stage → HandAt s (after cause)
   moved_rests (Started n) known h s on moved =

@@ -39,7 +39,7 @@ use Rattle.session_laws.proofs.Server7Law.{creates, creates_grows, free_7, notic
 use Rattle.session_laws.proofs.Tokens.{holds_open, names_freely, open_behind, or_second}
 use Rattle.group_rows.specs.Created.{Token, created_of, is_marked, token_marked}
 use Rattle.group_rows.specs.Forwarded.{Forwarded, forwarding_of, is_of}
-use Rattle.group_rows.specs.Rows.{row_outs}
+use Rattle.group_rows.specs.Rows.{outs_of}
 use Rattle.group_rows.specs.Tokens.{is_token_of, is_worked, mark, mark_text, marked_text, work_mark}
 use Rattle.group_rows.proofs.TokenTexts.{mark_is}
 use Rattle.group_facts.specs.Built.{built_behind}
@@ -215,13 +215,13 @@ record Rests (events : List Event) : Type 0 where
 
 module _ (settings : Settings) (range : InRange settings) where
   entry : (before : List Event) → Reached settings before → (cause : Cause) → fits_behind before cause ≡ true → built_behind settings before cause ≡ true
-      → Rests before → Rests (behind (with_cause before cause) (row_outs settings before cause))
+      → Rests before → Rests (behind (with_cause before cause) (outs_of settings before cause))
   entry before so_far cause fits built h =
       let facts : Facts settings before = facts_at settings range before so_far in
       let now : List Event = with_cause before cause in
       let created : (s : ℕ) → (life_of s before).stage ≡ Ready → AllByRecursion (IsCreated s before) (created_of settings s before).tokens = all_created settings range before so_far in
-      let last : At settings range before facts cause built created (behind now (row_outs settings before cause)) = reasons_keep (λ events out. Why settings before cause events out) (At settings range before facts cause built created)
-      (step settings range before facts cause built created) now (row_outs settings before cause) (reasons settings range before facts cause built).why
+      let last : At settings range before facts cause built created (behind now (outs_of settings before cause)) = reasons_keep (λ events out. Why settings before cause events out) (At settings range before facts cause built created)
+      (step settings range before facts cause built created) now (outs_of settings before cause) (reasons settings range before facts cause built).why
       (record {
         here = here_took settings range before cause fits built facts;
         outs = [];

@@ -23,7 +23,7 @@ use Rattle.session_laws.proofs.Server2Law.{begun_stage}
 use Rattle.session_laws.proofs.Server8Law.{IsCalm, Link, TiedAt, calm_says, calm_told, end_more, ended_more, farewell, free, is_stopping, last_id, may_exit_now, more, parts_now, response_calm, spawned_more, spoken_calm, told_more, took_it}
 use Rattle.group_rows.specs.Ends.{answers_shutdown, exit_text}
 use Rattle.group_rows.specs.Forwarded.{names}
-use Rattle.group_rows.specs.Rows.{row_outs}
+use Rattle.group_rows.specs.Rows.{outs_of}
 use Rattle.group_rows.proofs.Going.{no_exit}
 use Rattle.group_facts.specs.Legal.{Legal}
 use Rattle.group_facts.specs.Why.{IsExit, IsShutting, WhyToServer, begins, greets, forwarded, notes, tells, shuts, cancels, responds, exits, resolves, cancels_work}
@@ -239,23 +239,23 @@ module _ (settings : Settings) (before : List Event) (cause : Cause) (events : L
 -- Behind the entry the start that responded is to end
 
 module _ (settings : Settings) (before : List Event) where
-  parted_outs : (n : ℕ) (body : List ℕ) → (life_of n before).stage ≡ Stopping → answers_shutdown n before (message_of body) ≡ true → row_outs settings before (FromServer n body) ≡ ToServer n exit_text ∷ EndServer n ∷ []
+  parted_outs : (n : ℕ) (body : List ℕ) → (life_of n before).stage ≡ Stopping → answers_shutdown n before (message_of body) ≡ true → outs_of settings before (FromServer n body) ≡ ToServer n exit_text ∷ EndServer n ∷ []
   parted_outs n body at answers = rw (at, answers) refl
 
-  parted : (cause : Cause) (s : ℕ) → parts_now before cause s ≡ true → TiedAt s (behind (with_cause before cause) (row_outs settings before cause))
+  parted : (cause : Cause) (s : ℕ) → parts_now before cause s ≡ true → TiedAt s (behind (with_cause before cause) (outs_of settings before cause))
   parted (FromServer n body) s on =
       let p = and_parts (nat_eq n s) (is_stopping (life_of n before).stage && responds_to (last_id (next_number n before)) (message_of body)) on in
       let q = and_parts (is_stopping (life_of n before).stage) (responds_to (last_id (next_number n before)) (message_of body)) p.1 in
       let now = with_cause before (FromServer n body) in
-      subst (λ k. TiedAt k (behind now (row_outs settings before (FromServer n body)))) (number_same n s p.0)
+      subst (λ k. TiedAt k (behind now (outs_of settings before (FromServer n body)))) (number_same n s p.0)
       (subst (λ xs. TiedAt n (behind now xs)) (sym (parted_outs n body (stopping_is (life_of n before).stage q.0) (last_names (next_number n before) (message_of body) q.1)))
       (subst (TiedAt n) (append_assoc now (said (ToServer n exit_text) ∷ []) (said (EndServer n) ∷ [])) (end_more n (now ++ said (ToServer n exit_text) ∷ []))))
   parted cause s on = absurd (cc)
 
-  all_rest : (cause : Cause) → Within before cause (behind (with_cause before cause) (row_outs settings before cause)) → Ties (behind (with_cause before cause) (row_outs settings before cause))
+  all_rest : (cause : Cause) → Within before cause (behind (with_cause before cause) (outs_of settings before cause)) → Ties (behind (with_cause before cause) (outs_of settings before cause))
   all_rest cause m s = go (parts_now before cause s) refl
     where
-      go : (b : Bool) → parts_now before cause s ≡ b → TiedAt s (behind (with_cause before cause) (row_outs settings before cause))
+      go : (b : Bool) → parts_now before cause s ≡ b → TiedAt s (behind (with_cause before cause) (outs_of settings before cause))
       go true on = parted cause s on
       go false still = m.ties s still
 

@@ -32,7 +32,7 @@ use Rattle.group_words.specs.Houses.{home_of}
 use Rattle.group_rows.specs.Asks.{next_ask}
 use Rattle.group_rows.specs.Created.{Created, Taking, Token, accepts, answered, asked, created_mark, created_next, created_of, created_text, is_answered, is_called, is_creating, is_numbered, left, lives, named_token, names_progress, progressed, settled, token_called, token_marked, with_asked}
 use Rattle.group_rows.specs.Forwarded.{forwarding_of}
-use Rattle.group_rows.specs.Rows.{row_outs}
+use Rattle.group_rows.specs.Rows.{outs_of}
 use Rattle.group_rows.specs.Tokens.{is_told, marked_text}
 use Rattle.group_facts.specs.Built.{built_behind}
 use Rattle.group_facts.specs.Facts.{shuts}
@@ -207,7 +207,7 @@ module _ (settings : Settings) (range : InRange settings) (before : List Event) 
   now = with_cause before cause
 
   abbrev later : List Event
-  later = behind now (row_outs settings before cause)
+  later = behind now (outs_of settings before cause)
 
   -- it ran before, or begins to run, at home in the group whose last start is s
   record Stands (s e : ℕ) : Type 0 where
@@ -473,7 +473,7 @@ module _ (settings : Settings) (range : InRange settings) (before : List Event) 
   stood s e h = go (ran settings range before facts settled cause fits built e here)
     where
       here : is_running (desk_of e now).phase ≡ true
-      here = all_back is_running runs_on e now (row_outs settings before cause) (ap is_running h.running)
+      here = all_back is_running runs_on e now (outs_of settings before cause) (ap is_running h.running)
 
       at : needs_server (desk_of e before).phase ≡ true → is_new (desk_of e before).phase ≡ false → shuts cause e ≡ false → ((desk_of e before).phase ≡ Running) ⊎ (begins before cause e ≡ true) → Stands s e
       at needs old shut was = let k : Place settings range before facts settled cause fits built e h.group s = place settings range before facts settled cause fits built e h.group s needs old shut h.home h.last in record { was = was; group = h.group; home = k.home; last = k.start }
@@ -487,7 +487,7 @@ module _ (settings : Settings) (range : InRange settings) (before : List Event) 
   entry_rests one h = record { tied = λ s. all_of (TiedIf Stands s later) (TiedIf (RunsIn settings later) s later) (λ c tied at. tied (stood s c.editor at)) (created_of settings s later).takings (last.tied s); ran = last.ran }
     where
       last : At later
-      last = reasons_keep Both At step now (row_outs settings before cause) (both now (row_outs settings before cause) (reasons settings range before facts cause built).why (all_known settings before one cause)) (first h)
+      last = reasons_keep Both At step now (outs_of settings before cause) (both now (outs_of settings before cause) (reasons settings range before facts cause built).why (all_known settings before one cause)) (first h)
 
 -- An editor that is slow leaves
 

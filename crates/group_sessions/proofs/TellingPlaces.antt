@@ -38,7 +38,7 @@ use Rattle.group_rows.specs.Asks.{running_in}
 use Rattle.group_rows.specs.Created.{Taking, Token, accepts, created_of, created_text, has_accepted, is_answered, named_token, names_progress, token_called}
 use Rattle.group_rows.specs.CreatedRows.{created_row, progress_row, takers, taking_row, tell}
 use Rattle.group_rows.specs.Forwarded.{Forwarded, forwarding_of}
-use Rattle.group_rows.specs.Rows.{from_editor, from_server, row_outs}
+use Rattle.group_rows.specs.Rows.{from_editor, from_server, outs_of}
 use Rattle.group_rows.specs.Tokens.{is_told, marked_text, own_token}
 use Rattle.group_facts.specs.Why.{IsNotified, IsTaken, Telling, of_held, of_request, of_token}
 use Rattle.group_facts.proofs.AskingRows.{running_is}
@@ -100,8 +100,8 @@ abbrev is_notification : Message → Bool
 is_notification (notification method params) = true
 is_notification other = false
 
-silent : (settings : Settings) (before : List Event) (cause : Cause) → is_of_start cause ≡ false → is_of_desk cause ≡ false → Reasons (KnownOut settings before cause) (with_cause before cause) (row_outs settings before cause)
-silent settings before cause off none = none_told settings before cause (λ s asked given k. never (sym (ap is_of_start k.from) ∙ off)) (λ e s taking k. never (sym (ap is_of_desk k.from) ∙ none)) (with_cause before cause) (row_outs settings before cause)
+silent : (settings : Settings) (before : List Event) (cause : Cause) → is_of_start cause ≡ false → is_of_desk cause ≡ false → Reasons (KnownOut settings before cause) (with_cause before cause) (outs_of settings before cause)
+silent settings before cause off none = none_told settings before cause (λ s asked given k. never (sym (ap is_of_start k.from) ∙ off)) (λ e s taking k. never (sym (ap is_of_desk k.from) ∙ none)) (with_cause before cause) (outs_of settings before cause)
 
 -- Lists of editors
 
@@ -203,10 +203,10 @@ module _ (settings : Settings) (before : List Event) (one : OneStart before) (s 
     progress_known = by_on (λ none. token_known) (λ f found. by_on (λ none. by_nothing) (λ token own. by_send (request_known f found token own)))
 
   abbrev Any : Type 0
-  Any = Reasons Out_known heard_now (row_outs settings before (FromServer s body))
+  Any = Reasons Out_known heard_now (outs_of settings before (FromServer s body))
 
   vacuous : ((given : Option Json) → IsNotified before (FromServer s body) s body given → ⊥) → Any
-  vacuous none = none_told settings before (FromServer s body) here (λ e n taking k. never (sym (ap is_of_desk k.from))) heard_now (row_outs settings before (FromServer s body))
+  vacuous none = none_told settings before (FromServer s body) here (λ e n taking k. never (sym (ap is_of_desk k.from))) heard_now (outs_of settings before (FromServer s body))
     where
       here : (n : ℕ) (asked : List ℕ) (given : Option Json) → IsNotified before (FromServer s body) n asked given → ⊥
       here n asked given k = let same : s ≡ n = cc_start k.from in let text : body ≡ asked = cc_text k.from in
@@ -270,10 +270,10 @@ module _ (settings : Settings) (before : List Event) (e : ℕ) (body : List ℕ)
   response_known = by_on (λ none. by_nothing) (λ g home. by_on (λ none. by_nothing) (λ s start. by_choose (λ ready. by_on (λ none. taking_known g s home start ready) (λ a found. by_send tt)) (λ no. by_nothing)))
 
   abbrev Each : Type 0
-  Each = Reasons Said_known asked_now (row_outs settings before (FromEditor e body))
+  Each = Reasons Said_known asked_now (outs_of settings before (FromEditor e body))
 
   nothing_told : ((s : ℕ) (taking : Taking) → IsTaken settings before (FromEditor e body) e s taking → ⊥) → Each
-  nothing_told none = none_told settings before (FromEditor e body) (λ s asked given k. never (sym (ap is_of_start k.from))) here asked_now (row_outs settings before (FromEditor e body))
+  nothing_told none = none_told settings before (FromEditor e body) (λ s asked given k. never (sym (ap is_of_start k.from))) here asked_now (outs_of settings before (FromEditor e body))
     where
       same : (n : ℕ) (answer : List ℕ) → FromEditor e body ≡ FromEditor n answer → e ≡ n
       same n answer is = cc
@@ -299,7 +299,7 @@ module _ (settings : Settings) (before : List Event) (e : ℕ) (body : List ℕ)
 
 -- Every cause
 
-pub all_known : (settings : Settings) (before : List Event) → OneStart before → (cause : Cause) → Reasons (KnownOut settings before cause) (with_cause before cause) (row_outs settings before cause)
+pub all_known : (settings : Settings) (before : List Event) → OneStart before → (cause : Cause) → Reasons (KnownOut settings before cause) (with_cause before cause) (outs_of settings before cause)
 all_known settings before one (FromServer s body) = heard_known settings before one s body
 all_known settings before one (FromEditor e body) = said_known settings before e body
 all_known settings before one (Joined e) = silent settings before (Joined e) refl refl

@@ -31,7 +31,7 @@ use Rattle.group_words.specs.Houses.{home_of}
 use Rattle.group_words.proofs.Frames.{past_more}
 use Rattle.group_rows.specs.Asks.{asked_behind, has_number, next_ask}
 use Rattle.group_rows.specs.Live.{changes_live, live_by, live_next, live_of}
-use Rattle.group_rows.specs.Rows.{row_outs}
+use Rattle.group_rows.specs.Rows.{outs_of}
 use Rattle.group_words.specs.Houses.{groups_of}
 use Rattle.group_rows.specs.Asks.{asking_of, is_taken}
 use Rattle.group_rows.specs.Live.{is_registering}
@@ -249,7 +249,7 @@ module _ (settings : Settings) (range : InRange settings) (before : List Event) 
   now = with_cause before cause
 
   abbrev later : List Event
-  later = behind now (row_outs settings before cause)
+  later = behind now (outs_of settings before cause)
 
   -- an editor that runs behind the cause did before, or was answered
   pub ran : (e : ℕ) → is_running (desk_of e now).phase ≡ true → ((desk_of e before).phase ≡ Running) ⊎ (begins before cause e ≡ true)
@@ -348,7 +348,7 @@ module _ (settings : Settings) (range : InRange settings) (before : List Event) 
       k = settled.seated e needs
 
       here : home_of settings e before ≡ Some g
-      here = sym (homes_stay settings e now (row_outs settings before cause) ∙ took_home settings before e old cause shut) ∙ home
+      here = sym (homes_stay settings e now (outs_of settings before cause) ∙ took_home settings before e old cause shut) ∙ home
 
       group_is : k.group ≡ g
       group_is = let both : Some k.group ≡ Some g = sym k.home ∙ here in let is : k.group ≡ g = cc in is
@@ -359,7 +359,7 @@ module _ (settings : Settings) (range : InRange settings) (before : List Event) 
   -- Entries in which nothing changes of what is live
 
   pub live_here : (s : ℕ) → live_of settings s later ≡ live_next settings s before (live_of settings s before) (heard cause)
-  live_here s = live_rests settings s now (row_outs settings before cause) ∙ live_took settings s before cause
+  live_here s = live_rests settings s now (outs_of settings before cause) ∙ live_took settings s before cause
 
   heard_same : (n s : ℕ) (body : List ℕ) (m : Message) (live : List Registration) → (is_ready (life_of n before).stage && is_about m) ≡ false → live_next settings s before live (took (FromServer n body) m) ≡ live
   heard_same n s body (request id method params) live off = go (nat_eq n s) refl (is_ready (life_of s before).stage) refl
@@ -414,7 +414,7 @@ module _ (settings : Settings) (range : InRange settings) (before : List Event) 
       by_cause (Tick t) is = refl
 
   pub no_number : (e : ℕ) → has_number e before ≡ false → has_number e later ≡ false
-  no_number e h = out_rests e now (row_outs settings before cause) (out_took e before cause h)
+  no_number e h = out_rests e now (outs_of settings before cause) (out_took e before cause h)
 
   -- so what was tied stays so
   tied_still : (e g s : ℕ) → live_of settings s later ≡ live_of settings s before → At e (ids e before) later → IsTied settings e s (ids e before) before → IsTied settings e s (ids e later) later
@@ -429,7 +429,7 @@ module _ (settings : Settings) (range : InRange settings) (before : List Event) 
     ordinary_tied e g s runs at home start = go (ran e here)
       where
         here : is_running (desk_of e now).phase ≡ true
-        here = all_back is_running runs_on e now (row_outs settings before cause) (ap is_running at)
+        here = all_back is_running runs_on e now (outs_of settings before cause) (ap is_running at)
 
         go : ((desk_of e before).phase ≡ Running) ⊎ (begins before cause e ≡ true) → IsTied settings e s (ids e later) later
         go (inl was) = let k : Place e g s = place e g s (ap needs_server was) (ap is_new was) (stays e was here) home start in
@@ -444,7 +444,7 @@ module _ (settings : Settings) (range : InRange settings) (before : List Event) 
       not_so false k = refl
 
       here : has_not (desk_of e now).phase ≡ true
-      here = all_back has_not not_run e now (row_outs settings before cause) (ap not h)
+      here = all_back has_not not_run e now (outs_of settings before cause) (ap not h)
 
       none : (a : Bool) → (a && false) ≡ false
       none true = refl

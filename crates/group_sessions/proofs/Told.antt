@@ -33,7 +33,7 @@ use Rattle.group_rows.specs.Asks.{asking_of, has_number, is_taken, running_in}
 use Rattle.group_facts.proofs.AskingRows.{running_is}
 use Rattle.group_rows.specs.Live.{changes_live, unregister_text, is_heard, is_registering, live_by, live_next, live_of, taken_back, with_registered, without_these}
 use Rattle.group_rows.specs.LiveRows.{accept, call, decline, registering}
-use Rattle.group_rows.specs.Rows.{from_server, row_outs}
+use Rattle.group_rows.specs.Rows.{from_server, outs_of}
 use Rattle.group_rows.proofs.LiveTexts.{live_written, registered_written}
 use Rattle.group_facts.specs.Built.{built_behind}
 use Rattle.group_facts.specs.Settled.{Settled}
@@ -53,12 +53,12 @@ module _ (settings : Settings) (range : InRange settings) (before : List Event) 
   now = with_cause before (FromServer s body)
 
   abbrev later : List Event
-  later = behind now (row_outs settings before (FromServer s body))
+  later = behind now (outs_of settings before (FromServer s body))
 
   abbrev live : List Registration
   live = live_of settings s before
 
-  row_is : row_outs settings before (FromServer s body) ≡ outs (question_row settings s before body id method) now
+  row_is : outs_of settings before (FromServer s body) ≡ outs (question_row settings s before body id method) now
   row_is = ap (λ z. outs (from_server settings s before body (message_of body) z) now) ready ∙ ap (λ m. outs (from_server settings s before body m Ready) now) says
 
   -- what is live behind it
@@ -73,7 +73,7 @@ module _ (settings : Settings) (range : InRange settings) (before : List Event) 
   was_running e at = go (ran settings range before facts settled (FromServer s body) fits built e here)
     where
       here : is_running (desk_of e now).phase ≡ true
-      here = all_back is_running runs_on e now (row_outs settings before (FromServer s body)) (ap is_running at)
+      here = all_back is_running runs_on e now (outs_of settings before (FromServer s body)) (ap is_running at)
 
       same : (desk_of e now).phase ≡ (desk_of e before).phase
       same = ap (λ (d : Desk). d.phase) (desk_more e before (heard (FromServer s body)))
@@ -89,7 +89,7 @@ module _ (settings : Settings) (range : InRange settings) (before : List Event) 
   where_it_was : (e g t : ℕ) → (desk_of e later).phase ≡ Running → home_of settings e later ≡ Some g → start_of g later ≡ Some t → Place settings range before facts settled (FromServer s body) fits built e g t
   where_it_was e g t at home start = let was : (desk_of e before).phase ≡ Running = was_running e at in
       place settings range before facts settled (FromServer s body) fits built e g t (ap needs_server was) (ap is_new was)
-      (stays settings range before facts settled (FromServer s body) fits built e was (all_back is_running runs_on e now (row_outs settings before (FromServer s body)) (ap is_running at))) home start
+      (stays settings range before facts settled (FromServer s body) fits built e was (all_back is_running runs_on e now (outs_of settings before (FromServer s body)) (ap is_running at))) home start
 
   at_now : (e : ℕ) → At e (ids e before) now
   at_now e = at_took e (ids e before) before (FromServer s body) (record { always = all.always e; has = refl })
@@ -108,7 +108,7 @@ module _ (settings : Settings) (range : InRange settings) (before : List Event) 
     where
       go : IsTied settings e t (ids e before) before → IsTied settings e t (ids e later) later
       go (inl h) = inl (subst₂ Same (sym at.has) (sym same) h)
-      go (inr h) = inr (out_rests e now (row_outs settings before (FromServer s body)) (out_took e before (FromServer s body) h))
+      go (inr h) = inr (out_rests e now (outs_of settings before (FromServer s body)) (out_took e before (FromServer s body) h))
 
   -- it isn't told, and what is live at the start of its group stays
   unchanged : (e : ℕ) → At e (ids e before) later → ((g t : ℕ) → Place settings range before facts settled (FromServer s body) fits built e g t → (desk_of e before).phase ≡ Running → nat_eq s t ≡ true → live_of settings t later ≡ live_of settings t before) → Outcome e
@@ -178,12 +178,12 @@ module _ (settings : Settings) (range : InRange settings) (before : List Event) 
         go false low = let k = leb-false (editors_of before) e low in omega (arith, k)
         go true high = never (sym (and_parts (is_running (desk_of e before).phase) (is_home g (home_of settings e before)) on).0 ∙ ap is_running ((facts.steady).editors e (leb-true (editors_of before) e high)))
 
-    module _ (fresh : is_heard settings s before id ≡ true) (asked : row_outs settings before (FromServer s body) ≡ outs (asking_row settings before g s body method (class_of method Server false)) now) where
+    module _ (fresh : is_heard settings s before id ≡ true) (asked : outs_of settings before (FromServer s body) ≡ outs (asking_row settings before g s body method (class_of method Server false)) now) where
       live_by_class : (c : Class) → class_of method Server false ≡ c → live_of settings s later ≡ live_by c body live
       live_by_class c class = live_is s ∙ ap (λ b. if b && is_heard settings s before id then live_by (class_of method Server false) body live else live) (same_number s)
           ∙ ap (λ b. if b then live_by (class_of method Server false) body live else live) fresh ∙ ap (λ k. live_by k body live) class
 
-      sends : (c : Class) → class_of method Server false ≡ c → row_outs settings before (FromServer s body) ≡ outs (asking_row settings before g s body method c) now
+      sends : (c : Class) → class_of method Server false ≡ c → outs_of settings before (FromServer s body) ≡ outs (asking_row settings before g s body method c) now
       sends c class = asked ∙ ap (λ k. outs (asking_row settings before g s body method k) now) class
 
       registering_outcome : class_of method Server false ≡ Register → (e : ℕ) → Outcome e
@@ -249,7 +249,7 @@ module _ (settings : Settings) (range : InRange settings) (before : List Event) 
   pub change_outcome : is_registering method ≡ true → (e : ℕ) → Outcome e
   change_outcome about e = by_taken (is_taken (Some id) (asking_of settings s before)) refl
     where
-      silent : row_outs settings before (FromServer s body) ≡ [] → At e (ids e before) later
+      silent : outs_of settings before (FromServer s body) ≡ [] → At e (ids e before) later
       silent none = subst (λ zs. At e (ids e before) (behind now zs)) (sym none) (subst (At e (ids e before)) (sym (append-nil now)) (at_now e))
 
       by_group : is_taken (Some id) (asking_of settings s before) ≡ false → (o : Option ℕ) → group_of s before ≡ o → Outcome e

@@ -21,7 +21,7 @@ use Rattle.mux_facts.specs.Ranges.{InRange}
 use Rattle.mux_facts.proofs.Lists.{all_filtered}
 use Rattle.mux_facts.proofs.Reasons.{reasons_keep}
 use Rattle.group_rows.specs.Forwarded.{Forwarded, Forwarding, answered_by, cancelled_by, forwarding_behind, forwarding_of, forwards, is_written, no_forwarding, numbered, token_in}
-use Rattle.group_rows.specs.Rows.{row_outs, sync_bodies}
+use Rattle.group_rows.specs.Rows.{outs_of, sync_bodies}
 use Rattle.group_rows.specs.Texts.{texts_of}
 use Rattle.group_rows.specs.Tokens.{is_reserved}
 use Rattle.group_facts.specs.Built.{built_behind}
@@ -172,8 +172,8 @@ module _ (settings : Settings) (range : InRange settings) where
   did before cause events (EndServer n) why h = by_event events (events ++ said (EndServer n) ∷ []) (said (EndServer n)) refl h
 
   entry : (before : List Event) → Reached settings before → (cause : Cause) → fits_behind before cause ≡ true → built_behind settings before cause ≡ true
-      → Unreserved before → Unreserved (behind (with_cause before cause) (row_outs settings before cause))
-  entry before so_far cause fits built h = reasons_keep (λ events out. Why settings before cause events out) Unreserved (did before cause) (with_cause before cause) (row_outs settings before cause)
+      → Unreserved before → Unreserved (behind (with_cause before cause) (outs_of settings before cause))
+  entry before so_far cause fits built h = reasons_keep (λ events out. Why settings before cause events out) Unreserved (did before cause) (with_cause before cause) (outs_of settings before cause)
       (reasons settings range before (facts_at settings range before so_far) cause built).why (took before cause h)
 
   slow : KeepsSlow settings Unreserved

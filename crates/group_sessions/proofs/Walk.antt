@@ -4,15 +4,15 @@ use Rattle.mux_history.specs.declared.cause.Cause.{Cause}
 use Rattle.event_model.specs.Event.{Event, behind, with_cause}
 use Rattle.event_model.specs.Settings.{Settings}
 use Rattle.mux_model.specs.Fits.{fits_behind}
-use Rattle.group_rows.specs.Rows.{row_outs}
-use Rattle.group_rows.specs.SlowRows.{is_slow}
+use Rattle.group_rows.specs.Rows.{outs_of}
+use Rattle.group_facts.specs.SlowRows.{is_slow}
 use Rattle.group_facts.specs.Built.{built_behind}
 use Rattle.group_facts.proofs.Reached.{Reached, reached_keeps}
 use Rattle.group_facts.proofs.SlowRow.{parting}
 
 -- what is to be shown: a row keeps it
 abbrev pub Keeps : Settings → (List Event → Type 0) → Type 0
-Keeps settings I = (before : List Event) → Reached settings before → (cause : Cause) → fits_behind before cause ≡ true → built_behind settings before cause ≡ true → I before → I (behind (with_cause before cause) (row_outs settings before cause))
+Keeps settings I = (before : List Event) → Reached settings before → (cause : Cause) → fits_behind before cause ≡ true → built_behind settings before cause ≡ true → I before → I (behind (with_cause before cause) (outs_of settings before cause))
 
 -- and an editor that is slow, as it leaves
 abbrev pub KeepsSlow : Settings → (List Event → Type 0) → Type 0

@@ -21,7 +21,7 @@ use Rattle.group_rows.specs.diagnostics_route.specs.Rows.{is_of}
 use Rattle.group_rows.specs.diagnostics_route.specs.Shown.{fits, shown_text}
 use Rattle.group_rows.specs.Asks.{serves}
 use Rattle.group_rows.specs.Lists.{agreement_at, is_publishing, lists_of, sayings_of, version_at}
-use Rattle.group_rows.specs.Rows.{row_outs}
+use Rattle.group_rows.specs.Rows.{outs_of}
 
 -- a message gives a list
 abbrev pub gives_list : Message → Bool
@@ -80,4 +80,4 @@ lists_due settings e before other after = []
 
 -- in each entry each editor is sent just what it is due, by what stands before it and behind its cause's row
 abbrev pub KeepsLists : Settings → List Entry → Type 0
-KeepsLists settings history = (before later : List Entry) (entry : Entry) → history ≡ before ++ entry ∷ later → (e : ℕ) → lists_to e entry.outs ≡ lists_due settings e (events_of before) entry.cause (behind (with_cause (events_of before) entry.cause) (row_outs settings (events_of before) entry.cause))
+KeepsLists settings history = (before later : List Entry) (entry : Entry) → history ≡ before ++ entry ∷ later → (e : ℕ) → lists_to e entry.outs ≡ lists_due settings e (events_of before) entry.cause (behind (with_cause (events_of before) entry.cause) (outs_of settings (events_of before) entry.cause))

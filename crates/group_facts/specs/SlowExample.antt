@@ -4,9 +4,16 @@ use Rattle.mux_history.specs.declared.cause.Cause.{Cause}
 use Rattle.mux_history.specs.declared.cause.Cause.TheVariants.{FromEditor, FromServer, Drained}
 use Rattle.mux_history.specs.declared.out.Out.{Out}
 use Rattle.mux_history.specs.declared.out.Out.TheVariants.{ToEditor, ToServer, CloseEditor}
+use Rattle.event_model.specs.Event.{Event, behind, with_cause}
 use Rattle.event_model.specs.Settings.{Settings}
 use Rattle.group_words.specs.Example.{with_groups}
 use Rattle.group_rows.specs.Example.{two_editors, two_editors_outs}
+use Rattle.group_facts.specs.SlowRows.{entry_outs}
+
+-- the outs of the entries of these causes, behind these events
+abbrev pub entries_from : Settings → List Event → List Cause → List Out
+entries_from settings before [] = []
+entries_from settings before (cause ∷ causes) = let xs = entry_outs settings before cause in xs ++ entries_from settings (behind (with_cause before cause) xs) causes
 
 abbrev pub few_bytes : Settings
 few_bytes = record { limits = record (with_groups 8).limits { backlog = 256 }; servers = (with_groups 8).servers; default = 0 }
