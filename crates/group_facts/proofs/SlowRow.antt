@@ -145,8 +145,11 @@ module _ (settings : Settings) where
 
   -- they are the end of its link and bodies to a start
   pub parting_all : (P : Out → Type 0) → ((n : ℕ) → P (CloseEditor n)) → ((s : ℕ) (body : List ℕ) → P (ToServer s body)) → (place : List Event) (e : ℕ) → AllByRecursion P (parting place e)
-  parting_all P closes sends place e = (closes e, all_outs P (place ++ said (CloseEditor e) ∷ []) (outs (leave_row settings place e) (place ++ said (CloseEditor e) ∷ []))
-      (leave_by (λ places out. P out) (λ places s body. sends s body) settings place e (place ++ said (CloseEditor e) ∷ [])).why)
+  parting_all P closes sends place e = (
+    closes e,
+    all_outs P (place ++ said (CloseEditor e) ∷ []) (outs (leave_row settings place e) (place ++ said (CloseEditor e) ∷ []))
+        (leave_by (λ places out. P out) (λ places s body. sends s body) settings place e (place ++ said (CloseEditor e) ∷ [])).why,
+  )
 
   pub parting_calm : (place : List Event) (e : ℕ) → AllByRecursion NoSpawn (parting place e)
   parting_calm place e = parting_all NoSpawn (λ n. tt) (λ s body. tt) place e

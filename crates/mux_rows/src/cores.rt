@@ -36,10 +36,7 @@ fn a_hub_is_a_core(rt: HostRuntime) -> Result<(), Fail> {
     assert_eq!(rt; asked(&hub), (1, None, false));
     let stop = b"{\"jsonrpc\":\"2.0\",\"id\":1,\"method\":\"lspmux/stop\"}";
     let body = Body::new(Vec::from_slice(alloc, stop)?);
-    assert_eq!(rt;
-        outs_of(&mut hub, Cause::FromEditor(0, body)),
-        Some(Ok(2))
-    );
+    assert_eq!(rt; outs_of(&mut hub, Cause::FromEditor(0, body)), Some(Ok(2)));
     assert_eq!(rt; asked(&hub), (1, None, true));
     assert_eq!(rt; outs_of(&mut hub, Cause::Tick(1)), Some(Ok(0)));
     assert_eq!(rt; asked(&hub), (1, None, true));
@@ -54,13 +51,9 @@ fn what_no_row_takes_yet_wants_memory(rt: HostRuntime) -> Result<(), Fail> {
         return Err(Fail::from("no hub"));
     };
     assert_eq!(rt; outs_of(&mut hub, Cause::Joined(0)), Some(Ok(0)));
-    let initialize =
-        b"{\"jsonrpc\":\"2.0\",\"id\":1,\"method\":\"initialize\",\"params\":{}}";
+    let initialize = b"{\"jsonrpc\":\"2.0\",\"id\":1,\"method\":\"initialize\",\"params\":{}}";
     let body = Body::new(Vec::from_slice(alloc, initialize)?);
-    assert_eq!(rt;
-        outs_of(&mut hub, Cause::FromEditor(0, body)),
-        Some(Ok(1))
-    );
+    assert_eq!(rt; outs_of(&mut hub, Cause::FromEditor(0, body)), Some(Ok(1)));
     // The group of the start lives.
     assert_eq!(rt;
         outs_of(&mut hub, Cause::StartFailed(0)),
