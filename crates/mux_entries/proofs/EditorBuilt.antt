@@ -1,9 +1,8 @@
 -- What the causes that are built say of a message of an editor.
-use Rattle.std.proofs.Common.{◌≡◌, ℕ, Bool, true, false, not, ◌&&◌, ◌||◌, List, refl, ap, sym, subst, ◌∙◌, ◌⊎◌, inl, inr, codes, bytes_eq}
+use Rattle.std.proofs.Common.{◌≡◌, ℕ, Bool, true, false, not, ◌&&◌, ◌||◌, List, refl, ap, sym, ◌∙◌, ◌⊎◌, inl, inr, codes, bytes_eq}
 use Rattle.std.specs.Prelude.{Option, Some}
-use Rattle.std.proofs.lemmas.Slice.Eq.{bytes_eq-Decides}
 use Rattle.json_text.specs.Json.{Json}
-use Rattle.lsp_method.specs.Class.{class_of, editor_request, own_request}
+use Rattle.lsp_method.specs.Class.{class_of}
 use Rattle.lsp_method.specs.declared.variants.Class.{Class}
 use Rattle.lsp_method.specs.declared.variants.Class.TheVariants as class
 use Rattle.lsp_method.specs.declared.variants.Origin.TheVariants.{Editor}
@@ -17,7 +16,7 @@ use Rattle.event_model.specs.declared.phase.Phase.{Phase}
 use Rattle.event_model.specs.declared.phase.Phase.TheVariants.{Absent, New, Waiting, Answered, Running, Down, Closed, Gone}
 use Rattle.event_model.specs.Event.{Event, requests}
 use Rattle.event_model.specs.Phases.{desk_of, is_begun, is_served, is_there, needs_server}
-use Rattle.mux_starts.specs.group_facts.specs.Built.{built_from_editor, built_request, is_standard}
+use Rattle.mux_starts.specs.group_facts.specs.Built.{built_from_editor, is_standard}
 use Rattle.mux_starts.specs.group_facts.specs.Facts.{is_early}
 use Rattle.group_rows.specs.Rows.{asks_lspmux, names_lspmux}
 use Rattle.group_words.specs.Houses.{is_doubled, stops}
@@ -41,40 +40,22 @@ not_so : (a : Bool) → not a ≡ true → a ≡ false
 not_so false h = refl
 not_so true h = absurd (cc)
 
--- a method that is built isn't that which stops all
-stops_not : (method : List ℕ) → ((codes "lspmux/stop" ≡ method) → ⊥) → (before : List Event) (e : ℕ) (id : Id) (params : Option Json) → stops before e (request id method params) ≡ false
-stops_not method f before e id params = go (bytes_eq (codes "lspmux/stop") method) refl
-  where
-    go : (b : Bool) → bytes_eq (codes "lspmux/stop") method ≡ b → (b && (is_there (desk_of e before).phase && not (is_begun (desk_of e before).phase && is_doubled before e (request id method params)))) ≡ false
-    go true k = absurd (f ((bytes_eq-Decides (codes "lspmux/stop") method).0 k))
-    go false k = refl
-
-standard_stays : (method : List ℕ) → is_standard (class_of method Editor false) ≡ true → (codes "lspmux/stop" ≡ method) → ⊥
-unfolding editor_request own_request
-standard_stays method h same = let own : is_standard (class_of (codes "lspmux/stop") Editor false) ≡ true = subst (λ m. is_standard (class_of m Editor false) ≡ true) (sym same) h in cc
-
-own_stays : (method : List ℕ) → names_lspmux method ≡ true → (codes "lspmux/stop" ≡ method) → ⊥
-own_stays method h same = let clash : names_lspmux (codes "lspmux/stop") ≡ true = subst (λ m. names_lspmux m ≡ true) (sym same) h in cc
-
-request_stays : (method : List ℕ) → built_request method ≡ true → (codes "lspmux/stop" ≡ method) → ⊥
-request_stays method h = go (names_lspmux method) refl h
-  where
-    go : (b : Bool) → names_lspmux method ≡ b → (b || is_standard (class_of method Editor false)) ≡ true → (codes "lspmux/stop" ≡ method) → ⊥
-    go true k s = own_stays method k
-    go false k s = standard_stays method s
-
 -- a request that isn't the multiplexer's own
 other_built : (b c : Bool) → b ≡ false → (b || c) ≡ true → c ≡ true
 other_built true c h k = absurd (cc)
 other_built false c h k = k
 
-pub built_stays : (before : List Event) (e : ℕ) (m : Message) → built_from_editor m ≡ true → stops before e m ≡ false
-built_stays before e (request id method params) h = stops_not method (request_stays method h) before e id params
-built_stays before e (notification method params) h = refl
-built_stays before e (result id r) h = refl
-built_stays before e (error id r) h = refl
-built_stays before e not_json h = refl
-built_stays before e not_message h = refl
+-- a message that isn't the multiplexer's own stops nothing
+last_off : (a b c : Bool) → (a || (b || c)) ≡ false → c ≡ false
+last_off a b false h = refl
+last_off true b true h = absurd (cc)
+last_off false true true h = absurd (cc)
+last_off false false true h = absurd (cc)
+
+pub unasked_goes : (before : List Event) (e : ℕ) (m : Message) → asks_lspmux m ≡ false → stops before e m ≡ false
+unasked_goes before e (request id method params) none = ap (λ b. b && (is_there (desk_of e before).phase && not (is_begun (desk_of e before).phase && is_doubled before e (request id method params))))
+    (last_off (bytes_eq (codes "lspmux/open") method) (bytes_eq (codes "lspmux/status") method) (bytes_eq (codes "lspmux/stop") method) none)
+unasked_goes before e other none = refl
 
 -- a request that isn't the multiplexer's own is one of the standard
 pub standard_built : (id : Id) (method : List ℕ) (params : Option Json) → names_lspmux method ≡ false → built_from_editor (request id method params) ≡ true → is_standard (class_of method Editor false) ≡ true

@@ -1,5 +1,5 @@
 -- J1: an editor joins, behind a stop or before one.
-use Rattle.std.proofs.Common.{◌≡◌, ℕ, true, false, List, [], refl, ap, sym, subst, ◌∙◌, append-nil}
+use Rattle.std.proofs.Common.{◌≡◌, ℕ, true, false, List, [], refl, ap, sym, ◌∙◌, append-nil}
 use Rattle.mux_history.specs.declared.cause.Cause.TheVariants.{Joined}
 use Rattle.mux_history.specs.declared.out.Out.{Out}
 use Rattle.mux_history.specs.declared.out.Out.TheVariants.{CloseEditor}

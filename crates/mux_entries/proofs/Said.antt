@@ -1,5 +1,5 @@
 -- What a start says, by where it stands.
-use Rattle.std.proofs.Common.{◌≡◌, ℕ, Bool, true, false, not, ◌&&◌, List, [], ◌∷◌, map, nat_eq, refl, ap, sym, subst, ◌∙◌, codes, if◌then◌else◌, ◌⊎◌, inl, inr, ◌||◌}
+use Rattle.std.proofs.Common.{◌≡◌, ℕ, Bool, true, false, not, List, [], ◌∷◌, map, nat_eq, refl, ap, sym, subst, ◌∙◌, codes, if◌then◌else◌, ◌||◌}
 use Rattle.std.specs.Prelude.{Option, Some, None, bytes_eq, find, fold, slice_get}
 use Rattle.std.proofs.lemmas.Bool.{and_parts}
 use Rattle.std.proofs.lemmas.Slice.Eq.{bytes_eq-Decides}
@@ -25,14 +25,9 @@ use Rattle.event_model.specs.Settings.{Settings}
 use Rattle.event_model.specs.Stages.{Life, is_ended, is_first_result, life_behind, life_of, no_life, runs, stage_ending, stage_hears, stage_started, stage_told}
 use Rattle.event_model.proofs.Frames.{never}
 use Rattle.event_model.proofs.Turns.{alike, alike_then}
-use Rattle.mux_starts.specs.group_facts.specs.Built.{built_early, built_from_server, built_ready, built_telling, is_shown_whole}
+use Rattle.mux_starts.specs.group_facts.specs.Built.{built_early, built_from_server, is_shown_whole}
 use Rattle.mux_starts.specs.group_facts.specs.Facts.{AllForwarded, IsForwarded, WaitingAsked, is_early}
-use Rattle.lsp_method.specs.Class.{class_of}
-use Rattle.lsp_method.specs.declared.variants.Class.{Class}
-use Rattle.lsp_method.specs.declared.variants.Class.TheVariants.{Broadcast}
-use Rattle.lsp_method.specs.declared.variants.Origin.TheVariants.{Server}
 use Rattle.group_rows.specs.Answers.{answer_row, hand_on}
-use Rattle.group_rows.specs.AskRows.{broadcast_row, notified_row}
 use Rattle.group_rows.specs.Rows as rows
 use Rattle.group_rows.specs.Forwarded.{Forwarded, answered_by, forwarding_of, names}
 use Rattle.group_rows.specs.Rows.{first_result, from_server, refused_row, hasty_row, stopping_row}

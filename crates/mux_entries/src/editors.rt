@@ -58,6 +58,9 @@ pub fn joined(tables: &mut Tables, alloc: Global, outs: &mut Outs, e: u64) -> Re
     }
     tables.hear_joined(e)?;
     if tables.is_stopped() {
+        if e >= tables.editors.count() {
+            return Err(Memory);
+        }
         tables.close(alloc, outs, e)?;
     }
     Ok(())

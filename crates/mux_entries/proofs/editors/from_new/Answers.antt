@@ -7,7 +7,7 @@ use Rattle.group_words.specs.Houses.{places}
 use Rattle.rpc_message.specs.Message.{message_of}
 use Rattle.mux_starts.specs.mux_tables.specs.Documents.{AllStand}
 use Rattle.mux_entries.proofs.EditorAsks.{asked_none}
-use Rattle.mux_entries.proofs.EditorBuilt.{built_stays, unasked_there}
+use Rattle.mux_entries.proofs.EditorBuilt.{unasked_goes, unasked_there}
 use Rattle.mux_entries.proofs.EditorRows.{asks_by_name, begins, done_alike, early_new, read_well}
 use Rattle.mux_entries.proofs.editors.from_new.Goals as goal
 
@@ -28,4 +28,4 @@ returns-in_ok-from_early-clause-does c = λ settings before body read at servers
     let other : requests (codes "initialize") m ≡ false = sym (c.is_initialize.ensures body read) ∙ c.if-is_initialize.false in
     let unplaced : places (desk_of e before).phase m ≡ false = ap (λ p. places p m) at ∙ other in
     done_alike (λ k events. AllStand settings k events) (early_new settings before e body at (read_well c.args.message.now body read) other none)
-    (c.in_ok-from_early.ensures.does settings before body read (ap is_early at) unplaced (built_stays before e m built) (unasked_there (desk_of e before).phase m (ap is_there at) none) (asked_none settings before e m settled (ap is_served at)) first settled st ds)
+    (c.in_ok-from_early.ensures.does settings before body read (ap is_early at) unplaced (unasked_goes before e m (unasked_there (desk_of e before).phase m (ap is_there at) none)) (unasked_there (desk_of e before).phase m (ap is_there at) none) (asked_none settings before e m settled (ap is_served at)) first settled st ds)

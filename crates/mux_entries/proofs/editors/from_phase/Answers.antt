@@ -8,7 +8,7 @@ use Rattle.group_words.specs.Houses.{is_doubled, places}
 use Rattle.rpc_message.specs.Message.{message_of}
 use Rattle.mux_starts.specs.mux_tables.specs.Documents.{AllStand}
 use Rattle.mux_entries.proofs.EditorAsks.{asked_none}
-use Rattle.mux_entries.proofs.EditorBuilt.{built_stays, unasked_there}
+use Rattle.mux_entries.proofs.EditorBuilt.{unasked_goes, unasked_there}
 use Rattle.mux_entries.proofs.EditorRows.{closed_one, done_alike, done_quietly, read_well, served_one, taken}
 use Rattle.mux_entries.proofs.editors.from_phase.Goals as goal
 
@@ -24,7 +24,7 @@ returns-in_ok-from_early-in-Waiting-clause-does c = λ settings before body read
     let at = sym (c.phase.ensures settings before st) ∙ c.in-Waiting.is in
     let unplaced : places (desk_of e before).phase m ≡ false = ap (λ p. places p m) at in
     done_alike (λ k events. AllStand settings k events) (taken settings before e body Waiting at (read_well c.args.message.now body read) (ap (λ p. is_begun p && is_doubled before e m) (sym at) ∙ single) (ap (λ p. is_there p && asks_lspmux m) (sym at) ∙ none))
-    (c.in_ok-from_early-in-Waiting.ensures.does settings before body read (ap is_early at) unplaced (built_stays before e m built) (unasked_there (desk_of e before).phase m (ap is_there at) none) (asked_none settings before e m settled (ap is_served at)) first settled st ds)
+    (c.in_ok-from_early-in-Waiting.ensures.does settings before body read (ap is_early at) unplaced (unasked_goes before e m (unasked_there (desk_of e before).phase m (ap is_there at) none)) (unasked_there (desk_of e before).phase m (ap is_there at) none) (asked_none settings before e m settled (ap is_served at)) first settled st ds)
 
 pub returns-in_ok-from_served-in-Answered-clause-does : goal.returns-in_ok-from_served-in-Answered-clause-does
 returns-in_ok-from_served-in-Answered-clause-does c = λ settings before body read servers default first known settled fits built single none st ds.
@@ -37,7 +37,7 @@ returns-in_ok-from_down-in-Down-clause-does c = λ settings before body read ser
     let m = message_of body in
     let at = sym (c.phase.ensures settings before st) ∙ c.in-Down.is in
     done_alike (λ k events. AllStand settings k events) (taken settings before e body Down at (read_well c.args.message.now body read) (ap (λ p. is_begun p && is_doubled before e m) (sym at) ∙ single) (ap (λ p. is_there p && asks_lspmux m) (sym at) ∙ none))
-    (c.in_ok-from_down-in-Down.ensures.does settings before body read at (built_stays before e m built) (asked_none settings before e m settled (ap is_served at)) first settled st ds)
+    (c.in_ok-from_down-in-Down.ensures.does settings before body read at (unasked_goes before e m (unasked_there (desk_of e before).phase m (ap is_there at) none)) (asked_none settings before e m settled (ap is_served at)) first settled st ds)
 
 pub returns-in-Closed-clause-does : goal.returns-in-Closed-clause-does
 returns-in-Closed-clause-does c = λ settings before body read servers default first known settled fits built single none st ds.

@@ -1,16 +1,8 @@
 -- An editor joined.
-use Rattle.std.proofs.Common.{◌≡◌, refl, ap, sym, subst, ◌∙◌}
-use Rattle.event_model.specs.declared.phase.Phase.TheVariants.{New}
-use Rattle.event_model.specs.Event.{heard, with_cause}
-use Rattle.event_model.specs.Phases.{desk_of, is_served}
-use Rattle.event_model.proofs.Turns.{does_false, does_nothing, does_true}
-use Rattle.group_rows.specs.Rows.{row_of}
-use Rattle.group_rows.specs.StopRows.{joined_row, stopped}
+use Rattle.std.proofs.Common.{sym, ◌∙◌}
+use Rattle.event_model.specs.Event.{with_cause}
 use Rattle.mux_history.specs.declared.cause.Cause.TheVariants.{Joined}
-use Rattle.mux_starts.specs.mux_tables.specs.Documents.{AllStand, nothing_owed}
-use Rattle.mux_starts.specs.mux_tables.proofs.DocumentOwed.{all_does}
-use Rattle.mux_starts.specs.mux_tables.proofs.Halted.{stopped_more}
-use Rattle.mux_editors.proofs.Turns.{whole_entry}
+use Rattle.mux_starts.specs.mux_tables.specs.Documents.{nothing_owed}
 use Rattle.mux_entries.proofs.Joining.{closes_joined, joins}
 use Rattle.mux_entries.proofs.editors.joined.Goals as goal
 

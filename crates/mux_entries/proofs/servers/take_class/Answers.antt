@@ -1,8 +1,6 @@
 -- A request of a start that is ready, by its class.
-use Rattle.std.proofs.Common.{◌≡◌, ap, sym, ◌∙◌}
+use Rattle.std.proofs.Common.{ap, sym, ◌∙◌}
 use Rattle.event_model.proofs.Turns.{alike}
-use Rattle.lsp_method.specs.Class.{class_of}
-use Rattle.lsp_method.specs.declared.variants.Origin.TheVariants.{Server}
 use Rattle.mux_starts.specs.group_facts.specs.Built.{built_asking}
 use Rattle.group_rows.specs.AskRows.{asking_row}
 use Rattle.group_rows.specs.Asks.{goes_to_one, may_wait}

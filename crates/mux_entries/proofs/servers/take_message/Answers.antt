@@ -2,9 +2,8 @@
 use Rattle.std.proofs.Common.{sym, ◌∙◌}
 use Rattle.event_model.specs.Stages.{life_of}
 use Rattle.event_model.proofs.Places.{item_at}
-use Rattle.mux_starts.specs.group_facts.specs.Built.{built_from_server}
 use Rattle.rpc_message.specs.Message.{message_of}
-use Rattle.mux_starts.specs.mux_tables.specs.Documents.{AllStand, nothing_owed}
+use Rattle.mux_starts.specs.mux_tables.specs.Documents.{AllStand}
 use Rattle.mux_entries.proofs.EditorRows.{done_alike, done_quietly}
 use Rattle.mux_entries.proofs.Said.{built_elsewhere, read_well, stage_here, stopped_row}
 use Rattle.mux_entries.proofs.servers.take_message.Goals as goal

@@ -1,5 +1,5 @@
 -- Another message of a start that gave no result yet.
-use Rattle.std.proofs.Common.{ap, sym, ◌∙◌}
+use Rattle.std.proofs.Common.{ap, ◌∙◌}
 use Rattle.std.specs.Prelude.{Some}
 use Rattle.event_model.specs.Stages.{life_of, is_ready}
 use Rattle.event_model.proofs.Places.{item_at}

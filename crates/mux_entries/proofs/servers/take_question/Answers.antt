@@ -1,7 +1,7 @@
 -- A request of a start that is ready.
-use Rattle.std.proofs.Common.{◌≡◌, false, true, ap, refl, sym, subst, ◌∙◌}
+use Rattle.std.proofs.Common.{false, ap, refl, sym, subst, ◌∙◌}
 use Rattle.std.specs.Prelude.{Some}
-use Rattle.event_model.proofs.Turns.{alike, alike_then}
+use Rattle.event_model.proofs.Turns.{alike_then}
 use Rattle.lsp_method.specs.Class.{class_of}
 use Rattle.lsp_method.specs.declared.variants.Origin.TheVariants.{Server}
 use Rattle.rpc_message.specs.ValueTexts.{IsIdText}

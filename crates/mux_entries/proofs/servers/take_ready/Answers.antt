@@ -1,5 +1,5 @@
 -- A message of a start that is ready.
-use Rattle.std.proofs.Common.{ap, sym, ◌∙◌}
+use Rattle.std.proofs.Common.{ap, ◌∙◌}
 use Rattle.std.specs.Prelude.{Some}
 use Rattle.event_model.proofs.Places.{item_at}
 use Rattle.rpc_message.specs.Message.{message_of, notification, request}

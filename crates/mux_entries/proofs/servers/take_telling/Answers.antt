@@ -1,5 +1,5 @@
 -- A notification of a start that is ready.
-use Rattle.std.proofs.Common.{◌≡◌, ap, sym, ◌∙◌}
+use Rattle.std.proofs.Common.{ap, sym, ◌∙◌}
 use Rattle.event_model.proofs.Turns.{alike}
 use Rattle.mux_starts.specs.group_facts.specs.Built.{built_telling}
 use Rattle.group_rows.specs.AskRows.{notified_row}
