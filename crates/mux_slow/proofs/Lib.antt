@@ -1,3 +1,4 @@
 pub mod Told
 pub mod Closing
+pub mod Quick
 pub mod Slow

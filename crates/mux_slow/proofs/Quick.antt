@@ -9,7 +9,8 @@ use Rattle.mux_history.specs.declared.out.Out.{Out}
 use Rattle.mux_history.specs.declared.out.Out.TheVariants.{ToEditor, ToServer, Spawn, CloseEditor, EndServer}
 use Rattle.rpc_message.specs.Message.{message_of}
 use Rattle.event_model.specs.Event.{Event, behind, heard, said, with_cause}
-use Rattle.event_model.specs.Phases.{Desk, backlog_behind, backlog_of, desk_of, editors_of, is_there}
+use Rattle.event_model.specs.declared.phase.Phase.TheVariants.{New, Gone}
+use Rattle.event_model.specs.Phases.{Desk, backlog_behind, backlog_of, desk_behind, desk_hears, desk_of, editors_of, is_there}
 use Rattle.event_model.specs.Row.{each, outs}
 use Rattle.event_model.specs.Settings.{Settings}
 use Rattle.event_model.proofs.Frames.{never, one_more}
@@ -59,3 +60,55 @@ module _ (settings : Settings) where
   slow_before k events xs h slow =
       let p = and_parts (is_there (desk_of k (behind events xs)).phase) (nat_lt settings.limits.backlog (backlog_of k (behind events xs))) slow in
       both_on (is_there (desk_of k events).phase) (nat_lt settings.limits.backlog (backlog_of k events)) (there_outs k events xs p.0) (ap (nat_lt settings.limits.backlog) (sym (else_bytes k events xs h)) ∙ p.1)
+
+  module _ (before : List Event) (e : ℕ) where
+    -- a cause makes no editor slow but one that joins
+    slow_caused : (cause : Cause) → ((n : ℕ) → cause ≡ Joined n → backlog_of n before ≡ 0) → is_slow settings e (with_cause before cause) ≡ true → is_slow settings e before ≡ true
+    slow_caused cause fresh slow = by cause fresh p.0 p.1
+      where
+        p : (is_there (desk_of e (with_cause before cause)).phase ≡ true) × (nat_lt settings.limits.backlog (backlog_of e (with_cause before cause)) ≡ true)
+        p = and_parts (is_there (desk_of e (with_cause before cause)).phase) (nat_lt settings.limits.backlog (backlog_of e (with_cause before cause))) slow
+
+        desk : (event : Event) → is_there (desk_of e (before ++ event ∷ [])).phase ≡ true → is_there (desk_behind e (desk_of e before) event).phase ≡ true
+        desk event there = sym (ap (λ (d : Desk). is_there d.phase) (desk_more e before event)) ∙ there
+
+        bytes : (event : Event) → nat_lt settings.limits.backlog (backlog_of e (before ++ event ∷ [])) ≡ true → nat_lt settings.limits.backlog (backlog_behind e (backlog_of e before) event) ≡ true
+        bytes event over = sym (ap (nat_lt settings.limits.backlog) (one_more (backlog_behind e) _ _ before event refl)) ∙ over
+
+        on : is_there (desk_of e before).phase ≡ true → nat_lt settings.limits.backlog (backlog_of e before) ≡ true → is_slow settings e before ≡ true
+        on there over = both_on (is_there (desk_of e before).phase) (nat_lt settings.limits.backlog (backlog_of e before)) there over
+
+        by : (cause : Cause) → ((n : ℕ) → cause ≡ Joined n → backlog_of n before ≡ 0) → is_there (desk_of e (with_cause before cause)).phase ≡ true → nat_lt settings.limits.backlog (backlog_of e (with_cause before cause)) ≡ true → is_slow settings e before ≡ true
+        by (Joined n) fresh there over = go (nat_eq n e) refl (desk (heard (Joined n)) there)
+          where
+            go : (b : Bool) → nat_eq n e ≡ b → is_there (if b then record { phase = New; initialize = (desk_of e before).initialize } else desk_of e before).phase ≡ true → is_slow settings e before ≡ true
+            go true same h = absurd (let none : backlog_of e before ≡ 0 = ap (λ k. backlog_of k before) (sym (number_same n e same)) ∙ fresh n refl in let more : nat_lt settings.limits.backlog (backlog_of e before) ≡ true = bytes (heard (Joined n)) over in let low : settings.limits.backlog < backlog_of e before = grind (arith, nat_tests) in omega (arith, none, low))
+            go false other h = on h (bytes (heard (Joined n)) over)
+        by (FromEditor n body) fresh there over = go (nat_eq n e) (desk (heard (FromEditor n body)) there)
+          where
+            go : (b : Bool) → is_there (if b then desk_hears (desk_of e before).phase (desk_of e before).initialize body (message_of body) else desk_of e before).phase ≡ true → is_slow settings e before ≡ true
+            go true h = on (there_heard (desk_of e before).phase (desk_of e before).initialize body (message_of body) h) (bytes (heard (FromEditor n body)) over)
+            go false h = on h (bytes (heard (FromEditor n body)) over)
+        by (EditorGone n why) fresh there over = go (nat_eq n e) (desk (heard (EditorGone n why)) there) (bytes (heard (EditorGone n why)) over)
+          where
+            go : (b : Bool) → is_there (if b then record { phase = Gone; initialize = (desk_of e before).initialize } else desk_of e before).phase ≡ true → nat_lt settings.limits.backlog (if b then 0 else backlog_of e before) ≡ true → is_slow settings e before ≡ true
+            go true h more = never (sym h)
+            go false h more = on h more
+        by (Drained n k) fresh there over = go (nat_eq n e) (bytes (heard (Drained n k)) over)
+          where
+            go : (b : Bool) → nat_lt settings.limits.backlog (if b then backlog_of e before - k else backlog_of e before) ≡ true → is_slow settings e before ≡ true
+            go true more = on (desk (heard (Drained n k)) there) (let low : settings.limits.backlog < backlog_of e before - k = grind (arith, nat_tests) in let high : settings.limits.backlog < backlog_of e before = omega (arith, low) in grind (arith, nat_tests))
+            go false more = on (desk (heard (Drained n k)) there) more
+        by (Started s) fresh there over = on (desk (heard (Started s)) there) (bytes (heard (Started s)) over)
+        by (StartFailed s) fresh there over = on (desk (heard (StartFailed s)) there) (bytes (heard (StartFailed s)) over)
+        by (FromServer s body) fresh there over = on (desk (heard (FromServer s body)) there) (bytes (heard (FromServer s body)) over)
+        by (ServerGone s) fresh there over = on (desk (heard (ServerGone s)) there) (bytes (heard (ServerGone s)) over)
+        by (Tick t) fresh there over = on (desk (heard (Tick t)) there) (bytes (heard (Tick t)) over)
+
+  -- behind the outs of a row
+  pub all_told : (before : List Event) (cause : Cause) (xs : List Out) → Quick settings before → ((n : ℕ) → cause ≡ Joined n → backlog_of n before ≡ 0) → AllTold settings (with_cause before cause) xs
+  all_told before cause xs quick fresh e slow = go (list_any (nat_eq e) (told_in xs)) refl
+    where
+      go : (b : Bool) → list_any (nat_eq e) (told_in xs) ≡ b → b ≡ true
+      go true told = refl
+      go false off = absurd (quick e (slow_caused before e cause fresh (slow_before e (with_cause before cause) xs (else_of e xs off) slow)))
