@@ -1,4 +1,4 @@
-pub mod Told
+pub mod Among
 pub mod Closing
 pub mod Quick
-pub mod Slow
+pub mod Sparse

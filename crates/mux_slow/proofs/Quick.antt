@@ -21,7 +21,7 @@ use Rattle.group_facts.specs.SlowRows.{close_slow, is_slow, slow_row}
 use Rattle.group_facts.proofs.StopEntry.{there_heard, there_outs}
 use Rattle.mux_slow.specs.Told.{AllTold, Quick, told_in}
 use Rattle.mux_slow.proofs.Closing.{next, quick_now, slow_falls}
-use Rattle.mux_slow.proofs.Told.{AllElse, else_of}
+use Rattle.mux_slow.proofs.Among.{AllElse, else_of}
 
 module _ (settings : Settings) where
   each_quick : (n low : ℕ) (place : List Event) → ((e : ℕ) → is_slow settings e place ≡ true → (low ≤ e) × (e < low + n)) → Quick settings (behind place (outs (each (close_slow settings) (range_with_len low n)) place))

@@ -10,7 +10,7 @@ use Rattle.event_model.proofs.Frames.{never}
 use Rattle.mux_facts.proofs.Keeps.{behind_nothing}
 use Rattle.group_facts.specs.SlowRows.{close_slow, is_slow, slow_row}
 use Rattle.mux_slow.proofs.Closing.{next, quick_now, quick_stays, slow_falls}
-use Rattle.mux_slow.proofs.Told.{Rises, below}
+use Rattle.mux_slow.proofs.Among.{Rises, below}
 
 module _ (settings : Settings) where
   none_slow : (es : List ℕ) (place : List Event) → AllByRecursion (λ e. is_slow settings e place ≡ false) es → outs (each (close_slow settings) es) place ≡ []
