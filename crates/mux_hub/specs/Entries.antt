@@ -7,7 +7,7 @@ use Rattle.mux_history.specs.declared.out.Out.{Out}
 use Rattle.event_model.specs.Event.{events_of}
 use Rattle.event_model.specs.Settings.{Settings}
 use Rattle.rpc_message.specs.Message.{message_of}
-use Rattle.group_sessions.specs.group_words.specs.Houses.{stops}
+use Rattle.group_words.specs.Houses.{stops}
 use Rattle.group_sessions.specs.group_rows.specs.StopRows.{stopped}
 use Rattle.group_sessions.specs.group_facts.specs.SlowRows.{entry_outs}
 

@@ -29,8 +29,7 @@ abbrev pub Tells : Option (List Entry) → List Entry → Type 0
 Tells None history = Unit {0}
 Tells (Some entries) history = entries ≡ history
 
--- the tables owe nothing of documents, the counts are those of what is on its way, no editor is slow, and the servers are those of the
--- starts
+-- the tables owe nothing of documents, the counts are those of what is on its way, no editor is slow, and the servers those of the starts
 pub record TablesStand (settings : Settings) (kept : Tables) (counts places : List ℕ) (events : List Event) : Type 0 where
   pub tables : Stands settings kept events
   pub documents : DocumentsStand settings nothing_owed kept events

@@ -27,8 +27,8 @@ use mux_history::{Cause, Entry, Journal, Outs, StepFault as CoreFault, Steps};
 use std::alloc::Global;
 use std::marker::Model;
 
-// The outs of a cause, and behind them those of the editors that are slow there; and the tables and the counts behind all of them. Where
-// the answer is an error these stand for nothing any more.
+// The outs of a cause, behind them those of editors that are slow there, and the tables and the counts behind all of these. Where the
+// answer is an error they stand for nothing any more.
 fn turn(
     alloc: Global,
     servers: &[Server],
@@ -47,7 +47,8 @@ fn turn(
     ensures same_limit { tables.new.requests ≡ tables.old.requests }
     ensures same_versions { tables.new.versions ≡ tables.old.versions }
     ensures takes { (settings : Settings) (before : List Event) → settings.servers ≡ servers.now → settings.default ≡ default → settings.limits.grace ≡ grace
-        → settings.limits.backlog ≡ backlog → Known settings before → Settled settings before → fits_behind before cause.now ≡ true → built_behind settings before cause.now ≡ true
+        → settings.limits.backlog ≡ backlog → Known settings before → Settled settings before
+        → fits_behind before cause.now ≡ true → built_behind settings before cause.now ≡ true
         → TablesStand settings tables.old backlogs.old starts.old.items before
         → IfOk result (λ outs. (outs ≡ entry_outs settings before cause.now)
         × TablesStand settings tables.new backlogs.new starts.new.items (behind (with_cause before cause.now) outs)) }
