@@ -1,10 +1,10 @@
 -- No editor is slow behind an entry: those that were leave behind its row.
-use Rattle.std.proofs.Common.{◌≡◌, ℕ, ◌<◌, ◌≤◌, Bool, true, false, List, [], ◌++◌, length, nat_lt, refl, ap, sym, subst, ◌∙◌, ltb-false, ltb-true}
+use Rattle.std.proofs.Common.{◌≡◌, ℕ, ◌<◌, ◌≤◌, Bool, true, false, List, [], ◌++◌, length, nat_lt, refl, ap, sym, subst, ◌∙◌, arith, ltb-false, ltb-true}
 use Rattle.std.proofs.lemmas.Option.{slice_get_past}
 use Rattle.mux_history.specs.declared.cause.Cause.{Cause}
 use Rattle.mux_history.specs.declared.cause.Cause.TheVariants.{Joined}
 use Rattle.mux_history.specs.declared.out.Out.{Out}
-use Rattle.event_model.specs.Event.{Event, behind, with_cause}
+use Rattle.event_model.specs.Event.{Event, behind}
 use Rattle.event_model.specs.Phases.{backlog_of, desk_of, editors_of, is_there}
 use Rattle.event_model.specs.Row.{outs}
 use Rattle.event_model.specs.Settings.{Settings}

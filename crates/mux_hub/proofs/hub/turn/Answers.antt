@@ -12,14 +12,13 @@ pub returns-clause-takes : goal.returns-clause-takes
 returns-clause-takes c = λ settings before s d g m k n f b h.
     let base = with_cause before c.args.cause.now in
     let t = c.in_ok-outs.ensures.takes settings before s d g k n f b h.tables h.documents in
-    let told = all_told settings before c.args.cause.now _ h.quick (joins_clear _ before c.args.cause.now h.backlogs f) in
-    let w = c.in_ok-leave_slow.ensures.slow settings base m told t.1.0 t.1.1 (c.in_ok-take.ensures before h.backlogs) in (
+    let w = c.in_ok-leave_slow.ensures.slow settings base m (all_told settings before c.args.cause.now _ h.quick (joins_clear _ before c.args.cause.now h.backlogs f)) t.1.0 t.1.1 (c.in_ok-take.ensures before h.backlogs) in (
       w.0 ∙ ap (λ xs. xs ++ outs (slow_row settings) (behind base xs)) t.0,
       record {
         tables = w.1.0.0;
         documents = w.1.0.1;
         backlogs = w.1.1;
         quick = quick_behind settings _ base _ _ t.1.0 w.0;
-        servers = c.in_ok-note_spawns.ensures settings _ d w.1.0.0 (h.servers ∙ cause_spawns_none settings before c.args.cause.now);
+        servers = c.in_ok-note_spawns.ensures settings base d w.1.0.0 (h.servers ∙ cause_spawns_none settings before c.args.cause.now);
       },
     )
