@@ -17,21 +17,12 @@ use Rattle.mux_causes.specs.Backlogs.{BacklogsStand, bytes_in}
 use Rattle.mux_causes.specs.mux_tables.specs.declared.tables.Tables.{Tables}
 use Rattle.mux_causes.specs.mux_tables.specs.Stands.{Stands, phase_in}
 use Rattle.mux_slow.specs.Told.{Quick}
+use Rattle.mux_slow.proofs.Joined.{there_joined}
 use Rattle.mux_slow.proofs.Quick.{quick_rests}
 
 -- before everything none is there
 pub none_slow : (settings : Settings) → Quick settings []
 none_slow settings e slow = never (sym slow)
-
--- one that is there joined
-pub there_joined : (settings : Settings) (kept : Tables) (place : List Event) → Stands settings kept place → (e : ℕ) → is_there (desk_of e place).phase ≡ true → e < editors_of place
-there_joined settings kept place st e there = go (nat_lt e (editors_of place)) refl
-  where
-    go : (b : Bool) → nat_lt e (editors_of place) ≡ b → e < editors_of place
-    go true inside = ltb-true e (editors_of place) inside
-    go false past =
-        let beyond : length kept.editors ≤ e = subst (λ n. n ≤ e) st.house.editors.count (ltb-false e (editors_of place) past) in
-        never (sym there ∙ (ap is_there (st.house.editors.phase e) ∙ ap (λ o. is_there (phase_in o)) (slice_get_past kept.editors e beyond)))
 
 -- to one that joins nothing was sent
 pub joins_clear : (counts : List ℕ) (before : List Event) (cause : Cause) → BacklogsStand counts before → fits_behind before cause ≡ true → (n : ℕ) → cause ≡ Joined n → backlog_of n before ≡ 0

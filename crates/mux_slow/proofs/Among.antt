@@ -20,12 +20,12 @@ Rises low (e ∷ es) = (low ≤ e) × Rises (e + 1) es
 
 with_rises : (low n : ℕ) (es : List ℕ) → low ≤ n → Rises low es → Rises low (insert_key nat_cmp es n)
 with_rises low n [] h r = (h, tt)
-with_rises low n (e ∷ es) h r = go (nat_cmp n e) (ranks n e)
+with_rises low n (e ∷ es) h r = go (nat_cmp n e) (ranks n e) (λ above. with_rises (e + 1) n es above r.1)
   where
-    go : (o : Ordering) → MatchOrdering o (n < e) (n ≡ e) (e < n) → Rises low (match_ordering o (n ∷ e ∷ es) (e ∷ es) (e ∷ insert_key nat_cmp es n))
-    go Less k = (h, (omega (arith, k), r.1))
-    go Equal k = r
-    go Greater k = (r.0, with_rises (e + 1) n es (omega (arith, k)) r.1)
+    go : (o : Ordering) → MatchOrdering o (n < e) (n ≡ e) (e < n) → (e + 1 ≤ n → Rises (e + 1) (insert_key nat_cmp es n)) → Rises low (match_ordering o (n ∷ e ∷ es) (e ∷ es) (e ∷ insert_key nat_cmp es n))
+    go Less k rest = (h, (omega (arith, k), r.1))
+    go Equal k rest = r
+    go Greater k rest = (r.0, rest (omega (arith, k)))
 
 told_rises : (es : List ℕ) (outs : List Out) → Rises 0 es → Rises 0 (fold told_next es outs)
 told_rises es [] r = r
@@ -51,13 +51,13 @@ or_parts false b h = (refl, h)
 -- which ones are among them
 with_any : (k n : ℕ) (es : List ℕ) → list_any (nat_eq k) (insert_key nat_cmp es n) ≡ false → (nat_eq k n ≡ false) × (list_any (nat_eq k) es ≡ false)
 with_any k n [] h = or_parts (nat_eq k n) false h
-with_any k n (e ∷ es) h = go (nat_cmp n e) (ranks n e) h
+with_any k n (e ∷ es) h = go (nat_cmp n e) (ranks n e) (λ off. with_any k n es off) h
   where
-    go : (o : Ordering) → MatchOrdering o (n < e) (n ≡ e) (e < n) → list_any (nat_eq k) (match_ordering o (n ∷ e ∷ es) (e ∷ es) (e ∷ insert_key nat_cmp es n)) ≡ false → (nat_eq k n ≡ false) × (list_any (nat_eq k) (e ∷ es) ≡ false)
-    go Less below h = or_parts (nat_eq k n) (list_any (nat_eq k) (e ∷ es)) h
-    go Equal same h = (ap (nat_eq k) same ∙ (or_parts (nat_eq k e) (list_any (nat_eq k) es) h).0, h)
-    go Greater above h = let p = or_parts (nat_eq k e) (list_any (nat_eq k) (insert_key nat_cmp es n)) h in
-        let q = with_any k n es p.1 in
+    go : (o : Ordering) → MatchOrdering o (n < e) (n ≡ e) (e < n) → (list_any (nat_eq k) (insert_key nat_cmp es n) ≡ false → (nat_eq k n ≡ false) × (list_any (nat_eq k) es ≡ false)) → list_any (nat_eq k) (match_ordering o (n ∷ e ∷ es) (e ∷ es) (e ∷ insert_key nat_cmp es n)) ≡ false → (nat_eq k n ≡ false) × (list_any (nat_eq k) (e ∷ es) ≡ false)
+    go Less below rest h = or_parts (nat_eq k n) (list_any (nat_eq k) (e ∷ es)) h
+    go Equal same rest h = (ap (nat_eq k) same ∙ (or_parts (nat_eq k e) (list_any (nat_eq k) es) h).0, h)
+    go Greater above rest h = let p = or_parts (nat_eq k e) (list_any (nat_eq k) (insert_key nat_cmp es n)) h in
+        let q = rest p.1 in
         (q.0, both (nat_eq k e) (list_any (nat_eq k) es) p.0 q.1)
       where
         both : (a b : Bool) → a ≡ false → b ≡ false → (a || b) ≡ false

@@ -5,7 +5,7 @@ use Rattle.std.proofs.lemmas.Bool.{and_parts}
 use Rattle.event_model.specs.declared.phase.Phase.{Phase}
 use Rattle.event_model.specs.declared.phase.Phase.TheVariants.{Gone}
 use Rattle.event_model.specs.Event.{Event, behind, said}
-use Rattle.event_model.specs.Phases.{Desk, backlog_behind, backlog_of, desk_of, is_there, phase_closed}
+use Rattle.event_model.specs.Phases.{Desk, backlog_behind, backlog_of, desk_of, editors_behind, is_there, phase_closed}
 use Rattle.event_model.specs.Row.{choose, each, nothing, outs, send, ◌⨾◌}
 use Rattle.event_model.specs.Settings.{Settings}
 use Rattle.event_model.proofs.Frames.{never, one_more}
@@ -23,12 +23,12 @@ use Rattle.mux_causes.proofs.Counting.{count_kept}
 
 -- an out that sends no editor anything
 abbrev pub IsCalm : Out → Type 0
-IsCalm out = (k n : ℕ) → backlog_behind k n (said out) ≡ n
+IsCalm out = ((k n : ℕ) → backlog_behind k n (said out) ≡ n) × ((n : ℕ) → editors_behind n (said out) ≡ n)
 
 pub calm_bytes : (k : ℕ) (events : List Event) (xs : List Out) → AllByRecursion IsCalm xs → backlog_of k (behind events xs) ≡ backlog_of k events
 calm_bytes k events [] h = ap (backlog_of k) (append-nil events)
 calm_bytes k events (x ∷ xs) h = ap (backlog_of k) (sym (append_assoc events (said x ∷ []) (map said xs)))
-    ∙ (calm_bytes k (events ++ said x ∷ []) xs h.1 ∙ (one_more (backlog_behind k) _ _ events (said x) refl ∙ h.0 k (backlog_of k events)))
+    ∙ (calm_bytes k (events ++ said x ∷ []) xs h.1 ∙ (one_more (backlog_behind k) _ _ events (said x) refl ∙ h.0.0 k (backlog_of k events)))
 
 closed_off : (phase : Phase) → is_there (phase_closed phase) ≡ false
 closed_off Gone = refl
@@ -36,7 +36,7 @@ closed_off other = refl
 
 both_on : (a b : Bool) → a ≡ true → b ≡ true → (a && b) ≡ true
 both_on true b h k = k
-both_on false b h k = never h
+both_on false b h k = never (sym h)
 
 first_off : (a b : Bool) → a ≡ false → (a && b) ≡ false
 first_off true b h = never h
@@ -51,7 +51,7 @@ module _ (settings : Settings) where
   close_calm place e = go (is_slow settings e place)
     where
       go : (b : Bool) → AllByRecursion IsCalm (outs (choose b (send (CloseEditor e) ⨾ leave_row settings place e) nothing) place)
-      go true = parting_all settings IsCalm (λ n k m. refl) (λ s body k m. refl) place e
+      go true = parting_all settings IsCalm (λ n. ((λ k m. refl), (λ m. refl))) (λ s body. ((λ k m. refl), (λ m. refl))) place e
       go false = tt
 
   -- none becomes slow
@@ -92,7 +92,7 @@ module _ (settings : Settings) where
   -- behind some of them the counts are those that were before
   pub calm_count : (counts : List ℕ) (events : List Event) (xs : List Out) → AllByRecursion IsCalm xs → BacklogsStand counts events → BacklogsStand counts (behind events xs)
   calm_count counts events [] h s = subst (BacklogsStand counts) (sym (append-nil events)) s
-  calm_count counts events (x ∷ xs) h s = subst (BacklogsStand counts) (append_assoc events (said x ∷ []) (map said xs)) (calm_count counts (events ++ said x ∷ []) xs h.1 (count_kept counts events (said x) (λ n. refl) h.0 s))
+  calm_count counts events (x ∷ xs) h s = subst (BacklogsStand counts) (append_assoc events (said x ∷ []) (map said xs)) (calm_count counts (events ++ said x ∷ []) xs h.1 (count_kept counts events (said x) h.0.1 h.0.0 s))
 
   pub each_count : (counts : List ℕ) (es : List ℕ) (place : List Event) → BacklogsStand counts place → BacklogsStand counts (behind place (outs (each (close_slow settings) es) place))
   each_count counts [] place s = subst (BacklogsStand counts) (sym (append-nil place)) s

@@ -21,11 +21,11 @@ use Rattle.group_facts.specs.SlowRows.{close_slow, is_slow, slow_row}
 use Rattle.group_facts.proofs.StopEntry.{there_heard, there_outs}
 use Rattle.mux_slow.specs.Told.{AllTold, Quick, told_in}
 use Rattle.mux_slow.proofs.Closing.{next, quick_now, slow_falls}
-use Rattle.mux_slow.proofs.Among.{AllElse, else_of}
+use Rattle.mux_slow.proofs.Among.{AllElse, IsElse, else_of}
 
 module _ (settings : Settings) where
   each_quick : (n low : ℕ) (place : List Event) → ((e : ℕ) → is_slow settings e place ≡ true → (low ≤ e) × (e < low + n)) → Quick settings (behind place (outs (each (close_slow settings) (range_with_len low n)) place))
-  each_quick zero low place within e slow = let is = within e (ap (is_slow settings e) (sym (behind_nothing place)) ∙ slow) in let a : low ≤ e = is.0 in let b : e < low + zero = is.1 in omega (arith, a, b)
+  each_quick zero low place within = λ e slow. let is = within e (ap (is_slow settings e) (sym (behind_nothing place)) ∙ slow) in let a : low ≤ e = is.0 in let b : e < low + zero = is.1 in omega (arith, a, b)
   each_quick (suc n) low place within = subst (Quick settings) (sym (behind_both place (outs (close_slow settings low) place) (outs (each (close_slow settings) (range_with_len (low + 1) n)) (next settings place low))))
       (each_quick n (low + 1) (next settings place low) later)
     where
@@ -43,14 +43,14 @@ module _ (settings : Settings) where
 
   both_on : (a b : Bool) → a ≡ true → b ≡ true → (a && b) ≡ true
   both_on true b h k = k
-  both_on false b h k = never h
+  both_on false b h k = never (sym h)
 
   else_bytes : (k : ℕ) (events : List Event) (xs : List Out) → AllElse k xs → backlog_of k (behind events xs) ≡ backlog_of k events
   else_bytes k events [] h = ap (backlog_of k) (append-nil events)
   else_bytes k events (x ∷ xs) h = ap (backlog_of k) (sym (append_assoc events (said x ∷ []) (map said xs))) ∙ (else_bytes k (events ++ said x ∷ []) xs h.1 ∙ one x h.0)
     where
-      one : (x : Out) → AllElse k (x ∷ []) → backlog_of k (events ++ said x ∷ []) ≡ backlog_of k events
-      one (ToEditor e body) h = one_more (backlog_behind k) _ _ events (said (ToEditor e body)) refl ∙ rw h.0 refl
+      one : (x : Out) → IsElse k x → backlog_of k (events ++ said x ∷ []) ≡ backlog_of k events
+      one (ToEditor e body) h = one_more (backlog_behind k) _ _ events (said (ToEditor e body)) refl ∙ rw h refl
       one (ToServer s body) h = one_more (backlog_behind k) _ _ events (said (ToServer s body)) refl
       one (Spawn s g) h = one_more (backlog_behind k) _ _ events (said (Spawn s g)) refl
       one (CloseEditor e) h = one_more (backlog_behind k) _ _ events (said (CloseEditor e)) refl
@@ -81,7 +81,7 @@ module _ (settings : Settings) where
         by : (cause : Cause) → ((n : ℕ) → cause ≡ Joined n → backlog_of n before ≡ 0) → is_there (desk_of e (with_cause before cause)).phase ≡ true → nat_lt settings.limits.backlog (backlog_of e (with_cause before cause)) ≡ true → is_slow settings e before ≡ true
         by (Joined n) fresh there over = go (nat_eq n e) refl (desk (heard (Joined n)) there)
           where
-            go : (b : Bool) → nat_eq n e ≡ b → is_there (if b then record { phase = New; initialize = (desk_of e before).initialize } else desk_of e before).phase ≡ true → is_slow settings e before ≡ true
+            go : (b : Bool) → nat_eq n e ≡ b → is_there (if b then record { phase = New; initialize = [] } else desk_of e before).phase ≡ true → is_slow settings e before ≡ true
             go true same h = absurd (let none : backlog_of e before ≡ 0 = ap (λ k. backlog_of k before) (sym (number_same n e same)) ∙ fresh n refl in let more : nat_lt settings.limits.backlog (backlog_of e before) ≡ true = bytes (heard (Joined n)) over in let low : settings.limits.backlog < backlog_of e before = grind (arith, nat_tests) in omega (arith, none, low))
             go false other h = on h (bytes (heard (Joined n)) over)
         by (FromEditor n body) fresh there over = go (nat_eq n e) (desk (heard (FromEditor n body)) there)

@@ -38,14 +38,17 @@ module _ (settings : Settings) where
       → outs (each (close_slow settings) es) place ≡ outs (each (close_slow settings) (range_with_len low n)) place
   sparse zero low es place rise told bound = none_slow es place (beyond low es place rise (λ e slow. let is : e < low + zero = bound e slow in omega (arith, is)))
   sparse (suc n) low [] place rise told bound = sym (none_slow (range_with_len low (suc n)) place (all_off (range_with_len low (suc n)) place (λ e slow. never (sym (told e slow)))))
-  sparse (suc n) low (e ∷ es) place rise told bound = go (nat_eq low e) refl
+  sparse (suc n) low (e ∷ es) place rise told bound = go (nat_eq low e) refl (sparse n (low + 1) es (next settings place low)) (sparse n (low + 1) (e ∷ es) place)
     where
       bound_next : (k : ℕ) → is_slow settings k (next settings place low) ≡ true → k < low + 1 + n
       bound_next k slow = let is : k < low + suc n = bound k (slow_falls settings place low k slow) in omega (arith, is)
 
-      go : (b : Bool) → nat_eq low e ≡ b → outs (each (close_slow settings) (e ∷ es)) place ≡ outs (each (close_slow settings) (range_with_len low (suc n))) place
-      go true same = subst (λ k. outs (each (close_slow settings) (k ∷ es)) place ≡ outs (each (close_slow settings) (range_with_len low (suc n))) place) is
-          (ap (λ xs. outs (close_slow settings low) place ++ xs) (sparse n (low + 1) es (next settings place low) (subst (λ k. Rises (k + 1) es) (sym is) rise.1) told_next bound_next))
+      Rest : List ℕ → List Event → Type 0
+      Rest ks z = Rises (low + 1) ks → ((k : ℕ) → is_slow settings k z ≡ true → list_any (nat_eq k) ks ≡ true) → ((k : ℕ) → is_slow settings k z ≡ true → k < low + 1 + n) → outs (each (close_slow settings) ks) z ≡ outs (each (close_slow settings) (range_with_len (low + 1) n)) z
+
+      go : (b : Bool) → nat_eq low e ≡ b → Rest es (next settings place low) → Rest (e ∷ es) place → outs (each (close_slow settings) (e ∷ es)) place ≡ outs (each (close_slow settings) (range_with_len low (suc n))) place
+      go true same both rest = subst (λ k. outs (each (close_slow settings) (k ∷ es)) place ≡ outs (each (close_slow settings) (range_with_len low (suc n))) place) is
+          (ap (λ xs. outs (close_slow settings low) place ++ xs) (both (subst (λ k. Rises (k + 1) es) (sym is) rise.1) told_next bound_next))
         where
           is : low ≡ e
           is = grind (arith, nat_tests)
@@ -56,8 +59,8 @@ module _ (settings : Settings) where
               by : (b : Bool) → nat_eq k e ≡ b → (b || list_any (nat_eq k) es) ≡ true → list_any (nat_eq k) es ≡ true
               by true here h = never (sym (subst (λ z. is_slow settings z (next settings place low) ≡ true) (let at : k ≡ e = grind (arith, nat_tests) in at ∙ sym is) slow) ∙ quick_now settings place low)
               by false there h = h
-      go false other =
-          sparse n (low + 1) (e ∷ es) place (let first : low ≤ e = rise.0 in (omega (arith, first, apart), rise.1)) told (λ k slow. by_bound k slow)
+      go false other both rest =
+          rest (let first : low ≤ e = rise.0 in (omega (arith, first, apart), rise.1)) told (λ k slow. by_bound k slow)
           ∙ sym (ap (λ xs. xs ++ outs (each (close_slow settings) (range_with_len (low + 1) n)) (behind place xs)) (quick_stays settings place low quick) ∙ ap (outs (each (close_slow settings) (range_with_len (low + 1) n))) (behind_nothing place))
         where
           apart : low ≡ e → ⊥

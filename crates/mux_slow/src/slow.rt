@@ -3,7 +3,8 @@ ghost use Rattle.std.specs.Prelude.{◌≡◌, ◌<◌, ◌++◌, ℕ, List, tru
 ghost use Rattle.event_model.specs.Does.{Does};
 ghost use Rattle.event_model.specs.Event.{Event, behind};
 ghost use Rattle.event_model.specs.Phases.{backlog_of};
-ghost use Rattle.event_model.specs.Row.{each, outs};
+ghost use Rattle.event_model.specs.Row as rows;
+ghost use Rattle.event_model.specs.Row.{each};
 ghost use Rattle.event_model.specs.Settings.{Settings};
 ghost use Rattle.group_facts.specs.SlowRows.{close_slow, is_slow, slow_row};
 ghost use Rattle.group_rows.specs.Rows.{closing_row};
@@ -113,7 +114,7 @@ pub fn leave_slow(
     ensures slow { (settings : Settings) (base : List Event) → settings.limits.backlog ≡ limit → AllTold settings base outs.old
         → Stands settings tables.old (behind base outs.old) → DocumentsStand settings nothing_owed tables.old (behind base outs.old)
         → BacklogsStand backlogs.now (behind base outs.old)
-        → OnOk result ((outs.new ≡ outs.old ++ outs (slow_row settings) (behind base outs.old))
+        → OnOk result ((outs.new ≡ outs.old ++ rows.outs (slow_row settings) (behind base outs.old))
         × (AllStand settings (tables.new, nothing_owed) (behind base outs.new) × BacklogsStand backlogs.now (behind base outs.new))) }
 {
     let told = told_in(alloc, outs)?;
