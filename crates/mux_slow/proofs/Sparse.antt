@@ -64,7 +64,7 @@ module _ (settings : Settings) where
           ∙ sym (ap (λ xs. xs ++ outs (each (close_slow settings) (range_with_len (low + 1) n)) (behind place xs)) (quick_stays settings place low quick) ∙ ap (outs (each (close_slow settings) (range_with_len (low + 1) n))) (behind_nothing place))
         where
           apart : low ≡ e → ⊥
-          apart is = never (sym other ∙ (let same : nat_eq low e ≡ true = grind (arith, nat_tests) in same))
+          apart is = let same : nat_eq low e ≡ true = grind (arith, nat_tests) in never (sym same ∙ other)
 
           above : low < e
           above = let first : low ≤ e = rise.0 in omega (arith, first, apart)
