@@ -25,18 +25,20 @@ use Rattle.mux_facts.proofs.Reasons.{reasons_keep}
 use Rattle.mux_facts.proofs.Words.{number_same}
 use Rattle.group_rows.specs.Asks.{Ask, Asker, Asking, asker_of, asks_of, next_ask, put}
 use Rattle.group_rows.specs.Rows.{outs_of}
+use Rattle.group_facts.specs.SlowRows.{is_slow}
 use Rattle.group_facts.specs.Built.{built_behind}
 use Rattle.group_facts.specs.Facts.{ends_link, is_unready, is_up, leaves, shuts}
 use Rattle.group_facts.specs.Settled.{HasSeat}
-use Rattle.group_facts.specs.Why.{IsAsk, IsResumed, Why, WhyToEditor, answers, asks, passes, recalls, refuses, calls, rejects, resumes, spreads, turns_away, welcomes, progresses, shows, loses}
+use Rattle.group_facts.specs.Why.{IsAsk, IsResumed, Why, WhyToEditor, answers, asks, passes, recalls, refuses, calls, rejects, resumes, spreads, turns_away, welcomes, progresses, shows, loses, quitting}
 use Rattle.group_facts.proofs.Asks.{registering_made, is_question, listed, response_asks_none, resumed_here, resumed_off, taken}
 use Rattle.group_facts.proofs.AskSeats.{MidSeat, asks_more, did_all, took_all}
 use Rattle.group_facts.proofs.AskingRows.{still_runs}
 use Rattle.group_facts.proofs.Facts.{Facts}
-use Rattle.group_facts.proofs.Known.{Here, here_did, here_took}
+use Rattle.group_facts.proofs.Known.{Here, here_did, here_slow, here_took}
 use Rattle.group_facts.proofs.Levels.{Fresh, falls_back, unready_falls}
 use Rattle.group_facts.proofs.Numbers.{spawn_fresh}
 use Rattle.group_facts.proofs.OneStart.{OneStart}
+use Rattle.group_facts.proofs.SlowRow.{parting, parting_why, quit_built}
 use Rattle.group_facts.proofs.Table.{reasons}
 
 abbrev pub AllSeats : Settings → List Event → Type 0
@@ -140,6 +142,11 @@ module _ (settings : Settings) (range : InRange settings) (before : List Event) 
   pub onward_rests : fits_behind before cause ≡ true → (s : ℕ) → is_unready (life_of s before).stage ≡ false → is_unready (life_of s (behind (with_cause before cause) (outs_of settings before cause))).stage ≡ false
   onward_rests fits = (reasons_keep (λ events out. Why settings before cause events out) Onward onward_did (with_cause before cause) (outs_of settings before cause) (reasons settings range before facts cause built).why
       (record { here = here_took settings range before cause fits built facts; begun = λ s h. not_back s before (heard cause) (fresh_cause cause s) h })).begun
+
+-- also where an editor that is slow leaves
+pub onward_slow : (settings : Settings) (range : InRange settings) (place : List Event) → Facts settings place → (e : ℕ) → is_slow settings e place ≡ true → (s : ℕ) → is_unready (life_of s place).stage ≡ false → is_unready (life_of s (behind place (parting settings place e))).stage ≡ false
+onward_slow settings range place facts e slow = (reasons_keep (Why settings place (quitting e)) (Onward settings range place facts (quitting e) (quit_built settings place e)) (onward_did settings range place facts (quitting e) (quit_built settings place e))
+    place (parting settings place e) (parting_why settings range place facts e slow) (record { here = here_slow settings range place e facts; begun = λ s h. h })).begun
 
 module _ (settings : Settings) (range : InRange settings) (before : List Event) (facts : Facts settings before) (one : OneStart before) (seats : AllSeats settings before) (cause : Cause) (built : built_behind settings before cause ≡ true) where
   abbrev Seat : ℕ → Ask → Type 0

@@ -546,7 +546,7 @@ module _ (settings : Settings) where
   count_did events (CloseEditor e) = ap length (groups_more settings events (said (CloseEditor e))) ∙ emptied_same ((house_of settings events).home e) _ _ _ (groups_of settings events)
   count_did events out = counts_stay events (said out) refl
 
-  count_behind : (events : List Event) (xs : List Out) → count (behind events xs) ≡ count events
+  pub count_behind : (events : List Event) (xs : List Out) → count (behind events xs) ≡ count events
   count_behind events [] = ap count (append-nil events)
   count_behind events (x ∷ xs) = ap count (sym (append_assoc events (said x ∷ []) (map said xs))) ∙ count_behind (events ++ said x ∷ []) xs ∙ count_did events x
 

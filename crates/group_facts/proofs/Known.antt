@@ -29,6 +29,7 @@ use Rattle.mux_facts.proofs.Words.{number_same}
 use Rattle.group_words.specs.Houses.{groups_of}
 use Rattle.group_rows.specs.Forwarded.{Forwarding, forwarding_of}
 use Rattle.group_rows.specs.Rows.{outs_of}
+use Rattle.group_facts.specs.SlowRows.{entry_outs, is_slow}
 use Rattle.group_rows.specs.StopRows.{stopped as is_stopped}
 use Rattle.group_rows.proofs.Versions.{meant_heard, meant_more, meant_said}
 use Rattle.group_facts.specs.Built.{built_behind}
@@ -45,11 +46,12 @@ use Rattle.group_facts.proofs.Numbers.{bounded_said, bounded_sent, bounded_took,
 use Rattle.group_facts.proofs.Numbered.{ending_tied, tied_life, tied_rests, tied_said, tied_sent, tied_took}
 use Rattle.group_facts.proofs.Opened.{opened_did, opened_none, opened_took}
 use Rattle.group_facts.proofs.Plain.{plain_did, plain_none, plain_took}
-use Rattle.group_facts.proofs.Quits.{stopped_back}
-use Rattle.group_facts.proofs.StopEntry.{quit_rests}
+use Rattle.group_facts.proofs.Quits.{not_stopped, stopped_back}
+use Rattle.group_facts.proofs.SlowRow.{parting, parting_why, quit_built, quit_turns_none, slow_there, whole_entry}
+use Rattle.group_facts.proofs.StopEntry.{quit_rests, stopped_outs}
 use Rattle.group_facts.proofs.Table.{reasons}
 use Rattle.group_facts.proofs.Waiting.{waiting_closed, waiting_rests, waiting_said, waiting_told, waiting_took}
-use Rattle.group_facts.specs.Why.{Why, WhyEnd, WhyToEditor, is_starting, refused, starting, stopped}
+use Rattle.group_facts.specs.Why.{Why, WhyEnd, WhyToEditor, is_starting, quitting, refused, starting, stopped}
 use Rattle.group_facts.proofs.Written.{written_did, written_took}
 
 module _ (settings : Settings) where
@@ -252,6 +254,20 @@ module _ (settings : Settings) where
         (with_cause before cause) (outs_of settings before cause) (reasons settings range before h cause built).why (here_took before cause fits built h) in
         record { base = last.base; steady = (last.mid).steady; tied = tied_rests settings before cause fits (h.steady).starts (h.steady).unbegun (h.steady).housed (h.base).written (last.mid).tied; waiting = waiting_rests settings before cause (h.steady).editors (last.mid).waiting; quit = quit_rests settings before (h.steady).editors h.quit cause }
 
+    -- an editor that is slow leaves: the facts are kept
+    pub here_slow : (place : List Event) (e : ℕ) → Facts settings place → Here place (quitting e) place
+    here_slow place e h = record { base = h.base; mid = record { steady = h.steady; tied = λ s other. h.tied s; waiting = λ n stays. h.waiting n } }
+
+    pub slow_keeps_facts : (place : List Event) (e : ℕ) → is_slow settings e place ≡ true → Facts settings place → Facts settings (behind place (parting settings place e))
+    slow_keeps_facts place e slow h =
+        let last : Here place (quitting e) (behind place (parting settings place e)) = reasons_keep (Why settings place (quitting e)) (Here place (quitting e)) (here_did place (quitting e) h (quit_built settings place e))
+        place (parting settings place e) (parting_why settings range place h e slow) (here_slow place e h) in
+        record { base = last.base; steady = (last.mid).steady; tied = λ s. (last.mid).tied s refl; waiting = λ n. (last.mid).waiting n (quit_turns_none settings place e n); quit = λ over. never (sym over ∙ (stopped_outs place (parting settings place e) ∙ not_stopped place h.quit e (slow_there settings e place slow))) }
+
+    -- all outs of an entry
+    pub whole_keeps : (before : List Event) (cause : Cause) → fits_behind before cause ≡ true → built_behind settings before cause ≡ true → Facts settings before → Facts settings (behind (with_cause before cause) (entry_outs settings before cause))
+    whole_keeps before cause fits built h = whole_entry settings (Facts settings) slow_keeps_facts before cause (entry_keeps before cause fits built h)
+
     pub no_facts : Facts settings []
     no_facts = record {
       base = record { opened = opened_none settings; plain = plain_none; written = tt; meant = tt };
@@ -262,9 +278,9 @@ module _ (settings : Settings) where
     }
 
     pub one_entry : (before : List Entry) (entry : Entry) → IsTrue (fits_behind (events_of before) entry.cause) → IsTrue (built_behind settings (events_of before) entry.cause)
-        → entry.outs ≡ outs_of settings (events_of before) entry.cause → Facts settings (events_of before) → Facts settings (events_of (before ++ entry ∷ []))
+        → entry.outs ≡ entry_outs settings (events_of before) entry.cause → Facts settings (events_of before) → Facts settings (events_of (before ++ entry ∷ []))
     one_entry before entry fits built outs h = subst (Facts settings) (sym (events_more before entry)) (subst (λ z. Facts settings (behind (with_cause (events_of before) entry.cause) z)) (sym outs)
-        (entry_keeps (events_of before) entry.cause fits built h))
+        (whole_keeps (events_of before) entry.cause fits built h))
 
     from_here : (before rest : List Entry) → LegalFrom settings before rest → Facts settings (events_of before) → Facts settings (events_of (before ++ rest))
     from_here before [] legal h = subst (λ z. Facts settings (events_of z)) (sym (append-nil before)) h

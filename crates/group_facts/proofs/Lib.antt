@@ -34,6 +34,7 @@ pub mod PartingRows
 pub mod PlacingRow
 pub mod Plain
 pub mod PutOut
+pub mod Reached
 pub mod RefusedRow
 pub mod RequestRow
 pub mod RestLaws
@@ -42,6 +43,8 @@ pub mod Sent
 pub mod SentOn
 pub mod Settling
 pub mod SharedRows
+pub mod SlowRest
+pub mod SlowRow
 pub mod Switching
 pub mod SyncRow
 pub mod Table
@@ -77,3 +80,4 @@ pub mod StopEntry
 pub mod StopDown
 pub mod Ceased
 pub mod Downs
+pub mod WorkedSlow

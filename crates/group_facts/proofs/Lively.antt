@@ -33,20 +33,22 @@ use Rattle.group_words.specs.Houses.{at_group, declared_for, groups_lose, groups
 use Rattle.group_words.specs.Placing.{end_where, ended, home_by, is_due, is_live, with_editor}
 use Rattle.group_words.proofs.Frames.{groups_more, home_more}
 use Rattle.group_rows.specs.Rows.{outs_of}
+use Rattle.group_facts.specs.SlowRows.{is_slow}
 use Rattle.group_facts.specs.Built.{built_behind, is_left}
 use Rattle.group_facts.specs.Facts.{is_put_out, is_refusing, is_up}
 use Rattle.group_facts.specs.Lively.{IsDying, Lively, is_busy_at, is_unplaced, lives_at}
 use Rattle.group_facts.specs.Settled.{is_answered}
-use Rattle.group_facts.specs.Why.{Why, WhyEnd, WhyToServer, begins, greets, forwarded, notes, tells, shuts, cancels, exits, refused, starting, stopped, responds, resolves, cancels_work}
+use Rattle.group_facts.specs.Why.{Why, WhyEnd, WhyToServer, begins, greets, forwarded, notes, tells, shuts, cancels, exits, refused, starting, stopped, responds, resolves, cancels_work, quitting}
 use Rattle.group_facts.proofs.Begun.{Begun, start_more}
 use Rattle.group_facts.proofs.Exits.{left_groups, left_over}
 use Rattle.group_facts.proofs.Facts.{Facts}
 use Rattle.group_facts.proofs.Housed.{group_more}
-use Rattle.group_facts.proofs.Known.{Here, here_did, here_took}
+use Rattle.group_facts.proofs.Known.{Here, here_did, here_slow, here_took}
 use Rattle.group_facts.proofs.LiveGroups.{IsFair, busy_apart, busy_emptied, busy_ended, busy_own, busy_placed, lives_busy, lives_changed, lives_emptied, lives_ended, lives_placed, placed_fair}
 use Rattle.group_facts.proofs.Numbered.{no_shutdown}
 use Rattle.group_facts.proofs.PutOut.{begun_closed, begun_told, unplaced_closed, unplaced_told}
 use Rattle.group_facts.proofs.RequestRow.{either_desk}
+use Rattle.group_facts.proofs.SlowRow.{parting, parting_why, quit_built}
 use Rattle.group_facts.proofs.StopEnds.{over_all}
 use Rattle.group_facts.proofs.StopEntry.{begun_there, put_out_ends, there_heard}
 use Rattle.group_facts.proofs.Table.{reasons}
@@ -506,6 +508,25 @@ module _ (settings : Settings) (range : InRange settings) (before : List Event) 
               → home_of settings e (behind (with_cause before cause) (outs_of settings before cause)) ≡ Some g → is_busy_at g (groups_of settings (behind (with_cause before cause) (outs_of settings before cause))) ≡ true
           busy e g false rest begun at = k.busy e g rest begun at
           busy e g true out begun at = never (sym begun ∙ put_out_ends settings before cause (facts.steady).editors e out)
+
+-- An editor that is slow leaves
+
+module _ (settings : Settings) (range : InRange settings) (place : List Event) (facts : Facts settings place) (e : ℕ) (slow : is_slow settings e place ≡ true) where
+  abbrev none_out : ℕ → Bool
+  none_out n = false
+
+  record AtSlow (events : List Event) : Type 0 where
+    here : Here settings place (quitting e) events
+    lively : Mostly settings none_out events
+
+  slow_did : (events : List Event) (out : Out) → Why settings place (quitting e) events out → AtSlow events → AtSlow (events ++ said out ∷ [])
+  slow_did events out why i = let next : Here settings place (quitting e) (events ++ said out ∷ []) = here_did settings range place (quitting e) facts (quit_built settings place e) events out why i.here in
+      record { here = next; lively = did settings none_out events i.lively place (quitting e) out why ((next.mid).steady).editors }
+
+  pub lively_slow : Lively settings place → Lively settings (behind place (parting settings place e))
+  lively_slow h = let last : AtSlow (behind place (parting settings place e)) = reasons_keep (Why settings place (quitting e)) AtSlow slow_did place (parting settings place e) (parting_why settings range place facts e slow)
+      (record { here = here_slow settings range place e facts; lively = mostly settings none_out place h }) in
+      record { unplaced = (last.lively).unplaced; busy = λ n g. (last.lively).busy n g refl; last = (last.lively).last; up = (last.lively).up }
 
 pub no_lively : (settings : Settings) → Lively settings []
 no_lively settings = record { unplaced = λ e h. refl; busy = λ e g h at. absurd (cc); last = λ g s at. absurd (cc); up = λ g s live at. absurd (cc) }

@@ -31,7 +31,7 @@ group_did s events (ToServer n body) h = group_more s events (said (ToServer n b
 group_did s events (CloseEditor e) h = group_more s events (said (CloseEditor e))
 group_did s events (EndServer n) h = group_more s events (said (EndServer n))
 
-groups_rest : (s : ℕ) (events : List Event) (xs : List Out) → AllByRecursion NoSpawn xs → group_of s (behind events xs) ≡ group_of s events
+pub groups_rest : (s : ℕ) (events : List Event) (xs : List Out) → AllByRecursion NoSpawn xs → group_of s (behind events xs) ≡ group_of s events
 groups_rest s events [] h = ap (group_of s) (append-nil events)
 groups_rest s events (x ∷ xs) h = ap (group_of s) (sym (append_assoc events (said x ∷ []) (map said xs))) ∙ (groups_rest s (events ++ said x ∷ []) xs h.1 ∙ group_did s events x h.0)
 

@@ -143,7 +143,7 @@ module _ (settings : Settings) (e : ℕ) (E : Id → Type 0) where
     abbrev N : ℕ
     N = length (groups_of settings before)
 
-    open_outs : (events : List Event) (xs : List Out) → Reasons R events xs → AllByRecursion NoSpawn xs → OpenAt events → OpenAt (behind events xs)
+    pub open_outs : (events : List Event) (xs : List Out) → Reasons R events xs → AllByRecursion NoSpawn xs → OpenAt events → OpenAt (behind events xs)
     open_outs events [] why calm h = subst OpenAt (sym (append-nil events)) h
     open_outs events (x ∷ xs) why calm h = subst OpenAt (append_assoc events (said x ∷ []) (map said xs)) (open_outs (events ++ said x ∷ []) xs why.1 calm.1 (open_did events x why.0 calm.0 h))
 

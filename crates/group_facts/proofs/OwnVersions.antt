@@ -15,7 +15,7 @@ use Rattle.event_model.proofs.Frames.{never}
 use Rattle.mux_facts.specs.Allowed.{is_response}
 use Rattle.event_model.specs.declared.stage.Stage.{Stage}
 use Rattle.event_model.specs.declared.stage.Stage.TheVariants.{Unspawned, Spawning, Initializing, Ready, Stopping, Ending, Ended}
-use Rattle.event_model.specs.Event.{Event, events_of, said, with_cause}
+use Rattle.event_model.specs.Event.{Event, behind, events_of, said, with_cause}
 use Rattle.event_model.specs.Requests.{answered_id}
 use Rattle.event_model.specs.Row.{outs}
 use Rattle.event_model.specs.Settings.{Settings}
@@ -24,13 +24,14 @@ use Rattle.group_rows.specs.response_route.specs.Answers.{answer_text}
 use Rattle.group_rows.specs.response_route.specs.Asked.{asked_text}
 use Rattle.group_rows.specs.response_route.specs.Versions.{version_now}
 use Rattle.mux_facts.specs.Ranges.{InRange}
-use Rattle.mux_facts.proofs.Lists.{found_is}
+use Rattle.mux_facts.proofs.Lists.{all_join, found_is}
 use Rattle.mux_facts.proofs.Reasons.{Because, Reasons, by_choose, by_look, by_nothing, by_on, by_send}
 use Rattle.group_rows.specs.Answers.{agreed_version, answer_row, held_version, moment_of, own_version, stamp_at}
 use Rattle.group_rows.specs.AskRows.{ask_edit, asking_row, current_version, edited, focused_row, is_edit, question_row}
 use Rattle.group_rows.specs.Asks.{next_ask}
 use Rattle.group_rows.specs.Forwarded.{Forwarded, answered_by, forwarding_of}
 use Rattle.group_rows.specs.Rows.{from_server, outs_of, ready_row}
+use Rattle.group_facts.specs.SlowRows.{entry_outs, slow_row}
 use Rattle.group_rows.proofs.Versions.{own_flat}
 use Rattle.group_facts.specs.Facts.{IsAsker, IsForwarded}
 use Rattle.group_facts.specs.Legal.{Legal, LegalFrom}
@@ -38,6 +39,7 @@ use Rattle.group_facts.specs.OwnVersions.{IsHandedOn, OnOwnVersions, OwnVersion,
 use Rattle.group_facts.proofs.Answered.{answer_says}
 use Rattle.group_facts.proofs.AnswerRows.{answers_only, response_is}
 use Rattle.group_facts.proofs.AskingRows.{edit_class}
+use Rattle.group_facts.proofs.SlowRow.{slow_all}
 use Rattle.group_facts.proofs.Facts.{Facts}
 use Rattle.group_facts.proofs.Known.{facts_hold}
 use Rattle.group_facts.proofs.SentOn.{AllSentOn, WasSentOn, sent_holds}
@@ -163,6 +165,19 @@ module _ (settings : Settings) (range : InRange settings) where
   on_entry before facts asked (Drained e k) = unsaid settings before (Drained e k) (λ out. tt) (outs_of settings before (Drained e k))
   on_entry before facts asked (Tick t) = unsaid settings before (Tick t) (λ out. tt) (outs_of settings before (Tick t))
 
+  -- no editor is told by what one leaves that is slow
+  on_whole : (before : List Event) → Facts settings before → AllSentOn before → (cause : Cause) → AllByRecursion (OnOwnVersions settings before cause) (entry_outs settings before cause)
+  on_whole before facts asked cause = all_join (OnOwnVersions settings before cause) (outs_of settings before cause) (outs (slow_row settings) (behind (with_cause before cause) (outs_of settings before cause))) (on_entry before facts asked cause)
+      (slow_all settings (OnOwnVersions settings before cause) (closes cause) (sends cause) (behind (with_cause before cause) (outs_of settings before cause)))
+    where
+      closes : (cause : Cause) (n : ℕ) → OnOwnVersions settings before cause (CloseEditor n)
+      closes (FromServer s heard) n = tt
+      closes other n = tt
+
+      sends : (cause : Cause) (s : ℕ) (body : List ℕ) → OnOwnVersions settings before cause (ToServer s body)
+      sends (FromServer n heard) s body = tt
+      sends other s body = tt
+
   -- one entry more
   legal_more : (before xs : List Entry) (entry : Entry) → LegalFrom settings before xs → LegalFrom settings (before ++ xs) (entry ∷ []) → LegalFrom settings before (xs ++ entry ∷ [])
   legal_more before [] entry legal one = subst (λ z. LegalFrom settings z (entry ∷ [])) (append-nil before) one
@@ -171,7 +186,7 @@ module _ (settings : Settings) (range : InRange settings) where
   own_from : (before rest : List Entry) → Legal settings before → LegalFrom settings before rest → OwnVersionsFrom settings before rest
   own_from before [] so_far legal = tt
   own_from before (entry ∷ rest) so_far legal = (
-    subst (AllByRecursion (OnOwnVersions settings (events_of before) entry.cause)) (sym legal.2) (on_entry (events_of before) (facts_hold settings range before so_far) (sent_holds settings range before so_far) entry.cause),
+    subst (AllByRecursion (OnOwnVersions settings (events_of before) entry.cause)) (sym legal.2) (on_whole (events_of before) (facts_hold settings range before so_far) (sent_holds settings range before so_far) entry.cause),
     own_from (before ++ entry ∷ []) rest (legal_more [] before entry so_far (legal.0, legal.1, legal.2, tt)) legal.3,
   )
 

@@ -14,12 +14,14 @@ use Rattle.mux_facts.proofs.Keeps.{events_more}
 use Rattle.mux_facts.proofs.Reasons.{reasons_keep}
 use Rattle.group_words.specs.Houses.{groups_of}
 use Rattle.group_rows.specs.Rows.{outs_of}
+use Rattle.group_facts.specs.SlowRows.{entry_outs, is_slow}
 use Rattle.group_facts.specs.Built.{built_behind}
 use Rattle.group_facts.specs.Facts.{ends_link}
 use Rattle.group_facts.specs.Legal.{Legal, LegalFrom}
-use Rattle.group_facts.specs.Why.{Why, WhyEnd, WhyToEditor, WhyToServer}
+use Rattle.group_facts.specs.Why.{Why, WhyEnd, WhyToEditor, WhyToServer, quitting}
 use Rattle.group_facts.proofs.Facts.{Facts, Mid}
-use Rattle.group_facts.proofs.Known.{Here, entry_keeps, here_did, here_took, no_facts}
+use Rattle.group_facts.proofs.Known.{Here, entry_keeps, here_did, here_slow, here_took, no_facts, slow_keeps_facts}
+use Rattle.group_facts.proofs.SlowRow.{parting, parting_why, quit_built, whole_entry}
 use Rattle.group_facts.proofs.Table.{reasons}
 
 -- I holds after each entry, M inside of one; `rest` is where the table is asked what the whole entry did
@@ -35,6 +37,9 @@ pub record RestLaw (settings : Settings) (I : List Event → Type 0) (M : List E
   pub spawn : (before : List Event) (cause : Cause) (events : List Event) (g : ℕ) → g < length (groups_of settings events) → Facts settings before → Mid settings before cause events → I before → M before cause events
       → M before cause (events ++ said (Spawn (starts_of events) g) ∷ [])
   pub rest : (before : List Event) (cause : Cause) → fits_behind before cause ≡ true → Facts settings before → I before → M before cause (behind (with_cause before cause) (outs_of settings before cause)) → I (behind (with_cause before cause) (outs_of settings before cause))
+  -- an editor that is slow leaves (Z1)
+  pub turn : (place : List Event) (e : ℕ) → is_slow settings e place ≡ true → Facts settings place → I place → M place (quitting e) place
+  pub left : (place : List Event) (e : ℕ) → is_slow settings e place ≡ true → Facts settings place → I place → M place (quitting e) (behind place (parting settings place e)) → I (behind place (parting settings place e))
 
 module _ (settings : Settings) (range : InRange settings) (I : List Event → Type 0) (M : List Event → Cause → List Event → Type 0) (law : RestLaw settings I M) where
   one_out : (before : List Event) (cause : Cause) (events : List Event) (out : Out) → Why settings before cause events out → Facts settings before → Mid settings before cause events → I before → M before cause events → M before cause (events ++ said out ∷ [])
@@ -61,9 +66,20 @@ module _ (settings : Settings) (range : InRange settings) (I : List Event → Ty
       (record { known = here_took settings range before cause fits built h.known; kept = law.took before cause fits built h.known h.kept }) in
       record { known = entry_keeps settings range before cause fits built h.known; kept = law.rest before cause fits h.known h.kept last.kept }
 
-  one_entry : (before : List Entry) (entry : Entry) → IsTrue (fits_behind (events_of before) entry.cause) → IsTrue (built_behind settings (events_of before) entry.cause) → entry.outs ≡ outs_of settings (events_of before) entry.cause
+  slow_rests : (place : List Event) (e : ℕ) → is_slow settings e place ≡ true → Rests place → Rests (behind place (parting settings place e))
+  slow_rests place e slow h =
+      let last : At place (quitting e) (behind place (parting settings place e)) = reasons_keep (Why settings place (quitting e)) (At place (quitting e))
+      (λ events out why i. record { known = here_did settings range place (quitting e) h.known (quit_built settings place e) events out why i.known; kept = one_out place (quitting e) events out why h.known (i.known).mid h.kept i.kept })
+      place (parting settings place e) (parting_why settings range place h.known e slow)
+      (record { known = here_slow settings range place e h.known; kept = law.turn place e slow h.known h.kept }) in
+      record { known = slow_keeps_facts settings range place e slow h.known; kept = law.left place e slow h.known h.kept last.kept }
+
+  whole_rests : (before : List Event) (cause : Cause) → fits_behind before cause ≡ true → built_behind settings before cause ≡ true → Rests before → Rests (behind (with_cause before cause) (entry_outs settings before cause))
+  whole_rests before cause fits built h = whole_entry settings Rests slow_rests before cause (entry_rests before cause fits built h)
+
+  one_entry : (before : List Entry) (entry : Entry) → IsTrue (fits_behind (events_of before) entry.cause) → IsTrue (built_behind settings (events_of before) entry.cause) → entry.outs ≡ entry_outs settings (events_of before) entry.cause
       → Rests (events_of before) → Rests (events_of (before ++ entry ∷ []))
-  one_entry before entry fits built outs h = subst Rests (sym (events_more before entry)) (subst (λ z. Rests (behind (with_cause (events_of before) entry.cause) z)) (sym outs) (entry_rests (events_of before) entry.cause fits built h))
+  one_entry before entry fits built outs h = subst Rests (sym (events_more before entry)) (subst (λ z. Rests (behind (with_cause (events_of before) entry.cause) z)) (sym outs) (whole_rests (events_of before) entry.cause fits built h))
 
   from_here : (before rest : List Entry) → LegalFrom settings before rest → Rests (events_of before) → Rests (events_of (before ++ rest))
   from_here before [] legal h = subst (λ z. Rests (events_of z)) (sym (append-nil before)) h

@@ -175,7 +175,7 @@ module _ (settings : Settings) where
   placed_did : (e : ℕ) (events : List Event) (out : Out) → PlacedAt settings e events → PlacedAt settings e (events ++ said out ∷ [])
   placed_did e events out h = stays_placed e events (said out) (home_did settings e events out) (longer_did settings events out) (out_needed e events out) h
 
-  placed_outs : (e : ℕ) (events : List Event) (xs : List Out) → PlacedAt settings e events → PlacedAt settings e (behind events xs)
+  pub placed_outs : (e : ℕ) (events : List Event) (xs : List Out) → PlacedAt settings e events → PlacedAt settings e (behind events xs)
   placed_outs e events [] h = subst (PlacedAt settings e) (sym (append-nil events)) h
   placed_outs e events (x ∷ xs) h = subst (PlacedAt settings e) (append_assoc events (said x ∷ []) (map said xs)) (placed_outs e (events ++ said x ∷ []) xs (placed_did e events x h))
 

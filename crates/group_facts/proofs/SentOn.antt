@@ -252,6 +252,8 @@ sent_law settings = record {
   end = λ before cause events s why known here i h. quiet events (said (EndServer s)) refl (fewer_said events (EndServer s) (λ s. refl)) h;
   spawn = λ before cause events g below known here i h. quiet events (said (Spawn (starts_of events) g)) refl (fewer_said events (Spawn (starts_of events) g) (λ s. refl)) h;
   rest = λ before cause fits known i h. h;
+  turn = λ place e slow known h. h;
+  left = λ place e slow known i h. h;
 }
 
 pub sent_holds : (settings : Settings) → InRange settings → (history : List Entry) → Legal settings history → AllSentOn (events_of history)

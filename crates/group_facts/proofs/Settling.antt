@@ -1,5 +1,5 @@
 -- What is settled behind every legal history.
-use Rattle.std.proofs.Common.{◌≡◌, ℕ, true, List, [], ◌∷◌, ◌++◌, map, IsTrue, ◌⊎◌, inl, inr, refl, sym, subst, arith, append-nil, append_assoc, false}
+use Rattle.std.proofs.Common.{◌≡◌, ℕ, true, List, [], ◌∷◌, ◌++◌, map, IsTrue, ◌⊎◌, inl, inr, refl, sym, ◌∙◌, subst, arith, append-nil, append_assoc, false}
 use Rattle.std.specs.List.{AllByRecursion}
 use Rattle.mux_history.specs.declared.cause.Cause.{Cause}
 use Rattle.mux_history.specs.declared.entry.Entry.{Entry}
@@ -18,6 +18,7 @@ use Rattle.group_words.specs.declared.kept.Kept.{Kept}
 use Rattle.group_words.specs.Houses.{groups_of}
 use Rattle.group_words.proofs.Openings.{folders_utf8}
 use Rattle.group_rows.specs.Rows.{outs_of}
+use Rattle.group_facts.specs.SlowRows.{entry_outs, is_slow}
 use Rattle.group_facts.specs.Built.{built_behind}
 use Rattle.group_facts.specs.Legal.{Legal, LegalFrom}
 use Rattle.group_facts.specs.Lively.{Lively}
@@ -31,17 +32,19 @@ use Rattle.group_facts.proofs.Ceased.{Spawned, spawned_behind, spawned_none, spa
 use Rattle.group_facts.proofs.Downs.{AllDown, Over, down_none, down_rests, over_none, over_rests, serving}
 use Rattle.group_facts.proofs.Facts.{Facts}
 use Rattle.group_facts.proofs.Keeping.{Keeps, all_did, all_took}
-use Rattle.group_facts.proofs.Known.{entry_keeps, no_facts}
-use Rattle.group_facts.proofs.Lively.{lively_rests, no_lively}
+use Rattle.group_facts.proofs.Known.{entry_keeps, no_facts, slow_keeps_facts}
+use Rattle.group_facts.proofs.Lively.{lively_rests, lively_slow, no_lively}
 use Rattle.group_facts.proofs.OwnEntry.{Nobody}
 use Rattle.group_facts.proofs.Seated.{AllPlaced, placed_rests, seat}
 use Rattle.group_facts.proofs.Sent.{SentAt, sent_is}
-use Rattle.group_facts.proofs.Takings.{AllTaken, Uncreated, none_taken, none_uncreated, taken_rests, uncreated_rests}
+use Rattle.group_facts.proofs.Takings.{AllTaken, Uncreated, none_taken, none_uncreated, taken_rests, uncreated_did, uncreated_rests}
 use Rattle.group_facts.proofs.OpenByPhase.{IsOne, OpenIf, if_answered}
 use Rattle.group_facts.proofs.OpenByOut.{S}
 use Rattle.group_rows.specs.StopRows.{stopped}
 use Rattle.group_facts.proofs.StopDown.{bounded_low}
-use Rattle.group_facts.proofs.StopEntry.{before_on}
+use Rattle.group_facts.proofs.SlowRest.{slow_begun, slow_down, slow_one, slow_opens, slow_over, slow_placed, slow_seats, slow_taken}
+use Rattle.group_facts.proofs.SlowRow.{parting, whole_entry}
+use Rattle.group_facts.proofs.StopEntry.{before_on, stopped_outs}
 
 -- Folders
 
@@ -64,7 +67,7 @@ module _ (settings : Settings) (range : InRange settings) where
     lively : Lively settings events
     opens : OpenAll settings events
     placed : AllPlaced settings events
-    one : OneStart events
+    pub one : OneStart events
     seats : stopped events ≡ false → AllSeats settings events
     uncreated : Uncreated settings events
     taken : AllTaken settings events
@@ -77,7 +80,7 @@ module _ (settings : Settings) (range : InRange settings) where
   entry_all I did events [] h = subst I (sym (append-nil events)) h
   entry_all I did events (out ∷ outs) h = subst I (append_assoc events (said out ∷ []) (map said outs)) (entry_all I did (events ++ said out ∷ []) outs (did events out h))
 
-  entry_rests : (before : List Event) (cause : Cause) → fits_behind before cause ≡ true → built_behind settings before cause ≡ true → Rests before → Rests (behind (with_cause before cause) (outs_of settings before cause))
+  pub entry_rests : (before : List Event) (cause : Cause) → fits_behind before cause ≡ true → built_behind settings before cause ≡ true → Rests before → Rests (behind (with_cause before cause) (outs_of settings before cause))
   entry_rests before cause fits built h = record {
     facts = entry_keeps settings range before cause fits built h.facts;
     spelt = entry_all (AllSpelt settings) (all_did Spelt spelt_keeps settings) (with_cause before cause) (outs_of settings before cause) (all_took Spelt spelt_keeps settings before cause built (λ e body. folders_utf8 body) h.spelt);
@@ -94,7 +97,30 @@ module _ (settings : Settings) (range : InRange settings) where
     over = over_rests settings before (h.facts).quit h.over cause;
   }
 
-  no_rests : Rests []
+  -- an editor that is slow leaves
+  pub slow_rests : (place : List Event) (e : ℕ) → is_slow settings e place ≡ true → Rests place → Rests (behind place (parting settings place e))
+  slow_rests place e slow h =
+      let lively : Lively settings (behind place (parting settings place e)) = lively_slow settings range place h.facts e slow h.lively in
+      record {
+        facts = slow_keeps_facts settings range place e slow h.facts;
+        spelt = entry_all (AllSpelt settings) (all_did Spelt spelt_keeps settings) place (parting settings place e) h.spelt;
+        begun = slow_begun settings range place h.facts e slow h.begun;
+        lively = lively;
+        opens = slow_opens settings range place h.facts e slow h.opens;
+        placed = slow_placed settings range place h.facts e slow h.placed;
+        one = slow_one settings range place h.facts e slow h.one;
+        seats = λ on. slow_seats settings range place h.facts e slow lively h.one (h.seats (sym (stopped_outs place (parting settings place e)) ∙ on));
+        uncreated = entry_all (Uncreated settings) (uncreated_did settings) place (parting settings place e) h.uncreated;
+        taken = slow_taken settings range place h.facts e slow lively h.taken;
+        spawned = spawned_behind place (parting settings place e) h.spawned;
+        down = slow_down settings range place h.facts e slow h.down;
+        over = slow_over settings range place h.facts e slow;
+      }
+
+  whole_rests : (before : List Event) (cause : Cause) → fits_behind before cause ≡ true → built_behind settings before cause ≡ true → Rests before → Rests (behind (with_cause before cause) (entry_outs settings before cause))
+  whole_rests before cause fits built h = whole_entry settings Rests slow_rests before cause (entry_rests before cause fits built h)
+
+  pub no_rests : Rests []
   no_rests = record {
     facts = no_facts settings range;
     spelt = tt;
@@ -111,8 +137,8 @@ module _ (settings : Settings) (range : InRange settings) where
     over = over_none settings;
   }
 
-  rests_more : (before : List Entry) (entry : Entry) → IsTrue (fits_behind (events_of before) entry.cause) → IsTrue (built_behind settings (events_of before) entry.cause) → entry.outs ≡ outs_of settings (events_of before) entry.cause → Rests (events_of before) → Rests (events_of (before ++ entry ∷ []))
-  rests_more before entry fits built sent h = subst Rests (sym (events_more before entry)) (subst (λ z. Rests (behind (with_cause (events_of before) entry.cause) z)) (sym sent) (entry_rests (events_of before) entry.cause fits built h))
+  rests_more : (before : List Entry) (entry : Entry) → IsTrue (fits_behind (events_of before) entry.cause) → IsTrue (built_behind settings (events_of before) entry.cause) → entry.outs ≡ entry_outs settings (events_of before) entry.cause → Rests (events_of before) → Rests (events_of (before ++ entry ∷ []))
+  rests_more before entry fits built sent h = subst Rests (sym (events_more before entry)) (subst (λ z. Rests (behind (with_cause (events_of before) entry.cause) z)) (sym sent) (whole_rests (events_of before) entry.cause fits built h))
 
   from_here : (before rest : List Entry) → LegalFrom settings before rest → Rests (events_of before) → Rests (events_of (before ++ rest))
   from_here before [] legal h = subst (λ z. Rests (events_of z)) (sym (append-nil before)) h

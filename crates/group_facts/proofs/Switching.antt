@@ -1,5 +1,5 @@
 -- Each message that goes on goes behind the switches of its editor's documents.
-use Rattle.std.proofs.Common.{◌≡◌, ℕ, true, List, [], ◌∷◌, ◌++◌, map, refl, sym, ◌∙◌, subst}
+use Rattle.std.proofs.Common.{◌≡◌, ℕ, true, List, [], ◌∷◌, ◌++◌, append-nil, append_assoc, flat_map, map, refl, sym, ◌∙◌, subst}
 use Rattle.mux_history.specs.declared.cause.Cause.{Cause}
 use Rattle.mux_history.specs.declared.entry.Entry.{Entry}
 use Rattle.mux_history.specs.declared.out.Out.{Out}
@@ -15,9 +15,10 @@ use Rattle.group_rows.specs.Rows.{sync_bodies}
 use Rattle.group_rows.specs.Texts.{is_synced, texts_of}
 use Rattle.group_facts.specs.Legal.{Legal}
 use Rattle.group_facts.specs.Switches.{AllOnSwitches, IsSwitched, OnSwitches, Switches, SwitchesFrom}
-use Rattle.group_facts.specs.Why.{AllWhy, IsBehindSync, ReasonsFrom, Why, WhyToServer, begins, cancels, exits, forwarded, greets, notes, responds, shuts, tells, resolves, cancels_work}
+use Rattle.group_facts.specs.Why.{AllSlow, AllWhy, HasParts, IsBehindSync, ReasonsFrom, SlowOuts, quitting, Why, WhyToServer, begins, cancels, exits, forwarded, greets, notes, responds, shuts, tells, resolves, cancels_work}
 use Rattle.group_facts.proofs.Asides.{answer_aside, spoken_aside, unsynced}
 use Rattle.group_facts.proofs.Everywhere.{reasons_hold}
+use Rattle.group_facts.proofs.SlowRow.{quit_unsynced}
 
 module _ (settings : Settings) (before : List Event) (cause : Cause) where
   switched : (events : List Event) (s e : ℕ) (asked : List ℕ) → cause ≡ FromEditor e asked → IsBehindSync settings before events s e asked → IsSwitched settings before cause events s
@@ -47,10 +48,35 @@ module _ (settings : Settings) (before : List Event) (cause : Cause) where
   all_switched events [] why = tt
   all_switched events (out ∷ outs) why = (by_why events out why.0, all_switched (events ++ said out ∷ []) outs why.1)
 
+-- what an editor that is slow leaves behind goes behind none
+module _ (settings : Settings) (before : List Event) (cause : Cause) where
+  slow_why : (place : List Event) (e : ℕ) (events : List Event) (out : Out) → Why settings place (quitting e) events out → OnSwitches settings before cause events out
+  slow_why place e events (ToServer s body) why = λ goes. absurd (quit_unsynced settings place e events s body why goes)
+  slow_why place e events (ToEditor n body) why = tt
+  slow_why place e events (Spawn s g) why = tt
+  slow_why place e events (CloseEditor n) why = tt
+  slow_why place e events (EndServer s) why = tt
+
+  one_slow : (place : List Event) (e : ℕ) (events : List Event) (outs : List Out) → AllWhy settings place (quitting e) events outs → AllOnSwitches settings before cause events outs
+  one_slow place e events [] why = tt
+  one_slow place e events (out ∷ outs) why = (slow_why place e events out why.0, one_slow place e (events ++ said out ∷ []) outs why.1)
+
+  both_switched : (events : List Event) (xs ys : List Out) → AllOnSwitches settings before cause events xs → AllOnSwitches settings before cause (behind events xs) ys → AllOnSwitches settings before cause events (xs ++ ys)
+  both_switched events [] ys f g = subst (λ z. AllOnSwitches settings before cause z ys) (append-nil events) g
+  both_switched events (x ∷ xs) ys f g = (f.0, both_switched (events ++ said x ∷ []) xs ys f.1 (subst (λ z. AllOnSwitches settings before cause z ys) (sym (append_assoc events (said x ∷ []) (map said xs))) g))
+
+  all_slow : (events : List Event) (xs : List SlowOuts) → AllSlow settings events xs → AllOnSwitches settings before cause events (flat_map (λ (x : SlowOuts). x.outs) xs)
+  all_slow events [] h = tt
+  all_slow events (x ∷ xs) h = both_switched events x.outs (flat_map (λ (y : SlowOuts). y.outs) xs) (one_slow events x.editor events x.outs h.1.0) (all_slow (behind events x.outs) xs h.1.1)
+
+  whole_switched : (outs : List Out) → HasParts settings before cause outs → AllOnSwitches settings before cause (with_cause before cause) outs
+  whole_switched outs h = subst (AllOnSwitches settings before cause (with_cause before cause)) (sym h.parts)
+      (both_switched (with_cause before cause) h.row (flat_map (λ (x : SlowOuts). x.outs) h.slow) (all_switched settings before cause (with_cause before cause) h.row h.why) (all_slow (behind (with_cause before cause) h.row) h.slow h.leave))
+
 switches_from : (settings : Settings) (before rest : List Entry) → ReasonsFrom settings before rest → SwitchesFrom settings before rest
 switches_from settings before [] why = tt
 switches_from settings before (entry ∷ rest) why =
-    (all_switched settings (events_of before) entry.cause (with_cause (events_of before) entry.cause) entry.outs why.0, switches_from settings (before ++ entry ∷ []) rest why.1)
+    (whole_switched settings (events_of before) entry.cause entry.outs why.0, switches_from settings (before ++ entry ∷ []) rest why.1)
 
 pub switches_hold : (settings : Settings) → InRange settings → (history : List Entry) → Legal settings history → Switches settings history
 switches_hold settings range history legal = switches_from settings [] history (reasons_hold settings range history legal)

@@ -53,7 +53,7 @@ use Rattle.group_facts.proofs.OneStart.{OneStart, start_kept}
 use Rattle.group_facts.proofs.PutOut.{homes_stay}
 use Rattle.group_facts.proofs.Table.{reasons}
 
-created_more : (settings : Settings) (s : ℕ) (events : List Event) (event : Event) → created_of settings s (events ++ event ∷ []) ≡ created_next settings s events (created_of settings s events) event
+pub created_more : (settings : Settings) (s : ℕ) (events : List Event) (event : Event) → created_of settings s (events ++ event ∷ []) ≡ created_next settings s events (created_of settings s events) event
 created_more settings s events event = past_more (created_next settings s) [] no_created events event
 
 -- A start that wasn't spawned created nothing
@@ -65,7 +65,7 @@ spawns_more : (n : ℕ) (event : Event) → n ≤ starts_behind n event
 spawns_more n (did (Spawn s g) m) = omega arith
 spawns_more n other = omega arith
 
-fewer_starts : (events : List Event) (event : Event) (n : ℕ) → starts_of (events ++ event ∷ []) ≤ n → starts_of events ≤ n
+pub fewer_starts : (events : List Event) (event : Event) (n : ℕ) → starts_of (events ++ event ∷ []) ≤ n → starts_of events ≤ n
 fewer_starts events event n h = let m = starts_more events event in let g = spawns_more (starts_of events) event in omega (arith, m, g, h)
 
 none_left : (b : Bool) → (if b then no_created else no_created) ≡ no_created
@@ -112,7 +112,7 @@ uncreated_heard settings before starts cause h s few =
 uncreated_took : (settings : Settings) (before : List Event) → Starts before → (cause : Cause) → Uncreated settings before → Uncreated settings (with_cause before cause)
 uncreated_took settings before starts cause h s le = uncreated_heard settings before starts cause h s (fewer_starts before (heard cause) s le)
 
-uncreated_did : (settings : Settings) (events : List Event) (out : Out) → Uncreated settings events → Uncreated settings (events ++ said out ∷ [])
+pub uncreated_did : (settings : Settings) (events : List Event) (out : Out) → Uncreated settings events → Uncreated settings (events ++ said out ∷ [])
 uncreated_did settings events out h s le = created_more settings s events (said out) ∙ ap (λ x. created_next settings s events x (said out)) (h s (fewer_starts events (said out) s le)) ∙ none_did settings s events out
 
 -- so one that has a live token was spawned
@@ -135,7 +135,7 @@ found_test test t (u ∷ ts) h = go (test u) refl (λ k. found_test test t ts k)
 
 -- What holds of the editors of takings, behind one event more
 
-abbrev AllAt : (ℕ → Type 0) → Created → Type 0
+abbrev pub AllAt : (ℕ → Type 0) → Created → Type 0
 AllAt P x = AllByRecursion (λ (c : Taking). P c.editor) x.takings
 
 told_editor : (k : ℕ) (body : List ℕ) (params : Option Json) (c : Taking) → (told k body params c).editor ≡ c.editor
@@ -147,7 +147,7 @@ told_editor k body params c = go (nat_eq c.token k) c.accepted (may_hold params 
     go true false false = refl
     go false b d = refl
 
-other_way : (m n : ℕ) → nat_eq m n ≡ false → nat_eq n m ≡ false
+pub other_way : (m n : ℕ) → nat_eq m n ≡ false → nat_eq n m ≡ false
 other_way m n h = go (nat_eq n m) refl
   where
     go : (b : Bool) → nat_eq n m ≡ b → b ≡ false
@@ -159,7 +159,7 @@ and_none true = refl
 and_none false = refl
 
 module _ (P Q : ℕ → Type 0) where
-  left_all : (n : ℕ) (x : Created) → ((e : ℕ) → nat_eq e n ≡ false → P e → Q e) → AllAt P x → AllAt Q (left n x)
+  pub left_all : (n : ℕ) (x : Created) → ((e : ℕ) → nat_eq e n ≡ false → P e → Q e) → AllAt P x → AllAt Q (left n x)
   left_all n x f h = all_filtered (λ (c : Taking). P c.editor) (λ (c : Taking). Q c.editor) (λ c. not (is_at n c)) (λ c away k. f c.editor (unless_not (is_at n c) away) k) x.takings h
 
   all_so : (x : Created) → ((e : ℕ) → P e → Q e) → AllAt P x → AllAt Q x

@@ -28,17 +28,18 @@ use Rattle.group_rows.specs.LiveExample.{registers}
 use Rattle.group_rows.specs.TokensExample.{marking, progressing, working}
 use Rattle.group_rows.specs.Example.{all_outs, both_ask, closing, switching, two_editors, two_groups}
 use Rattle.group_rows.specs.Forwarded.{forwarding_of}
-use Rattle.group_rows.specs.Rows.{outs_of}
+use Rattle.group_facts.specs.SlowExample.{few_bytes, slowing}
 use Rattle.group_facts.specs.Built.{built_behind}
 use Rattle.group_facts.specs.Example.{asking_again, asking_again_outs, one_group, one_waits, played, played_from, taken_from, two_ask, one_refused}
 use Rattle.group_facts.specs.Legal.{Legal, LegalFrom}
+use Rattle.group_facts.specs.SlowRows.{entry_outs}
 
 -- what is taken is legal
 legal_from : (settings : Settings) (before : List Entry) (causes : List Cause) → taken_from settings (events_of before) causes ≡ true → LegalFrom settings before (played_from settings before causes)
 legal_from settings before [] h = tt
 legal_from settings before (cause ∷ causes) h =
-    let entry : Entry = record { cause = cause; outs = outs_of settings (events_of before) cause } in
-    let later : List Event = behind (with_cause (events_of before) cause) (outs_of settings (events_of before) cause) in
+    let entry : Entry = record { cause = cause; outs = entry_outs settings (events_of before) cause } in
+    let later : List Event = behind (with_cause (events_of before) cause) (entry_outs settings (events_of before) cause) in
     let first = and_parts (fits_behind (events_of before) cause) (built_behind settings (events_of before) cause && taken_from settings later causes) h in
     let second = and_parts (built_behind settings (events_of before) cause) (taken_from settings later causes) first.1 in
     (first.0, second.0, refl, legal_from settings (before ++ entry ∷ []) causes (ap (λ z. taken_from settings z causes) (events_more before entry) ∙ second.1))
@@ -49,6 +50,10 @@ legal settings causes h = legal_from settings [] causes h
 both_ask_is_legal : Legal (with_groups 8) (played (with_groups 8) both_ask)
 unfolding computes url_on_literals message_of named no_name_twice is_integer member_bytes with_id_text id_edits escape_byte digits own_request own_notification goes_nowhere editor_request editor_notification
 both_ask_is_legal = legal (with_groups 8) both_ask refl
+
+an_editor_that_is_slow_is_legal : Legal few_bytes (played few_bytes slowing)
+unfolding computes url_on_literals message_of named no_name_twice is_integer member_bytes with_id_text id_edits escape_byte digits own_request own_notification goes_nowhere editor_request editor_notification is_focused is_refresh server_notification server_request chars
+an_editor_that_is_slow_is_legal = legal few_bytes slowing refl
 
 switching_is_legal : Legal (with_groups 8) (played (with_groups 8) switching)
 unfolding computes url_on_literals message_of named no_name_twice is_integer member_bytes with_id_text id_edits escape_byte digits own_request own_notification goes_nowhere editor_request editor_notification

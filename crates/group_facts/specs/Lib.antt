@@ -7,6 +7,8 @@ pub mod Lively
 pub mod OwnTexts
 pub mod OwnVersions
 pub mod Settled
+pub mod SlowExample
+pub mod SlowRows
 pub mod Switches
 pub mod Why
 pub use Rattle.document_model

@@ -1,5 +1,5 @@
 -- Why each out of the routing table over several editors and groups is sent, with what is known at its place: `before` are the events before the entry, `events` those before the out.
-use Rattle.std.specs.Prelude.{◌≡◌, ℕ, ◌<◌, Bool, true, false, not, ◌&&◌, ◌||◌, List, [], ◌∷◌, ◌++◌, find, if◌then◌else◌, length, map, nat_eq, nat_lt, codes, decimal}
+use Rattle.std.specs.Prelude.{◌≡◌, ℕ, ◌<◌, Bool, true, false, not, ◌&&◌, ◌||◌, List, [], ◌∷◌, ◌++◌, find, flat_map, if◌then◌else◌, length, map, nat_eq, nat_lt, codes, decimal}
 use Rattle.std.specs.Prelude.{Option, Some, None, slice_get}
 use Rattle.std.specs.List.{AllByRecursion, list_any}
 use Rattle.std.specs.Option.{option_and_then, option_map}
@@ -49,12 +49,13 @@ use Rattle.group_rows.specs.Asks.{Ask, Parked, asker_of, asking_of, asks_of, has
 use Rattle.group_rows.specs.Cancelling.{number_named, numbered_text}
 use Rattle.group_rows.specs.Created.{Taking, Token, accepts, created_of, created_text, created_token, has_accepted, is_answered, is_creating, named_token, token_called, token_marked}
 use Rattle.group_rows.specs.CreatedRows.{create_text}
-use Rattle.group_rows.specs.Ends.{answers_shutdown}
+use Rattle.group_rows.specs.Ends.{answers_shutdown, exit_text}
 use Rattle.group_rows.specs.Forwarded.{Forwarded, Sender, answered_by, forwarding_of}
 use Rattle.group_rows.specs.Leaves.{cancel_text}
 use Rattle.group_rows.specs.Lists.{agreement_at, lists_of, sayings_of, version_at}
 use Rattle.group_rows.specs.Live.{is_registering, live_of, register_text, taken_back, unregister_text}
 use Rattle.group_rows.specs.Rows.{sync_bodies}
+use Rattle.group_facts.specs.SlowRows.{is_slow}
 use Rattle.group_rows.specs.StopRows.{stopped as is_stopped}
 use Rattle.group_rows.specs.Texts.{texts_of}
 use Rattle.group_rows.specs.Tokens.{forwarded_text, is_told, is_worked, listens, mark_text, marked_text, own_token, reserves, work_mark}
@@ -615,10 +616,32 @@ abbrev pub AllWhy : Settings → List Event → Cause → List Event → List Ou
 AllWhy settings before cause events [] = Unit {0}
 AllWhy settings before cause events (out ∷ outs) = Why settings before cause events out × AllWhy settings before cause (events ++ said out ∷ []) outs
 
+-- Z1: an editor that is slow leaves as one does that sends `exit` where its link is to be ended
+abbrev pub quitting : ℕ → Cause
+quitting e = FromEditor e exit_text
+
+-- the outs of one that is
+pub record SlowOuts : Type 0 where
+  pub editor : ℕ
+  pub outs : List Out
+
+-- of these, one behind the other, each is slow at its place, and its outs have their reasons there
+abbrev pub AllSlow : Settings → List Event → List SlowOuts → Type 0
+AllSlow settings events [] = Unit {0}
+AllSlow settings events (x ∷ xs) = (is_slow settings x.editor events ≡ true) × (AllWhy settings events (quitting x.editor) events x.outs × AllSlow settings (behind events x.outs) xs)
+
+-- the outs of an entry: those of the cause's row, and those of the editors that are slow behind them
+pub record HasParts (settings : Settings) (before : List Event) (cause : Cause) (outs : List Out) : Type 0 where
+  pub row : List Out
+  pub slow : List SlowOuts
+  pub parts : outs ≡ row ++ flat_map (λ (x : SlowOuts). x.outs) slow
+  pub why : AllWhy settings before cause (with_cause before cause) row
+  pub leave : AllSlow settings (behind (with_cause before cause) row) slow
+
 -- and each out of these entries, behind those before them
 abbrev pub ReasonsFrom : Settings → List Entry → List Entry → Type 0
 ReasonsFrom settings before [] = Unit {0}
-ReasonsFrom settings before (entry ∷ rest) = AllWhy settings (events_of before) entry.cause (with_cause (events_of before) entry.cause) entry.outs × ReasonsFrom settings (before ++ entry ∷ []) rest
+ReasonsFrom settings before (entry ∷ rest) = HasParts settings (events_of before) entry.cause entry.outs × ReasonsFrom settings (before ++ entry ∷ []) rest
 
 abbrev pub HasReasons : Settings → List Entry → Type 0
 HasReasons settings history = ReasonsFrom settings [] history

@@ -2,11 +2,10 @@
 use Rattle.std.proofs.Common.{◌≡◌, ℕ, true, List, codes, Option, is_some}
 use Rattle.json_text.specs.Json.{Json}
 use Rattle.mux_history.specs.declared.cause.Cause.{Cause}
-use Rattle.mux_history.specs.declared.entry.Entry.{Entry}
 use Rattle.mux_history.specs.declared.out.Out.{Out}
 use Rattle.mux_history.specs.declared.out.Out.TheVariants.{ToEditor}
 use Rattle.rpc_message.specs.Message.{message_of, notification, text}
-use Rattle.event_model.specs.Event.{Event, events_of, with_cause}
+use Rattle.event_model.specs.Event.{Event, with_cause}
 use Rattle.event_model.specs.Members.{named_of}
 use Rattle.event_model.specs.Parts.{editor_part}
 use Rattle.event_model.specs.Requests.{is_open}
@@ -18,8 +17,8 @@ use Rattle.session_laws.specs.Progress.{Creates}
 use Rattle.group_rows.specs.Created.{created_mark}
 use Rattle.group_rows.specs.Rows.{outs_of}
 use Rattle.group_facts.specs.Built.{built_behind}
-use Rattle.group_facts.specs.Legal.{Legal}
 use Rattle.group_facts.specs.Why.{Telling, of_held, of_request, of_token}
+use Rattle.group_facts.proofs.Reached.{Reached}
 
 abbrev pub accepted : ℕ → List Event → Creates
 accepted e events = accepted_of (editor_part e events)
@@ -52,5 +51,5 @@ Heard settings before cause events other = Unit {0}
 
 -- Each out of every entry is so: the part of rule 6 that is about created tokens.
 abbrev pub AllHeard : Settings → Type 0
-AllHeard settings = (before : List Entry) → Legal settings before → (cause : Cause) → fits_behind (events_of before) cause ≡ true → built_behind settings (events_of before) cause ≡ true
-    → Reasons (Heard settings (events_of before) cause) (with_cause (events_of before) cause) (outs_of settings (events_of before) cause)
+AllHeard settings = (before : List Event) → Reached settings before → (cause : Cause) → fits_behind before cause ≡ true → built_behind settings before cause ≡ true
+    → Reasons (Heard settings before cause) (with_cause before cause) (outs_of settings before cause)

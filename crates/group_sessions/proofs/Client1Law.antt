@@ -42,6 +42,8 @@ law settings = record {
   end = λ before cause events s starting known here h i. ends events s i;
   spawn = λ before cause events g inside known here h i. spawns events (starts_of events) g i;
   rest = λ before cause fits known h i. i;
+  turn = λ place e slow known h. h;
+  left = λ place e slow known h i. i;
 }
 
 pub client_1_law : (settings : Settings) → InRange settings → (history : List Entry) → Legal settings history → KeepsClient1 history

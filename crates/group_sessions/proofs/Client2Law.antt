@@ -53,6 +53,8 @@ law settings = record {
   end = λ before cause events s starting known here h i. more events (said (EndServer s)) refl i;
   spawn = λ before cause events g inside known here h i. more events (said (Spawn (starts_of events) g)) refl i;
   rest = λ before cause fits known h i. i;
+  turn = λ place e slow known h. h;
+  left = λ place e slow known h i. i;
 }
 
 pub client_2_law : (settings : Settings) → InRange settings → (history : List Entry) → Legal settings history → KeepsClient2 history

@@ -10,7 +10,7 @@ use Rattle.event_model.specs.declared.phase.Phase.TheVariants.{Absent, New, Wait
 use Rattle.event_model.specs.Event.{Event, behind, said, same_id, with_cause}
 use Rattle.event_model.specs.Always.{Always}
 use Rattle.event_model.specs.Parts.{editor_part, is_of_editor}
-use Rattle.event_model.specs.Phases.{Desk, desk_of, desk_behind, has_id, is_there, phase_closed, phase_told}
+use Rattle.event_model.specs.Phases.{Desk, desk_of, desk_behind, has_id, is_new, is_there, phase_closed, phase_told}
 use Rattle.event_model.specs.Requests.{answered_id, is_open, open_behind, open_of, without}
 use Rattle.event_model.specs.Settings.{Settings}
 use Rattle.event_model.specs.Spawns.{starts_of}
@@ -36,6 +36,7 @@ use Rattle.group_sessions.proofs.Again.{again_rests}
 use Rattle.session_laws.proofs.Client2Law.{is_own_word}
 use Rattle.group_rows.specs.Asks.{next_ask}
 use Rattle.group_sessions.proofs.Client2Law.{response_to}
+use Rattle.group_facts.proofs.SlowRow.{quit_again}
 
 -- Ids that were answered
 
@@ -352,6 +353,8 @@ law settings = record {
   end = λ before cause events s starting known here h i. λ e other. one_more e events (said (EndServer s)) (i e other) (λ same. tt) (i e other).link;
   spawn = λ before cause events g inside known here h i. λ e other. one_more e events (said (Spawn (starts_of events) g)) (i e other) (λ same. tt) (i e other).link;
   rest = λ before cause fits known h i. rests settings before cause (known.steady).asks (known.base).meant fits known.waiting h i;
+  turn = λ place e slow known h. λ n other. h n;
+  left = λ place e slow known h i. λ n. i n (quit_again e n (not (is_new (desk_of e place).phase)));
 }
 
 pub client_3_law : (settings : Settings) → InRange settings → (history : List Entry) → Legal settings history → KeepsClient3 history

@@ -38,17 +38,18 @@ use Rattle.group_rows.specs.Tokens.{is_mark, is_told, marked_text, own_token, pa
 use Rattle.group_rows.proofs.CreatedTexts.{created_is}
 use Rattle.group_facts.specs.Built.{built_behind}
 use Rattle.group_facts.specs.Legal.{Legal}
-use Rattle.group_facts.specs.Why.{IsNotified, Telling, Why, WhyToEditor, answers, asks, calls, of_held, of_request, of_token, passes, progresses, recalls, refuses, rejects, resumes, shows, spreads, turns_away, welcomes, loses}
+use Rattle.group_facts.specs.Why.{IsNotified, Telling, Why, WhyToEditor, answers, asks, calls, of_held, of_request, of_token, passes, progresses, recalls, refuses, rejects, resumes, shows, spreads, turns_away, welcomes, loses, quitting}
 use Rattle.group_facts.proofs.Facts.{Facts}
 use Rattle.group_facts.proofs.Forwards.{forwarding_more}
-use Rattle.group_facts.proofs.Known.{Here, facts_hold, here_did, here_took}
+use Rattle.group_facts.proofs.Known.{Here, here_did, here_took}
+use Rattle.group_facts.proofs.Reached.{Reached, facts_at, reached}
 use Rattle.group_facts.proofs.Table.{reasons}
 use Rattle.group_sessions.proofs.Accepted.{AllHeard, Heard, Hears, IsHeard, accepted}
 use Rattle.group_sessions.proofs.HeldFold.{called_some}
 use Rattle.group_sessions.proofs.Marked.{Marked, id_bare, marked}
 use Rattle.group_sessions.proofs.Telling.{AllTold, HasToken, IsTold, Ties, outs_back, ties_free, ties_told, ties_took, unfiltered}
 use Rattle.group_sessions.proofs.TellingSent.{ties_sent}
-use Rattle.group_sessions.proofs.Walk.{walk}
+use Rattle.group_sessions.proofs.Walk.{KeepsSlow, walk}
 use Rattle.group_rows.specs.StopRows.{stopped}
 use Rattle.group_facts.proofs.Quits.{not_stopped, stopped_back, stopped_more}
 use Rattle.group_facts.proofs.StopEntry.{stopped_outs}
@@ -56,6 +57,7 @@ use Rattle.group_facts.proofs.Apart.{find_true}
 use Rattle.group_facts.proofs.Listens.{listens_there}
 use Rattle.event_model.specs.Phases.{desk_of, is_there}
 use Rattle.std.proofs.lemmas.Bool.{and_parts}
+use Rattle.group_facts.proofs.SlowRow.{parting_walk, quit_built}
 
 -- What is told
 
@@ -208,22 +210,35 @@ record Rests (events : List Event) : Type 0 where
 
 -- where what editors are told of created tokens is as it should be
 module _ (settings : Settings) (range : InRange settings) (all_heard : AllHeard settings) where
-  entry : (before : List Entry) → Legal settings before → (cause : Cause) → fits_behind (events_of before) cause ≡ true → built_behind settings (events_of before) cause ≡ true
-      → Rests (events_of before) → Rests (behind (with_cause (events_of before) cause) (outs_of settings (events_of before) cause))
+  entry : (before : List Event) → Reached settings before → (cause : Cause) → fits_behind before cause ≡ true → built_behind settings before cause ≡ true
+      → Rests before → Rests (behind (with_cause before cause) (outs_of settings before cause))
   entry before so_far cause fits built h =
-      let facts : Facts settings (events_of before) = facts_hold settings range before so_far in
-      let now : List Event = with_cause (events_of before) cause in
-      let last : At settings range (events_of before) facts cause built (behind now (outs_of settings (events_of before) cause)) = reasons_keep (Both settings range (events_of before) facts cause built) (At settings range (events_of before) facts cause built) (step settings range (events_of before) facts cause built)
-      now (outs_of settings (events_of before) cause)
-      (both settings range (events_of before) facts cause built now (outs_of settings (events_of before) cause) (reasons settings range (events_of before) facts cause built).why (all_heard before so_far cause fits built))
+      let facts : Facts settings before = facts_at settings range before so_far in
+      let now : List Event = with_cause before cause in
+      let last : At settings range before facts cause built (behind now (outs_of settings before cause)) = reasons_keep (Both settings range before facts cause built) (At settings range before facts cause built) (step settings range before facts cause built)
+      now (outs_of settings before cause)
+      (both settings range before facts cause built now (outs_of settings before cause) (reasons settings range before facts cause built).why (all_heard before so_far cause fits built))
       (record {
-        here = here_took settings range (events_of before) cause fits built facts;
+        here = here_took settings range before cause fits built facts;
         outs = [];
         place = sym (behind_nothing now);
-        ties = λ on. ties_took (events_of before) cause (h.ties (stopped_back (events_of before) (heard cause) on));
-        rules = rules_took settings range (events_of before) facts cause built cause h.rules;
+        ties = λ on. ties_took before cause (h.ties (stopped_back before (heard cause) on));
+        rules = rules_took settings range before facts cause built cause h.rules;
       }) in
       record { ties = last.ties; rules = last.rules }
 
+  slow : KeepsSlow settings Rests
+  slow place at e is h =
+      let facts : Facts settings place = facts_at settings range place at in
+      parting_walk settings range place facts e is Rests
+      (λ i. record {
+        ties = λ on. ties_free place (CloseEditor e) refl (λ s. refl) (i.ties (stopped_back place (said (CloseEditor e)) on));
+        rules = free settings range place facts (quitting e) (quit_built settings place e) place (said (CloseEditor e)) refl i.rules;
+      })
+      (λ events n body why i. record {
+        ties = λ on. ties_sent settings place (quitting e) events n body why (i.ties (stopped_back events (said (ToServer n body)) on));
+        rules = free settings range place facts (quitting e) (quit_built settings place e) events (said (ToServer n body)) refl i.rules;
+      }) h
+
   pub client_6_law : (history : List Entry) → Legal settings history → KeepsClient6 history
-  client_6_law history legal = (walk settings Rests entry (record { ties = λ on s. tt; rules = λ e. tt }) history legal).rules
+  client_6_law history legal = (walk settings Rests entry slow (record { ties = λ on s. tt; rules = λ e. tt }) (events_of history) (reached settings history legal)).rules

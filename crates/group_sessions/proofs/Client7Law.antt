@@ -1,5 +1,5 @@
 -- What an editor is told of registrations fits what it was told before.
-use Rattle.std.proofs.Common.{◌≡◌, ℕ, Bool, true, false, not, ◌&&◌, List, [], ◌∷◌, ◌++◌, append-nil, append_assoc, codes, nat_eq, IsTrue, if◌then◌else◌, Some, refl, sym, ◌∙◌, ap, subst}
+use Rattle.std.proofs.Common.{◌≡◌, ℕ, Bool, true, false, not, ◌&&◌, List, [], ◌∷◌, ◌++◌, codes, nat_eq, if◌then◌else◌, Some, refl, sym, ◌∙◌, ap, subst, inl, inr}
 use Rattle.std.proofs.lemmas.Bool.{and_parts}
 use Rattle.mux_history.specs.declared.cause.Cause.{Cause}
 use Rattle.mux_history.specs.declared.cause.Cause.TheVariants.{Joined, FromEditor, EditorGone, Started, StartFailed, FromServer, ServerGone, Drained, Tick}
@@ -23,7 +23,6 @@ use Rattle.mux_model.specs.Fits.{fits_behind}
 use Rattle.mux_facts.specs.Ranges.{InRange}
 use Rattle.mux_facts.proofs.DocumentRow.{ready_is}
 use Rattle.mux_facts.proofs.Folds.{desk_more, life_more}
-use Rattle.mux_facts.proofs.Keeps.{events_more}
 use Rattle.mux_facts.proofs.Reasons.{reasons_keep}
 use Rattle.mux_facts.proofs.Starts.{Starts}
 use Rattle.mux_facts.proofs.Words.{number_same}
@@ -35,21 +34,31 @@ use Rattle.group_rows.specs.Live.{live_by, live_next, live_of}
 use Rattle.group_rows.specs.Rows.{outs_of}
 use Rattle.group_facts.specs.Built.{built_behind}
 use Rattle.group_facts.specs.Facts.{is_unready}
-use Rattle.group_facts.specs.Legal.{Legal, LegalFrom}
+use Rattle.group_facts.specs.Legal.{Legal}
 use Rattle.group_facts.specs.Settled.{Settled}
 use Rattle.group_facts.specs.Why.{Why}
 use Rattle.group_facts.proofs.Facts.{Facts}
-use Rattle.group_facts.proofs.Known.{Here, facts_hold, here_did, here_took}
+use Rattle.group_facts.proofs.Known.{Here, here_did, here_took}
 use Rattle.group_facts.proofs.Levels.{Fresh, falls_back, unready_falls}
 use Rattle.group_facts.proofs.Numbers.{spawn_fresh}
-use Rattle.group_facts.proofs.OneStart.{OneStart, one_none, one_rests}
-use Rattle.group_facts.proofs.Settling.{settled_holds}
+use Rattle.group_facts.proofs.OneStart.{OneStart}
+use Rattle.group_facts.proofs.Reached.{facts_at, reached, rests_at, settled_at}
+use Rattle.group_facts.proofs.SlowRow.{parting, parting_calm, parting_keeps}
 use Rattle.group_facts.proofs.Table.{reasons}
 use Rattle.group_sessions.proofs.Begins.{begun_outcome}
 use Rattle.group_sessions.proofs.Enrolled.{is_about}
 use Rattle.group_sessions.proofs.Registered.{At, begins, ids, is_answered, is_change}
 use Rattle.group_sessions.proofs.Tied.{All, IsTied, early_here, has_run, live_here, ordinary, ordinary_tied}
 use Rattle.group_sessions.proofs.Told.{change_outcome}
+use Rattle.group_sessions.proofs.Walk.{Keeps, KeepsSlow, walk}
+use Rattle.group_facts.specs.SlowRows.{is_slow}
+use Rattle.group_facts.proofs.AskEntries.{onward_slow}
+use Rattle.group_facts.proofs.AskingRows.{running_is}
+use Rattle.group_facts.proofs.Begun.{starts_stay}
+use Rattle.group_facts.proofs.PutOut.{homes_stay}
+use Rattle.group_sessions.proofs.Enrolled.{Same}
+use Rattle.group_sessions.proofs.Registered.{at_free}
+use Rattle.group_sessions.proofs.Tied.{all_back, live_rests, not_run, out_rests, runs_on}
 
 -- A start that gave no result has nothing that is live
 
@@ -260,29 +269,54 @@ module _ (settings : Settings) (range : InRange settings) (before : List Event) 
 
 -- A whole history
 
+module _ (settings : Settings) (range : InRange settings) (place : List Event) (facts : Facts settings place) (e : ℕ) (slow : is_slow settings e place ≡ true) (h : All settings place) where
+  abbrev left_there : List Event
+  left_there = behind place (parting settings place e)
+
+  -- no editor is told anything
+  ids_there : (n : ℕ) → At n (ids n place) left_there
+  ids_there n = parting_keeps settings (At n (ids n place)) e (λ events k. at_free n (ids n place) events (said (CloseEditor e)) refl k) (λ events s body k. at_free n (ids n place) events (said (ToServer s body)) refl k) place (record { always = h.always n; has = refl })
+
+  not_yet : (n : ℕ) → has_run (desk_of n left_there).phase ≡ false → has_run (desk_of n place).phase ≡ false
+  not_yet n k = go (has_run (desk_of n place).phase) (all_back (λ p. not (has_run p)) not_run n place (parting settings place e) (ap not k))
+    where
+      go : (b : Bool) → not b ≡ true → b ≡ false
+      go false off = refl
+      go true off = never (sym off)
+
+  unready_there : (s : ℕ) → is_unready (life_of s left_there).stage ≡ true → is_unready (life_of s place).stage ≡ true
+  unready_there s un = go (is_unready (life_of s place).stage) refl
+    where
+      go : (b : Bool) → is_unready (life_of s place).stage ≡ b → b ≡ true
+      go true old = refl
+      go false begun = never (sym un ∙ onward_slow settings range place facts e slow s begun)
+
+  tied_there : (n g s : ℕ) → (desk_of n left_there).phase ≡ Running → home_of settings n left_there ≡ Some g → start_of g left_there ≡ Some s → IsTied settings n s (ids n left_there) left_there
+  tied_there n g s at home start = subst (λ xs. IsTied settings n s xs left_there) (sym (ids_there n).has)
+      (go (h.tied n g s (running_is settings place (desk_of n place).phase (all_back is_running runs_on n place (parting settings place e) (ap is_running at))) (sym (homes_stay settings n place (parting settings place e)) ∙ home)
+      (sym (starts_stay g place (parting settings place e) (parting_calm settings place e)) ∙ start)))
+    where
+      go : IsTied settings n s (ids n place) place → IsTied settings n s (ids n place) left_there
+      go (inl same) = inl (subst (Same (ids n place)) (sym (live_rests settings s place (parting settings place e))) same)
+      go (inr out) = inr (out_rests n place (parting settings place e) out)
+
+  all_slow : All settings left_there
+  all_slow = record {
+    always = λ n. (ids_there n).always;
+    early = λ n k. (ids_there n).has ∙ h.early n (not_yet n k);
+    tied = tied_there;
+    unready = λ s un. live_rests settings s place (parting settings place e) ∙ h.unready s (unready_there s un);
+  }
+
 module _ (settings : Settings) (range : InRange settings) where
-  legal_more : (before xs : List Entry) (entry : Entry) → LegalFrom settings before xs → LegalFrom settings (before ++ xs) (entry ∷ []) → LegalFrom settings before (xs ++ entry ∷ [])
-  legal_more before [] entry legal last = subst (λ z. LegalFrom settings z (entry ∷ [])) (append-nil before) last
-  legal_more before (x ∷ xs) entry legal last = (legal.0, legal.1, legal.2, legal_more (before ++ x ∷ []) xs entry legal.3 (subst (λ z. LegalFrom settings z (entry ∷ [])) (sym (append_assoc before (x ∷ []) xs)) last))
+  entry : Keeps settings (All settings)
+  entry before at cause fits built h = entry_all settings range before (facts_at settings range before at) (settled_at settings range before at) (rests_at settings range before at).one h cause fits built
 
-  record Both (events : List Event) : Type 0 where
-    one : OneStart events
-    all : All settings events
+  slow : KeepsSlow settings (All settings)
+  slow place at e is h = all_slow settings range place (facts_at settings range place at) e is h
 
-  one_entry : (before : List Entry) (entry : Entry) → Legal settings before → IsTrue (fits_behind (events_of before) entry.cause) → IsTrue (built_behind settings (events_of before) entry.cause) → entry.outs ≡ outs_of settings (events_of before) entry.cause → Both (events_of before) → Both (events_of (before ++ entry ∷ []))
-  one_entry before entry so_far fits built sent h =
-      let facts = facts_hold settings range before so_far in
-      let settled = settled_holds settings range before so_far in
-      subst Both (sym (events_more before entry)) (subst (λ z. Both (behind (with_cause (events_of before) entry.cause) z)) (sym sent)
-      (record { one = one_rests settings (events_of before) entry.cause settled.begun built h.one; all = entry_all settings range (events_of before) facts settled h.one h.all entry.cause fits built }))
-
-  from_here : (before rest : List Entry) → Legal settings before → LegalFrom settings before rest → Both (events_of before) → Both (events_of (before ++ rest))
-  from_here before [] so_far legal h = subst (λ z. Both (events_of z)) (sym (append-nil before)) h
-  from_here before (entry ∷ rest) so_far legal h = subst (λ z. Both (events_of z)) (append_assoc before (entry ∷ []) rest)
-      (from_here (before ++ entry ∷ []) rest (legal_more [] before entry so_far (legal.0, legal.1, legal.2, tt)) legal.3 (one_entry before entry so_far legal.0 legal.1 legal.2 h))
-
-  none : Both []
-  none = record { one = one_none; all = record { always = λ e. tt; early = λ e h. refl; tied = λ e g s at home start. absurd (cc); unready = λ s h. refl } }
+  none : All settings []
+  none = record { always = λ e. tt; early = λ e h. refl; tied = λ e g s at home start. absurd (cc); unready = λ s h. refl }
 
   pub client_7_law : (history : List Entry) → Legal settings history → KeepsClient7 history
-  client_7_law history legal e = (((from_here [] history tt legal none).all).always) e
+  client_7_law history legal e = (walk settings (All settings) entry slow none (events_of history) (reached settings history legal)).always e

@@ -51,6 +51,9 @@ use Rattle.group_sessions.proofs.Brought.{token_request}
 use Rattle.group_sessions.proofs.Client7Law.{begun_later}
 use Rattle.group_sessions.proofs.CreatedFold.{AllApart, IsApart, IsNew, created_orderly, new_is, none_called}
 use Rattle.group_sessions.proofs.TellingSent.{one_token}
+use Rattle.group_facts.proofs.SlowRow.{parting}
+use Rattle.group_facts.proofs.AskEntries.{onward_slow}
+use Rattle.group_facts.specs.SlowRows.{is_slow}
 
 abbrev AllOpen : ℕ → List Event → List Token → Type 0
 AllOpen s events ts = AllByRecursion (λ (t : Token). is_open t.id (creates s events).created ≡ true) ts
@@ -500,6 +503,20 @@ module _ (settings : Settings) (range : InRange settings) (before : List Event) 
     unready = λ s un. unready_here settings range before facts h cause fits built s un;
     there = λ s ready. there_here cause fits built s ready;
   }
+
+-- An editor that is slow leaves
+
+pub tie_slow : (settings : Settings) (range : InRange settings) (place : List Event) → Facts settings place → (e : ℕ) → is_slow settings e place ≡ true → Tie settings place → Tie settings (behind place (parting settings place e))
+tie_slow settings range place facts e slow h = record {
+  unready = λ s un. outs_tokens settings s place (parting settings place e) ∙ h.unready s (back s (is_unready (life_of s place).stage) refl un);
+  there = λ s ready. subst (AllOpen s (behind place (parting settings place e))) (sym (outs_tokens settings s place (parting settings place e)))
+      (all_of (λ (t : Token). is_open t.id (creates s place).created ≡ true) (λ (t : Token). is_open t.id (creates s (behind place (parting settings place e))).created ≡ true) (λ t o. created_behind s place (parting settings place e) t.id o)
+      (created_of settings s place).tokens (h.there s (ready_is (life_of s place).stage (ready_outs s place (parting settings place e) (ap is_ready ready)))));
+}
+  where
+    back : (s : ℕ) (b : Bool) → is_unready (life_of s place).stage ≡ b → is_unready (life_of s (behind place (parting settings place e))).stage ≡ true → b ≡ true
+    back s true _ un = refl
+    back s false begun un = never (sym un ∙ onward_slow settings range place facts e slow s begun)
 
 pub no_tie : (settings : Settings) → Tie settings []
 no_tie settings = record { unready = λ s un. refl; there = λ s ready. absurd (cc) }

@@ -9,11 +9,10 @@ use Rattle.std.proofs.lemmas.Slice.Eq.{bytes_eq-Decides}
 use Rattle.json_text.specs.Json.{Json}
 use Rattle.mux_history.specs.declared.cause.Cause.{Cause}
 use Rattle.mux_history.specs.declared.cause.Cause.TheVariants.{Joined, FromEditor, EditorGone, Started, StartFailed, FromServer, ServerGone, Drained, Tick}
-use Rattle.mux_history.specs.declared.entry.Entry.{Entry}
 use Rattle.mux_history.specs.declared.out.Out.{Out}
 use Rattle.mux_history.specs.declared.out.Out.TheVariants.{ToEditor, ToServer, Spawn, CloseEditor, EndServer}
 use Rattle.rpc_message.specs.Message.{Id, Message, request, notification, result, error, not_json, not_message, integer, message_of, text}
-use Rattle.event_model.specs.Event.{Event, behind, did, events_of, heard, requests, said, took, with_cause}
+use Rattle.event_model.specs.Event.{Event, behind, did, heard, requests, said, took, with_cause}
 use Rattle.event_model.specs.Members.{named_of, string_of}
 use Rattle.event_model.specs.Requests.{answered_id}
 use Rattle.event_model.specs.Settings.{Settings}
@@ -32,11 +31,10 @@ use Rattle.group_rows.specs.Forwarded.{names}
 use Rattle.group_rows.specs.Live.{is_registering}
 use Rattle.group_rows.specs.Rows.{outs_of}
 use Rattle.group_facts.specs.Built.{built_behind}
-use Rattle.group_facts.specs.Legal.{Legal}
 use Rattle.group_facts.specs.Why.{Why, WhyToEditor, answers, asks, asks_something, calls, passes, progresses, recalls, refuses, rejects, resumes, shows, spreads, turns_away, welcomes, loses}
 use Rattle.group_facts.proofs.AskSeats.{asks_more, did_all, took_all}
 use Rattle.group_facts.proofs.Asks.{call_hurried, is_question, listed, registering_made, response_asks_none, resumed_here, resumed_off, taken}
-use Rattle.group_facts.proofs.Known.{facts_hold}
+use Rattle.group_facts.proofs.Reached.{Reached, facts_at}
 use Rattle.group_facts.proofs.Facts.{Facts}
 use Rattle.group_facts.proofs.Marks.{mark_number}
 use Rattle.group_facts.proofs.Table.{reasons}
@@ -44,9 +42,11 @@ use Rattle.group_sessions.proofs.CreatedFold.{all_flat, created_orderly}
 use Rattle.group_sessions.proofs.CreatedTies.{created_more}
 use Rattle.group_sessions.proofs.HeldFold.{created_fair}
 use Rattle.group_sessions.proofs.TakingTies.{aside_all, find_true, is_aside, left_all}
-use Rattle.group_sessions.proofs.Walk.{walk}
+use Rattle.group_sessions.proofs.Walk.{KeepsSlow, walk}
 use Rattle.group_sessions.proofs.DueFold.{head_passes, is_own, own}
 use Rattle.group_sessions.proofs.DueLaw.{AllClear, IsClear, found_kept}
+use Rattle.group_facts.proofs.SlowRow.{parting, parting_why}
+use Rattle.group_facts.specs.Why.{quitting}
 
 -- The token that the n-th request to an editor asks it to take
 
@@ -454,9 +454,12 @@ clear_of settings events facts o = record { one = one; apart = apart }
             number = same_named id a.number c.number (number_low a.editor a.number None a_plain) (number_low c.editor c.number (Some (created_mark s c.token)) c_set) a_parts.1 c_parts.1
 
 pub all_clear : (settings : Settings) → InRange settings → AllClear settings
-all_clear settings range before legal = clear_of settings (events_of before) (facts_hold settings range before legal) (walk settings (Orders settings) entry (record { plain = λ s. tt; set = λ s. tt; small = λ e. omega arith }) before legal)
+all_clear settings range before legal = clear_of settings before (facts_at settings range before legal) (walk settings (Orders settings) entry slow (record { plain = λ s. tt; set = λ s. tt; small = λ e. omega arith }) before legal)
   where
-    entry : (earlier : List Entry) → Legal settings earlier → (cause : Cause) → fits_behind (events_of earlier) cause ≡ true → built_behind settings (events_of earlier) cause ≡ true
-        → Orders settings (events_of earlier) → Orders settings (behind (with_cause (events_of earlier) cause) (outs_of settings (events_of earlier) cause))
-    entry earlier so_far cause fits built h = reasons_keep (Why settings (events_of earlier) cause) (Orders settings) (orders_did settings (events_of earlier) cause) (with_cause (events_of earlier) cause) (outs_of settings (events_of earlier) cause)
-        (reasons settings range (events_of earlier) (facts_hold settings range earlier so_far) cause built).why (orders_took settings (events_of earlier) cause h)
+    entry : (earlier : List Event) → Reached settings earlier → (cause : Cause) → fits_behind earlier cause ≡ true → built_behind settings earlier cause ≡ true
+        → Orders settings earlier → Orders settings (behind (with_cause earlier cause) (outs_of settings earlier cause))
+    entry earlier so_far cause fits built h = reasons_keep (Why settings earlier cause) (Orders settings) (orders_did settings earlier cause) (with_cause earlier cause) (outs_of settings earlier cause)
+        (reasons settings range earlier (facts_at settings range earlier so_far) cause built).why (orders_took settings earlier cause h)
+
+    slow : KeepsSlow settings (Orders settings)
+    slow place at e is h = reasons_keep (Why settings place (quitting e)) (Orders settings) (orders_did settings place (quitting e)) place (parting settings place e) (parting_why settings range place (facts_at settings range place at) e is) h

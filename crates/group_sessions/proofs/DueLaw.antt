@@ -6,7 +6,6 @@ use Rattle.std.proofs.lemmas.List.{map-append}
 use Rattle.json_text.specs.Json.{Json}
 use Rattle.mux_history.specs.declared.cause.Cause.{Cause}
 use Rattle.mux_history.specs.declared.cause.Cause.TheVariants.{Joined, FromEditor, EditorGone, Started, StartFailed, FromServer, ServerGone, Drained, Tick}
-use Rattle.mux_history.specs.declared.entry.Entry.{Entry}
 use Rattle.mux_history.specs.declared.out.Out.{Out}
 use Rattle.mux_history.specs.declared.out.Out.TheVariants.{ToEditor, ToServer, Spawn, CloseEditor, EndServer}
 use Rattle.lsp_method.specs.Class.{class_of}
@@ -14,7 +13,7 @@ use Rattle.lsp_method.specs.declared.variants.Class.{Class}
 use Rattle.lsp_method.specs.declared.variants.Class.TheVariants.{Progress}
 use Rattle.lsp_method.specs.declared.variants.Origin.TheVariants.{Server}
 use Rattle.rpc_message.specs.Message.{Id, Message, request, notification, result, error, not_json, not_message, message_of}
-use Rattle.event_model.specs.Event.{Event, behind, did, events_of, heard, requests, said, took, with_cause}
+use Rattle.event_model.specs.Event.{Event, behind, did, heard, requests, said, took, with_cause}
 use Rattle.event_model.specs.Requests.{answered_id}
 use Rattle.event_model.specs.Settings.{Settings}
 use Rattle.event_model.specs.Spawns.{starts_behind, starts_of}
@@ -34,7 +33,6 @@ use Rattle.group_rows.specs.Forwarded.{names}
 use Rattle.group_rows.specs.Rows.{outs_of}
 use Rattle.group_rows.specs.Tokens.{marked_text}
 use Rattle.group_facts.specs.Built.{built_behind}
-use Rattle.group_facts.specs.Legal.{Legal}
 use Rattle.group_facts.specs.Settled.{HasTaken, RunsAt, Settled}
 use Rattle.group_facts.specs.Why.{IsNotified, IsTaken, Why}
 use Rattle.group_facts.proofs.Facts.{Facts}
@@ -48,6 +46,7 @@ use Rattle.group_sessions.proofs.DueExact.{handed_exactly, told_exactly}
 use Rattle.group_sessions.proofs.DueFold.{head_passes, is_own, own, own_accepted}
 use Rattle.group_sessions.proofs.DueSent.{Source, hears, nothing_or, sent_behind, sent_heard, sent_outs, takes}
 use Rattle.group_sessions.proofs.DueStates.{Seat, State, fresh, gained, goes, handed, over, rose, sits, waits}
+use Rattle.group_facts.proofs.Reached.{Reached}
 
 -- An editor is asked once to take a token, at each place of an entry
 abbrev pub AskedOnce : Settings → ℕ → ℕ → ℕ → List Event → Out → Type 0
@@ -59,7 +58,7 @@ pub record IsClear (settings : Settings) (events : List Event) : Type 0 where
   pub apart : (s e : ℕ) (id : Option Id) (c : Taking) → find (is_answered e id) (created_of settings s events).takings ≡ Some c → find (is_seated e id) (asks_of settings s events) ≡ None
 
 abbrev pub AllClear : Settings → Type 0
-AllClear settings = (before : List Entry) → Legal settings before → IsClear settings (events_of before)
+AllClear settings = (before : List Event) → Reached settings before → IsClear settings before
 
 class_progress : (c : Class) → names_progress c ≡ true → c ≡ Progress
 class_progress Progress h = refl

@@ -300,7 +300,7 @@ module _ (settings : Settings) (range : InRange settings) (before : List Event) 
   asked_runs events n body (progresses w) a = never (sym (asking_makes events n body a) ∙ ap makes w.says)
   asked_runs events n body (shows w) a = never (sym (asking_makes events n body a) ∙ ap makes w.says)
 
-  closed_off : (events : List Event) (n : ℕ) → is_asks (word settings s k e events (said (CloseEditor n))) ≡ false
+  pub closed_off : (events : List Event) (n : ℕ) → is_asks (word settings s k e events (said (CloseEditor n))) ≡ false
   closed_off events n = go (nat_eq n e)
     where
       go : (b : Bool) → is_asks (if b then due_parts else rests) ≡ false
@@ -649,7 +649,7 @@ module _ (settings : Settings) (range : InRange settings) (before : List Event) 
   runs_later : (events : List Event) (out : Out) → HasRun events e → HasRun (events ++ said out ∷ []) e
   runs_later events out h = run_later (has_run (desk_of e events).phase) (has_run (desk_of e (events ++ said out ∷ [])).phase) (all_back (λ p. not (has_run p)) not_run e events (out ∷ [])) h
 
-  ran_did : (events : List Event) (out : Out) → Why settings before cause events out → Ran events → Ran (events ++ said out ∷ [])
+  pub ran_did : (events : List Event) (out : Out) → Why settings before cause events out → Ran events → Ran (events ++ said out ∷ [])
   ran_did events (ToEditor n body) why h = ran_more events (said (ToEditor n body)) (runs_later events (ToEditor n body))
       (λ asked. let a : IsAsking events n body = asking_is events n body asked in runs_later events (ToEditor n body) (subst (HasRun events) a.editor (ap has_run (asked_runs events n body why a)))) h
   ran_did events (ToServer n body) why h = ran_more events (said (ToServer n body)) (runs_later events (ToServer n body)) (λ asked. never (sym asked)) h

@@ -7,7 +7,7 @@ use Rattle.mux_history.specs.declared.cause.Cause.TheVariants.{FromEditor, FromS
 use Rattle.mux_history.specs.declared.out.Out.{Out}
 use Rattle.mux_history.specs.declared.out.Out.TheVariants.{ToEditor, ToServer, Spawn, CloseEditor, EndServer}
 use Rattle.rpc_message.specs.Message.{Id, message_of, notification, text}
-use Rattle.event_model.specs.Event.{Event, behind, events_of, heard, said, with_cause}
+use Rattle.event_model.specs.Event.{Event, behind, heard, said, with_cause}
 use Rattle.event_model.specs.Requests.{answered_id, is_open, without}
 use Rattle.event_model.specs.Settings.{Settings}
 use Rattle.event_model.proofs.Frames.{never}
@@ -22,7 +22,7 @@ use Rattle.group_rows.specs.Rows.{outs_of}
 use Rattle.group_rows.specs.Tokens.{marked_text}
 use Rattle.group_facts.specs.Why.{Telling, of_held, of_request, of_token}
 use Rattle.group_facts.proofs.Facts.{Facts}
-use Rattle.group_facts.proofs.Known.{facts_hold}
+use Rattle.group_facts.proofs.Reached.{facts_at}
 use Rattle.group_sessions.proofs.Accepted.{AllHeard, Heard, Hears, NamesToken, accepted}
 use Rattle.group_sessions.proofs.Client6Law.{created_id}
 use Rattle.group_sessions.proofs.HeldFold.{IsFair, LastEnds, NameTokens, NoneEnds, created_fair, none_before}
@@ -130,5 +130,5 @@ module _ (settings : Settings) (before : List Event) (facts : Facts settings bef
   heard_outs events (out ∷ outs) h = (heard_out events out h.0, heard_outs (events ++ said out ∷ []) outs h.1)
 
 pub all_heard : (settings : Settings) → InRange settings → AllHeard settings
-all_heard settings range before so_far cause fits built = heard_outs settings (events_of before) (facts_hold settings range before so_far) (all_rests settings range before so_far) cause (with_cause (events_of before) cause) (outs_of settings (events_of before) cause)
-    (all_known settings (events_of before) (one_start settings range before so_far) cause)
+all_heard settings range before so_far cause fits built = heard_outs settings before (facts_at settings range before so_far) (all_rests settings range before so_far) cause (with_cause before cause) (outs_of settings before cause)
+    (all_known settings before (one_start settings range before so_far) cause)

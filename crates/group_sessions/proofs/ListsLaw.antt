@@ -22,7 +22,7 @@ use Rattle.mux_model.specs.Rows.{malformed_row}
 use Rattle.mux_facts.specs.Ranges.{InRange}
 use Rattle.mux_facts.proofs.DocumentRow.{ready_is}
 use Rattle.mux_facts.proofs.Folds.{desk_more}
-use Rattle.mux_facts.proofs.Keeps.{behind_both, events_more}
+use Rattle.mux_facts.proofs.Keeps.{behind_both}
 use Rattle.mux_facts.proofs.Lists.{all_join, all_of}
 use Rattle.mux_facts.proofs.Reasons.{Reasons, by_send, by_then}
 use Rattle.mux_facts.proofs.Words.{number_same, same_number}
@@ -41,21 +41,22 @@ use Rattle.group_facts.specs.Why.{IsQuestion, Showing, Why, begins_by, comes, op
 use Rattle.group_facts.proofs.AskingRows.{running_is, still_runs}
 use Rattle.group_facts.proofs.Begun.{leave_by}
 use Rattle.group_facts.proofs.Facts.{Facts}
-use Rattle.group_facts.proofs.Known.{facts_hold}
+use Rattle.group_facts.proofs.Reached.{Reached, facts_at, reached, settled_at}
+use Rattle.group_facts.proofs.SlowRow.{slow_all}
 use Rattle.group_facts.proofs.OneStart.{OneStart}
 use Rattle.group_facts.proofs.Resuming.{run_questions, stays_there}
 use Rattle.group_facts.proofs.Same.{IsBody}
-use Rattle.group_facts.proofs.Settling.{settled_holds}
 use Rattle.group_facts.proofs.Shown.{meant_behind}
 use Rattle.group_facts.proofs.Still.{Goes, goes_body, still_document, still_served}
 use Rattle.group_facts.proofs.Table.{reasons}
 use Rattle.group_sessions.proofs.DueOnce.{well_formed}
-use Rattle.group_sessions.proofs.ListsNone.{Listless, Off, all_off, lists_join, off_lists, unrun_more, unrun_off}
+use Rattle.group_sessions.proofs.ListsNone.{Listless, Off, all_off, lists_join, lists_none, off_lists, unrun_more, unrun_off}
 use Rattle.group_sessions.proofs.ListsServed.{Opens, OpensNone, at_join, at_none, at_same, full, none_due, opened_row, opens_lists, opens_or, run_lists, served_off}
 use Rattle.group_sessions.proofs.ListsShown.{comes_exactly}
 use Rattle.group_sessions.proofs.TellingPlaces.{one_start}
 use Rattle.group_sessions.proofs.Tied.{runs_on}
 use Rattle.group_sessions.specs.LastLists.{KeepsLists, at_start, due_beginning, due_coming, due_opening, due_own, gives_list, lists_due, lists_to, shown}
+use Rattle.group_facts.specs.SlowRows.{slow_row}
 
 -- Editors that run
 
@@ -383,10 +384,13 @@ legal_parts settings before (x ∷ xs) ys legal =
     ((legal.0, legal.1, legal.2, rest.0), subst (λ z. LegalFrom settings z ys) (append_assoc before (x ∷ []) xs) rest.1)
 
 module _ (settings : Settings) (range : InRange settings) where
-  at_entry : (before later : List Entry) (entry : Entry) → Legal settings before → LegalFrom settings before (entry ∷ later) → (e : ℕ) → lists_to e entry.outs ≡ lists_due settings e (events_of before) entry.cause (events_of (before ++ entry ∷ []))
-  at_entry before later entry so_far legal e = ap (lists_to e) legal.2
-      ∙ (entry_lists settings range (events_of before) (facts_hold settings range before so_far) (settled_holds settings range before so_far) (one_start settings range before so_far) e entry.cause legal.1
-      ∙ ap (lists_due settings e (events_of before) entry.cause) (ap (behind (with_cause (events_of before) entry.cause)) (sym legal.2) ∙ sym (events_more before entry)))
+  at_entry : (before later : List Entry) (entry : Entry) → Legal settings before → LegalFrom settings before (entry ∷ later) → (e : ℕ) → lists_to e entry.outs ≡ lists_due settings e (events_of before) entry.cause (behind (with_cause (events_of before) entry.cause) (outs_of settings (events_of before) entry.cause))
+  at_entry before later entry so_far legal e =
+      let at : Reached settings (events_of before) = reached settings before so_far in
+      let row : List Out = outs_of settings (events_of before) entry.cause in
+      let slow : List Out = outs (slow_row settings) (behind (with_cause (events_of before) entry.cause) row) in
+      ap (lists_to e) legal.2 ∙ (lists_join e row slow ∙ (ap (λ z. lists_to e row ++ z) (lists_none e slow (slow_all settings (Listless e) (λ n. refl) (λ s body. refl) (behind (with_cause (events_of before) entry.cause) row)))
+      ∙ (append-nil (lists_to e row) ∙ entry_lists settings range (events_of before) (facts_at settings range (events_of before) at) (settled_at settings range (events_of before) at) (one_start settings range (events_of before) at) e entry.cause legal.1)))
 
   pub lists_law : (history : List Entry) → Legal settings history → KeepsLists settings history
   lists_law history legal before later entry is e =

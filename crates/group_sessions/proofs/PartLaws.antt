@@ -28,6 +28,8 @@ no_law settings = record {
   end = λ before cause events s starting known here h i. tt;
   spawn = λ before cause events g inside known here h i. tt;
   rest = λ before cause fits known h i. tt;
+  turn = λ place e slow known h. tt;
+  left = λ place e slow known h i. tt;
 }
 
 -- what is to be shown of a rule: that it speaks of bodies to a start alone, and that it holds of each, with an invariant of its own: I between entries, and M inside of one
@@ -63,6 +65,8 @@ module _ (settings : Settings) (Rule : List Event → Event → Type 0) (rule : 
     end = λ before cause events s starting known here h i. editor_free events (said (EndServer s)) refl i;
     spawn = λ before cause events g inside known here h i. editor_free events (said (Spawn (starts_of events) g)) refl i;
     rest = λ before cause fits known h i. i;
+    turn = λ place e slow known h. h;
+    left = λ place e slow known h i. i;
   }
 
   pub editor_history : InRange settings → (history : List Entry) → Legal settings history → (e : ℕ) → Always Rule (editor_part e (events_of history))
@@ -100,6 +104,8 @@ module _ (settings : Settings) (I : List Event → Type 0) (M : List Event → C
     end = λ before cause events s starting known here h i. record { own = (rule.law).end before cause events s starting known here h.own i.own; rules = server_free events (said (EndServer s)) refl i.rules };
     spawn = λ before cause events g inside known here h i. record { own = (rule.law).spawn before cause events g inside known here h.own i.own; rules = server_free events (said (Spawn (starts_of events) g)) refl i.rules };
     rest = λ before cause fits known h i. record { own = (rule.law).rest before cause fits known h.own i.own; rules = i.rules };
+    turn = λ place e slow known h. record { own = (rule.law).turn place e slow known h.own; rules = h.rules };
+    left = λ place e slow known h i. record { own = (rule.law).left place e slow known h.own i.own; rules = i.rules };
   }
 
   pub server_history : InRange settings → I [] → (history : List Entry) → Legal settings history → (s : ℕ) → Always Rule (server_part s (events_of history))

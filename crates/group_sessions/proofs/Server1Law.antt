@@ -36,6 +36,8 @@ law settings = record {
   end = λ before cause events n starting known here h i. running_ended events n i;
   spawn = λ before cause events g inside known here h i. running_spawned events g (here.steady).starts i;
   rest = λ before cause fits known h i. i;
+  turn = λ place e slow known h. h;
+  left = λ place e slow known h i. i;
 }
 
 -- a body finds the program running

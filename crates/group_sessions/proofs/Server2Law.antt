@@ -374,6 +374,8 @@ law settings range = record {
   end = λ before cause events s starting known here h m. within_end before cause events m s;
   spawn = λ before cause events g inside known here h m. within_spawn before cause events m g (here.steady).starts;
   rest = λ before cause fits known h m. all_rest settings before cause known h m;
+  turn = λ place e slow known h. record { hands = λ s still. h s; moved = λ s on. absurd (cc) };
+  left = λ place e slow known h m. λ s. m.hands s refl;
 }
 
 rule : (settings : Settings) → InRange settings → ServerRule settings Hands Within ServerRule2

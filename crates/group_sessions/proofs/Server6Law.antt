@@ -207,6 +207,8 @@ law settings = record {
   end = λ before cause events n starting known here h i. λ s. more s events (said (EndServer n)) (either (nat_eq n s) (forwarding_of s events) (waiting s events) (i s));
   spawn = λ before cause events g inside known here h i. λ s. more s events (said (Spawn (starts_of events) g)) (i s);
   rest = λ before cause fits known h i. i;
+  turn = λ place e slow known h. h;
+  left = λ place e slow known h i. i;
 }
 
 rule : (settings : Settings) → ServerRule settings Ties (Inside Ties) ServerRule6

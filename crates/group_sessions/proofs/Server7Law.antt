@@ -46,14 +46,17 @@ use Rattle.group_facts.specs.Built.{built_behind}
 use Rattle.group_facts.specs.Legal.{Legal}
 use Rattle.group_facts.specs.Why.{IsWorkCancel, Why, WhyToServer, WorkMeant, begins, cancels, cancels_work, exits, forwarded, greets, notes, of_request, of_token, resolves, responds, shuts, tells}
 use Rattle.group_facts.proofs.Facts.{Facts}
-use Rattle.group_facts.proofs.Known.{Here, facts_hold, here_did, here_took}
+use Rattle.group_facts.proofs.Known.{Here, here_did, here_took}
+use Rattle.group_facts.proofs.Reached.{Reached, facts_at, reached}
 use Rattle.group_facts.proofs.LeaveRows.{IsSmall, numbers_small}
 use Rattle.group_facts.proofs.Table.{reasons}
 use Rattle.group_sessions.proofs.Behind.{created_behind, ready_asked, ready_outs}
 use Rattle.group_sessions.proofs.Creating.{IsCreated, all_created}
 use Rattle.group_sessions.proofs.Marked.{Marked, id_bare, marked}
-use Rattle.group_sessions.proofs.Walk.{walk}
+use Rattle.group_sessions.proofs.Walk.{KeepsSlow, walk}
 use Rattle.group_sessions.proofs.Working.{IsWorking, Ties, Waits, ties_free, ties_sent, ties_took, waits_behind, waits_took}
+use Rattle.group_facts.proofs.SlowRow.{parting_walk, quit_built, quit_works}
+use Rattle.group_facts.specs.Why.{quitting}
 
 -- What goes on of an editor's own notifications cancels no work
 
@@ -107,16 +110,37 @@ module _ (settings : Settings) (range : InRange settings) (before : List Event) 
     ties : Ties events
     rules : (s : ℕ) → Always ServerRule7 (server_part s events)
 
-  module _ (events : List Event) (s : ℕ) (body : List ℕ) (at : At events) where
+  -- where it cancels the work that it may
+  module _ (events : List Event) (s : ℕ) (body : List ℕ) where
     abbrev tokens : List Id
     tokens = tokens_in (working s events) ++ (creates s events).created
 
     abbrev May : Message → Type 0
     May m = IsTrue (names_one (codes "window/workDoneProgress/cancel") tokens m)
 
-    may_name : (token : Id) (bytes asked method : List ℕ) → Marked token bytes asked method → body ≡ marked_text bytes asked → is_open token tokens ≡ true → May (message_of body)
-    may_name token bytes asked method m is there = subst (λ b. May (message_of b)) (sym is) (subst May (sym m.says)
-        (or_second (not (bytes_eq method (codes "window/workDoneProgress/cancel"))) (is_one (token_at (codes "token") m.params) tokens) (ap (λ o. is_one o tokens) m.names ∙ there)))
+    may_by : (IsWorkCancel settings before cause events s body → May (message_of body)) → WhyToServer settings before cause events s body → May (message_of body)
+    may_by works (begins k) = subst May (sym k.says) refl
+    may_by works (greets k) = subst May (sym k.says) refl
+    may_by works (forwarded k) = subst May (sym k.says) refl
+    may_by works (notes k) = subst May (sym k.says) (notice_free tokens k.method k.params (not_work k.method k.going))
+    may_by works (tells k) = spoken_free tokens (message_of body) k.spoken
+    may_by works (shuts k) = subst May (sym k.says) refl
+    may_by works (cancels k) = subst May (sym k.says) refl
+    may_by works (cancels_work k) = works k
+    may_by works (responds k) = names_freely (codes "window/workDoneProgress/cancel") tokens (message_of body) k.response
+    may_by works (resolves k) = names_freely (codes "window/workDoneProgress/cancel") tokens (message_of body) k.response
+    may_by works (exits k) = subst May (sym k.says) refl
+
+  module _ (events : List Event) (s : ℕ) (body : List ℕ) (at : At events) where
+    abbrev these : List Id
+    these = tokens events s body
+
+    abbrev MayGo : Message → Type 0
+    MayGo m = May events s body m
+
+    may_name : (token : Id) (bytes asked method : List ℕ) → Marked token bytes asked method → body ≡ marked_text bytes asked → is_open token these ≡ true → MayGo (message_of body)
+    may_name token bytes asked method m is there = subst (λ b. MayGo (message_of b)) (sym is) (subst MayGo (sym m.says)
+        (or_second (not (bytes_eq method (codes "window/workDoneProgress/cancel"))) (is_one (token_at (codes "token") m.params) these) (ap (λ o. is_one o these) m.names ∙ there)))
 
     module _ (k : IsWorkCancel settings before cause events s body) where
       place : events ≡ behind (with_cause before (FromEditor k.editor k.asked)) at.outs
@@ -128,7 +152,7 @@ module _ (settings : Settings) (range : InRange settings) (before : List Event) 
       waits_here : (n : ℕ) → Waits s before n → Waits s events n
       waits_here n h = subst (λ z. Waits s z n) (sym place) (waits_behind s (with_cause before (FromEditor k.editor k.asked)) at.outs n (waits_took s before k.editor k.asked n h))
 
-      requested : (f : Forwarded) → find (is_worked k.editor (named_of (codes "token") k.given)) (forwarding_of s before).open_requests ≡ Some f → k.text ≡ mark_text (work_mark f.number) → May (message_of body)
+      requested : (f : Forwarded) → find (is_worked k.editor (named_of (codes "token") k.given)) (forwarding_of s before).open_requests ≡ Some f → k.text ≡ mark_text (work_mark f.number) → MayGo (message_of body)
       requested f found same =
           let small : f.number < 2 ^ 64 = found_is (λ (g : Forwarded). IsSmall g.number) (is_worked k.editor (named_of (codes "token") k.given)) f (forwarding_of s before).open_requests (numbers_small settings range before (facts.steady).bounded s was_ready) found in
           let w : Worked (named_of (codes "token") k.given) f.work = worked (named_of (codes "token") k.given) f.work
@@ -140,7 +164,7 @@ module _ (settings : Settings) (range : InRange settings) (before : List Event) 
           (open_more (text (mark (work_mark f.number))) (tokens_in (working s events)) (creates s events).created
           (holds_open (integer (decimal f.number)) (text (mark (work_mark f.number))) (working s events) (waits_here f.number (tied w.bytes w.is))))
 
-      made : (t : Token) → token_marked s k.given (created_of settings s before) ≡ Some t → k.text ≡ t.text → May (message_of body)
+      made : (t : Token) → token_marked s k.given (created_of settings s before) ≡ Some t → k.text ≡ t.text → MayGo (message_of body)
       made t found same =
           let c : IsCreated s before t = found_is (IsCreated s before) (is_marked s (named_of (codes "token") k.given)) t (created_of settings s before).tokens (created s was_ready) found in
           may_name t.id t.text k.asked (codes "window/workDoneProgress/cancel")
@@ -152,22 +176,12 @@ module _ (settings : Settings) (range : InRange settings) (before : List Event) 
           created_here token h = subst (λ z. is_open token (creates s z).created ≡ true) (sym place)
               (created_behind s (with_cause before (FromEditor k.editor k.asked)) at.outs token (creates_grows s before (heard (FromEditor k.editor k.asked)) refl token h))
 
-      meant : WorkMeant settings before s k.editor k.given k.text → May (message_of body)
+      meant : WorkMeant settings before s k.editor k.given k.text → MayGo (message_of body)
       meant (of_request f found same) = requested f found same
       meant (of_token t found accepted same) = made t found same
 
-    may_go : WhyToServer settings before cause events s body → May (message_of body)
-    may_go (begins k) = subst May (sym k.says) refl
-    may_go (greets k) = subst May (sym k.says) refl
-    may_go (forwarded k) = subst May (sym k.says) refl
-    may_go (notes k) = subst May (sym k.says) (notice_free tokens k.method k.params (not_work k.method k.going))
-    may_go (tells k) = spoken_free tokens (message_of body) k.spoken
-    may_go (shuts k) = subst May (sym k.says) refl
-    may_go (cancels k) = subst May (sym k.says) refl
-    may_go (cancels_work k) = meant k k.meant
-    may_go (responds k) = names_freely (codes "window/workDoneProgress/cancel") tokens (message_of body) k.response
-    may_go (resolves k) = names_freely (codes "window/workDoneProgress/cancel") tokens (message_of body) k.response
-    may_go (exits k) = subst May (sym k.says) refl
+    may_go : WhyToServer settings before cause events s body → MayGo (message_of body)
+    may_go why = may_by events s body (λ k. meant k k.meant) why
 
   free : (events : List Event) (event : Event) → is_to_server event ≡ false → ((s : ℕ) → Always ServerRule7 (server_part s events)) → (s : ℕ) → Always ServerRule7 (server_part s (events ++ event ∷ []))
   free events event off h s = rule_more ServerRule7 (is_of_server s) events event (h s) (λ same. free_7 (server_part s events) event off)
@@ -200,23 +214,35 @@ record Rests (events : List Event) : Type 0 where
   rules : (s : ℕ) → Always ServerRule7 (server_part s events)
 
 module _ (settings : Settings) (range : InRange settings) where
-  entry : (before : List Entry) → Legal settings before → (cause : Cause) → fits_behind (events_of before) cause ≡ true → built_behind settings (events_of before) cause ≡ true
-      → Rests (events_of before) → Rests (behind (with_cause (events_of before) cause) (outs_of settings (events_of before) cause))
+  entry : (before : List Event) → Reached settings before → (cause : Cause) → fits_behind before cause ≡ true → built_behind settings before cause ≡ true
+      → Rests before → Rests (behind (with_cause before cause) (outs_of settings before cause))
   entry before so_far cause fits built h =
-      let facts : Facts settings (events_of before) = facts_hold settings range before so_far in
-      let now : List Event = with_cause (events_of before) cause in
-      let created : (s : ℕ) → (life_of s (events_of before)).stage ≡ Ready → AllByRecursion (IsCreated s (events_of before)) (created_of settings s (events_of before)).tokens = all_created settings range before so_far in
-      let last : At settings range (events_of before) facts cause built created (behind now (outs_of settings (events_of before) cause)) = reasons_keep (λ events out. Why settings (events_of before) cause events out) (At settings range (events_of before) facts cause built created)
-      (step settings range (events_of before) facts cause built created) now (outs_of settings (events_of before) cause) (reasons settings range (events_of before) facts cause built).why
+      let facts : Facts settings before = facts_at settings range before so_far in
+      let now : List Event = with_cause before cause in
+      let created : (s : ℕ) → (life_of s before).stage ≡ Ready → AllByRecursion (IsCreated s before) (created_of settings s before).tokens = all_created settings range before so_far in
+      let last : At settings range before facts cause built created (behind now (outs_of settings before cause)) = reasons_keep (λ events out. Why settings before cause events out) (At settings range before facts cause built created)
+      (step settings range before facts cause built created) now (outs_of settings before cause) (reasons settings range before facts cause built).why
       (record {
-        here = here_took settings range (events_of before) cause fits built facts;
+        here = here_took settings range before cause fits built facts;
         outs = [];
         place = sym (behind_nothing now);
         first = h.ties;
-        ties = ties_took (events_of before) cause h.ties;
-        rules = rules_took settings range (events_of before) facts cause built created cause h.rules;
+        ties = ties_took before cause h.ties;
+        rules = rules_took settings range before facts cause built created cause h.rules;
       }) in
       record { ties = last.ties; rules = last.rules }
 
+  slow : KeepsSlow settings Rests
+  slow place at e is h =
+      let facts : Facts settings place = facts_at settings range place at in
+      let created : (s : ℕ) → (life_of s place).stage ≡ Ready → AllByRecursion (IsCreated s place) (created_of settings s place).tokens = all_created settings range place at in
+      parting_walk settings range place facts e is Rests
+      (λ i. record { ties = ties_free place (said (CloseEditor e)) refl (λ s. refl) i.ties; rules = free settings range place facts (quitting e) (quit_built settings place e) created place (said (CloseEditor e)) refl i.rules })
+      (λ events n body why i. record {
+        ties = ties_sent settings range place (quitting e) events n body why i.ties;
+        rules = λ s. rule_more ServerRule7 (is_of_server s) events (said (ToServer n body)) (i.rules s) (λ same. subst (λ k. ServerRule7 (server_part k events) (said (ToServer n body))) (number_same n s same)
+            (may_by settings range place facts (quitting e) (quit_built settings place e) created events n body (λ k. absurd (quit_works settings place e events n body k)) why));
+      }) h
+
   pub server_7_law : (history : List Entry) → Legal settings history → KeepsServer7 history
-  server_7_law history legal = (walk settings Rests entry (record { ties = λ s. tt; rules = λ s. tt }) history legal).rules
+  server_7_law history legal = (walk settings Rests entry slow (record { ties = λ s. tt; rules = λ s. tt }) (events_of history) (reached settings history legal)).rules

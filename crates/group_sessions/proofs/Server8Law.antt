@@ -268,6 +268,8 @@ law settings = record {
   end = λ before cause events s starting known here h m. within_end before cause events m s;
   spawn = λ before cause events g inside known here h m. within_spawn before cause events m g (here.steady).starts;
   rest = λ before cause fits known h m. all_rest settings before cause m;
+  turn = λ place e slow known h. record { ties = λ s still. h s; past = λ s on. absurd (cc) };
+  left = λ place e slow known h m. λ s. m.ties s refl;
 }
 
 rule : (settings : Settings) → ServerRule settings Ties Within ServerRule8

@@ -19,6 +19,8 @@ law settings = record {
   end = λ before cause events s starting known here h i. still events (said (EndServer s)) (λ k n. refl) (λ n. refl) i;
   spawn = λ before cause events g inside known here h i. one_more events g i;
   rest = λ before cause fits known h i. i;
+  turn = λ place e slow known h. h;
+  left = λ place e slow known h i. i;
 }
 
 -- each start that was spawned was so once, under the next number

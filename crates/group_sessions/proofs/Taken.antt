@@ -6,13 +6,12 @@ use Rattle.std.proofs.lemmas.Fmt.{decimal_injective}
 use Rattle.json_text.specs.Json.{Json}
 use Rattle.mux_history.specs.declared.cause.Cause.{Cause}
 use Rattle.mux_history.specs.declared.cause.Cause.TheVariants.{Joined, FromEditor, EditorGone, Started, StartFailed, FromServer, ServerGone, Drained, Tick}
-use Rattle.mux_history.specs.declared.entry.Entry.{Entry}
 use Rattle.mux_history.specs.declared.out.Out.{Out}
 use Rattle.mux_history.specs.declared.out.Out.TheVariants.{ToEditor, ToServer, Spawn, CloseEditor, EndServer}
 use Rattle.rpc_message.specs.Message.{Id, Message, request, notification, result, error, not_json, not_message, message_of, text}
 use Rattle.event_model.specs.declared.phase.Phase.{Phase}
 use Rattle.event_model.specs.declared.phase.Phase.TheVariants.{Answered, Running, Down, Gone}
-use Rattle.event_model.specs.Event.{Event, behind, did, events_of, heard, requests, said, same_id, took, with_cause}
+use Rattle.event_model.specs.Event.{Event, behind, did, heard, requests, said, same_id, took, with_cause}
 use Rattle.event_model.specs.Members.{named_of}
 use Rattle.event_model.specs.Phases.{Desk, desk_hears, desk_of, is_new, is_running, makes_running, needs_server}
 use Rattle.event_model.specs.Requests.{answered_id, is_open, without}
@@ -37,13 +36,12 @@ use Rattle.group_rows.specs.Rows.{outs_of}
 use Rattle.group_rows.specs.Tokens.{is_told, marked_text}
 use Rattle.group_facts.specs.Built.{built_behind}
 use Rattle.group_facts.specs.Facts.{shuts}
-use Rattle.group_facts.specs.Legal.{Legal}
 use Rattle.group_facts.specs.Settled.{Settled}
 use Rattle.group_facts.specs.Why.{IsNotified, IsTaken, Telling, Why, WhyToEditor, answers, asks, calls, of_held, of_request, of_token, passes, progresses, recalls, refuses, rejects, resumes, shows, spreads, turns_away, welcomes, loses}
 use Rattle.group_facts.proofs.Facts.{Facts}
-use Rattle.group_facts.proofs.Known.{Here, facts_hold, here_did, here_took}
+use Rattle.group_facts.proofs.Known.{Here, here_did, here_took}
+use Rattle.group_facts.proofs.Reached.{Reached, facts_at, settled_at}
 use Rattle.group_facts.proofs.OneStart.{OneStart}
-use Rattle.group_facts.proofs.Settling.{settled_holds}
 use Rattle.group_facts.proofs.Table.{reasons}
 use Rattle.group_sessions.proofs.Accepted.{NamesToken, accepted}
 use Rattle.group_sessions.proofs.Client6Law.{created_id, list_no_progress, not_progress, own_is}
@@ -57,6 +55,10 @@ use Rattle.group_sessions.proofs.TellingPlaces.{Known, KnownOut, Knows, RunsIn, 
 use Rattle.group_sessions.proofs.Tied.{Place, all_back, has_run, not_run, place, ran, runs_on, stays, unrun}
 use Rattle.group_sessions.proofs.Unreserved.{IsFreeText, IsUnreserved, Unreserved, all_unreserved}
 use Rattle.group_sessions.proofs.Walk.{walk}
+use Rattle.group_facts.proofs.SlowRow.{parting, parting_calm, parting_keeps}
+use Rattle.group_facts.proofs.AskingRows.{running_is}
+use Rattle.group_facts.proofs.PutOut.{homes_stay}
+use Rattle.group_facts.proofs.Begun.{starts_stay}
 
 -- Editors that were asked ran
 
@@ -487,7 +489,36 @@ module _ (settings : Settings) (range : InRange settings) (before : List Event) 
       last : At later
       last = reasons_keep Both At step now (outs_of settings before cause) (both now (outs_of settings before cause) (reasons settings range before facts cause built).why (all_known settings before one cause)) (first h)
 
-pub all_rests : (settings : Settings) → InRange settings → (before : List Entry) → Legal settings before → Rests settings (events_of before)
+-- An editor that is slow leaves
+
+module _ (settings : Settings) (place : List Event) (e : ℕ) where
+  abbrev left_there : List Event
+  left_there = behind place (parting settings place e)
+
+  ran_beside : (events : List Event) (out : Out) → is_aside (said out) ≡ true → AllRan settings events → AllRan settings (events ++ said out ∷ [])
+  ran_beside events out off h s = subst (λ (x : Created). AllByRecursion (λ (c : Taking). HasRun (events ++ said out ∷ []) c.editor) x.takings) (sym (created_more settings s events (said out)))
+      (aside_all (λ (c : Taking). HasRun (events ++ said out ∷ []) c.editor) (λ c held begun k. k) settings s events (created_of settings s events) (said out) off
+      (all_of (λ (c : Taking). HasRun events c.editor) (λ (c : Taking). HasRun (events ++ said out ∷ []) c.editor)
+      (λ c k. run_later (has_run (desk_of c.editor events).phase) (has_run (desk_of c.editor (events ++ said out ∷ [])).phase) (all_back (λ p. not (has_run p)) not_run c.editor events (out ∷ [])) k) (created_of settings s events).takings (h s)))
+
+  -- one that runs did, where it is
+  ran_there : (s n : ℕ) → RunsIn settings left_there s n → RunsIn settings place s n
+  ran_there s n k = record {
+    running = running_is settings place (desk_of n place).phase (all_back is_running runs_on n place (parting settings place e) (ap is_running k.running));
+    group = k.group;
+    home = sym (homes_stay settings n place (parting settings place e)) ∙ k.home;
+    last = sym (starts_stay k.group place (parting settings place e) (parting_calm settings place e)) ∙ k.last;
+  }
+
+  rests_slow : Rests settings place → Rests settings left_there
+  rests_slow h = record {
+    tied = λ s. all_of (TiedIf (RunsIn settings place) s left_there) (TiedIf (RunsIn settings left_there) s left_there) (λ c tied at. tied (ran_there s c.editor at)) (created_of settings s left_there).takings
+        (parting_keeps settings (Tied (RunsIn settings place) settings) e (λ events k. tied_aside (RunsIn settings place) settings events (said (CloseEditor e)) refl k) (λ events n body k. tied_aside (RunsIn settings place) settings events (said (ToServer n body)) refl k) place h.tied s);
+    ran = parting_keeps settings (AllRan settings) e (λ events k. ran_beside events (CloseEditor e) refl k) (λ events n body k. ran_beside events (ToServer n body) refl k) place h.ran;
+  }
+
+pub all_rests : (settings : Settings) → InRange settings → (before : List Event) → Reached settings before → Rests settings before
 all_rests settings range before legal = walk settings (Rests settings)
-    (λ earlier so_far cause fits built h. entry_rests settings range (events_of earlier) (facts_hold settings range earlier so_far) (settled_holds settings range earlier so_far) (all_unreserved settings range earlier so_far) cause fits built (one_start settings range earlier so_far) h)
+    (λ earlier so_far cause fits built h. entry_rests settings range earlier (facts_at settings range earlier so_far) (settled_at settings range earlier so_far) (all_unreserved settings range earlier so_far) cause fits built (one_start settings range earlier so_far) h)
+    (λ place at e is h. rests_slow settings place e h)
     (record { tied = λ s. tt; ran = λ s. tt }) before legal

@@ -5,7 +5,6 @@ use Rattle.std.proofs.lemmas.Bool.{and_parts}
 use Rattle.json_text.specs.Json.{Json}
 use Rattle.mux_history.specs.declared.cause.Cause.{Cause}
 use Rattle.mux_history.specs.declared.cause.Cause.TheVariants.{Joined, FromEditor, EditorGone, Started, StartFailed, FromServer, ServerGone, Drained, Tick}
-use Rattle.mux_history.specs.declared.entry.Entry.{Entry}
 use Rattle.mux_history.specs.declared.out.Out.{Out}
 use Rattle.mux_history.specs.declared.out.Out.TheVariants.{ToEditor, ToServer, Spawn, CloseEditor, EndServer}
 use Rattle.lsp_method.specs.Class.{class_of}
@@ -17,7 +16,7 @@ use Rattle.event_model.specs.declared.phase.Phase.{Phase}
 use Rattle.event_model.specs.declared.phase.Phase.TheVariants.{Running}
 use Rattle.event_model.specs.declared.stage.Stage.{Stage}
 use Rattle.event_model.specs.declared.stage.Stage.TheVariants.{Ready}
-use Rattle.event_model.specs.Event.{Event, behind, events_of, said, with_cause}
+use Rattle.event_model.specs.Event.{Event, behind, said, with_cause}
 use Rattle.event_model.specs.Members.{named_of}
 use Rattle.event_model.specs.Phases.{desk_of, editors_of, is_running}
 use Rattle.event_model.specs.Requests.{answered_id}
@@ -41,14 +40,12 @@ use Rattle.group_rows.specs.CreatedRows.{created_row, progress_row, takers, taki
 use Rattle.group_rows.specs.Forwarded.{Forwarded, forwarding_of}
 use Rattle.group_rows.specs.Rows.{from_editor, from_server, outs_of}
 use Rattle.group_rows.specs.Tokens.{is_told, marked_text, own_token}
-use Rattle.group_facts.specs.Legal.{Legal}
 use Rattle.group_facts.specs.Why.{IsNotified, IsTaken, Telling, of_held, of_request, of_token}
 use Rattle.group_facts.proofs.AskingRows.{running_is}
-use Rattle.group_facts.proofs.OneStart.{OneStart, one_none, one_rests}
-use Rattle.group_facts.proofs.Settling.{settled_holds}
+use Rattle.group_facts.proofs.OneStart.{OneStart}
+use Rattle.group_facts.proofs.Reached.{Reached, rests_at}
 use Rattle.group_sessions.proofs.Accepted.{accepted}
 use Rattle.group_sessions.proofs.TakingTies.{accepted_more}
-use Rattle.group_sessions.proofs.Walk.{walk}
 
 -- An editor that runs, at home in the group whose last start is s
 pub record RunsIn (settings : Settings) (events : List Event) (s e : ℕ) : Type 0 where
@@ -314,5 +311,5 @@ all_known settings before one (Drained e k) = silent settings before (Drained e 
 all_known settings before one (Tick t) = silent settings before (Tick t) refl refl
 
 -- A group has one start, in every legal history
-pub one_start : (settings : Settings) → InRange settings → (before : List Entry) → Legal settings before → OneStart (events_of before)
-one_start settings range before legal = walk settings OneStart (λ earlier so_far cause fits built h. one_rests settings (events_of earlier) cause (settled_holds settings range earlier so_far).begun built h) one_none before legal
+pub one_start : (settings : Settings) → InRange settings → (before : List Event) → Reached settings before → OneStart before
+one_start settings range before at = (rests_at settings range before at).one

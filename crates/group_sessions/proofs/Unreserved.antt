@@ -5,12 +5,11 @@ use Rattle.json_text.specs.Json.{Json}
 use Rattle.document_model.proofs.Written.{Spoken, spoken}
 use Rattle.mux_history.specs.declared.cause.Cause.{Cause}
 use Rattle.mux_history.specs.declared.cause.Cause.TheVariants.{Joined, FromEditor, EditorGone, Started, StartFailed, FromServer, ServerGone, Drained, Tick}
-use Rattle.mux_history.specs.declared.entry.Entry.{Entry}
 use Rattle.mux_history.specs.declared.out.Out.{Out}
 use Rattle.mux_history.specs.declared.out.Out.TheVariants.{ToEditor, ToServer, Spawn, CloseEditor, EndServer}
 use Rattle.rpc_message.specs.Message.{Id, Message, request, notification, result, error, not_json, not_message, integer, message_of}
 use Rattle.rpc_message.specs.ValueTexts.{IsIdText}
-use Rattle.event_model.specs.Event.{Event, behind, events_of, heard, said, with_cause}
+use Rattle.event_model.specs.Event.{Event, behind, heard, said, with_cause}
 use Rattle.event_model.specs.Members.{named_of, params_of}
 use Rattle.event_model.specs.Requests.{answered_id, is_own, next_number}
 use Rattle.event_model.specs.Settings.{Settings}
@@ -26,17 +25,18 @@ use Rattle.group_rows.specs.Rows.{outs_of, sync_bodies}
 use Rattle.group_rows.specs.Texts.{texts_of}
 use Rattle.group_rows.specs.Tokens.{is_reserved}
 use Rattle.group_facts.specs.Built.{built_behind}
-use Rattle.group_facts.specs.Legal.{Legal}
 use Rattle.group_facts.specs.Why.{IsForward, Why, WhyToServer, begins, cancels, cancels_work, exits, forwarded, greets, notes, resolves, responds, shuts, tells}
 use Rattle.group_facts.proofs.Apart.{grow, new}
 use Rattle.group_facts.proofs.Forwards.{forwarding_more}
-use Rattle.group_facts.proofs.Known.{facts_hold}
+use Rattle.group_facts.proofs.Reached.{Reached, facts_at}
 use Rattle.group_facts.proofs.Table.{reasons}
 use Rattle.group_sessions.proofs.Brought.{Brought, brought}
 use Rattle.group_sessions.proofs.CreatedFold.{free_of, is_free}
 use Rattle.group_sessions.proofs.Telling.{Adds}
 use Rattle.group_sessions.proofs.TellingSent.{AtWork, at_work, sender_still}
-use Rattle.group_sessions.proofs.Walk.{walk}
+use Rattle.group_sessions.proofs.Walk.{KeepsSlow, walk}
+use Rattle.group_facts.proofs.SlowRow.{parting, parting_why}
+use Rattle.group_facts.specs.Why.{quitting}
 
 -- the text of an id that an editor may choose as a token
 pub record IsFreeText (bytes : List ℕ) : Type 0 where
@@ -171,10 +171,13 @@ module _ (settings : Settings) (range : InRange settings) where
   did before cause events (CloseEditor e) why h = by_event events (events ++ said (CloseEditor e) ∷ []) (said (CloseEditor e)) refl h
   did before cause events (EndServer n) why h = by_event events (events ++ said (EndServer n) ∷ []) (said (EndServer n)) refl h
 
-  entry : (before : List Entry) → Legal settings before → (cause : Cause) → fits_behind (events_of before) cause ≡ true → built_behind settings (events_of before) cause ≡ true
-      → Unreserved (events_of before) → Unreserved (behind (with_cause (events_of before) cause) (outs_of settings (events_of before) cause))
-  entry before so_far cause fits built h = reasons_keep (λ events out. Why settings (events_of before) cause events out) Unreserved (did (events_of before) cause) (with_cause (events_of before) cause) (outs_of settings (events_of before) cause)
-      (reasons settings range (events_of before) (facts_hold settings range before so_far) cause built).why (took (events_of before) cause h)
+  entry : (before : List Event) → Reached settings before → (cause : Cause) → fits_behind before cause ≡ true → built_behind settings before cause ≡ true
+      → Unreserved before → Unreserved (behind (with_cause before cause) (outs_of settings before cause))
+  entry before so_far cause fits built h = reasons_keep (λ events out. Why settings before cause events out) Unreserved (did before cause) (with_cause before cause) (outs_of settings before cause)
+      (reasons settings range before (facts_at settings range before so_far) cause built).why (took before cause h)
 
-  pub all_unreserved : (before : List Entry) → Legal settings before → Unreserved (events_of before)
-  all_unreserved before so_far = walk settings Unreserved entry (λ s. tt) before so_far
+  slow : KeepsSlow settings Unreserved
+  slow place at e is h = reasons_keep (Why settings place (quitting e)) Unreserved (did place (quitting e)) place (parting settings place e) (parting_why settings range place (facts_at settings range place at) e is) h
+
+  pub all_unreserved : (before : List Event) → Reached settings before → Unreserved before
+  all_unreserved before so_far = walk settings Unreserved entry slow (λ s. tt) before so_far

@@ -20,9 +20,10 @@ use Rattle.group_rows.specs.Example.{events_behind}
 use Rattle.group_rows.specs.ListsExample.{list_text, open_text}
 use Rattle.group_rows.specs.Rows.{outs_of}
 use Rattle.group_sessions.specs.LastLists.{lists_due, lists_to}
+use Rattle.group_facts.specs.SlowRows.{entry_outs}
 
 abbrev sent : ℕ → List Event → Cause → List (List ℕ)
-sent e before cause = lists_to e (outs_of (with_groups 8) before cause)
+sent e before cause = lists_to e (entry_outs (with_groups 8) before cause)
 
 abbrev is_due : ℕ → List Event → Cause → List (List ℕ)
 is_due e before cause = lists_due (with_groups 8) e before cause (behind (with_cause before cause) (outs_of (with_groups 8) before cause))

@@ -9,7 +9,7 @@ use Rattle.mux_history.specs.declared.entry.Entry.{Entry}
 use Rattle.mux_history.specs.declared.out.Out.{Out}
 use Rattle.mux_history.specs.declared.out.Out.TheVariants.{ToEditor}
 use Rattle.rpc_message.specs.Message.{Message, message_of, notification}
-use Rattle.event_model.specs.Event.{Event, events_of}
+use Rattle.event_model.specs.Event.{Event, behind, events_of, with_cause}
 use Rattle.event_model.specs.Phases.{desk_of, is_running}
 use Rattle.event_model.specs.Settings.{Settings}
 use Rattle.event_model.specs.Spawns.{start_of}
@@ -21,6 +21,7 @@ use Rattle.group_rows.specs.diagnostics_route.specs.Rows.{is_of}
 use Rattle.group_rows.specs.diagnostics_route.specs.Shown.{fits, shown_text}
 use Rattle.group_rows.specs.Asks.{serves}
 use Rattle.group_rows.specs.Lists.{agreement_at, is_publishing, lists_of, sayings_of, version_at}
+use Rattle.group_rows.specs.Rows.{outs_of}
 
 -- a message gives a list
 abbrev pub gives_list : Message → Bool
@@ -77,6 +78,6 @@ lists_due settings e before (FromServer s body) after = if gives_list (message_o
 lists_due settings e before (FromEditor n body) after = if nat_eq n e then due_own settings e before (message_of body) after else []
 lists_due settings e before other after = []
 
--- in each entry each editor is sent just what it is due
+-- in each entry each editor is sent just what it is due, by what stands before it and behind its cause's row
 abbrev pub KeepsLists : Settings → List Entry → Type 0
-KeepsLists settings history = (before later : List Entry) (entry : Entry) → history ≡ before ++ entry ∷ later → (e : ℕ) → lists_to e entry.outs ≡ lists_due settings e (events_of before) entry.cause (events_of (before ++ entry ∷ []))
+KeepsLists settings history = (before later : List Entry) (entry : Entry) → history ≡ before ++ entry ∷ later → (e : ℕ) → lists_to e entry.outs ≡ lists_due settings e (events_of before) entry.cause (behind (with_cause (events_of before) entry.cause) (outs_of settings (events_of before) entry.cause))

@@ -106,7 +106,7 @@ pub fn progress_due()
 
 /// A law: each entry sends an editor just the lists of diagnostics that it is due, in order, as often as it is due them: the one that its group's
 /// ready start publishes, while the editor runs; as it begins to run, each last list of that start that isn't empty; and as it opens a document,
-/// that one's, if it isn't empty.
+/// that one's, if it isn't empty. This goes by what stands before the entry and behind its cause's row, where editors that are slow didn't leave yet.
 /// Each goes there only where it fits by what the start and the editor have of its document, and with the editor's own version where it is
 /// open there (LSP 3.17, Publish Diagnostics).
 pub fn last_lists()

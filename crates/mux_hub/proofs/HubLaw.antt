@@ -17,7 +17,7 @@ use Rattle.group_sessions.specs.group_facts.specs.Legal.{Legal, LegalFrom}
 use Rattle.group_sessions.specs.group_facts.specs.Settled.{Settled}
 use Rattle.group_sessions.specs.group_facts.proofs.Everywhere.{known_holds}
 use Rattle.group_sessions.specs.group_facts.proofs.Settling.{settled_holds}
-use Rattle.group_sessions.specs.group_rows.specs.Rows.{outs_of}
+use Rattle.group_sessions.specs.group_facts.specs.SlowRows.{entry_outs}
 use Rattle.mux_causes.specs.mux_tables.specs.declared.tables.Tables.{Tables}
 use Rattle.mux_causes.specs.mux_tables.specs.Documents.{DocumentsStand, nothing_owed}
 use Rattle.mux_causes.specs.mux_tables.specs.Stands.{Stands}
@@ -29,6 +29,7 @@ use Rattle.mux_hub.specs.declared.fault.StepFault.{StepFault}
 use Rattle.mux_history.specs.declared.journal.JournalFault.{JournalFault}
 use Rattle.mux_history.specs.declared.journal.JournalFault.TheVariants.{Failed, Memory}
 use Rattle.mux_hub.proofs.OwnTexts.{own_more}
+use Rattle.mux_hub.proofs.Quick.{none_slow}
 use Rattle.mux_hub.proofs.Counting.{at_most, entry_counts, few_of, passes_by, too_many}
 use Rattle.mux_hub.specs.Hubs.{HubView, HubStands, IsSound, TablesStand, Tells}
 
@@ -60,7 +61,7 @@ entry_record cause xs = record { cause = cause; outs = xs }
 
 -- the outs of a turn, and what the tables stand for behind it
 abbrev pub Turns : Settings → List Event → Cause → List Out → Tables → List ℕ → List ℕ → Type 0
-Turns settings before cause xs now counts servers = (xs ≡ outs_of settings before cause) × TablesStand settings now counts servers (behind (with_cause before cause) xs)
+Turns settings before cause xs now counts servers = (xs ≡ entry_outs settings before cause) × TablesStand settings now counts servers (behind (with_cause before cause) xs)
 
 pub record Stepped {J : Type 0} (told : J → Option (List Entry)) (hub : HubView J) (cause : Cause) (xs : List Out) (now : Tables) (counts servers : List ℕ) (count : ℕ) (journal : J) (history : List Entry) : Type 0 where
   pub outs : xs ≡ emits hub.settings history cause
@@ -68,14 +69,14 @@ pub record Stepped {J : Type 0} (told : J → Option (List Entry)) (hub : HubVie
 
 pub stepped : {J : Type 0} (told : J → Option (List Entry)) (hub : HubView J) (cause : Cause) (xs : List Out) (now : Tables) (counts servers : List ℕ) (count : ℕ) (journal : J) (history : List Entry) → HubStands told hub history → hub.spent ≡ false
     → InRange hub.settings → IsTrue (fits history cause) → IsTrue (built hub.settings history cause)
-    → ((settings : Settings) (before : List Event) → settings.servers ≡ hub.settings.servers → settings.default ≡ hub.settings.default → settings.limits.grace ≡ hub.settings.limits.grace → Known settings before → Settled settings before
+    → ((settings : Settings) (before : List Event) → settings.servers ≡ hub.settings.servers → settings.default ≡ hub.settings.default → settings.limits.grace ≡ hub.settings.limits.grace → settings.limits.backlog ≡ hub.settings.limits.backlog → Known settings before → Settled settings before
     → fits_behind before cause ≡ true → built_behind settings before cause ≡ true → TablesStand settings hub.tables hub.backlogs hub.starts before → Turns settings before cause xs now counts servers)
     → told journal ≡ append_told (told hub.journal) (record { cause = cause; outs = xs } ∷ []) → Some count ≡ (if nat_lt most_events (hub.events + (1 + length xs)) then None else Some (hub.events + (1 + length xs)))
     → Stepped told hub cause xs now counts servers count journal history
 stepped told hub cause xs now counts servers count journal history h s range f b takes t n =
     let events : List Event = events_of history in
     let turned : Turns hub.settings events cause xs now counts servers =
-    takes hub.settings events refl refl refl (known_holds hub.settings range history h.legal) (settled_holds hub.settings range history h.legal) f b (h.tables s) in
+    takes hub.settings events refl refl refl refl (known_holds hub.settings range history h.legal) (settled_holds hub.settings range history h.legal) f b (h.tables s) in
     let outs : xs ≡ emits hub.settings history cause = turned.0 in
     let kept : (count ≡ hub.events + (1 + length xs)) × (nat_lt most_events (hub.events + (1 + length xs)) ≡ false) = at_most (hub.events + (1 + length xs)) count n in
     let more : length (events_of (history ++ entry_of hub.settings history cause ∷ [])) ≡ length (events_of history) + (1 + length (emits hub.settings history cause)) = entry_counts history (entry_of hub.settings history cause) in
@@ -89,7 +90,7 @@ stepped told hub cause xs now counts servers count journal history h s range f b
       stands = record {
         legal = legal_more hub.settings history cause h.legal f b;
         told_by = told_more (told journal) (told hub.journal) history (entry_of hub.settings history cause) (entry_record cause xs) h.told_by t (ap (entry_record cause) outs);
-        own = own_more hub.settings range hub.tables now history cause h.legal b (h.tables s).tables (h.tables s).documents standing.tables standing.documents h.own;
+        own = own_more hub.settings range hub.tables now history cause (legal_more hub.settings history cause h.legal f b) (h.tables s).tables (h.tables s).documents standing.tables standing.documents h.own;
         few = few_of (length (events_of (history ++ entry_of hub.settings history cause ∷ []))) (ap (nat_lt most_events) more ∙ passes_by hub.settings history cause hub.events xs false old outs kept.1);
         count = λ _. omega (arith, kept.0, more, same_outs, old);
         tables = λ n. standing;
@@ -99,10 +100,10 @@ stepped told hub cause xs now counts servers count journal history h s range f b
 -- whether the causes and outs would be too many
 module _ {J : Type 0} (told : J → Option (List Entry)) (hub : HubView J) (cause : Cause) (xs : List Out) (now : Tables) (counts servers : List ℕ) (history : List Entry) (h : HubStands told hub history) (s : hub.spent ≡ false)
     (range : InRange hub.settings) (f : IsTrue (fits history cause)) (b : IsTrue (built hub.settings history cause))
-    (takes : (settings : Settings) (before : List Event) → settings.servers ≡ hub.settings.servers → settings.default ≡ hub.settings.default → settings.limits.grace ≡ hub.settings.limits.grace → Known settings before → Settled settings before
+    (takes : (settings : Settings) (before : List Event) → settings.servers ≡ hub.settings.servers → settings.default ≡ hub.settings.default → settings.limits.grace ≡ hub.settings.limits.grace → settings.limits.backlog ≡ hub.settings.limits.backlog → Known settings before → Settled settings before
     → fits_behind before cause ≡ true → built_behind settings before cause ≡ true → TablesStand settings hub.tables hub.backlogs hub.starts before → Turns settings before cause xs now counts servers) where
   turned_outs : xs ≡ emits hub.settings history cause
-  turned_outs = (takes hub.settings (events_of history) refl refl refl (known_holds hub.settings range history h.legal) (settled_holds hub.settings range history h.legal) f b (h.tables s)).0
+  turned_outs = (takes hub.settings (events_of history) refl refl refl refl (known_holds hub.settings range history h.legal) (settled_holds hub.settings range history h.legal) f b (h.tables s)).0
 
   pub few_says : (count : ℕ) → Some count ≡ (if nat_lt most_events (hub.events + (1 + length xs)) then None else Some (hub.events + (1 + length xs))) → passes hub.settings history cause ≡ false
   few_says count n = passes_by hub.settings history cause hub.events xs false (h.count s) turned_outs (at_most (hub.events + (1 + length xs)) count n).1
@@ -125,7 +126,7 @@ built_answer told hub history cause result range says h s =
 -- tables and counts of nothing stand for the empty history, and are sound
 pub begins : {J : Type 0} (told : J → Option (List Entry)) (settings : Settings) (kept : Tables) (counts places : List ℕ) (journal : J) → Tells (told journal) [] → Stands settings kept [] → DocumentsStand settings nothing_owed kept []
     → BacklogsStand counts [] → places ≡ [] → HubStands told (record { settings = settings; tables = kept; backlogs = counts; starts = places; events = 0; spent = false; journal = journal }) []
-begins told settings kept counts places journal t s d b p = record { legal = tt; told_by = t; own = tt; few = lit≤ tt; count = λ _. refl; tables = λ _. record { tables = s; documents = d; backlogs = b; servers = p } }
+begins told settings kept counts places journal t s d b p = record { legal = tt; told_by = t; own = tt; few = lit≤ tt; count = λ _. refl; tables = λ _. record { tables = s; documents = d; backlogs = b; quick = none_slow settings; servers = p } }
 
 pub begins_sound : (settings : Settings) (kept : Tables) → 2 ≤ settings.limits.requests → 1 ≤ settings.limits.versions → HaveCeilings settings.servers → Stands settings kept [] → DocumentsStand settings nothing_owed kept []
     → IsSound settings kept

@@ -1,6 +1,6 @@
 -- Behind one more entry each message that went on behind a sync stood on its editor's own texts.
-use Rattle.std.proofs.Common.{◌≡◌, ℕ, ◌≤◌, ◌<◌, ◌^◌, Bool, true, false, List, [], ◌∷◌, ◌++◌, length, map, fold, nat_lt, refl, sym, ◌∙◌, ap, subst, append-nil, append_assoc, arith, ltb-true}
-use Rattle.std.specs.Prelude.{Option, Some, None, slice_get, IsTrue}
+use Rattle.std.proofs.Common.{◌≡◌, ℕ, ◌≤◌, ◌<◌, ◌^◌, Bool, true, false, List, [], ◌∷◌, ◌++◌, flat_map, length, map, fold, nat_lt, refl, sym, ◌∙◌, ap, subst, append-nil, append_assoc, arith, ltb-true}
+use Rattle.std.specs.Prelude.{Option, Some, None, slice_get}
 use Rattle.std.specs.List.{AllByRecursion}
 use Rattle.std.proofs.lemmas.Bool.Decides.{nat_tests}
 use Rattle.mux_history.specs.declared.cause.Cause.{Cause}
@@ -28,19 +28,17 @@ use Rattle.focus_switch.specs.Documents.{Documents, version_held}
 use Rattle.mux_facts.specs.Ranges.{InRange}
 use Rattle.mux_facts.proofs.DocumentRow.{ready_is}
 use Rattle.mux_facts.proofs.Keeps.{behind_both}
-use Rattle.mux_facts.proofs.Reasons.{Reasons}
 use Rattle.mux_model.specs.Documents.{held_at}
 use Rattle.group_sessions.specs.group_rows.specs.Rows.{sync_bodies}
 use Rattle.group_sessions.specs.group_rows.proofs.Frames.{texts_more}
 use Rattle.group_sessions.specs.group_rows.specs.Texts.{is_synced, texts_of, worker_behind, worker_of}
-use Rattle.group_sessions.specs.group_facts.specs.Built.{built}
 use Rattle.group_sessions.specs.group_facts.specs.Legal.{Legal}
 use Rattle.group_sessions.specs.group_facts.specs.OwnTexts.{AllHaveHolders, AllOnOwnTexts, HasHolders, OnOwnTexts, OwnTexts, OwnTextsFrom, HasOwn}
-use Rattle.group_sessions.specs.group_facts.specs.Why.{IsBehindSync, IsQuestion, Why, WhyToServer, begins, cancels, cancels_work, exits, forwarded, greets, notes, resolves, responds, shuts, tells}
+use Rattle.group_sessions.specs.group_facts.specs.Why.{AllSlow, AllWhy, HasParts, IsBehindSync, IsQuestion, ReasonsFrom, SlowOuts, Why, WhyToServer, begins, cancels, cancels_work, exits, forwarded, greets, notes, quitting, resolves, responds, shuts, tells}
 use Rattle.group_sessions.specs.group_facts.proofs.Asides.{answer_aside, spoken_aside, unsynced}
-use Rattle.group_sessions.specs.group_facts.proofs.Known.{facts_hold}
+use Rattle.group_sessions.specs.group_facts.proofs.Everywhere.{reasons_hold}
 use Rattle.group_sessions.specs.group_facts.proofs.Same.{IsBody, same_behind, same_held, same_questions}
-use Rattle.group_sessions.specs.group_facts.proofs.Table.{reasons}
+use Rattle.group_sessions.specs.group_facts.proofs.SlowRow.{quit_unsynced}
 use Rattle.mux_causes.specs.group_laws.specs.Stands.{HeldStands}
 use Rattle.mux_causes.specs.group_laws.proofs.OwnTexts.{own_texts}
 use Rattle.mux_causes.specs.group_laws.proofs.Asking.{sync_speaks, to}
@@ -53,6 +51,27 @@ use Rattle.mux_causes.specs.mux_tables.proofs.DocumentMoves.{documents_at}
 use Rattle.mux_causes.specs.mux_tables.proofs.Homes.{kept_start}
 use Rattle.mux_causes.specs.mux_tables.proofs.Placed.{KeptAt}
 use Rattle.mux_hub.specs.Entries.{emits, entry_of}
+
+-- what an editor that is slow leaves behind goes behind no sync
+module _ (settings : Settings) where
+  slow_why : (place : List Event) (e : ℕ) (events : List Event) (out : Out) → Why settings place (quitting e) events out → OnOwnTexts settings events out
+  slow_why place e events (ToServer s body) why = λ goes. absurd (quit_unsynced settings place e events s body why goes)
+  slow_why place e events (ToEditor n body) why = tt
+  slow_why place e events (Spawn s g) why = tt
+  slow_why place e events (CloseEditor n) why = tt
+  slow_why place e events (EndServer s) why = tt
+
+  one_slow : (place : List Event) (e : ℕ) (events : List Event) (outs : List Out) → AllWhy settings place (quitting e) events outs → AllOnOwnTexts settings events outs
+  one_slow place e events [] why = tt
+  one_slow place e events (out ∷ outs) why = (slow_why place e events out why.0, one_slow place e (events ++ said out ∷ []) outs why.1)
+
+  both_own : (events : List Event) (xs ys : List Out) → AllOnOwnTexts settings events xs → AllOnOwnTexts settings (behind events xs) ys → AllOnOwnTexts settings events (xs ++ ys)
+  both_own events [] ys f g = subst (λ z. AllOnOwnTexts settings z ys) (append-nil events) g
+  both_own events (x ∷ xs) ys f g = (f.0, both_own (events ++ said x ∷ []) xs ys f.1 (subst (λ z. AllOnOwnTexts settings z ys) (sym (append_assoc events (said x ∷ []) (map said xs))) g))
+
+  slow_own : (events : List Event) (xs : List SlowOuts) → AllSlow settings events xs → AllOnOwnTexts settings events (flat_map (λ (x : SlowOuts). x.outs) xs)
+  slow_own events [] h = tt
+  slow_own events (x ∷ xs) h = both_own events x.outs (flat_map (λ (y : SlowOuts). y.outs) xs) (one_slow events x.editor events x.outs h.1.0) (slow_own (behind events x.outs) xs h.1.1)
 
 module _ (settings : Settings) (t : Tables) (before : List Event) (st : Stands settings t before) (ds : DocumentsStand settings nothing_owed t before) where
   -- the last start of a group, where it is ready
@@ -158,9 +177,14 @@ module _ (settings : Settings) (t : Tables) (before : List Event) (st : Stands s
   by_why cause events (CloseEditor e) why = tt
   by_why cause events (EndServer s) why = tt
 
-  pub entry_own : (cause : Cause) (events : List Event) (outs : List Out) → Reasons (Why settings before cause) events outs → AllOnOwnTexts settings events outs
-  entry_own cause events [] why = tt
-  entry_own cause events (out ∷ outs) why = (by_why cause events out why.0, entry_own cause (events ++ said out ∷ []) outs why.1)
+  row_own : (cause : Cause) (events : List Event) (outs : List Out) → AllWhy settings before cause events outs → AllOnOwnTexts settings events outs
+  row_own cause events [] why = tt
+  row_own cause events (out ∷ outs) why = (by_why cause events out why.0, row_own cause (events ++ said out ∷ []) outs why.1)
+
+  -- the outs of an entry, with those of the editors that are slow behind its row
+  pub entry_own : (cause : Cause) (outs : List Out) → HasParts settings before cause outs → AllOnOwnTexts settings (with_cause before cause) outs
+  entry_own cause outs h = subst (AllOnOwnTexts settings (with_cause before cause)) (sym h.parts)
+      (both_own settings (with_cause before cause) h.row (flat_map (λ (x : SlowOuts). x.outs) h.slow) (row_own cause (with_cause before cause) h.row h.why) (slow_own settings (behind (with_cause before cause) h.row) h.slow h.leave))
 
   -- what a ready start of a group has
   pub holders : AllHaveHolders settings before
@@ -179,6 +203,12 @@ module _ (settings : Settings) (t : Tables) (before : List Event) (st : Stands s
       by None None (Some h) m = absurd m
       by None None None m = tt
 
+-- the reasons of the last entry's outs
+last_parts : (settings : Settings) (before rest : List Entry) (entry : Entry) → ReasonsFrom settings before (rest ++ entry ∷ []) → HasParts settings (events_of (before ++ rest)) entry.cause entry.outs
+last_parts settings before [] entry h = subst (λ es. HasParts settings (events_of es) entry.cause entry.outs) (sym (append-nil before)) h.0
+last_parts settings before (first ∷ rest) entry h =
+    subst (λ es. HasParts settings (events_of es) entry.cause entry.outs) (append_assoc before (first ∷ []) rest) (last_parts settings (before ++ first ∷ []) rest entry h.1)
+
 -- one more entry
 own_from : (settings : Settings) (before rest : List Entry) (entry : Entry) → OwnTextsFrom settings before rest → AllOnOwnTexts settings (with_cause (events_of (before ++ rest)) entry.cause) entry.outs
     → AllHaveHolders settings (events_of (before ++ (rest ++ entry ∷ []))) → OwnTextsFrom settings before (rest ++ entry ∷ [])
@@ -188,10 +218,10 @@ own_from settings before (first ∷ rest) entry h k l =
     let f : (before ++ first ∷ []) ++ (rest ++ entry ∷ []) ≡ before ++ first ∷ (rest ++ entry ∷ []) = append_assoc before (first ∷ []) (rest ++ entry ∷ []) in
     (h.0, h.1, own_from settings (before ++ first ∷ []) rest entry h.2 (subst (λ es. AllOnOwnTexts settings (with_cause (events_of es) entry.cause) entry.outs) (sym e) k) (subst (λ es. AllHaveHolders settings (events_of es)) (sym f) l))
 
-pub own_more : (settings : Settings) → InRange settings → (t u : Tables) (history : List Entry) (cause : Cause) → Legal settings history → IsTrue (built settings history cause) → Stands settings t (events_of history) → DocumentsStand settings nothing_owed t (events_of history)
+pub own_more : (settings : Settings) → InRange settings → (t u : Tables) (history : List Entry) (cause : Cause) → Legal settings (history ++ entry_of settings history cause ∷ []) → Stands settings t (events_of history) → DocumentsStand settings nothing_owed t (events_of history)
     → Stands settings u (events_of (history ++ entry_of settings history cause ∷ [])) → DocumentsStand settings nothing_owed u (events_of (history ++ entry_of settings history cause ∷ []))
     → OwnTexts settings history → OwnTexts settings (history ++ entry_of settings history cause ∷ [])
-own_more settings range t u history cause legal b st ds now later own =
+own_more settings range t u history cause legal st ds now later own =
     own_from settings [] history (entry_of settings history cause) own
-    (entry_own settings t (events_of history) st ds cause (with_cause (events_of history) cause) (emits settings history cause) (reasons settings range (events_of history) (facts_hold settings range history legal) cause b).why)
+    (entry_own settings t (events_of history) st ds cause (emits settings history cause) (last_parts settings [] history (entry_of settings history cause) (reasons_hold settings range (history ++ entry_of settings history cause ∷ []) legal)))
     (holders settings u (events_of (history ++ entry_of settings history cause ∷ [])) now later)

@@ -8,11 +8,11 @@ use Rattle.event_model.specs.Event.{events_of}
 use Rattle.event_model.specs.Settings.{Settings}
 use Rattle.rpc_message.specs.Message.{message_of}
 use Rattle.group_words.specs.Houses.{stops}
-use Rattle.group_sessions.specs.group_rows.specs.Rows.{outs_of}
 use Rattle.group_sessions.specs.group_rows.specs.StopRows.{stopped}
+use Rattle.group_sessions.specs.group_facts.specs.SlowRows.{entry_outs}
 
 abbrev pub emits : Settings → List Entry → Cause → List Out
-emits settings history cause = outs_of settings (events_of history) cause
+emits settings history cause = entry_outs settings (events_of history) cause
 
 abbrev pub entry_of : Settings → List Entry → Cause → Entry
 entry_of settings history cause = record { cause = cause; outs = emits settings history cause }

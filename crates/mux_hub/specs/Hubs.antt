@@ -11,6 +11,7 @@ use Rattle.mux_causes.specs.mux_tables.specs.Documents.{DocumentsStand, nothing_
 use Rattle.mux_causes.specs.mux_tables.specs.Stands.{Stands}
 use Rattle.group_sessions.specs.group_facts.specs.Ceilings.{HaveCeilings}
 use Rattle.mux_causes.specs.Backlogs.{BacklogsStand}
+use Rattle.mux_slow.specs.Told.{Quick}
 use Rattle.mux_hub.specs.Entries.{most_events}
 use Rattle.mux_hub.specs.Starts.{servers_of}
 
@@ -28,11 +29,12 @@ abbrev pub Tells : Option (List Entry) → List Entry → Type 0
 Tells None history = Unit {0}
 Tells (Some entries) history = entries ≡ history
 
--- the tables owe nothing of documents, the counts are those of what is on its way, and the servers those of the starts
+-- the tables owe nothing of documents, the counts are those of what is on its way, no editor is slow, and the servers those of the starts
 pub record TablesStand (settings : Settings) (kept : Tables) (counts places : List ℕ) (events : List Event) : Type 0 where
   pub tables : Stands settings kept events
   pub documents : DocumentsStand settings nothing_owed kept events
   pub backlogs : BacklogsStand counts events
+  pub quick : Quick settings events
   pub servers : places ≡ servers_of settings events
 
 -- the history is legal and the journal's, each message that went on behind a sync stood on its editor's own texts, its causes and

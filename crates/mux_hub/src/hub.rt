@@ -8,10 +8,10 @@ ghost use Rattle.mux_history.specs.Journals.{append_told};
 ghost use Rattle.event_model.specs.Event.{Event, behind, events_of, with_cause};
 ghost use Rattle.event_model.specs.Settings.{Settings};
 ghost use Rattle.mux_model.specs.Fits.{fits, fits_behind};
-ghost use Rattle.group_sessions.specs.group_rows.specs.Rows.{outs_of};
 ghost use Rattle.group_sessions.specs.group_facts.specs.Built.{built, built_behind};
 ghost use Rattle.group_sessions.specs.group_facts.specs.Facts.{Known};
 ghost use Rattle.group_sessions.specs.group_facts.specs.Settled.{Settled};
+ghost use Rattle.group_sessions.specs.group_facts.specs.SlowRows.{entry_outs};
 ghost use Rattle.mux_hub.specs.Entries.{emits, entry_of, most_events, passes, was_stopped};
 ghost use Rattle.mux_hub.specs.Faults.{Counted};
 ghost use Rattle.mux_hub.specs.Hubs.{HubView, HubStands, TablesStand, Tells};
@@ -27,12 +27,14 @@ use mux_history::{Cause, Entry, Journal, Outs, StepFault as CoreFault, Steps};
 use std::alloc::Global;
 use std::marker::Model;
 
-// The outs of a cause, the tables and the counts behind it. Where the answer is an error these stand for nothing any more.
+// The outs of a cause, behind them those of editors that are slow there, and the tables and the counts behind all of these. Where the
+// answer is an error they stand for nothing any more.
 fn turn(
     alloc: Global,
     servers: &[Server],
     default: u32,
     grace: u64,
+    backlog: u64,
     tables: &mut Tables,
     backlogs: &mut Backlogs,
     starts: &mut Vec<u32>,
@@ -45,13 +47,15 @@ fn turn(
     ensures same_limit { tables.new.requests ≡ tables.old.requests }
     ensures same_versions { tables.new.versions ≡ tables.old.versions }
     ensures takes { (settings : Settings) (before : List Event) → settings.servers ≡ servers.now → settings.default ≡ default → settings.limits.grace ≡ grace
-        → Known settings before → Settled settings before → fits_behind before cause.now ≡ true → built_behind settings before cause.now ≡ true
+        → settings.limits.backlog ≡ backlog → Known settings before → Settled settings before
+        → fits_behind before cause.now ≡ true → built_behind settings before cause.now ≡ true
         → TablesStand settings tables.old backlogs.old starts.old.items before
-        → IfOk result (λ outs. (outs ≡ outs_of settings before cause.now)
+        → IfOk result (λ outs. (outs ≡ entry_outs settings before cause.now)
         × TablesStand settings tables.new backlogs.new starts.new.items (behind (with_cause before cause.now) outs)) }
 {
-    let outs = mux_entries::take(tables, alloc, servers, default, grace, cause)?;
+    let mut outs = mux_entries::take(tables, alloc, servers, default, grace, cause)?;
     backlogs.take(cause, &outs)?;
+    mux_slow::leave_slow(tables, alloc, backlogs, backlog, &mut outs)?;
     note_spawns(starts, tables, default, &outs)?;
     Ok(outs)
 }
@@ -216,6 +220,7 @@ impl<J: Journal> Hub<J> {
             self.servers.as_slice(),
             self.default,
             self.limits.grace,
+            self.limits.backlog,
             &mut self.tables,
             &mut self.backlogs,
             &mut self.starts,

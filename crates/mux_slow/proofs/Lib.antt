@@ -1,0 +1,5 @@
+pub mod Among
+pub mod Closing
+pub mod Joined
+pub mod Quick
+pub mod Sparse
