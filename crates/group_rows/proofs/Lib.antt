@@ -21,5 +21,6 @@ pub mod CreatedTexts
 pub mod CreatedKept
 pub mod WorkedLists
 pub mod WorkedStop
+pub mod WorkedExits
 pub mod ListTexts
 pub mod ListsKept
