@@ -30,7 +30,8 @@ use Rattle.group_words.specs.Keys.{Common}
 use Rattle.group_words.specs.Placing.{busy, changed, end_where, ended, founded, is_due, is_live, with_editor}
 use Rattle.group_words.specs.Rows.{end_group, placed_row}
 use Rattle.group_words.proofs.Frames.{groups_more, groups_stay}
-use Rattle.group_rows.specs.Rows.{close_all, members_in, outs_of, refusal, waiting_in}
+use Rattle.group_rows.specs.Asks.{members_in}
+use Rattle.group_rows.specs.Rows.{close_all, outs_of, refusal, waiting_in}
 use Rattle.group_rows.specs.StopRows.{stopped, stopped_next}
 use Rattle.group_rows.specs.Ticks.{due_of, overdue_of}
 use Rattle.group_facts.specs.Built.{built_behind}

@@ -1,5 +1,5 @@
 -- Which causes meet only rows of the table over several editors and groups that are built, until all are.
--- Not built of a start: the end of a program whose group lives.
+-- Not built of a start: the end of a program whose group goes on with a new start.
 -- Of S2, what is read back must be what was meant: editors are shown all of the result.
 use Rattle.std.specs.Prelude.{ℕ, Bool, true, false, not, ◌&&◌, ◌||◌, List, bytes_eq}
 use Rattle.std.specs.Prelude.{Some}
@@ -24,6 +24,7 @@ use Rattle.event_model.specs.Stages.{life_of, is_first_result}
 use Rattle.group_words.specs.Houses.{groups_of}
 use Rattle.group_words.specs.Rows.{shown_of}
 use Rattle.group_rows.specs.Asks.{asking_of, is_taken}
+use Rattle.group_rows.specs.ExitRows.{begins_again}
 use Rattle.group_rows.specs.Rows.{names_lspmux}
 use Rattle.group_facts.specs.Lively.{lives_at}
 
@@ -89,7 +90,7 @@ built_from_server settings before s Stopping body m = true
 built_from_server settings before s Ending body m = true
 built_from_server settings before s other body m = is_malformed m
 
--- X1 to X3 of a start whose group lives no more
+-- the start's group lives no more
 abbrev pub is_left : Settings → List Event → ℕ → Bool
 is_left settings before s = not (option_map_or (λ g. lives_at g (groups_of settings before)) (group_of s before) false)
 
@@ -100,8 +101,8 @@ built_behind settings before (FromEditor e body) = built_from_editor (message_of
 built_behind settings before (EditorGone e why) = true
 built_behind settings before (FromServer s body) = built_from_server settings before s (life_of s before).stage body (message_of body)
 built_behind settings before (Drained e k) = true
-built_behind settings before (StartFailed s) = is_left settings before s
-built_behind settings before (ServerGone s) = is_left settings before s
+built_behind settings before (StartFailed s) = not (begins_again settings before s)
+built_behind settings before (ServerGone s) = not (begins_again settings before s)
 built_behind settings before (Tick t) = true
 
 abbrev pub built : Settings → List Entry → Cause → Bool

@@ -22,5 +22,6 @@ pub mod CreatedKept
 pub mod WorkedLists
 pub mod WorkedStop
 pub mod WorkedExits
+pub mod ExitTexts
 pub mod ListTexts
 pub mod ListsKept
