@@ -62,6 +62,7 @@ use Rattle.group_rows.specs.Answers.{answer_row, hand_on}
 use Rattle.group_rows.specs.Created.{Token, created_of, created_text}
 use Rattle.group_rows.specs.CreatedRows.{create_text, created_row, created_work, offer, takers, taking_row, tell, tell_takers, work_at, work_row}
 use Rattle.group_rows.specs.Tokens.{marked_text, tell_progress}
+use Rattle.group_rows.specs.ExitRows.{begins_again, lost_row}
 use Rattle.group_rows.specs.Rows.{answer_error, begin_in, begun_row, closing_row, document_at, document_bodies, document_row, down_row, early_row, exit_row, first_result, from_server, gone_row, lspmux_row, message_row, named_row, notice_at, notice_row, open_row, outs_of, ready_row, replay_bodies, request_at, request_row, result_in, row_of, served_request, served_row, started, sync_bodies, taken_row, waiting_in, welcome, hasty_row, close_all, refusal, refused_row}
 use Rattle.group_rows.specs.Texts.{encoding_of, texts_of}
 use Rattle.group_rows.specs.Ticks.{due_of, overdue_of, tick_row}
@@ -514,7 +515,7 @@ module _ (settings : Settings) (before : List Event) where
 
 -- X1 to X3, of a group that gets no new start
 pub quiet_lost : (settings : Settings) (before : List Event) (s : ℕ) → not (begins_again settings before s) ≡ true → (events : List Event) → Quiet events (lost_row settings before s)
-quiet_lost settings before s built events = lost_by (λ places out. NoSpawn out) (λ places e body. tt) (λ places e. tt) settings before s built events
+quiet_lost settings before s built events = lost_by (λ places out. NoSpawn out) (λ e places body. tt) (λ places e. tt) settings before s built events
 
 -- How many groups there are
 

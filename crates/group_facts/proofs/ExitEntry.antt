@@ -1,5 +1,5 @@
 -- X3: behind the end of a start whose group ends with it the group's editors are in it no more.
-use Rattle.std.proofs.Common.{◌≡◌, ℕ, ◌+◌, ◌<◌, ◌≤◌, Bool, true, false, ◌&&◌, ◌||◌, List, [], ◌∷◌, ◌++◌, nat_eq, if◌then◌else◌, Some, refl, sym, ◌∙◌, ap, ap₂, subst, arith}
+use Rattle.std.proofs.Common.{◌≡◌, ℕ, ◌+◌, ◌<◌, ◌≤◌, Bool, true, false, ◌&&◌, ◌||◌, List, [], ◌∷◌, ◌++◌, nat_eq, if◌then◌else◌, Some, None, refl, sym, ◌∙◌, ap, ap₂, subst, arith}
 use Rattle.std.specs.List.{list_any}
 use Rattle.std.specs.Option.{option_map_or}
 use Rattle.std.proofs.lemmas.Bool.{and_parts}
@@ -24,16 +24,27 @@ use Rattle.mux_facts.proofs.Table.{waiting_is}
 use Rattle.mux_facts.proofs.Words.{same_number}
 use Rattle.group_words.specs.Houses.{home_of, is_home}
 use Rattle.group_words.proofs.Frames.{home_stays}
-use Rattle.group_rows.specs.Asks.{members_in, running_in}
+use Rattle.group_rows.specs.Asks.{Asking, asking_of, asks_of, idle_asking, members_in, no_asking, running_in}
 use Rattle.group_rows.specs.ExitRows.{ends_group, lose_sent, lose_start, lost_row, turn_out}
+use Rattle.group_rows.specs.Forwarded.{Forwarding, forwarding_of, no_forwarding}
 use Rattle.group_rows.specs.Rows.{outs_of}
 use Rattle.group_rows.specs.StopRows.{refuse_initialize}
-use Rattle.group_facts.specs.Facts.{ends_with, is_exit, is_in, is_put_out, turned_away}
+use Rattle.group_facts.specs.Facts.{asked_of, ends_link, ends_with, is_exit, is_in, is_put_out, turned_away}
 use Rattle.group_facts.specs.Lively.{is_unplaced}
+use Rattle.group_facts.proofs.Asks.{asked_of_more, asking_more}
 use Rattle.group_facts.proofs.Exits.{EndsGroup, ends_parts, lost_outs}
+use Rattle.group_facts.proofs.Forwards.{forwarding_more}
 use Rattle.group_facts.proofs.PutOut.{begun_closed, begun_outs, named_in, unplaced_outs}
 
 -- The two causes
+
+over_idle : (b : Bool) (x : Asking) → (if b then no_asking else idle_asking x).asker ≡ None
+over_idle true x = refl
+over_idle false x = refl
+
+over_requests : (b : Bool) (x : Forwarding) → (if b then no_forwarding else record { sender = None; next = x.next; open_requests = x.open_requests }).open_requests ≡ (if b then [] else x.open_requests)
+over_requests true x = refl
+over_requests false x = refl
 
 -- the program of start s ends by this cause, and nothing else is changed by it
 pub record Exit (settings : Settings) (before : List Event) (cause : Cause) (s : ℕ) : Type 0 where
@@ -42,6 +53,11 @@ pub record Exit (settings : Settings) (before : List Event) (cause : Cause) (s :
   pub desk : (e : ℕ) → desk_of e (with_cause before cause) ≡ desk_of e before
   pub opens : (e : ℕ) → open_of e (with_cause before cause) ≡ open_of e before
   pub home : (e : ℕ) → home_of settings e (with_cause before cause) ≡ home_of settings e before
+  pub asked : (e : ℕ) → asked_of e (with_cause before cause) ≡ asked_of e before
+  pub idle : (t : ℕ) → (asking_of settings t (with_cause before cause)).asker ≡ None
+  pub unasked : asks_of settings s (with_cause before cause) ≡ []
+  pub forwards : (t : ℕ) → (forwarding_of t (with_cause before cause)).open_requests ≡ (if nat_eq s t then [] else (forwarding_of t before).open_requests)
+  pub ends : (e : ℕ) → ends_link settings before cause e ≡ is_put_out settings before cause e
   pub turned : (e : ℕ) → turned_away settings before cause e ≡ (ends_with settings before s e && is_waiting (desk_of e before).phase)
   pub out : (e : ℕ) → is_put_out settings before cause e ≡ (ends_with settings before s e && is_begun (desk_of e before).phase)
 
@@ -52,6 +68,11 @@ gone_exit settings before s = record {
   desk = λ e. desk_more e before (heard (ServerGone s));
   opens = λ e. opens_more e before (heard (ServerGone s));
   home = λ e. home_stays settings e before (heard (ServerGone s)) refl;
+  asked = λ e. asked_of_more e before (heard (ServerGone s));
+  idle = λ t. ap (λ (x : Asking). x.asker) (asking_more settings t before (heard (ServerGone s))) ∙ over_idle (nat_eq s t) (asking_of settings t before);
+  unasked = ap (λ (x : Asking). x.asks) (asking_more settings s before (heard (ServerGone s))) ∙ ap (λ b. (if b then no_asking else idle_asking (asking_of settings s before)).asks) (same_number s);
+  forwards = λ t. ap (λ (x : Forwarding). x.open_requests) (forwarding_more t before (heard (ServerGone s))) ∙ over_requests (nat_eq s t) (forwarding_of t before);
+  ends = λ e. refl;
   turned = λ e. refl;
   out = λ e. refl;
 }
@@ -63,6 +84,11 @@ failed_exit settings before s = record {
   desk = λ e. desk_more e before (heard (StartFailed s));
   opens = λ e. opens_more e before (heard (StartFailed s));
   home = λ e. home_stays settings e before (heard (StartFailed s)) refl;
+  asked = λ e. asked_of_more e before (heard (StartFailed s));
+  idle = λ t. ap (λ (x : Asking). x.asker) (asking_more settings t before (heard (StartFailed s))) ∙ over_idle (nat_eq s t) (asking_of settings t before);
+  unasked = ap (λ (x : Asking). x.asks) (asking_more settings s before (heard (StartFailed s))) ∙ ap (λ b. (if b then no_asking else idle_asking (asking_of settings s before)).asks) (same_number s);
+  forwards = λ t. ap (λ (x : Forwarding). x.open_requests) (forwarding_more t before (heard (StartFailed s))) ∙ over_requests (nat_eq s t) (forwarding_of t before);
+  ends = λ e. refl;
   turned = λ e. refl;
   out = λ e. refl;
 }

@@ -1,6 +1,7 @@
 -- X1 to X3, of a start whose group gets no new one: each out is a body to an editor, or ends its link.
 use Rattle.std.proofs.Common.{◌≡◌, ℕ, Bool, true, false, not, ◌&&◌, List, [], ◌∷◌, filter, ◌∙◌, sym, Some}
 use Rattle.std.specs.Prelude.{slice_get}
+use Rattle.std.specs.List.{AllByRecursion}
 use Rattle.mux_history.specs.declared.out.Out.{Out}
 use Rattle.mux_history.specs.declared.out.Out.TheVariants.{ToEditor, CloseEditor}
 use Rattle.event_model.specs.Event.{Event, behind}
@@ -22,73 +23,85 @@ use Rattle.group_rows.specs.Forwarded.{Forwarded, forwarding_of, is_of}
 use Rattle.group_rows.specs.Lists.{lists_of}
 use Rattle.group_rows.specs.Live.{live_of}
 use Rattle.group_rows.specs.LiveRows.{unregister_any}
-use Rattle.group_rows.specs.StopRows.{lose_request, refuse_initialize}
+use Rattle.group_rows.specs.StopRows.{lose_request}
 use Rattle.group_facts.proofs.Exits.{none_again}
 
-module _ (R : List Event → Out → Type 0) (tells : (events : List Event) (e : ℕ) (body : List ℕ) → R events (ToEditor e body)) where
-  pub requests_by : (fs : List Forwarded) (events : List Event) → Because R events (each lose_request fs)
-  requests_by [] events = by_nothing
-  requests_by (f ∷ fs) events = by_then (by_send (tells _ _ _)) (requests_by fs (behind events (outs (lose_request f) events)))
+pub for_all : {A : Type 0} (P : A → Type 0) → ((x : A) → P x) → (xs : List A) → AllByRecursion P xs
+for_all P f [] = tt
+for_all P f (x ∷ xs) = (f x, for_all P f xs)
 
-  sent_by : (before : List Event) (s : ℕ) (es : List ℕ) (events : List Event) → Because R events (each (lose_sent before s) es)
-  sent_by before s [] events = by_nothing
-  sent_by before s (e ∷ es) events = by_then (requests_by (filter (is_of e) (forwarding_of s before).open_requests) events) (sent_by before s es (behind events (outs (lose_sent before s e) events)))
+module _ (R : List Event → Out → Type 0) where
+  -- what holds of each body to an editor
+  abbrev pub Tells : ℕ → Type 0
+  Tells e = (events : List Event) (body : List ℕ) → R events (ToEditor e body)
+
+  -- X1
+  pub requests_by : (fs : List Forwarded) → AllByRecursion (λ (f : Forwarded). Tells f.editor) fs → (events : List Event) → Because R events (each lose_request fs)
+  requests_by [] tells events = by_nothing
+  requests_by (f ∷ fs) tells events = by_then (by_send (tells.0 events _)) (requests_by fs tells.1 (behind events (outs (lose_request f) events)))
+
+  pub sent_by : (before : List Event) (s : ℕ) (es : List ℕ) → AllByRecursion (λ e. AllByRecursion (λ (f : Forwarded). Tells f.editor) (filter (is_of e) (forwarding_of s before).open_requests)) es → (events : List Event) → Because R events (each (lose_sent before s) es)
+  sent_by before s [] tells events = by_nothing
+  sent_by before s (e ∷ es) tells events = by_then (requests_by (filter (is_of e) (forwarding_of s before).open_requests) tells.0 events) (sent_by before s es tells.1 (behind events (outs (lose_sent before s e) events)))
 
   -- X2
-  module _ (s e : ℕ) where
-    tokens_by : (x : Created) (ts : List Token) (events : List Event) → Because R events (each (end_token s e x) ts)
+  module _ (e : ℕ) (tells : Tells e) (s : ℕ) where
+    pub tokens_by : (x : Created) (ts : List Token) (events : List Event) → Because R events (each (end_token s e x) ts)
     tokens_by x [] events = by_nothing
-    tokens_by x (t ∷ ts) events = by_then (by_choose (λ begun. by_send (tells _ _ _)) (λ not_yet. by_nothing)) (tokens_by x ts (behind events (outs (end_token s e x t) events)))
+    tokens_by x (t ∷ ts) events = by_then (by_choose (λ begun. by_send (tells events _)) (λ not_yet. by_nothing)) (tokens_by x ts (behind events (outs (end_token s e x t) events)))
 
-    takes_by : (cs : List Taking) (events : List Event) → Because R events (each (cancel_take e) cs)
+    pub takes_by : (cs : List Taking) (events : List Event) → Because R events (each (cancel_take e) cs)
     takes_by [] events = by_nothing
-    takes_by (c ∷ cs) events = by_then (by_send (tells _ _ _)) (takes_by cs (behind events (outs (cancel_take e c) events)))
+    takes_by (c ∷ cs) events = by_then (by_send (tells events _)) (takes_by cs (behind events (outs (cancel_take e c) events)))
 
-    asks_by : (asks : List Ask) (events : List Event) → Because R events (each (cancel_ask e) asks)
+    pub asks_by : (asks : List Ask) (events : List Event) → Because R events (each (cancel_ask e) asks)
     asks_by [] events = by_nothing
-    asks_by (a ∷ asks) events = by_then (by_send (tells _ _ _)) (asks_by asks (behind events (outs (cancel_ask e a) events)))
+    asks_by (a ∷ asks) events = by_then (by_send (tells events _)) (asks_by asks (behind events (outs (cancel_ask e a) events)))
 
-    registered_by : (rs : List Registration) (events : List Event) → Because R events (unregister_any rs e)
-    registered_by rs events = by_choose (λ some. by_look (by_choose (λ room. by_send (tells _ _ _)) (λ full. by_nothing))) (λ none. by_nothing)
+    pub registered_by : (rs : List Registration) (events : List Event) → Because R events (unregister_any rs e)
+    registered_by rs events = by_choose (λ some. by_look (by_choose (λ room. by_send (tells events _)) (λ full. by_nothing))) (λ none. by_nothing)
 
     empties_by : (before : List Event) (ls : List LastList) (events : List Event) → Because R events (each (empty_list before e) ls)
     empties_by before [] events = by_nothing
-    empties_by before (l ∷ ls) events = by_then (by_choose (λ full. by_send (tells _ _ _)) (λ none. by_nothing)) (empties_by before ls (behind events (outs (empty_list before e l) events)))
+    empties_by before (l ∷ ls) events = by_then (by_choose (λ full. by_send (tells events _)) (λ none. by_nothing)) (empties_by before ls (behind events (outs (empty_list before e l) events)))
 
-  pub start_by : (settings : Settings) (before : List Event) (s e : ℕ) (events : List Event) → Because R events (lose_start settings before s e)
-  start_by settings before s e events = by_then (tokens_by s e (created_of settings s before) (created_of settings s before).tokens events)
-      (by_then (takes_by s e (filter (unanswered_at e) (created_of settings s before).takings) (behind events tokens))
-      (by_then (asks_by s e (filter (is_with e) (asks_of settings s before)) (behind (behind events tokens) takes))
-      (by_then (registered_by s e (live_of settings s before) (behind (behind (behind events tokens) takes) asks))
-      (empties_by s e before (lists_of s before) (behind (behind (behind (behind events tokens) takes) asks) (outs (unregister_any (live_of settings s before) e) (behind (behind (behind events tokens) takes) asks)))))))
-    where
-      tokens : List Out
-      tokens = outs (each (end_token s e (created_of settings s before)) (created_of settings s before).tokens) events
+    pub start_by : (settings : Settings) (before : List Event) (events : List Event) → Because R events (lose_start settings before s e)
+    start_by settings before events = by_then (tokens_by (created_of settings s before) (created_of settings s before).tokens events)
+        (by_then (takes_by (filter (unanswered_at e) (created_of settings s before).takings) (behind events tokens))
+        (by_then (asks_by (filter (is_with e) (asks_of settings s before)) (behind (behind events tokens) takes))
+        (by_then (registered_by (live_of settings s before) (behind (behind (behind events tokens) takes) asks))
+        (empties_by before (lists_of s before) (behind (behind (behind (behind events tokens) takes) asks) (outs (unregister_any (live_of settings s before) e) (behind (behind (behind events tokens) takes) asks)))))))
+      where
+        tokens : List Out
+        tokens = outs (each (end_token s e (created_of settings s before)) (created_of settings s before).tokens) events
 
-      takes : List Out
-      takes = outs (each (cancel_take e) (filter (unanswered_at e) (created_of settings s before).takings)) (behind events tokens)
+        takes : List Out
+        takes = outs (each (cancel_take e) (filter (unanswered_at e) (created_of settings s before).takings)) (behind events tokens)
 
-      asks : List Out
-      asks = outs (each (cancel_ask e) (filter (is_with e) (asks_of settings s before))) (behind (behind events tokens) takes)
+        asks : List Out
+        asks = outs (each (cancel_ask e) (filter (is_with e) (asks_of settings s before))) (behind (behind events tokens) takes)
 
-  starts_by : (settings : Settings) (before : List Event) (s : ℕ) (es : List ℕ) (events : List Event) → Because R events (each (lose_start settings before s) es)
-  starts_by settings before s [] events = by_nothing
-  starts_by settings before s (e ∷ es) events = by_then (start_by settings before s e events) (starts_by settings before s es (behind events (outs (lose_start settings before s e) events)))
+  starts_by : (settings : Settings) (before : List Event) (s : ℕ) (es : List ℕ) → AllByRecursion Tells es → (events : List Event) → Because R events (each (lose_start settings before s) es)
+  starts_by settings before s [] tells events = by_nothing
+  starts_by settings before s (e ∷ es) tells events = by_then (start_by e tells.0 s settings before events) (starts_by settings before s es tells.1 (behind events (outs (lose_start settings before s e) events)))
 
-  pub ready_by : (settings : Settings) (before : List Event) (s : ℕ) (es : List ℕ) (events : List Event) → Because R events (choose (is_ready (life_of s before).stage) (each (lose_start settings before s) es) nothing)
-  ready_by settings before s es events = by_choose (λ ready. starts_by settings before s es events) (λ not_yet. by_nothing)
+  pub ready_by : (settings : Settings) (before : List Event) (s : ℕ) (es : List ℕ) → AllByRecursion Tells es → (events : List Event) → Because R events (choose (is_ready (life_of s before).stage) (each (lose_start settings before s) es) nothing)
+  ready_by settings before s es tells events = by_choose (λ ready. starts_by settings before s es tells events) (λ not_yet. by_nothing)
 
   -- X3
-  module _ (closes : (events : List Event) (e : ℕ) → R events (CloseEditor e)) where
+  module _ (tells : (e : ℕ) → Tells e) (closes : (events : List Event) (e : ℕ) → R events (CloseEditor e)) where
     turned_by : (es : List ℕ) (events : List Event) → Because R events (each turn_out es)
     turned_by [] events = by_nothing
-    turned_by (e ∷ es) events = by_then (by_then (by_look (by_choose (λ waits. by_send (tells _ _ _)) (λ late. by_nothing))) (by_send (closes _ _))) (turned_by es (behind events (outs (turn_out e) events)))
+    turned_by (e ∷ es) events = by_then (by_then (by_look (by_choose (λ waits. by_send (tells e events _)) (λ late. by_nothing))) (by_send (closes _ e))) (turned_by es (behind events (outs (turn_out e) events)))
+
+    pub all_tell : (before : List Event) (s : ℕ) (es : List ℕ) → AllByRecursion (λ e. AllByRecursion (λ (f : Forwarded). Tells f.editor) (filter (is_of e) (forwarding_of s before).open_requests)) es
+    all_tell before s es = for_all (λ e. AllByRecursion (λ (f : Forwarded). Tells f.editor) (filter (is_of e) (forwarding_of s before).open_requests)) (λ e. for_all (λ (f : Forwarded). Tells f.editor) (λ f. tells f.editor) (filter (is_of e) (forwarding_of s before).open_requests)) es
 
     module _ (settings : Settings) (before : List Event) (s : ℕ) (built : not (begins_again settings before s) ≡ true) where
       alive_by : (g : ℕ) (x : Kept) → group_of s before ≡ Some g → slice_get (groups_of settings before) g ≡ Some x → x.live ≡ true → (events : List Event) → Because R events (each (lose_sent before s) (members_in settings g before)
           ⨾ (choose (is_ready (life_of s before).stage) (each (lose_start settings before s) (running_in settings g before)) nothing
           ⨾ choose (starts_again settings before g x) (spawn g) (each turn_out (members_in settings g before))))
-      alive_by g x home found live events = by_then (sent_by before s (members_in settings g before) events) (by_then (ready_by settings before s (running_in settings g before) (behind events errors))
+      alive_by g x home found live events = by_then (sent_by before s (members_in settings g before) (all_tell before s (members_in settings g before)) events) (by_then (ready_by settings before s (running_in settings g before) (for_all Tells tells (running_in settings g before)) (behind events errors))
           (by_choose (λ again. never (sym (both x.live (starts_again settings before g x) live again) ∙ none_again settings before s built g x home found)) (λ last. turned_by (members_in settings g before) (behind (behind events errors) losses))))
         where
           errors : List Out

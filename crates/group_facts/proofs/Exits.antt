@@ -127,7 +127,7 @@ module _ (settings : Settings) (before : List Event) (s : ℕ) (built : not (beg
   pub none_again : (g : ℕ) (x : Kept) → group_of s before ≡ Some g → slice_get (groups_of settings before) g ≡ Some x → comes_again settings before g x ≡ false
   none_again g x home found = sym (ap (λ o. option_map_or (λ i. option_map_or (comes_again settings before i) (slice_get (groups_of settings before) i) false) o false) home ∙ ap (λ o. option_map_or (comes_again settings before g) o false) found) ∙ again_off
 
-  lost_is : groups_lose settings before s (house_of settings before) ≡ groups_lost settings before s
+  pub lost_is : groups_lose settings before s (house_of settings before) ≡ groups_lost settings before s
   lost_is = go (group_of s before) refl
     where
       go : (o : Option ℕ) → group_of s before ≡ o → at_group o (λ g. exit_of settings.limits.restarts (has_editor needs_server g (house_of settings before).home before)) (groups_of settings before) ≡ at_group o (λ g. end_live) (groups_of settings before)

@@ -46,7 +46,8 @@ use Rattle.group_facts.proofs.Quits.{stopped_now, stopped_on}
 use Rattle.group_facts.proofs.RequestRow.{beside, null_why, waited}
 use Rattle.group_facts.proofs.Sent.{rising_filtered, rising_of}
 use Rattle.group_facts.proofs.StopEnds.{AllOver, IsOnLink, all_end, over_all, over_linked}
-use Rattle.group_facts.proofs.StopRow.{Differ, IsClosing, IsRefusing, IsTurned, all_closed, all_refused, differ_of}
+use Rattle.group_facts.proofs.Losses.{Differ, differ_of}
+use Rattle.group_facts.proofs.StopRow.{IsClosing, IsRefusing, IsTurned, all_closed, all_refused}
 
 -- Phases
 
