@@ -36,7 +36,7 @@ use Rattle.group_facts.specs.Built.{built_behind}
 use Rattle.group_facts.specs.Facts.{ends_with, is_exit, is_in, is_parting, is_refusing, is_too_many, is_unready, ends_link, leaves, shuts, turned_away, is_crowded, is_put_out}
 use Rattle.group_facts.specs.Lively.{Lively}
 use Rattle.group_facts.specs.Settled.{HasSeat, is_answered}
-use Rattle.group_facts.specs.Why.{Why, WhyToEditor, answers, asks, calls, loses, parts, passes, progresses, recalls, refuses, rejects, resumes, shows, spreads, turns_away, welcomes}
+use Rattle.group_facts.specs.Why.{Why, WhyToEditor, answers, asks, calls, loses, winds_up, passes, progresses, recalls, refuses, rejects, resumes, shows, spreads, turns_away, welcomes}
 use Rattle.group_facts.proofs.Asks.{is_question, registering_made, response_asks_none}
 use Rattle.group_facts.proofs.AskEntries.{AllSeats, Inner, inner_rests, off_both, on_either, seat_now, up_ready}
 use Rattle.group_facts.proofs.AskRest.{all_pending, leave_clean, none_with, seat_home}
@@ -235,7 +235,7 @@ module _ (settings : Settings) (range : InRange settings) (before : List Event) 
     none_told events e body (progresses k) h = did_all settings None_at t events (ToEditor e body) (ap is_question k.says) h
     none_told events e body (shows k) h = did_all settings None_at t events (ToEditor e body) (ap is_question k.says) h
     none_told events e body (loses k) h = did_all settings None_at t events (ToEditor e body) (ap is_question k.says) h
-    none_told events e body (parts k) h = did_all settings None_at t events (ToEditor e body) (ap is_question k.says) h
+    none_told events e body (winds_up k) h = did_all settings None_at t events (ToEditor e body) (ap is_question k.says) h
 
     none_did : (events : List Event) (out : Out) → Why settings before cause events out → AllByRecursion None_at (asks_of settings t events) → AllByRecursion None_at (asks_of settings t (events ++ said out ∷ []))
     none_did events (ToEditor e body) why h = none_told events e body why h

@@ -514,8 +514,8 @@ module _ (settings : Settings) (before : List Event) where
   quiet_tick t events = by_then (quiet_ends (due_of settings before t) events) (quiet_programs (overdue_of settings before t) (behind events (outs (each end_group (due_of settings before t)) events)))
 
 -- X1 to X3, of a group that gets no new start
-pub quiet_lost : (settings : Settings) (before : List Event) (s : ℕ) → not (begins_again settings before s) ≡ true → (events : List Event) → Quiet events (lost_row settings before s)
-quiet_lost settings before s built events = lost_by (λ places out. NoSpawn out) (λ e places body. tt) (λ places e. tt) settings before s built events
+pub quiet_loss : (settings : Settings) (before : List Event) (s : ℕ) → not (begins_again settings before s) ≡ true → (events : List Event) → Quiet events (lost_row settings before s)
+quiet_loss settings before s built events = lost_by (λ places out. NoSpawn out) (λ e places body. tt) (λ places e. tt) settings before s built events
 
 -- How many groups there are
 
@@ -611,8 +611,8 @@ module _ (settings : Settings) where
       (ap length (groups_more settings before (heard (Tick t))) ∙ ended_length (is_due settings.limits.idle (max (time_of before) t)) (groups_of settings before))
   founding_of before (EditorGone e why) built = quiet (all_outs NoSpawn _ _ (quiet_gone settings before e (desk_of e before).phase (with_cause before (EditorGone e why))).why)
       (ap length (groups_more settings before (heard (EditorGone e why))) ∙ emptied_same ((house_of settings before).home e) _ _ _ (groups_of settings before))
-  founding_of before (StartFailed s) built = quiet (all_outs NoSpawn _ _ (quiet_lost settings before s built (with_cause before (StartFailed s))).why) (ap length (failed_groups settings before s built) ∙ lost_length settings before s)
-  founding_of before (ServerGone s) built = quiet (all_outs NoSpawn _ _ (quiet_lost settings before s built (with_cause before (ServerGone s))).why) (ap length (gone_groups settings before s built) ∙ lost_length settings before s)
+  founding_of before (StartFailed s) built = quiet (all_outs NoSpawn _ _ (quiet_loss settings before s built (with_cause before (StartFailed s))).why) (ap length (failed_groups settings before s built) ∙ lost_length settings before s)
+  founding_of before (ServerGone s) built = quiet (all_outs NoSpawn _ _ (quiet_loss settings before s built (with_cause before (ServerGone s))).why) (ap length (gone_groups settings before s built) ∙ lost_length settings before s)
 
   -- Each group has a start
 

@@ -38,7 +38,7 @@ use Rattle.group_facts.specs.Built.{built_behind}
 use Rattle.group_facts.specs.Facts.{Housed, IsHoused, Quit, is_refusing, is_up}
 use Rattle.group_facts.specs.Lively.{Lively, lives_at}
 use Rattle.group_facts.specs.Settled.{IsServing}
-use Rattle.group_facts.proofs.Begun.{Begun, NoSpawn, all_outs, founding_of, placed_outs, quiet_lost, start_took}
+use Rattle.group_facts.proofs.Begun.{Begun, NoSpawn, all_outs, founding_of, placed_outs, quiet_loss, start_took}
 use Rattle.group_facts.proofs.Ceased.{IsOff, Low, Spawned, group_off, group_quiet, groups_off, is_spawned, off_ended, off_outs, off_spawn, off_took}
 use Rattle.group_facts.proofs.Exits.{end_live, exit_over, failed_groups, gone_groups, groups_lost}
 use Rattle.group_facts.proofs.LiveGroups.{all_at, changed_lives, emptied_lives, lives_apart, lives_changed, lives_ended, lives_left}
@@ -214,8 +214,8 @@ module _ (settings : Settings) (before : List Event) (low : Low before) (spawned
         go g s live over at false other = never (sym (ap (lives_at g) (said_by true refuses ∙ ap (λ o. at_group o (λ k. ended) groups) home) ∙ (lives_apart i g ended groups (λ is. never (sym (ap (nat_eq i) is ∙ same_number i) ∙ other)) ∙ live)) ∙ over)
 
   -- X1 to X3: the start of a group that ends did
-  ended : (n : ℕ) (cause : Cause) → life_of n (with_cause before cause) ≡ (if nat_eq n n then record { stage = Ended; started = (life_of n before).started } else life_of n before) → IsOff n (with_cause before cause)
-  ended n cause life = ap (λ (l : Life). is_up l.stage) (life ∙ ap (λ b. if b then record { stage = Ended; started = (life_of n before).started } else life_of n before) (same_number n))
+  off_there : (n : ℕ) (cause : Cause) → life_of n (with_cause before cause) ≡ (if nat_eq n n then record { stage = Ended; started = (life_of n before).started } else life_of n before) → IsOff n (with_cause before cause)
+  off_there n cause life = ap (λ (l : Life). is_up l.stage) (life ∙ ap (λ b. if b then record { stage = Ended; started = (life_of n before).started } else life_of n before) (same_number n))
 
   lost_ends : (n : ℕ) (cause : Cause) → groups_of settings (with_cause before cause) ≡ groups_lost settings before n → IsOff n (with_cause before cause) → AllByRecursion NoSpawn (outs_of settings before cause) → Ends cause
   lost_ends n cause same off calm g s live over at = go (group_of n before) refl
@@ -232,8 +232,8 @@ module _ (settings : Settings) (before : List Event) (low : Low before) (spawned
   cause_ends (Joined n) built = none_ends (Joined n) (groups_more settings before (heard (Joined n)))
   cause_ends (Drained n k) built = none_ends (Drained n k) (groups_more settings before (heard (Drained n k)))
   cause_ends (Started n) built = none_ends (Started n) (groups_more settings before (heard (Started n)))
-  cause_ends (StartFailed n) built = lost_ends n (StartFailed n) (failed_groups settings before n built) (ended n (StartFailed n) (life_more n before (heard (StartFailed n)))) (all_outs NoSpawn _ _ (quiet_lost settings before n built (with_cause before (StartFailed n))).why)
-  cause_ends (ServerGone n) built = lost_ends n (ServerGone n) (gone_groups settings before n built) (ended n (ServerGone n) (life_more n before (heard (ServerGone n)))) (all_outs NoSpawn _ _ (quiet_lost settings before n built (with_cause before (ServerGone n))).why)
+  cause_ends (StartFailed n) built = lost_ends n (StartFailed n) (failed_groups settings before n built) (off_there n (StartFailed n) (life_more n before (heard (StartFailed n)))) (all_outs NoSpawn _ _ (quiet_loss settings before n built (with_cause before (StartFailed n))).why)
+  cause_ends (ServerGone n) built = lost_ends n (ServerGone n) (gone_groups settings before n built) (off_there n (ServerGone n) (life_more n before (heard (ServerGone n)))) (all_outs NoSpawn _ _ (quiet_loss settings before n built (with_cause before (ServerGone n))).why)
   cause_ends (EditorGone n why) built = λ g s live over at. never (sym live ∙ (sym (ap (lives_at g) (groups_more settings before (heard (EditorGone n why))) ∙ emptied_lives (home_of settings n before) _ _ _ g groups) ∙ over))
   cause_ends (Tick t) built = tick_ends t
   cause_ends (FromEditor e body) built = heard_ends e body (places (desk_of e before).phase (message_of body)) (stops before e (message_of body)) refl refl

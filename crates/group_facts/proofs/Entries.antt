@@ -200,11 +200,11 @@ module _ (settings : Settings) (range : InRange settings) (before : List Event) 
   over_by T Gone initialize ids unbegun placed = tt
 
   module _ (s : ℕ) (built : not (begins_again settings before s) ≡ true) (e : ℕ) where
-    abbrev Stays : Type 0
-    Stays = (ends_with settings before s e && is_begun (desk_of e before).phase) ≡ false
+    abbrev StaysIn : Type 0
+    StaysIn = (ends_with settings before s e && is_begun (desk_of e before).phase) ≡ false
 
     -- the start is that of no other editor that got its result
-    apart_from : Stays → (id : Id) (k : SentAt settings before e id) → is_answered (desk_of e before).phase ≡ true → nat_eq s k.start ≡ false
+    apart_from : StaysIn → (id : Id) (k : SentAt settings before e id) → is_answered (desk_of e before).phase ≡ true → nat_eq s k.start ≡ false
     apart_from rest id k served = go (nat_eq s k.start) refl
       where
         go : (b : Bool) → nat_eq s k.start ≡ b → b ≡ false
@@ -214,7 +214,7 @@ module _ (settings : Settings) (range : InRange settings) (before : List Event) 
             (ap (λ o. option_map_or (λ i. is_home i (home_of settings e before)) o false) home ∙ (ap (is_home k.group) k.home ∙ same_number k.group))) (begun_answered (desk_of e before).phase served)) ∙ rest)
         go false other = refl
 
-    stays_waiting : Stays → (ends_with settings before s e && is_waiting (desk_of e before).phase) ≡ false
+    stays_waiting : StaysIn → (ends_with settings before s e && is_waiting (desk_of e before).phase) ≡ false
     stays_waiting rest = go (ends_with settings before s e) (is_waiting (desk_of e before).phase) refl rest
       where
         waits_begun : is_waiting (desk_of e before).phase ≡ true → is_begun (desk_of e before).phase ≡ true
@@ -225,14 +225,14 @@ module _ (settings : Settings) (range : InRange settings) (before : List Event) 
         go true false waits off = refl
         go false b waits off = refl
 
-    failed_now : Stays → OpenAt settings e Nobody (with_cause before (StartFailed s))
+    failed_now : StaysIn → OpenAt settings e Nobody (with_cause before (StartFailed s))
     failed_now rest = open_at settings e Nobody before (heard (StartFailed s)) (if_other (S settings e Nobody before) (S settings e Nobody (with_cause before (StartFailed s))) (desk_of e before).phase (desk_of e before).initialize (open_of e before) (λ served id is. sent served id) (h e))
       where
         sent : is_answered (desk_of e before).phase ≡ true → (id : Id) → SentAt settings before e id ⊎ ⊥ → SentAt settings (with_cause before (StartFailed s)) e id ⊎ ⊥
         sent served id (inl k) = inl (sent_failed settings e id before s k (apart_from rest id k served))
         sent served id (inr k) = inr k
 
-    ended_now : Stays → OpenAt settings e Nobody (with_cause before (ServerGone s))
+    ended_now : StaysIn → OpenAt settings e Nobody (with_cause before (ServerGone s))
     ended_now rest = open_at settings e Nobody before (heard (ServerGone s)) (if_other (S settings e Nobody before) (S settings e Nobody (with_cause before (ServerGone s))) (desk_of e before).phase (desk_of e before).initialize (open_of e before) (λ served id is. sent served id) (h e))
       where
         sent : is_answered (desk_of e before).phase ≡ true → (id : Id) → SentAt settings before e id ⊎ ⊥ → SentAt settings (with_cause before (ServerGone s)) e id ⊎ ⊥

@@ -51,7 +51,7 @@ use Rattle.group_rows.proofs.LiveTexts.{live_written, unregister_says}
 use Rattle.group_rows.proofs.Stops.{range_below}
 use Rattle.group_facts.specs.Facts.{AllForwarded, IsAlone, IsAsked, IsForwarded, IsTake, IsWaiting, OneRequest, asked_of, ends_with, is_early, is_put_out, turned_away}
 use Rattle.group_facts.specs.Lively.{lives}
-use Rattle.group_facts.specs.Why.{IsLost, Losing, Why, calls, empties, ends, forgets, frees, of_ask, of_taking, parts, refuses, turns_away}
+use Rattle.group_facts.specs.Why.{IsLost, Losing, Why, calls, empties, ends, forgets, frees, of_ask, of_taking, winds_up, refuses, turns_away}
 use Rattle.group_facts.proofs.Asks.{asked_of_more, asking_more}
 use Rattle.group_facts.proofs.AskingRows.{still_runs, unregisters_all, work_told}
 use Rattle.group_facts.proofs.ExitEntry.{Exit}
@@ -275,7 +275,7 @@ module _ (settings : Settings) (before : List Event) (facts : Facts settings bef
       lost_by = record { from = exit.is; ready = ready; ran = ran; group = g; kept = home; home = at_home }
 
       losing : (events : List Event) (body : List ℕ) → Place events → Losing settings before events e s body → (method : List ℕ) (params : Json) → message_of body ≡ notification method (Some params) → R events (ToEditor e body)
-      losing events body p told method params says = parts (record { start = s; lost = lost_by; told = told; running = p.runs e ran; method = method; params = params; says = says })
+      losing events body p told method params says = winds_up (record { start = s; lost = lost_by; told = told; running = p.runs e ran; method = method; params = params; says = says })
 
       -- tokens
       tokens_why : (earlier ts : List Token) → (created_of settings s before).tokens ≡ earlier ++ ts → (events : List Event) → Place events → Because R events (each (end_token s e (created_of settings s before)) ts)
@@ -369,17 +369,17 @@ module _ (settings : Settings) (before : List Event) (facts : Facts settings bef
     record Runs_at (e : ℕ) (events : List Event) : Type 0 where
       place : Place events
       ran : (desk_of e before).phase ≡ Running
-      home : home_of settings e before ≡ Some g
+      at_home : home_of settings e before ≡ Some g
 
     home_is : (o : Option ℕ) → is_home g o ≡ true → o ≡ Some g
     home_is None h = never (sym h)
     home_is (Some i) h = ap (λ n. Some n) (number_same i g h)
 
     runs_by : (e : ℕ) → runs_here e ≡ true → (events : List Event) → Place events → Runs_at e events
-    runs_by e t events p = let q = and_parts (is_running (desk_of e before).phase) (is_home g (home_of settings e before)) t in record { place = p; ran = running_is (desk_of e before).phase q.0; home = home_is (home_of settings e before) q.1 }
+    runs_by e t events p = let q = and_parts (is_running (desk_of e before).phase) (is_home g (home_of settings e before)) t in record { place = p; ran = running_is (desk_of e before).phase q.0; at_home = home_is (home_of settings e before) q.1 }
 
     runs_still : (k e : ℕ) (events : List Event) → nat_eq k e ≡ false → Runs_at e events → Runs_at e (behind events (outs (lose_start settings before s k) events))
-    runs_still k e events other h = record { place = place_behind events (lose_start settings before s k) (start_by (λ places out. IsBody out) k (λ places body. tt) s settings before events) h.place; ran = h.ran; home = h.home }
+    runs_still k e events other h = record { place = place_behind events (lose_start settings before s k) (start_by (λ places out. IsBody out) k (λ places body. tt) s settings before events) h.place; ran = h.ran; at_home = h.at_home }
 
     abbrev losing_row : Row
     losing_row = choose (is_ready (life_of s before).stage) (each (lose_start settings before s) (running_in settings g before)) nothing
@@ -395,7 +395,7 @@ module _ (settings : Settings) (before : List Event) (facts : Facts settings bef
       where
         all_told : (life_of s before).stage ≡ Ready → Because R told (each (lose_start settings before s) (running_in settings g before))
         all_told ready = subst (λ ns. Because R told (each (lose_start settings before s) (filter runs_here ns))) (sym (range_below (editors_of before)))
-            (by_rising (lose_start settings before s) Runs_at (λ e events h. start_why ready e h.ran h.home events h.place) runs_still told runs_here (λ e t. runs_by e t told place_errors) (editors_of before))
+            (by_rising (lose_start settings before s) Runs_at (λ e events h. start_why ready e h.ran h.at_home events h.place) runs_still told runs_here (λ e t. runs_by e t told place_errors) (editors_of before))
 
     abbrev losses : List Out
     losses = outs losing_row told

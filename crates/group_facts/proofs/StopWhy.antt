@@ -71,7 +71,7 @@ told_keeps Absent initialize m h = h
 told_keeps Closed initialize m h = h
 told_keeps Gone initialize m h = h
 
-there_told : (e k : ℕ) (events : List Event) (text : List ℕ) → is_there (desk_of e events).phase ≡ true → is_there (desk_of e (events ++ said (ToEditor k text) ∷ [])).phase ≡ true
+pub there_told : (e k : ℕ) (events : List Event) (text : List ℕ) → is_there (desk_of e events).phase ≡ true → is_there (desk_of e (events ++ said (ToEditor k text) ∷ [])).phase ≡ true
 there_told e k events text h = ap (λ (d : Desk). is_there d.phase) (desk_more e events (said (ToEditor k text))) ∙ go (nat_eq k e)
   where
     go : (b : Bool) → is_there (if b then record { phase = phase_told (desk_of e events).phase (desk_of e events).initialize (message_of text); initialize = (desk_of e events).initialize } else desk_of e events).phase ≡ true

@@ -20,7 +20,7 @@ use Rattle.group_rows.specs.Created.{Created, Taking, Token, accepts, answered, 
 use Rattle.group_rows.specs.Forwarded.{names}
 use Rattle.group_rows.specs.Live.{is_heard, is_registering}
 use Rattle.group_facts.specs.Facts.{IsTake, Takes, asked_of, editor_behind}
-use Rattle.group_facts.specs.Why.{IsCall, WhyToEditor, answers, asks, calls, loses, parts, passes, progresses, recalls, refuses, rejects, resumes, shows, spreads, turns_away, welcomes}
+use Rattle.group_facts.specs.Why.{IsCall, WhyToEditor, answers, asks, calls, loses, winds_up, passes, progresses, recalls, refuses, rejects, resumes, shows, spreads, turns_away, welcomes}
 use Rattle.group_facts.proofs.Asks.{asked_of_more, call_hurried, is_question, response_asks_none, unnamed_open}
 
 created_more : (settings : Settings) (s : ℕ) (events : List Event) (event : Event) → created_of settings s (events ++ event ∷ []) ≡ created_next settings s events (created_of settings s events) event
@@ -229,7 +229,7 @@ module _ (settings : Settings) (events : List Event) (h : Takes settings events)
     takes_told before cause (progresses k) = plain (ap makes k.says)
     takes_told before cause (shows k) = plain (ap makes k.says)
     takes_told before cause (loses k) = plain (ap makes k.says)
-    takes_told before cause (parts k) = plain (ap makes k.says)
+    takes_told before cause (winds_up k) = plain (ap makes k.says)
 
 pub no_takes : (settings : Settings) → Takes settings []
 no_takes settings s = tt

@@ -40,7 +40,7 @@ use Rattle.group_facts.specs.Facts.{is_unready, shuts}
 use Rattle.group_facts.specs.Lively.{Lively}
 use Rattle.group_facts.specs.Settled as settled_facts
 use Rattle.group_facts.specs.Settled.{HasTaken, RunsAt}
-use Rattle.group_facts.specs.Why.{Calling, IsCall, Why, WhyToEditor, answers, asks, calls, creates, displaces, enrols, forgets, passes, progresses, recalls, refuses, rejects, releases, restores, resumes, revives, shows, spreads, turns_away, welcomes, loses, parts}
+use Rattle.group_facts.specs.Why.{Calling, IsCall, Why, WhyToEditor, answers, asks, calls, creates, displaces, enrols, forgets, passes, progresses, recalls, refuses, rejects, releases, restores, resumes, revives, shows, spreads, turns_away, welcomes, loses, winds_up}
 use Rattle.group_facts.proofs.AskEntries.{close_runs, onward_rests, took_runs, up_ready}
 use Rattle.group_facts.proofs.AskingRows.{still_runs}
 use Rattle.group_facts.proofs.Asks.{call_hurried, is_question, response_asks_none, unless_not}
@@ -389,7 +389,7 @@ module _ (settings : Settings) (before : List Event) (cause : Cause) where
       told_takers spawned (progresses k) = plain_takers (ap makes k.says)
       told_takers spawned (shows k) = plain_takers (ap makes k.says)
       told_takers spawned (loses k) = plain_takers (ap makes k.says)
-      told_takers spawned (parts k) = plain_takers (ap makes k.says)
+      told_takers spawned (winds_up k) = plain_takers (ap makes k.says)
 
     did_takers : starts_of before ≤ starts_of events → (out : Out) → Why settings before cause events out → Takers (events ++ said out ∷ [])
     did_takers spawned (ToEditor e body) why = told_takers e body spawned why

@@ -623,7 +623,7 @@ pub data WhyToEditor (settings : Settings) (before : List Event) (cause : Cause)
   progresses : IsProgress settings before cause events e body → WhyToEditor settings before cause events e body
   shows : IsShown settings before cause events e body → WhyToEditor settings before cause events e body
   loses : IsLoss before cause events e body → WhyToEditor settings before cause events e body
-  parts : IsLosing settings before cause events e body → WhyToEditor settings before cause events e body
+  winds_up : IsLosing settings before cause events e body → WhyToEditor settings before cause events e body
 
 -- its program is to begin, or gave no result yet
 abbrev pub is_starting : Stage → Bool
