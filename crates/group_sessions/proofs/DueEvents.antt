@@ -27,11 +27,13 @@ use Rattle.group_rows.specs.Created.{Created, Token, accepts, answered, asked, b
 use Rattle.group_rows.specs.Live.{is_heard}
 use Rattle.group_sessions.proofs.CreatedFold.{IsLive, IsNew, Orderly, created_orderly, new_is}
 use Rattle.group_sessions.proofs.CreatedTies.{created_more}
+use Rattle.group_rows.specs.ExitRows.{has_begun}
 use Rattle.group_sessions.proofs.HeldFold.{gone_behind}
-use Rattle.group_sessions.specs.Due.{Word, asked_by, asks, bodies, body_in, due, is_asks, is_beginning, is_ending, opening, parts, replies, rests, spoken_by, tells, told_by, word, words}
-use Rattle.group_sessions.proofs.DueFold.{own, own_answered, own_asked, own_left, own_other, own_stays, own_still, own_told}
-use Rattle.group_sessions.proofs.DueStates.{State, Steps, ask, fresh, gained, handed, idle, part, reply, tell}
+use Rattle.group_sessions.specs.Due.{Word, asked_by, asks, bodies, body_in, due, is_asks, is_beginning, is_ending, opening, parts, replies, rests, spoken_by, tells, told_by, word, words, breaks, is_cut}
+use Rattle.group_sessions.proofs.DueFold.{own, own_answered, own_asked, own_left, own_other, own_stays, own_still, own_told, own_accepted}
+use Rattle.group_sessions.proofs.DueStates.{State, Steps, ask, fresh, gained, handed, idle, part, reply, tell, broke, cuts}
 use Rattle.group_sessions.proofs.DueWords.{any_join, bodies_join, opening_step}
+use Rattle.group_sessions.proofs.EndTexts.{begun_accepted}
 
 pub num_off : (a b : ℕ) → (a ≡ b → ⊥) → nat_eq a b ≡ false
 num_off a b f = go (nat_eq a b) refl
@@ -138,6 +140,7 @@ module _ (settings : Settings) (s k e : ℕ) where
   pub record Moves (events : List Event) (event : Event) : Type 0 where
     pub tie : Tie (events ++ event ∷ [])
     pub grows : due (said_of (events ++ event ∷ [])) ≡ due (said_of events) ++ gain events event
+    pub cut : is_cut (said_of (events ++ event ∷ [])) ≡ (is_cut (said_of events) || broke e k (word settings s k e events event))
 
   module _ (events : List Event) where
     abbrev x : Created
@@ -151,13 +154,88 @@ module _ (settings : Settings) (s k e : ℕ) where
       steps : Steps e k y ws w g
       rest : Rest k y (ws ++ w ∷ []) later
 
-    build : (event : Event) → Stepped (stage_of (events ++ event ∷ [])) (created_next settings s events x event) (word settings s k e events event) (gain events event) → Moves events event
-    build event st = record {
+    told_whole : (body : List ℕ) (o : Option Token) → broke e k (told_by k body o) ≡ false
+    told_whole body None = refl
+    told_whole body (Some t) = go (is_numbered k t)
+      where
+        go : (b : Bool) → broke e k (if b then tells body else rests) ≡ false
+        go true = refl
+        go false = refl
+
+    asked_whole : (n : ℕ) (o : Option Token) → broke e k (asked_by k n o) ≡ false
+    asked_whole n None = refl
+    asked_whole n (Some t) = go (is_numbered k t)
+      where
+        go : (b : Bool) → broke e k (if b then asks n else rests) ≡ false
+        go true = refl
+        go false = refl
+
+    pub server_whole : (n : ℕ) (body : List ℕ) (m : Message) → broke e k (word settings s k e events (took (FromServer n body) m)) ≡ false
+    server_whole n body (notification method params) = go (nat_eq n s && (is_progress method && is_ready (life_of s events).stage))
+      where
+        go : (b : Bool) → broke e k (if b then told_by k body (token_called (named_token params) x) else rests) ≡ false
+        go true = told_whole body (token_called (named_token params) x)
+        go false = refl
+    server_whole n body (request id method params) = refl
+    server_whole n body (result id r) = refl
+    server_whole n body (error id r) = refl
+    server_whole n body not_json = refl
+    server_whole n body not_message = refl
+
+    pub editor_whole : (b c : Bool) (m : Message) → broke e k (if b then (if c then parts else replies (answered_id m) (accepts m)) else rests) ≡ false
+    editor_whole true true m = refl
+    editor_whole true false m = refl
+    editor_whole false c m = refl
+
+    pub left_whole : (b : Bool) → broke e k (if b then parts else rests) ≡ false
+    left_whole true = refl
+    left_whole false = refl
+
+    pub out_whole : (out : Out) (m : Message) → broke e k (word settings s k e events (did out m)) ≡ false
+    out_whole (ToEditor n body) (request id method params) = go (nat_eq n e && is_creating method)
+      where
+        go : (b : Bool) → broke e k (if b then asked_by k (next_ask n events) (token_marked s params x) else rests) ≡ false
+        go true = asked_whole (next_ask n events) (token_marked s params x)
+        go false = refl
+    out_whole (ToEditor n body) (notification method params) = refl
+    out_whole (ToEditor n body) (result id r) = refl
+    out_whole (ToEditor n body) (error id r) = refl
+    out_whole (ToEditor n body) not_json = refl
+    out_whole (ToEditor n body) not_message = refl
+    out_whole (CloseEditor n) m = left_whole (nat_eq n e)
+    out_whole (ToServer n body) m = refl
+    out_whole (Spawn n g) m = refl
+    out_whole (EndServer n) m = refl
+
+    -- the start's program ends, and the token had begun there
+    pub broke_word : (event : Event) → broke e k (word settings s k e events event) ≡ true → has_begun e k x ≡ true
+    broke_word (took (StartFailed n) m) h = go (nat_eq n s) h
+      where
+        go : (b : Bool) → broke e k (if b then breaks (has_begun e k x) else rests) ≡ true → has_begun e k x ≡ true
+        go true is = is
+        go false is = never (sym is)
+    broke_word (took (ServerGone n) m) h = go (nat_eq n s) h
+      where
+        go : (b : Bool) → broke e k (if b then breaks (has_begun e k x) else rests) ≡ true → has_begun e k x ≡ true
+        go true is = is
+        go false is = never (sym is)
+    broke_word (took (FromServer n body) m) h = never (sym h ∙ server_whole n body m)
+    broke_word (took (FromEditor n body) m) h = never (sym h ∙ editor_whole (nat_eq n e) (requests (codes "shutdown") m) m)
+    broke_word (took (EditorGone n why) m) h = never (sym h ∙ left_whole (nat_eq n e))
+    broke_word (took (Joined n) m) h = never (sym h)
+    broke_word (took (Started n) m) h = never (sym h)
+    broke_word (took (Drained n j) m) h = never (sym h)
+    broke_word (took (Tick j) m) h = never (sym h)
+    broke_word (did out m) h = never (sym h ∙ out_whole out m)
+
+    build : Tie events → (event : Event) → Stepped (stage_of (events ++ event ∷ [])) (created_next settings s events x event) (word settings s k e events event) (gain events event) → Moves events event
+    build old event st = record {
       tie = record {
         state = subst (State e k (fold (events ++ event ∷ []))) (sym (words_more events event)) (subst (λ y. State e k y (ws ++ word settings s k e events event ∷ [])) (sym (created_more settings s events event)) (st.steps).state);
         rest = subst (λ z. Rest k (fold (events ++ event ∷ [])) z (stage_of (events ++ event ∷ []))) (sym (words_more events event)) (subst (λ y. Rest k y (ws ++ word settings s k e events event ∷ []) (stage_of (events ++ event ∷ []))) (sym (created_more settings s events event)) st.rest);
       };
       grows = ap due (words_more events event) ∙ (st.steps).grows;
+      cut = ap is_cut (words_more events event) ∙ cuts e k x ws (word settings s k e events event) (λ h. sym (own_accepted e k x) ∙ begun_accepted e k x (broke_word event h)) old.state;
     }
 
     module _ (tie : Tie events) where
@@ -178,7 +256,7 @@ module _ (settings : Settings) (s k e : ℕ) where
       -- the editor leaves
       parting : (y : Created) (later : Stage) → own e k y ≡ [] → y.tokens ≡ x.tokens → y.next ≡ x.next → (x ≡ no_created → y ≡ no_created) → (stage_of events ≡ Ended → later ≡ Ended) → Stepped later y parts []
       parting y later gone tokens next none stays = record {
-        steps = part e k x y ws gone tie.state;
+        steps = part e k parts refl refl refl (λ j. refl) x y ws gone tie.state;
         rest = rest_more k x y ws parts (stage_of events) later refl (inl refl) (λ untold h. subst (AllByRecursion (Begun k (bodies ws))) (sym tokens) h) (omega (arith, next)) (λ is ended. none is) stays tie.rest;
       }
 
@@ -316,11 +394,11 @@ module _ (settings : Settings) (s k e : ℕ) where
           go true at = parting (left n x) later (ap (λ z. own e k (left z x)) (number_same n e at) ∙ own_left e k x) refl refl (λ is. ap (left n) is) stays
           go false off = alike (left n x) later (own_still e k n x off) refl refl (λ is. ap (left n) is) stays
 
-      ending_start : (n : ℕ) (later : Stage) → (stage_of events ≡ Ended → later ≡ Ended) → (nat_eq n s ≡ true → later ≡ Ended) → Stepped later (if nat_eq n s then no_created else x) (if nat_eq n s then parts else rests) []
+      ending_start : (n : ℕ) (later : Stage) → (stage_of events ≡ Ended → later ≡ Ended) → (nat_eq n s ≡ true → later ≡ Ended) → Stepped later (if nat_eq n s then no_created else x) (if nat_eq n s then breaks (has_begun e k x) else rests) []
       ending_start n later stays ends_now = go (nat_eq n s) refl
         where
-          go : (b : Bool) → nat_eq n s ≡ b → Stepped later (if b then no_created else x) (if b then parts else rests) []
-          go true at = record { steps = part e k x no_created ws refl tie.state; rest = dead refl (ends_now at) }
+          go : (b : Bool) → nat_eq n s ≡ b → Stepped later (if b then no_created else x) (if b then breaks (has_begun e k x) else rests) []
+          go true at = record { steps = part e k (breaks (has_begun e k x)) refl refl refl (λ j. refl) x no_created ws refl tie.state; rest = dead refl (ends_now at) }
           go false off = still later stays
 
       pick_life : (b : Bool) (l : Life) → l.stage ≡ Ended → stage_of events ≡ Ended → (if b then l else life_of s events).stage ≡ Ended
@@ -345,15 +423,15 @@ module _ (settings : Settings) (s k e : ℕ) where
       ended_now l n at = ap (λ b. (if b then record { stage = Ended; started = l.started } else l).stage) at
 
       pub moved_took : (cause : Cause) → Moves events (heard cause)
-      moved_took (FromServer n body) = build (heard (FromServer n body)) (heard_server n body (message_of body) refl (stage_of (with_cause events (FromServer n body))) (ended_took (FromServer n body)))
-      moved_took (FromEditor n body) = build (heard (FromEditor n body)) (heard_editor n (message_of body) (stage_of (with_cause events (FromEditor n body))) (ended_took (FromEditor n body)))
-      moved_took (EditorGone n why) = build (heard (EditorGone n why)) (leaving n (stage_of (with_cause events (EditorGone n why))) (ended_took (EditorGone n why)))
-      moved_took (StartFailed n) = build (heard (StartFailed n)) (ending_start n (stage_of (with_cause events (StartFailed n))) (ended_took (StartFailed n)) (λ at. ap (λ (l : Life). l.stage) (life_more s events (heard (StartFailed n))) ∙ ended_now (life_of s events) n at))
-      moved_took (ServerGone n) = build (heard (ServerGone n)) (ending_start n (stage_of (with_cause events (ServerGone n))) (ended_took (ServerGone n)) (λ at. ap (λ (l : Life). l.stage) (life_more s events (heard (ServerGone n))) ∙ ended_now (life_of s events) n at))
-      moved_took (Started n) = build (heard (Started n)) (still (stage_of (with_cause events (Started n))) (ended_took (Started n)))
-      moved_took (Joined n) = build (heard (Joined n)) (still (stage_of (with_cause events (Joined n))) (ended_took (Joined n)))
-      moved_took (Drained n j) = build (heard (Drained n j)) (still (stage_of (with_cause events (Drained n j))) (ended_took (Drained n j)))
-      moved_took (Tick j) = build (heard (Tick j)) (still (stage_of (with_cause events (Tick j))) (ended_took (Tick j)))
+      moved_took (FromServer n body) = build tie (heard (FromServer n body)) (heard_server n body (message_of body) refl (stage_of (with_cause events (FromServer n body))) (ended_took (FromServer n body)))
+      moved_took (FromEditor n body) = build tie (heard (FromEditor n body)) (heard_editor n (message_of body) (stage_of (with_cause events (FromEditor n body))) (ended_took (FromEditor n body)))
+      moved_took (EditorGone n why) = build tie (heard (EditorGone n why)) (leaving n (stage_of (with_cause events (EditorGone n why))) (ended_took (EditorGone n why)))
+      moved_took (StartFailed n) = build tie (heard (StartFailed n)) (ending_start n (stage_of (with_cause events (StartFailed n))) (ended_took (StartFailed n)) (λ at. ap (λ (l : Life). l.stage) (life_more s events (heard (StartFailed n))) ∙ ended_now (life_of s events) n at))
+      moved_took (ServerGone n) = build tie (heard (ServerGone n)) (ending_start n (stage_of (with_cause events (ServerGone n))) (ended_took (ServerGone n)) (λ at. ap (λ (l : Life). l.stage) (life_more s events (heard (ServerGone n))) ∙ ended_now (life_of s events) n at))
+      moved_took (Started n) = build tie (heard (Started n)) (still (stage_of (with_cause events (Started n))) (ended_took (Started n)))
+      moved_took (Joined n) = build tie (heard (Joined n)) (still (stage_of (with_cause events (Joined n))) (ended_took (Joined n)))
+      moved_took (Drained n j) = build tie (heard (Drained n j)) (still (stage_of (with_cause events (Drained n j))) (ended_took (Drained n j)))
+      moved_took (Tick j) = build tie (heard (Tick j)) (still (stage_of (with_cause events (Tick j))) (ended_took (Tick j)))
 
       -- Outs
 
@@ -427,11 +505,11 @@ module _ (settings : Settings) (s k e : ℕ) where
 
         -- where an editor is asked once
         pub moved_did : (out : Out) → IsNewStart out → (is_asks (word settings s k e events (said out)) ≡ true → list_any is_asks (words settings s k e events) ≡ false) → Moves events (said out)
-        moved_did (ToEditor n body) new once = build (said (ToEditor n body)) (told_editor n body (message_of body) (stage_of (events ++ said (ToEditor n body) ∷ [])) (ended_did (ToEditor n body) new) once)
-        moved_did (ToServer n body) new once = build (said (ToServer n body)) (still (stage_of (events ++ said (ToServer n body) ∷ [])) (ended_did (ToServer n body) new))
-        moved_did (Spawn n g) new once = build (said (Spawn n g)) (still (stage_of (events ++ said (Spawn n g) ∷ [])) (ended_did (Spawn n g) new))
-        moved_did (CloseEditor n) new once = build (said (CloseEditor n)) (leaving n (stage_of (events ++ said (CloseEditor n) ∷ [])) (ended_did (CloseEditor n) new))
-        moved_did (EndServer n) new once = build (said (EndServer n)) (still (stage_of (events ++ said (EndServer n) ∷ [])) (ended_did (EndServer n) new))
+        moved_did (ToEditor n body) new once = build tie (said (ToEditor n body)) (told_editor n body (message_of body) (stage_of (events ++ said (ToEditor n body) ∷ [])) (ended_did (ToEditor n body) new) once)
+        moved_did (ToServer n body) new once = build tie (said (ToServer n body)) (still (stage_of (events ++ said (ToServer n body) ∷ [])) (ended_did (ToServer n body) new))
+        moved_did (Spawn n g) new once = build tie (said (Spawn n g)) (still (stage_of (events ++ said (Spawn n g) ∷ [])) (ended_did (Spawn n g) new))
+        moved_did (CloseEditor n) new once = build tie (said (CloseEditor n)) (leaving n (stage_of (events ++ said (CloseEditor n) ∷ [])) (ended_did (CloseEditor n) new))
+        moved_did (EndServer n) new once = build tie (said (EndServer n)) (still (stage_of (events ++ said (EndServer n) ∷ [])) (ended_did (EndServer n) new))
 
   -- Before anything happened
   pub tied_first : Tie []

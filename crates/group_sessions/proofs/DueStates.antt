@@ -9,9 +9,9 @@ use Rattle.event_model.proofs.Frames.{never}
 use Rattle.mux_facts.proofs.Words.{number_same}
 use Rattle.group_rows.specs.Created.{Created, Taking, Token, accepts, asked, held_first, held_most, is_answered, is_at, is_begin, is_end, is_over, lives, may_hold, settled, told}
 use Rattle.group_rows.specs.Forwarded.{names}
-use Rattle.group_sessions.specs.Due.{Word, asks, begins, bodies, body_in, due, ends, held_of, is_asks, is_parts, opening, parts, replies, settles, tells}
+use Rattle.group_sessions.specs.Due.{Word, asks, begins, bodies, body_in, due, ends, held_of, is_asks, is_parts, opening, parts, replies, settles, tells, breaks, breaks_off, cut_asked, cut_settled, is_cut, rests}
 use Rattle.group_sessions.proofs.DueFold.{head_passes, is_own, own}
-use Rattle.group_sessions.proofs.DueWords.{Over, asked_there, bodies_join, due_fresh, due_goes, due_waits, held_step, none_join, over_more, parted, refused}
+use Rattle.group_sessions.proofs.DueWords.{Over, asked_there, bodies_join, due_fresh, due_goes, due_waits, held_step, none_join, over_more, parted, refused, agrees, cut_fresh, cut_goes, cut_once, cut_settles, cut_waits, since_last}
 
 -- it was asked and hasn't answered
 pub record IsWaiting (e k : ℕ) (x : Created) (ws : List Word) : Type 0 where
@@ -139,17 +139,94 @@ module _ (e k : ℕ) where
 
   -- The editor leaves, or the start's program ends
 
-  pub part : (x y : Created) (ws : List Word) → own e k y ≡ [] → State e k x ws → Steps e k y ws parts []
-  part x y ws gone (fresh none nobody) = let off : list_any is_asks (ws ++ parts ∷ []) ≡ false = off_last is_asks ws parts none refl in record { state = fresh off gone; grows = still_none ws (ws ++ parts ∷ []) (due_fresh ws none) (due_fresh (ws ++ parts ∷ []) off) }
-  part x y ws gone (waits i) = let r = refused i.us i.number i.vs i.first i.unsettled parts refl refl in record {
-    state = over (subst (λ z. Over (z ++ parts ∷ [])) (sym i.is) r.0) gone;
-    grows = still_none ws (ws ++ parts ∷ []) (waits_due x ws i) (ap (λ z. due (z ++ parts ∷ [])) i.is ∙ r.1);
-  }
-  part x y ws gone (goes i) = let r = parted i.us i.number i.vs i.first i.unsettled i.id i.zs i.named i.stays parts refl in record {
-    state = over (subst (λ z. Over (z ++ parts ∷ [])) (sym i.is) r.0) gone;
-    grows = ap (λ z. due (z ++ parts ∷ [])) i.is ∙ (r.1 ∙ (sym (goes_due x ws i) ∙ sym (append-nil (due ws))));
-  }
-  part x y ws gone (over h nobody) = record { state = over (over_more ws (parts ∷ []) h) gone; grows = h.same (parts ∷ []) ∙ sym (append-nil (due ws)) }
+  module _ (w : Word) (unasked : is_asks w ≡ false) (leaves : is_parts w ≡ true) (against : agrees w ≡ false) (settling_all : (n : ℕ) → settles n w ≡ true) where
+    pub part : (x y : Created) (ws : List Word) → own e k y ≡ [] → State e k x ws → Steps e k y ws w []
+    part x y ws gone (fresh none nobody) = let off : list_any is_asks (ws ++ w ∷ []) ≡ false = off_last is_asks ws w none unasked in record { state = fresh off gone; grows = still_none ws (ws ++ w ∷ []) (due_fresh ws none) (due_fresh (ws ++ w ∷ []) off) }
+    part x y ws gone (waits i) = let r = refused i.us i.number i.vs i.first i.unsettled w (settling_all i.number) against in record {
+      state = over (subst (λ z. Over (z ++ w ∷ [])) (sym i.is) r.0) gone;
+      grows = still_none ws (ws ++ w ∷ []) (waits_due x ws i) (ap (λ z. due (z ++ w ∷ [])) i.is ∙ r.1);
+    }
+    part x y ws gone (goes i) = let r = parted i.us i.number i.vs i.first i.unsettled i.id i.zs i.named i.stays w leaves in record {
+      state = over (subst (λ z. Over (z ++ w ∷ [])) (sym i.is) r.0) gone;
+      grows = ap (λ z. due (z ++ w ∷ [])) i.is ∙ (r.1 ∙ (sym (goes_due x ws i) ∙ sym (append-nil (due ws))));
+    }
+    part x y ws gone (over h nobody) = record { state = over (over_more ws (w ∷ []) h) gone; grows = h.same (w ∷ []) ∙ sym (append-nil (due ws)) }
+
+  -- The program ends before the token at an editor that accepted it
+
+  abbrev pub broke : Word → Bool
+  broke (breaks begun) = begun
+  broke other = false
+
+  broke_alone : (w : Word) → breaks_off (w ∷ []) ≡ broke w
+  broke_alone (breaks begun) = refl
+  broke_alone (replies id agreed) = refl
+  broke_alone (tells body) = refl
+  broke_alone (asks n) = refl
+  broke_alone parts = refl
+  broke_alone rests = refl
+
+  broke_parts : (w : Word) → is_parts w ≡ false → broke w ≡ false
+  broke_parts (breaks begun) h = never h
+  broke_parts (replies id agreed) h = refl
+  broke_parts (tells body) h = refl
+  broke_parts (asks n) h = refl
+  broke_parts parts h = never h
+  broke_parts rests h = refl
+
+  alone_uncut : (w : Word) → cut_asked (w ∷ []) ≡ false
+  alone_uncut (breaks begun) = refl
+  alone_uncut (replies id agreed) = refl
+  alone_uncut (tells body) = refl
+  alone_uncut (asks n) = refl
+  alone_uncut parts = refl
+  alone_uncut rests = refl
+
+  settled_uncut : (w : Word) → cut_settled (w ∷ []) ≡ false
+  settled_uncut (breaks begun) = refl
+  settled_uncut (replies id true) = refl
+  settled_uncut (replies id false) = refl
+  settled_uncut (tells body) = refl
+  settled_uncut (asks n) = refl
+  settled_uncut parts = refl
+  settled_uncut rests = refl
+
+  unbroken : (w : Word) (x : Created) → (broke w ≡ true → list_any (λ (c : Taking). c.accepted) (own e k x) ≡ true) → list_any (λ (c : Taking). c.accepted) (own e k x) ≡ false → broke w ≡ false
+  unbroken w x only none = go (broke w) refl
+    where
+      go : (b : Bool) → broke w ≡ b → b ≡ false
+      go true is = never (sym (only is) ∙ none)
+      go false off = refl
+
+  pub cuts : (x : Created) (ws : List Word) (w : Word) → (broke w ≡ true → list_any (λ (c : Taking). c.accepted) (own e k x) ≡ true) → State e k x ws → is_cut (ws ++ w ∷ []) ≡ (is_cut ws || broke w)
+  cuts x ws w only (fresh none nobody) = ap cut_asked (since_last is_asks ws w none) ∙ (go (is_asks w) ∙ sym (ap₂ (λ a b. a || b) (cut_fresh ws none) (unbroken w x only (ap (list_any (λ (c : Taking). c.accepted)) nobody))))
+    where
+      go : (b : Bool) → cut_asked (if b then w ∷ [] else []) ≡ false
+      go true = alone_uncut w
+      go false = refl
+  cuts x ws w only (waits i) = ap (λ z. is_cut (z ++ w ∷ [])) i.is ∙ (ap is_cut (last_wait i.us i.number i.vs w) ∙ (go (settles i.number w) refl
+      ∙ sym (ap₂ (λ a b. a || b) (ap is_cut i.is ∙ cut_waits i.us i.number i.vs i.first i.unsettled) (unbroken w x only (ap (list_any (λ (c : Taking). c.accepted)) i.only ∙ ap (λ b. b || false) i.unaccepted)))))
+    where
+      go : (b : Bool) → settles i.number w ≡ b → is_cut (i.us ++ asks i.number ∷ (i.vs ++ w ∷ [])) ≡ false
+      go true at = cut_settles i.us i.number i.vs i.first i.unsettled w [] at ∙ settled_uncut w
+      go false off = cut_waits i.us i.number (i.vs ++ w ∷ []) i.first (off_last (settles i.number) i.vs w i.unsettled off)
+  cuts x ws w only (goes i) = ap (λ z. is_cut (z ++ w ∷ [])) i.is ∙ (go (is_parts w) refl ∙ ap (λ a. a || broke w) (sym (ap is_cut i.is ∙ cut_goes i.us i.number i.vs i.first i.unsettled i.id i.zs i.named i.stays)))
+    where
+      go : (b : Bool) → is_parts w ≡ b → is_cut ((i.us ++ asks i.number ∷ (i.vs ++ replies i.id true ∷ i.zs)) ++ w ∷ []) ≡ broke w
+      go true at = cut_once i.us i.number i.vs i.first i.unsettled i.id i.zs i.named i.stays w at ∙ broke_alone w
+      go false off = ap is_cut (last_go i.us i.number i.vs (replies i.id true) i.zs w) ∙ (cut_goes i.us i.number i.vs i.first i.unsettled i.id (i.zs ++ w ∷ []) i.named (off_last is_parts i.zs w i.stays off) ∙ sym (broke_parts w off))
+  cuts x ws w only (over h nobody) = h.cut (w ∷ []) ∙ (or_no (is_cut ws) ∙ ap (λ b. is_cut ws || b) (sym (unbroken w x only (ap (list_any (λ (c : Taking). c.accepted)) nobody))))
+    where
+      or_no : (b : Bool) → b ≡ (b || false)
+      or_no true = refl
+      or_no false = refl
+
+  -- an editor that was told so takes it no more
+  pub cut_none : (x : Created) (ws : List Word) → is_cut ws ≡ true → State e k x ws → own e k x ≡ []
+  cut_none x ws cut (fresh none nobody) = nobody
+  cut_none x ws cut (waits i) = never (sym cut ∙ (ap is_cut i.is ∙ cut_waits i.us i.number i.vs i.first i.unsettled))
+  cut_none x ws cut (goes i) = never (sym cut ∙ (ap is_cut i.is ∙ cut_goes i.us i.number i.vs i.first i.unsettled i.id i.zs i.named i.stays))
+  cut_none x ws cut (over h nobody) = nobody
 
   -- It is asked, for the first time
 
