@@ -133,13 +133,13 @@ module _ (settings : Settings) (before : List Event) (facts : Facts settings bef
   Small t = t.number < 2 ^ 64
 
   names_own : (t : Token) → nat_eq t.number k ≡ true → names_mark s k (message_of (end_text (created_text s t.number))) ≡ true
-  names_own t same = ap (names_mark s k) (end_says s t.number) ∙ (end_marks s k t.number ∙ (ap (λ j. bytes_eq (created_mark s k) (created_mark s j)) (number_same t.number k same) ∙ itself (created_mark s k)))
+  names_own t same = ap (names_mark s k) (end_says s t.number) ∙ (end_marks s k s t.number ∙ (ap (λ j. bytes_eq (created_mark s k) (created_mark s j)) (number_same t.number k same) ∙ itself (created_mark s k)))
     where
       itself : (xs : List ℕ) → bytes_eq xs xs ≡ true
       itself xs = (bytes_eq-Decides xs xs).1 refl
 
   names_other : (t : Token) → Small t → nat_eq t.number k ≡ false → names_mark s k (message_of (end_text (created_text s t.number))) ≡ false
-  names_other t low_t other = ap (names_mark s k) (end_says s t.number) ∙ (end_marks s k t.number ∙ go (bytes_eq (created_mark s k) (created_mark s t.number)) refl)
+  names_other t low_t other = ap (names_mark s k) (end_says s t.number) ∙ (end_marks s k s t.number ∙ go (bytes_eq (created_mark s k) (created_mark s t.number)) refl)
     where
       go : (b : Bool) → bytes_eq (created_mark s k) (created_mark s t.number) ≡ b → b ≡ false
       go true same = let number : k ≡ t.number = mark_number s k s t.number small low_t ((bytes_eq-Decides (created_mark s k) (created_mark s t.number)).0 same) in never (sym (sym (ap (λ j. nat_eq j k) number) ∙ same_number k) ∙ other)
@@ -191,14 +191,14 @@ module _ (settings : Settings) (before : List Event) (facts : Facts settings bef
     alive = one_of (IsFair x.tokens) (IsAlive x.tokens k) (begun_at e k) (λ c at fair. let p = and_parts c.accepted (is_at e c && nat_eq c.token k) (and_parts c.begun (c.accepted && (is_at e c && nat_eq c.token k)) at).1 in
         subst (IsAlive x.tokens) (number_same c.token k (and_parts (is_at e c) (nat_eq c.token k) p.1).1) (fair.alive p.0)) x.takings (created_fair settings s before (facts.base).meant).takings begun
 
+    abbrev others : Row
+    others = each (cancel_take e) (filter (unanswered_at e) x.takings) ⨾ (each (cancel_ask e) (filter (is_with e) (asks_of settings s before)) ⨾ (unregister_any (live_of settings s before) e ⨾ each (empty_list before e) (lists_of s before)))
+
     own_marks : (events : List Event) → sent_outs s k e (outs (lose_start settings before s e) events) ≡ the_end
     own_marks events = sent_join tokens rest ∙ ap₂ (λ u v. u ++ v) (tokens_marks x.tokens (created_orderly settings s before).apart (lows x.tokens (created_orderly settings s before).live) alive events) (off_marks (behind events tokens) others others_off)
       where
         tokens : List Out
         tokens = outs (each (end_token s e x) x.tokens) events
-
-        abbrev others : Row
-        others = each (cancel_take e) (filter (unanswered_at e) x.takings) ⨾ (each (cancel_ask e) (filter (is_with e) (asks_of settings s before)) ⨾ (unregister_any (live_of settings s before) e ⨾ each (empty_list before e) (lists_of s before)))
 
         rest : List Out
         rest = outs others (behind events tokens)

@@ -21,9 +21,9 @@ pub end_told : (s k : ℕ) (x : Creates) → creates_told x (notification (codes
 unfolding named
 end_told s k x = refl
 
-pub end_marks : (s k j : ℕ) → names_mark s k (notification (codes "$/progress") (Some (end_tree s j))) ≡ bytes_eq (created_mark s k) (created_mark s j)
+pub end_marks : (s k n j : ℕ) → names_mark s k (notification (codes "$/progress") (Some (end_tree n j))) ≡ bytes_eq (created_mark s k) (created_mark n j)
 unfolding named
-end_marks s k j = refl
+end_marks s k n j = refl
 
 -- What has begun there was accepted
 
