@@ -1,5 +1,5 @@
 -- In every legal history each editor was sent of each token what it is due.
-use Rattle.std.proofs.Common.{◌≡◌, ℕ, ◌^◌, ◌<◌, ◌≤◌, true, List, [], ◌∷◌, ◌++◌, ap, append-nil, map, refl, sym, ◌∙◌, ◌||◌, ap₂, nat_eq, Bool, false}
+use Rattle.std.proofs.Common.{◌≡◌, ℕ, ◌^◌, ◌<◌, ◌≤◌, true, List, [], ◌∷◌, ◌++◌, ap, append-nil, map, refl, sym, ◌∙◌, ◌||◌, ap₂, nat_eq, Bool, false, ◌&&◌}
 use Rattle.std.specs.List.{list_any}
 use Rattle.mux_history.specs.declared.cause.Cause.{Cause}
 use Rattle.mux_history.specs.declared.entry.Entry.{Entry}
@@ -13,7 +13,7 @@ use Rattle.event_model.proofs.Frames.{never}
 use Rattle.mux_model.specs.Fits.{fits_behind}
 use Rattle.mux_facts.specs.Ranges.{InRange}
 use Rattle.mux_facts.proofs.Reasons.{Reasons, reasons_keep}
-use Rattle.group_rows.specs.Created.{created_text}
+use Rattle.group_rows.specs.Created.{created_text, created_of}
 use Rattle.group_rows.specs.Rows.{outs_of}
 use Rattle.group_rows.specs.Tokens.{marked_text}
 use Rattle.group_facts.specs.Built.{built_behind}
@@ -28,13 +28,14 @@ use Rattle.group_facts.specs.Why.{Why, quitting}
 use Rattle.group_sessions.proofs.Tied.{has_run}
 use Rattle.group_sessions.proofs.Unreserved.{Unreserved, all_unreserved}
 use Rattle.group_sessions.proofs.Walk.{KeepsSlow, walk}
-use Rattle.group_sessions.specs.Due.{KeepsDue, due, is_asks, progress_sent, words, closing, is_cut, progress_due, word}
+use Rattle.group_sessions.specs.Due.{KeepsDue, due, is_asks, progress_sent, words, closing, is_closing, progress_due, word}
 use Rattle.group_sessions.proofs.DueClear.{all_clear}
 use Rattle.group_sessions.proofs.DueEvents.{Moves, Tie, gain, moved_did, tied_first, left_whole}
 use Rattle.group_sessions.proofs.DueLaw.{AskedOnce, entry_due, entry_tied, fewer}
 use Rattle.group_sessions.proofs.DueOnce.{asked_once, closed_off, ran_did, ran_entry}
 use Rattle.group_sessions.proofs.DueSent.{sent_behind, sent_outs}
 use Rattle.group_sessions.proofs.DueStates.{broke}
+use Rattle.group_rows.specs.ExitRows.{has_begun}
 
 -- of token k of start s and editor e
 record Rests (settings : Settings) (events : List Event) (s k e : ℕ) : Type 0 where
@@ -59,7 +60,7 @@ module _ (settings : Settings) (s k e : ℕ) where
   one_silent : (events : List Event) (out : Out) → sent_outs s k e (out ∷ []) ≡ [] → gain settings s k e events (said out) ≡ [] → broke e k (word settings s k e events (said out)) ≡ false → Moves settings s k e events (said out) → IsDue events → IsDue (events ++ said out ∷ [])
   one_silent events out silent none whole moves same = sent_behind s k e events (out ∷ []) ∙ (ap (λ z. progress_sent s k e events ++ z) silent ∙ (append-nil (progress_sent s k e events)
       ∙ (same ∙ ap₂ (λ u b. map (marked_text (created_text s k)) u ++ closing s k b) (sym (moves.grows ∙ (ap (λ z. due (words settings s k e events) ++ z) none ∙ append-nil (due (words settings s k e events)))))
-      (sym (moves.cut ∙ (ap (λ b. is_cut (words settings s k e events) || b) whole ∙ or_none (is_cut (words settings s k e events))))))))
+      (sym (moves.cut ∙ (ap (λ b. is_closing (words settings s k e events) || (b && has_begun e k (created_of settings s events))) whole ∙ or_none (is_closing (words settings s k e events))))))))
     where
       or_none : (b : Bool) → (b || false) ≡ b
       or_none true = refl

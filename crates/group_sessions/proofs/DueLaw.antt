@@ -40,8 +40,8 @@ use Rattle.group_facts.proofs.Known.{Here, here_did, here_took}
 use Rattle.group_facts.proofs.Table.{reasons}
 use Rattle.group_sessions.proofs.TakingTies.{find_true}
 use Rattle.group_sessions.proofs.Unreserved.{Unreserved}
-use Rattle.group_sessions.specs.Due.{due, is_asks, progress_sent, word, words, Word, breaks, closing, is_cut, progress_due, rests}
-use Rattle.group_sessions.proofs.DueEvents.{IsNewStart, Moves, Tie, gain, moved_did, moved_took, told_gain, broke_word, editor_whole, left_whole, out_whole, server_whole}
+use Rattle.group_sessions.specs.Due.{due, is_asks, progress_sent, word, words, Word, breaks, closing, is_cut, progress_due, rests, is_closing, is_open_yet}
+use Rattle.group_sessions.proofs.DueEvents.{IsNewStart, Moves, Tie, gain, moved_did, moved_took, told_gain, editor_whole, left_whole, out_whole, server_whole}
 use Rattle.group_sessions.proofs.DueExact.{handed_exactly, told_exactly}
 use Rattle.group_sessions.proofs.DueFold.{head_passes, is_own, own, own_accepted}
 use Rattle.group_sessions.proofs.DueSent.{Source, hears, nothing_or, sent_behind, sent_heard, sent_outs, takes, ends_there, one_of}
@@ -122,9 +122,9 @@ module _ (settings : Settings) (range : InRange settings) (before : List Event) 
   own_few (waits i) = inr (i.taking, i.only)
   own_few (goes i) = by i.seat
     where
-      by : Seat e k x → (own e k x ≡ []) ⊎ ((c : Taking) × (own e k x ≡ c ∷ []))
-      by (sits c is on) = inr (c, is)
-      by (rose is off) = inl is
+      by : Seat e k x (due (words settings s k e before)) → (own e k x ≡ []) ⊎ ((c : Taking) × (own e k x ≡ c ∷ []))
+      by (sits c is on begun open_yet) = inr (c, is)
+      by (rose is off ended) = inl is
   own_few (over h is) = inl is
 
   own_is : (test : Taking → Bool) (c : Taking) → find test x.takings ≡ Some c → is_own e k c ≡ true → own e k x ≡ c ∷ []
@@ -138,15 +138,15 @@ module _ (settings : Settings) (range : InRange settings) (before : List Event) 
   gains = gain settings s k e before (heard cause)
 
   abbrev breaking : Bool
-  breaking = broke e k (word settings s k e before (heard cause))
+  breaking = broke e k (word settings s k e before (heard cause)) && has_begun e k x
 
   abbrev Sends : Type 0
   Sends = sent_outs s k e (outs_of settings before cause) ≡ map (marked_text (created_text s k)) gains ++ closing s k breaking
 
   -- by another cause no program ends
   goes_on : (c : Cause) → is_exit c s ≡ false → broke e k (word settings s k e before (heard c)) ≡ false
-  goes_on (StartFailed n) off = ap (λ b. broke e k (if b then breaks (has_begun e k x) else rests)) off
-  goes_on (ServerGone n) off = ap (λ b. broke e k (if b then breaks (has_begun e k x) else rests)) off
+  goes_on (StartFailed n) off = ap (λ b. broke e k (if b then breaks else rests)) off
+  goes_on (ServerGone n) off = ap (λ b. broke e k (if b then breaks else rests)) off
   goes_on (FromServer n body) off = server_whole settings s k e before n body (message_of body)
   goes_on (FromEditor n body) off = editor_whole settings s k e before (nat_eq n e) (requests (codes "shutdown") (message_of body)) (message_of body)
   goes_on (EditorGone n w) off = left_whole settings s k e before (nat_eq n e)
@@ -156,7 +156,7 @@ module _ (settings : Settings) (range : InRange settings) (before : List Event) 
   goes_on (Tick j) off = refl
 
   plainly : (c : Cause) → cause ≡ c → is_exit c s ≡ false → sent_outs s k e (outs_of settings before cause) ≡ map (marked_text (created_text s k)) gains → Sends
-  plainly c from off is = is ∙ (sym (append-nil (map (marked_text (created_text s k)) gains)) ∙ ap (λ b. map (marked_text (created_text s k)) gains ++ closing s k b) (sym (ap (λ d. broke e k (word settings s k e before (heard d))) from ∙ goes_on c off)))
+  plainly c from off is = is ∙ (sym (append-nil (map (marked_text (created_text s k)) gains)) ∙ ap (λ b. map (marked_text (created_text s k)) gains ++ closing s k (b && has_begun e k x)) (sym (ap (λ d. broke e k (word settings s k e before (heard d))) from ∙ goes_on c off)))
 
   gain_heard : (asked : List ℕ) (given : Option Json) (t : Token) (notified : IsNotified before cause s asked given) → token_called (named_token given) x ≡ Some t → t.number ≡ k → has_accepted e k x ≡ true → gains ≡ asked ∷ []
   gain_heard asked given t n called number accepted = ap (λ c. gain settings s k e before (heard c)) n.from
@@ -202,15 +202,15 @@ module _ (settings : Settings) (range : InRange settings) (before : List Event) 
 
   by_source (ends_there lost begun) = by_cause cause refl lost.from
     where
-      cut : (c : Cause) → cause ≡ c → Exit settings before c s → gain settings s k e before (heard c) ≡ [] → broke e k (word settings s k e before (heard c)) ≡ true → Sends
-      cut c is exit none breaks_now = subst (λ d. sent_outs s k e (outs_of settings before d) ≡ map (marked_text (created_text s k)) (gain settings s k e before (heard d)) ++ closing s k (broke e k (word settings s k e before (heard d)))) (sym is)
+      cut : (c : Cause) → cause ≡ c → Exit settings before c s → gain settings s k e before (heard c) ≡ [] → (broke e k (word settings s k e before (heard c)) && has_begun e k x) ≡ true → Sends
+      cut c is exit none breaks_now = subst (λ d. sent_outs s k e (outs_of settings before d) ≡ map (marked_text (created_text s k)) (gain settings s k e before (heard d)) ++ closing s k (broke e k (word settings s k e before (heard d)) && has_begun e k x)) (sym is)
           (cut_exactly settings before facts settled few c s k e exit low small (subst (λ d. IsLost settings before d e s) is lost) begun ∙ sym (ap₂ (λ u b. map (marked_text (created_text s k)) u ++ closing s k b) none breaks_now))
 
       by_cause : (c : Cause) → cause ≡ c → is_exit cause s ≡ true → Sends
       by_cause (StartFailed n) is h = let at : n ≡ s = number_same n s (sym (ap (λ c. is_exit c s) is) ∙ h) in
-          cut (StartFailed s) (is ∙ ap (λ j. StartFailed j) at) (failed_exit settings before s) refl (ap (λ b. broke e k (if b then breaks (has_begun e k x) else rests)) (same_number s) ∙ begun)
+          cut (StartFailed s) (is ∙ ap (λ j. StartFailed j) at) (failed_exit settings before s) refl (ap₂ (λ a b. a && b) (ap (λ b. broke e k (if b then breaks else rests)) (same_number s)) begun)
       by_cause (ServerGone n) is h = let at : n ≡ s = number_same n s (sym (ap (λ c. is_exit c s) is) ∙ h) in
-          cut (ServerGone s) (is ∙ ap (λ j. ServerGone j) at) (gone_exit settings before s) refl (ap (λ b. broke e k (if b then breaks (has_begun e k x) else rests)) (same_number s) ∙ begun)
+          cut (ServerGone s) (is ∙ ap (λ j. ServerGone j) at) (gone_exit settings before s) refl (ap₂ (λ a b. a && b) (ap (λ b. broke e k (if b then breaks else rests)) (same_number s)) begun)
       by_cause (Joined n) is h = never (sym (sym (ap (λ c. is_exit c s) is) ∙ h))
       by_cause (FromEditor n body) is h = never (sym (sym (ap (λ c. is_exit c s) is) ∙ h))
       by_cause (EditorGone n w) is h = never (sym (sym (ap (λ c. is_exit c s) is) ∙ h))
@@ -291,16 +291,16 @@ module _ (settings : Settings) (range : InRange settings) (before : List Event) 
   any_gain (Tick t) is = inl refl
 
   -- so has the end of a token that had begun
-  any_break : (c : Cause) → c ≡ cause → (b : Bool) → is_exit c s ≡ b → (broke e k (word settings s k e before (heard c)) ≡ false) ⊎ From
-  any_break c is false off = inl (goes_on c off)
-  any_break c is true exit = by (broke e k (word settings s k e before (heard c))) refl
+  any_break : (c : Cause) → c ≡ cause → (b : Bool) → is_exit c s ≡ b → ((broke e k (word settings s k e before (heard c)) && has_begun e k x) ≡ false) ⊎ From
+  any_break c is false off = inl (ap (λ b. b && has_begun e k x) (goes_on c off))
+  any_break c is true exit = by (broke e k (word settings s k e before (heard c)) && has_begun e k x) refl
     where
-      by : (b : Bool) → broke e k (word settings s k e before (heard c)) ≡ b → (b ≡ false) ⊎ From
+      by : (b : Bool) → (broke e k (word settings s k e before (heard c)) && has_begun e k x) ≡ b → (b ≡ false) ⊎ From
       by false whole = inl refl
       by true now_broken = inr (ends_there (record { from = ap (λ d. is_exit d s) (sym is) ∙ exit; ready = seat.ready; ran = seat.running; group = seat.group; kept = seat.kept; home = seat.home ∙ seat.kept }) begun)
         where
           begun : has_begun e k x ≡ true
-          begun = broke_word settings s k e before (heard c) now_broken
+          begun = (and_parts (broke e k (word settings s k e before (heard c))) (has_begun e k x) now_broken).1
 
           seat : RunsAt settings before s e
           seat = one_of (HasTaken settings before s) (RunsAt settings before s e) (begun_at e k) (λ d at runs. subst (RunsAt settings before s) (number_same d.editor e (and_parts (is_at e d) (nat_eq d.token k) (and_parts d.accepted (is_at e d && nat_eq d.token k) (and_parts d.begun (d.accepted && (is_at e d && nat_eq d.token k)) at).1).1).0) runs) x.takings (settled.takings few s) begun
@@ -345,7 +345,7 @@ module _ (settings : Settings) (range : InRange settings) (before : List Event) 
     here : Here settings before cause events
     tied : Tie settings s k e events
     same : due (words settings s k e events) ≡ due (words settings s k e now)
-    cut : is_cut (words settings s k e events) ≡ is_cut (words settings s k e now)
+    cut : is_closing (words settings s k e events) ≡ is_closing (words settings s k e now)
 
   abbrev Both : List Event → Out → Type 0
   Both events out = Why settings before cause events out × AskedOnce settings s k e events out
@@ -359,7 +359,7 @@ module _ (settings : Settings) (range : InRange settings) (before : List Event) 
     here = here_did settings range before cause facts built events out b.0 i.here;
     tied = moves.tie;
     same = moves.grows ∙ (ap (λ z. due (words settings s k e events) ++ z) (none out) ∙ (append-nil (due (words settings s k e events)) ∙ i.same));
-    cut = moves.cut ∙ (ap (λ b. is_cut (words settings s k e events) || b) (said_whole out) ∙ (or_none (is_cut (words settings s k e events)) ∙ i.cut));
+    cut = moves.cut ∙ (ap (λ b. is_closing (words settings s k e events) || (b && has_begun e k (created_of settings s events))) (said_whole out) ∙ (or_none (is_closing (words settings s k e events)) ∙ i.cut));
   }
     where
       starts : Starts events
@@ -412,8 +412,11 @@ module _ (settings : Settings) (range : InRange settings) (before : List Event) 
   pub entry_due : Reasons (AskedOnce settings s k e) now (outs_of settings before cause) → progress_sent s k e before ≡ progress_due settings s k e before → progress_sent s k e later ≡ progress_due settings s k e later
   entry_due once h = sent_behind s k e now (outs_of settings before cause)
       ∙ (ap₂ (λ u v. u ++ v) (sent_heard s k e before cause ∙ h) sends
-      ∙ (joins (marked_due ws) (map (marked_text (created_text s k)) gains) (is_cut ws) breaking (λ cut. ap (map (marked_text (created_text s k))) (none_gained (cut_none e k x ws cut tie.state))) (λ cut. none_broken (cut_none e k x ws cut tie.state))
+      ∙ (joins (marked_due ws) (map (marked_text (created_text s k)) gains) (is_closing ws) breaking (λ cut. ap (map (marked_text (created_text s k))) (none_gained (taken_no_more cut))) (λ cut. none_broken (taken_no_more cut))
       ∙ ap₂ (λ u b. u ++ closing s k b) (sym (map-append (marked_text (created_text s k)) (due ws) gains) ∙ ap (map (marked_text (created_text s k))) (sym ((last once).same ∙ moved.grows))) (sym ((last once).cut ∙ moved.cut))))
     where
       ws : List Word
       ws = words settings s k e before
+
+      taken_no_more : is_closing ws ≡ true → own e k x ≡ []
+      taken_no_more cut = cut_none e k x ws (and_parts (is_cut ws) (is_open_yet (due ws)) cut).0 tie.state

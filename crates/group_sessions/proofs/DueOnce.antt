@@ -71,7 +71,6 @@ use Rattle.group_sessions.proofs.DueClear.{off_creating}
 use Rattle.group_sessions.proofs.DueEvents.{Rest, Tie, dead, going, num_off, words_more}
 use Rattle.group_sessions.proofs.DueLaw.{AskedOnce}
 use Rattle.group_sessions.proofs.DueWords.{any_join, none_join}
-use Rattle.group_rows.specs.ExitRows.{has_begun}
 
 abbrev makes : Message → Bool
 makes (request id method params) = is_creating method
@@ -363,12 +362,12 @@ module _ (settings : Settings) (range : InRange settings) (before : List Event) 
       parting false = refl
   heard_off (StartFailed n) = parting (nat_eq n s)
     where
-      parting : (b : Bool) → is_asks (if b then breaks (has_begun e k (created_of settings s before)) else rests) ≡ false
+      parting : (b : Bool) → is_asks (if b then breaks else rests) ≡ false
       parting true = refl
       parting false = refl
   heard_off (ServerGone n) = parting (nat_eq n s)
     where
-      parting : (b : Bool) → is_asks (if b then breaks (has_begun e k (created_of settings s before)) else rests) ≡ false
+      parting : (b : Bool) → is_asks (if b then breaks else rests) ≡ false
       parting true = refl
       parting false = refl
   heard_off (Joined n) = refl

@@ -192,7 +192,7 @@ none_due xs (replies id false) zs h = refl
 none_due xs (tells body) zs h = refl
 none_due xs (asks n) zs h = refl
 none_due xs parts zs h = refl
-none_due xs (breaks begun) zs h = refl
+none_due xs breaks zs h = refl
 none_due xs rests zs h = refl
 
 none_cut : (w : Word) (zs : List Word) → agrees w ≡ false → cut_settled (w ∷ zs) ≡ false
@@ -201,11 +201,11 @@ none_cut (replies id false) zs h = refl
 none_cut (tells body) zs h = refl
 none_cut (asks n) zs h = refl
 none_cut parts zs h = refl
-none_cut (breaks begun) zs h = refl
+none_cut breaks zs h = refl
 none_cut rests zs h = refl
 
 off_same : (w : Word) (ys zs : List Word) → breaks_off (w ∷ ys) ≡ breaks_off (w ∷ zs)
-off_same (breaks begun) ys zs = refl
+off_same breaks ys zs = refl
 off_same (replies id agreed) ys zs = refl
 off_same (tells body) ys zs = refl
 off_same (asks n) ys zs = refl
