@@ -62,3 +62,4 @@ pub mod ExitCloses
 pub mod ListsLost
 pub mod EndTexts
 pub mod DueCut
+pub mod WorkedLost
