@@ -403,8 +403,8 @@ module _ (settings : Settings) (before : List Event) (facts : Facts settings bef
       start_why : (events : List Event) → Place events → Unasked e events → Because R events (lose_start settings before s e)
       start_why events p unasked =
           let calm : Unasked e (behind (behind (behind events tokens) takes) asks) = unasked_behind e (behind (behind events tokens) takes) (each (cancel_ask e) (filter (is_with e) (asks_of settings s before))) (asks_calm (filter (is_with e) (asks_of settings s before)) all_asks (behind (behind events tokens) takes))
-              (unasked_behind e (behind events tokens) (each (cancel_take e) (filter (unanswered_at e) (created_of settings s before).takings)) (takes_calm (filter (unanswered_at e) (created_of settings s before).takings) all_takes (behind events tokens))
-              (unasked_behind e events (each (end_token s e (created_of settings s before)) (created_of settings s before).tokens) (tokens_calm (created_of settings s before).tokens events) unasked)) in
+          (unasked_behind e (behind events tokens) (each (cancel_take e) (filter (unanswered_at e) (created_of settings s before).takings)) (takes_calm (filter (unanswered_at e) (created_of settings s before).takings) all_takes (behind events tokens))
+          (unasked_behind e events (each (end_token s e (created_of settings s before)) (created_of settings s before).tokens) (tokens_calm (created_of settings s before).tokens events) unasked)) in
           let first : Place (behind events tokens) = reasons_keep (λ places out. IsBody out) Place place_body events tokens (tokens_by (λ places out. IsBody out) e (λ places body. tt) s (created_of settings s before) (created_of settings s before).tokens events).why p in
           let second : Place (behind (behind events tokens) takes) = reasons_keep (λ places out. IsBody out) Place place_body (behind events tokens) takes (takes_by (λ places out. IsBody out) e (λ places body. tt) s (filter (unanswered_at e) (created_of settings s before).takings) (behind events tokens)).why first in
           let third : Place (behind (behind (behind events tokens) takes) asks) = reasons_keep (λ places out. IsBody out) Place place_body (behind (behind events tokens) takes) asks (asks_by (λ places out. IsBody out) e (λ places body. tt) s (filter (is_with e) (asks_of settings s before)) (behind (behind events tokens) takes)).why second in

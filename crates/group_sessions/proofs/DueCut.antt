@@ -1,5 +1,5 @@
 -- X2: as the program of a start ends, an editor where a token had begun is told that it ends, and nothing else of it.
-use Rattle.std.proofs.Common.{◌≡◌, ℕ, ◌+◌, ◌^◌, ◌<◌, ◌≤◌, Bool, true, false, not, ◌&&◌, ◌||◌, List, [], ◌∷◌, ◌++◌, append-nil, bytes_eq, codes, filter, flat_map, nat_eq, nat_le, if◌then◌else◌, Option, Some, None, refl, sym, ◌∙◌, ap, ap₂, subst, ltb-true, arith}
+use Rattle.std.proofs.Common.{◌≡◌, ℕ, ◌^◌, ◌<◌, ◌≤◌, Bool, true, false, ◌&&◌, ◌||◌, List, [], ◌∷◌, ◌++◌, bytes_eq, filter, flat_map, nat_eq, nat_le, if◌then◌else◌, Option, Some, None, refl, sym, ◌∙◌, ap, ap₂, subst, ltb-true, arith}
 use Rattle.std.specs.Prelude.{slice_get}
 use Rattle.std.specs.List.{AllByRecursion, list_any, range_with_len}
 use Rattle.std.proofs.lemmas.Bool.{and_parts, leb-false, leb-true}
@@ -7,13 +7,12 @@ use Rattle.std.proofs.lemmas.Slice.Eq.{bytes_eq-Decides}
 use Rattle.mux_history.specs.declared.cause.Cause.{Cause}
 use Rattle.mux_history.specs.declared.out.Out.{Out}
 use Rattle.mux_history.specs.declared.out.Out.TheVariants.{ToEditor}
-use Rattle.rpc_message.specs.Message.{message_of, notification}
-use Rattle.event_model.specs.declared.phase.Phase.TheVariants.{Running}
+use Rattle.rpc_message.specs.Message.{message_of}
 use Rattle.event_model.specs.Event.{Event, behind, said, with_cause}
 use Rattle.event_model.specs.Phases.{Desk, desk_of, editors_of, is_running, is_there, is_waiting}
 use Rattle.event_model.specs.Row.{Row, choose, each, nothing, on, outs, send, ◌⨾◌}
 use Rattle.event_model.specs.Settings.{Settings}
-use Rattle.event_model.specs.Spawns.{group_of, starts_of}
+use Rattle.event_model.specs.Spawns.{starts_of}
 use Rattle.event_model.specs.Stages.{is_ready, life_of}
 use Rattle.event_model.proofs.Frames.{never}
 use Rattle.mux_facts.proofs.Keeps.{behind_both}
@@ -26,11 +25,11 @@ use Rattle.group_words.specs.Rows.{spawn}
 use Rattle.group_rows.specs.diagnostics_route.specs.declared.last_list.LastList.{LastList}
 use Rattle.group_rows.specs.Asks.{Ask, asks_of, has_number, is_with, members_in, next_ask, running_in}
 use Rattle.group_rows.specs.Created.{Created, Taking, Token, created_mark, created_of, created_text, is_at, is_numbered}
-use Rattle.group_rows.specs.ExitRows.{begun_at, cancel_ask, cancel_take, empty_list, empty_text, end_text, end_token, exit_in, has_begun, is_full, lose_sent, lose_start, lost_row, starts_again, turn_out, unanswered_at}
+use Rattle.group_rows.specs.ExitRows.{begun_at, cancel_ask, cancel_take, empty_list, empty_text, end_text, end_token, exit_in, has_begun, lose_sent, lose_start, starts_again, turn_out, unanswered_at}
 use Rattle.group_rows.specs.Forwarded.{Forwarded, forwarding_of, is_of}
 use Rattle.group_rows.specs.Leaves.{cancel_text}
 use Rattle.group_rows.specs.Lists.{lists_of}
-use Rattle.group_rows.specs.Live.{live_of, unregister_text}
+use Rattle.group_rows.specs.Live.{live_of}
 use Rattle.group_rows.specs.LiveRows.{unregister_any}
 use Rattle.group_rows.specs.Rows.{outs_of}
 use Rattle.group_rows.specs.StopRows.{lose_request}

@@ -199,7 +199,6 @@ module _ (settings : Settings) (range : InRange settings) (before : List Event) 
           ∙ (handed_exactly settings before facts settled few s k e n.answer c (record { answer = n.answer; from = refl; ran = n.ran; ready = n.ready; found = n.found; accepted = n.accepted }) token
           (clear.apart s e (answered_id (message_of n.answer)) c n.found) n.found n.accepted (subst (λ z. Reasons (Why settings before z) (with_cause before z) (outs_of settings before z)) (sym is ∙ n.from) why)
           ∙ (ap (λ j. map (marked_text (created_text s j)) c.held) token ∙ sym (ap (map (marked_text (created_text s k))) (gain_taken c taken token)))))
-
   by_source (ends_there lost begun) = by_cause cause refl lost.from
     where
       cut : (c : Cause) → cause ≡ c → Exit settings before c s → gain settings s k e before (heard c) ≡ [] → (broke e k (word settings s k e before (heard c)) && has_begun e k x) ≡ true → Sends

@@ -1,7 +1,7 @@
 -- X2: the tokens of a start that ends are ended at the editors that accepted them, and heard no end.
-use Rattle.std.proofs.Common.{◌≡◌, ℕ, ◌+◌, ◌^◌, ◌<◌, ◌≤◌, Bool, true, false, ◌&&◌, ◌||◌, cond, List, [], ◌∷◌, ◌++◌, append-nil, bytes_eq, codes, filter, nat_eq, if◌then◌else◌, Option, Some, None, refl, sym, ◌∙◌, ap, ap₂, subst, ltb-true, arith}
+use Rattle.std.proofs.Common.{◌≡◌, ℕ, ◌^◌, ◌<◌, ◌≤◌, Bool, true, false, ◌&&◌, ◌||◌, List, [], ◌∷◌, ◌++◌, append-nil, bytes_eq, codes, filter, nat_eq, Option, Some, None, refl, sym, ◌∙◌, ap, ap₂, subst, ltb-true, arith}
 use Rattle.std.specs.Prelude.{slice_get}
-use Rattle.std.specs.List.{AllByRecursion, list_any, range_with_len}
+use Rattle.std.specs.List.{AllByRecursion, list_any}
 use Rattle.std.proofs.lemmas.Bool.{and_parts}
 use Rattle.json_text.specs.Json.{Json}
 use Rattle.mux_history.specs.declared.cause.Cause.{Cause}
@@ -12,10 +12,10 @@ use Rattle.rpc_message.specs.Message.{Id, Message, error, message_of, notificati
 use Rattle.event_model.specs.declared.phase.Phase.TheVariants.{Running}
 use Rattle.event_model.specs.Event.{Event, behind, heard, said, same_id, with_cause}
 use Rattle.event_model.specs.Phases.{desk_of, editors_of, is_running, is_there, is_waiting}
-use Rattle.event_model.specs.Requests.{is_open, without}
+use Rattle.event_model.specs.Requests.{is_open}
 use Rattle.event_model.specs.Row.{Row, choose, each, nothing, on, outs, send}
 use Rattle.event_model.specs.Settings.{Settings}
-use Rattle.event_model.specs.Spawns.{group_of, start_of}
+use Rattle.event_model.specs.Spawns.{group_of}
 use Rattle.event_model.specs.Stages.{is_ready, life_of}
 use Rattle.event_model.proofs.Frames.{never}
 use Rattle.mux_facts.proofs.Lists.{all_filtered}
@@ -23,14 +23,11 @@ use Rattle.mux_facts.proofs.Reasons.{Because, Reasons, by_choose, by_look, by_no
 use Rattle.mux_facts.proofs.Rising.{by_rising}
 use Rattle.mux_facts.proofs.Words.{number_same, same_number, still_open}
 use Rattle.session_laws.specs.Progress.{Creates, is_one, token_at}
-use Rattle.session_laws.specs.ClientRules.{accepted_behind}
-use Rattle.group_words.specs.declared.kept.Kept.{Kept}
 use Rattle.group_words.specs.Houses.{groups_of, home_of, is_home}
-use Rattle.group_words.specs.Rows.{spawn}
 use Rattle.group_rows.specs.diagnostics_route.specs.declared.last_list.LastList.{LastList}
 use Rattle.group_rows.specs.Asks.{Ask, asks_of, has_number, is_with, members_in, next_ask, running_in}
 use Rattle.group_rows.specs.Created.{Taking, Token, created_mark, created_of, created_text, is_at}
-use Rattle.group_rows.specs.ExitRows.{begun_at, cancel_ask, cancel_take, empty_list, end_text, end_token, exit_in, has_begun, lose_sent, lose_start, lost_row, starts_again, turn_out, unanswered_at}
+use Rattle.group_rows.specs.ExitRows.{begun_at, cancel_ask, cancel_take, empty_list, end_text, end_token, exit_in, has_begun, lose_sent, lose_start, lost_row, turn_out, unanswered_at}
 use Rattle.group_rows.specs.Forwarded.{Forwarded, forwarding_of, is_of}
 use Rattle.group_rows.specs.Lists.{lists_of}
 use Rattle.group_rows.specs.Live.{live_of, unregister_text}
@@ -42,8 +39,7 @@ use Rattle.group_rows.proofs.ExitTexts.{empty_says, end_says, end_tree}
 use Rattle.group_rows.proofs.ListsKept.{IsList, lists_kept}
 use Rattle.group_rows.proofs.LiveTexts.{live_written, unregister_says}
 use Rattle.group_rows.proofs.Stops.{range_below}
-use Rattle.group_facts.specs.Facts.{AllForwarded, IsAsked, IsForwarded, IsTake, is_exit}
-use Rattle.group_facts.specs.Why.{IsLosing}
+use Rattle.group_facts.specs.Facts.{IsAsked, IsForwarded, IsTake, is_exit}
 use Rattle.group_facts.proofs.AskingRows.{running_is}
 use Rattle.group_facts.proofs.ExitEntry.{Exit, failed_exit, gone_exit}
 use Rattle.group_facts.proofs.ExitOuts.{start_by}
@@ -55,7 +51,7 @@ use Rattle.group_sessions.proofs.Accepted.{Closes, accepted}
 use Rattle.group_sessions.proofs.CreatedFold.{AllApart, IsApart, IsLive, created_orderly}
 use Rattle.group_sessions.proofs.HeldFold.{created_fair}
 use Rattle.group_sessions.proofs.Taken.{Rests, same_mark}
-use Rattle.group_sessions.proofs.TakingTies.{IsTied, TiedIf, accepted_aside, accepted_more, is_aside, mark_of, told_here, told_there}
+use Rattle.group_sessions.proofs.TakingTies.{IsTied, TiedIf, accepted_aside, told_here, told_there}
 use Rattle.group_sessions.proofs.TellingPlaces.{RunsIn}
 use Rattle.group_sessions.proofs.EndTexts.{end_names, end_told, weaker}
 

@@ -1,7 +1,5 @@
 -- What editors are told of tokens that a start created, in every legal history: of those that they accepted, and that haven't ended.
-use Rattle.std.proofs.Common.{◌≡◌, ℕ, Bool, true, false, ◌&&◌, ◌||◌, List, [], ◌∷◌, ◌++◌, append_assoc, bytes_eq, codes, map, nat_eq, if◌then◌else◌, refl, sym, ◌∙◌, ap, ap₂, subst}
-use Rattle.std.specs.List.{AllByRecursion, list_any}
-use Rattle.std.proofs.lemmas.Bool.{and_parts}
+use Rattle.std.proofs.Common.{◌≡◌, ℕ, Bool, true, false, ◌&&◌, List, [], ◌∷◌, ◌++◌, append_assoc, bytes_eq, codes, map, if◌then◌else◌, refl, sym, ◌∙◌, ap, ap₂, subst}
 use Rattle.mux_history.specs.declared.cause.Cause.{Cause}
 use Rattle.mux_history.specs.declared.cause.Cause.TheVariants.{FromEditor, FromServer}
 use Rattle.mux_history.specs.declared.out.Out.{Out}
@@ -17,7 +15,7 @@ use Rattle.mux_facts.proofs.Lists.{found_is}
 use Rattle.mux_facts.proofs.Reasons.{Reasons}
 use Rattle.mux_facts.proofs.Words.{number_same, same_number}
 use Rattle.session_laws.specs.Progress.{Creates, is_end, token_at}
-use Rattle.group_rows.specs.Created.{Taking, created_mark, created_of, created_text, is_answered, is_at}
+use Rattle.group_rows.specs.Created.{created_mark, created_of, created_text, is_answered}
 use Rattle.group_rows.specs.Rows.{outs_of}
 use Rattle.group_rows.specs.Tokens.{marked_text}
 use Rattle.group_facts.specs.Why.{Telling, of_held, of_request, of_token}

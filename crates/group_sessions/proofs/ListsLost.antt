@@ -1,5 +1,5 @@
 -- X2: which lists the exit of a start brings an editor: an empty one for each document of which the last list that it was sent isn't empty.
-use Rattle.std.proofs.Common.{◌≡◌, ℕ, ◌+◌, ◌^◌, ◌<◌, Bool, true, false, not, ◌&&◌, List, [], ◌∷◌, ◌++◌, append-nil, codes, filter, flat_map, nat_eq, nat_le, if◌then◌else◌, Option, Some, None, refl, sym, ◌∙◌, ap, ap₂, subst, ltb-true, arith}
+use Rattle.std.proofs.Common.{◌≡◌, ℕ, ◌^◌, ◌<◌, Bool, true, false, ◌&&◌, List, [], ◌∷◌, ◌++◌, append-nil, codes, filter, flat_map, nat_eq, nat_le, if◌then◌else◌, Option, Some, None, refl, sym, ◌∙◌, ap, ap₂, subst, ltb-true, arith}
 use Rattle.std.specs.Prelude.{slice_get}
 use Rattle.std.specs.List.{AllByRecursion, range_with_len}
 use Rattle.std.specs.Option.{option_map_or}
@@ -28,11 +28,11 @@ use Rattle.group_words.specs.Rows.{spawn}
 use Rattle.group_rows.specs.diagnostics_route.specs.declared.last_list.LastList.{LastList}
 use Rattle.group_rows.specs.Asks.{Ask, asks_of, has_number, is_with, members_in, next_ask, running_in, serves}
 use Rattle.group_rows.specs.Created.{Taking, Token, created_of, created_text}
-use Rattle.group_rows.specs.ExitRows.{cancel_ask, cancel_take, empty_list, empty_text, end_text, end_token, exit_in, is_full, lose_sent, lose_start, lost_row, starts_again, turn_out, unanswered_at}
+use Rattle.group_rows.specs.ExitRows.{cancel_ask, cancel_take, empty_list, empty_text, end_text, end_token, exit_in, is_full, lose_sent, lose_start, starts_again, turn_out, unanswered_at}
 use Rattle.group_rows.specs.Forwarded.{Forwarded, forwarding_of, is_of}
 use Rattle.group_rows.specs.Leaves.{cancel_text}
 use Rattle.group_rows.specs.Lists.{is_publishing, lists_of}
-use Rattle.group_rows.specs.Live.{live_of, unregister_text}
+use Rattle.group_rows.specs.Live.{live_of}
 use Rattle.group_rows.specs.LiveRows.{unregister_any}
 use Rattle.group_rows.specs.Rows.{outs_of}
 use Rattle.group_rows.specs.StopRows.{lose_request}
