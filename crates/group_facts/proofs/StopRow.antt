@@ -1,5 +1,5 @@
 -- E6 and J1: why each out of a stop is sent.
-use Rattle.std.proofs.Common.{◌≡◌, ℕ, ◌+◌, Bool, true, false, cond, ◌&&◌, ◌||◌, List, [], ◌∷◌, ◌++◌, filter, nat_eq, codes, if◌then◌else◌, Some, refl, sym, ◌∙◌, ap, ap₂, subst, append-nil}
+use Rattle.std.proofs.Common.{◌≡◌, ℕ, Bool, true, false, cond, ◌&&◌, ◌||◌, List, [], ◌∷◌, ◌++◌, filter, nat_eq, codes, if◌then◌else◌, Some, refl, sym, ◌∙◌, ap, ap₂, subst, append-nil}
 use Rattle.std.specs.List.{AllByRecursion}
 use Rattle.mux_history.specs.declared.cause.Cause.TheVariants.{FromEditor, Joined}
 use Rattle.mux_history.specs.declared.out.Out.{Out}
