@@ -317,7 +317,7 @@ module _ (settings : Settings) (range : InRange settings) (before : List Event) 
       early_not at id k = none_sent (λ (f : Forwarded). IsOf e id f × (answered_by (answered_id (message_of body)) f ≡ true)) fs
           (subst (λ n. Rising 2 n fs) (subst (λ z. TiedAt z (next_number s before) (forwarding_of s before).next) at (facts.tied s)).1 (rising_of s before)) k
 
-      fine_not : (stage : Stage) → (life_of s before).stage ≡ stage → is_up stage ≡ true → built_from_server settings before s stage body (message_of body) ≡ true → (id : Id) → Passed settings e id before s body → Stays stage id
+      fine_not : (stage : Stage) → (life_of s before).stage ≡ stage → is_up stage ≡ true → built_from_server settings before s stage (message_of body) ≡ true → (id : Id) → Passed settings e id before s body → Stays stage id
       fine_not Initializing at up fine id k served still = early_not at id k
       fine_not Ready at up fine id k served still = ready_not at id k served still
       fine_not Stopping at up fine id k served still = never (sym up)

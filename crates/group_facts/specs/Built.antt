@@ -1,7 +1,6 @@
 -- Which causes meet only rows of the table over several editors and groups that are built, until all are.
 -- Not built of a start: the end of a program whose group lives.
--- Of S2, what is read back must be what was meant: editors are shown all of the result.
-use Rattle.std.specs.Prelude.{ℕ, Bool, true, false, not, ◌&&◌, ◌||◌, List, bytes_eq}
+use Rattle.std.specs.Prelude.{ℕ, Bool, true, false, not, ◌&&◌, ◌||◌, List}
 use Rattle.std.specs.Prelude.{Some}
 use Rattle.std.specs.Option.{option_map_or}
 use Rattle.mux_history.specs.declared.cause.Cause.{Cause}
@@ -11,7 +10,7 @@ use Rattle.lsp_method.specs.Class.{class_of}
 use Rattle.lsp_method.specs.declared.variants.Class.{Class}
 use Rattle.lsp_method.specs.declared.variants.Class.TheVariants.{Broadcast, Cancel, Create, Diagnostics, Focused, Folders, Initialize, Lowest, Other, Progress, Refresh, Register, Shutdown, Unregister, Wrong}
 use Rattle.lsp_method.specs.declared.variants.Origin.TheVariants.{Editor, Server}
-use Rattle.rpc_message.specs.Message.{Id, Message, request, notification, result, message_of, result_bytes}
+use Rattle.rpc_message.specs.Message.{Id, Message, request, notification, message_of}
 use Rattle.event_model.specs.declared.phase.Phase.{Phase}
 use Rattle.event_model.specs.declared.stage.Stage.{Stage}
 use Rattle.event_model.specs.declared.stage.Stage.TheVariants.{Initializing, Ready, Stopping, Ending}
@@ -20,9 +19,8 @@ use Rattle.event_model.specs.Phases.{is_begun, is_malformed}
 use Rattle.event_model.specs.Requests.{is_open}
 use Rattle.event_model.specs.Settings.{Settings}
 use Rattle.event_model.specs.Spawns.{group_of}
-use Rattle.event_model.specs.Stages.{life_of, is_first_result}
+use Rattle.event_model.specs.Stages.{life_of}
 use Rattle.group_words.specs.Houses.{groups_of}
-use Rattle.group_words.specs.Rows.{shown_of}
 use Rattle.group_rows.specs.Asks.{asking_of, is_taken}
 use Rattle.group_rows.specs.Rows.{names_lspmux}
 use Rattle.group_facts.specs.Lively.{lives_at}
@@ -46,15 +44,6 @@ built_request method = names_lspmux method || is_standard (class_of method Edito
 abbrev pub built_from_editor : Message → Bool
 built_from_editor (request id method params) = built_request method
 built_from_editor other = true
-
--- S2: editors are shown all of the result
-abbrev pub is_shown_whole : List ℕ → Bool
-is_shown_whole body = bytes_eq (shown_of (result_bytes body)) (result_bytes body)
-
--- S2 to S4
-abbrev pub built_early : List ℕ → Message → Bool
-built_early body (result id r) = not (is_first_result (result id r)) || is_shown_whole body
-built_early body other = true
 
 -- S6 to S12
 abbrev pub built_asking : Class → Bool
@@ -81,13 +70,13 @@ built_ready settings before s (request id method params) = is_taken (Some id) (a
 built_ready settings before s (notification method params) = built_telling (class_of method Server true)
 built_ready settings before s other = true
 
--- S4 of a start that is to end; S1 in every stage, and those
-abbrev pub built_from_server : Settings → List Event → ℕ → Stage → List ℕ → Message → Bool
-built_from_server settings before s Initializing body m = built_early body m
-built_from_server settings before s Ready body m = built_ready settings before s m
-built_from_server settings before s Stopping body m = true
-built_from_server settings before s Ending body m = true
-built_from_server settings before s other body m = is_malformed m
+-- S2 to S4 of a start that gave no result yet, S4 of one that is to end; S1 in every stage, and those
+abbrev pub built_from_server : Settings → List Event → ℕ → Stage → Message → Bool
+built_from_server settings before s Initializing m = true
+built_from_server settings before s Ready m = built_ready settings before s m
+built_from_server settings before s Stopping m = true
+built_from_server settings before s Ending m = true
+built_from_server settings before s other m = is_malformed m
 
 -- X1 to X3 of a start whose group lives no more
 abbrev pub is_left : Settings → List Event → ℕ → Bool
@@ -98,7 +87,7 @@ built_behind settings before (Joined e) = true
 built_behind settings before (Started s) = true
 built_behind settings before (FromEditor e body) = built_from_editor (message_of body)
 built_behind settings before (EditorGone e why) = true
-built_behind settings before (FromServer s body) = built_from_server settings before s (life_of s before).stage body (message_of body)
+built_behind settings before (FromServer s body) = built_from_server settings before s (life_of s before).stage (message_of body)
 built_behind settings before (Drained e k) = true
 built_behind settings before (StartFailed s) = is_left settings before s
 built_behind settings before (ServerGone s) = is_left settings before s
