@@ -47,7 +47,6 @@ use Rattle.group_rows.specs.Forwarded.{Forwarded, answered_by, forwarding_of}
 use Rattle.group_rows.specs.Rows.{first_result, from_server, ready_row, replay_bodies, result_in, started, waiting_in, welcome, hasty_answer, hasty_row}
 use Rattle.group_rows.specs.Texts.{texts_of}
 use Rattle.group_facts.specs.Facts.{AllForwarded, Apart, Asks, asked_by, IsAsker, IsForwarded, IsWaiting, IsWritten, Opened, Untold, Written}
-use Rattle.group_facts.specs.Built.{built_ready}
 use Rattle.group_facts.proofs.Asks.{asked_by_more}
 use Rattle.group_facts.proofs.AskingRows.{notified_why, question_why}
 use Rattle.group_facts.proofs.Apart.{alone_answered}
@@ -252,22 +251,22 @@ module _ (settings : Settings) (range : InRange settings) (before : List Event) 
     result_why at first = by_on (λ none. by_nothing) (λ g home. greet_why first at opened untold waiting g)
 
     -- S5, and what it asks and tells
-    ready_why : (life_of s before).stage ≡ Ready → built_ready settings before s (message_of body) ≡ true → (m : Message) → message_of body ≡ m → Because R now (ready_row settings s before body m)
-    ready_why at built (request id method params) says = question_why settings before s body at meant written id method params says (ap (built_ready settings before s) (sym says) ∙ built)
-    ready_why at built (notification method params) says = notified_why settings before s body at asks meant method params says
-    ready_why at built (result id r) says = subst (λ m. Because R now (answer_row settings s before body m)) says (response_why all apart meant)
-    ready_why at built (error id x) says = subst (λ m. Because R now (answer_row settings s before body m)) says (response_why all apart meant)
-    ready_why at built not_json says = subst (λ m. Because R now (answer_row settings s before body m)) says (response_why all apart meant)
-    ready_why at built not_message says = subst (λ m. Because R now (answer_row settings s before body m)) says (response_why all apart meant)
+    ready_why : (life_of s before).stage ≡ Ready → (m : Message) → message_of body ≡ m → Because R now (ready_row settings s before body m)
+    ready_why at (request id method params) says = question_why settings before s body at meant written id method params says
+    ready_why at (notification method params) says = notified_why settings before s body at asks meant method params says
+    ready_why at (result id r) says = subst (λ m. Because R now (answer_row settings s before body m)) says (response_why all apart meant)
+    ready_why at (error id x) says = subst (λ m. Because R now (answer_row settings s before body m)) says (response_why all apart meant)
+    ready_why at not_json says = subst (λ m. Because R now (answer_row settings s before body m)) says (response_why all apart meant)
+    ready_why at not_message says = subst (λ m. Because R now (answer_row settings s before body m)) says (response_why all apart meant)
 
-    pub server_why : ((life_of s before).stage ≡ Ready → built_ready settings before s (message_of body) ≡ true) → (stage : Stage) → (life_of s before).stage ≡ stage → Because R now (from_server settings s before body (message_of body) stage)
-    server_why built Initializing at = by_choose (λ yes. result_why at yes) (λ no. by_choose (λ refuses. refused_why settings before s body at refuses waiting) (λ other. hasty_why at no (message_of body) refl))
-    server_why built Ready at = ready_why at (built at) (message_of body) refl
-    server_why built Unspawned at = by_nothing
-    server_why built Spawning at = by_nothing
-    server_why built Stopping at = by_choose (λ yes. exits_why at yes) (λ no. by_nothing)
-    server_why built Ending at = by_nothing
-    server_why built Ended at = by_nothing
+    pub server_why : (stage : Stage) → (life_of s before).stage ≡ stage → Because R now (from_server settings s before body (message_of body) stage)
+    server_why Initializing at = by_choose (λ yes. result_why at yes) (λ no. by_choose (λ refuses. refused_why settings before s body at refuses waiting) (λ other. hasty_why at no (message_of body) refl))
+    server_why Ready at = ready_why at (message_of body) refl
+    server_why Unspawned at = by_nothing
+    server_why Spawning at = by_nothing
+    server_why Stopping at = by_choose (λ yes. exits_why at yes) (λ no. by_nothing)
+    server_why Ending at = by_nothing
+    server_why Ended at = by_nothing
 
 -- a program that begins is sent the daemon's own `initialize`
 module _ (settings : Settings) (before : List Event) (s : ℕ) (written : Written settings before) where
