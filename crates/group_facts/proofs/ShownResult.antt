@@ -181,9 +181,11 @@ rest_in bs front xs back at p cs j ms e low more h =
     let first : PairIn bs at p cs j = pair_in bs (front ++ h.0) g.0 (g.1 ++ back) at p cs j (e ∙ ap (λ z. front ++ (z ++ back)) (h.2 ∙ ap (λ z. h.0 ++ z) g.2) ∙ head_shift front h.0 g.0 g.1 back) (omega (arith, low, length-append front h.0))
     (subst (λ i. pair p cs (value j) i g.0) (sym (length-append front h.0)) g.3) in
     let long : length (front ++ (h.0 ++ (g.0 ++ l.0))) ≡ length front + length h.0 + length g.0 + length l.0 = omega (arith, length-append front (h.0 ++ (g.0 ++ l.0)), length-append h.0 (g.0 ++ l.0), length-append g.0 l.0) in
-    let end : (span_of j).to ≡ length front + length h.0 + length g.0 = pair_ends p cs j (length front + length h.0) g.0 g.3 in
-    (first, more (front ++ (h.0 ++ (g.0 ++ l.0))) l.1 back ((span_of j).to + 1) (e ∙ ap (λ z. front ++ (z ++ back)) (h.2 ∙ ap (λ z. h.0 ++ z) (g.2 ∙ ap (λ z. g.0 ++ z) l.2)) ∙ rest_shift front h.0 g.0 l.0 l.1 back) (omega (arith, end, long))
-    (subst (λ i. more_members ms i l.1) (sym long) l.4))
+    let end : (span_of j).to ≡ length front + length h.0 + length g.0 = pair_ends p cs j (length front + length h.0) g.0 g.3 in (
+      first,
+      more (front ++ (h.0 ++ (g.0 ++ l.0))) l.1 back ((span_of j).to + 1) (e ∙ ap (λ z. front ++ (z ++ back)) (h.2 ∙ ap (λ z. h.0 ++ z) (g.2 ∙ ap (λ z. g.0 ++ z) l.2)) ∙ rest_shift front h.0 g.0 l.0 l.1 back) (omega (arith, end, long))
+          (subst (λ i. more_members ms i l.1) (sym long) l.4),
+    )
   where
     pair_ends : (p : Span) (cs : List ℕ) (j : Json) (i : ℕ) (ys : List ℕ) → pair p cs (value j) i ys → (span_of j).to ≡ i + length ys
     pair_ends p cs j i ys h =
@@ -246,9 +248,10 @@ unchanged bs at (member p cs j ms) h = (pair_kept bs None at p cs j h.0 refl, un
 behind : (bs : List ℕ) (c : Change) (at : ℕ) (ms : Members) → c.span.from < at → PairsIn bs at ms → AllSay bs (Some c) ms
 behind bs c at no_members low h = tt
 behind bs c at (member p cs j ms) low h =
-    let first = h.0 in
-    (pair_kept bs (Some c) at p cs j first (window_behind bs c p.from (span_of j).to (omega (arith, low, first.begins, first.from))),
-      behind bs c ((span_of j).to + 1) ms (omega (arith, low, first.begins, first.to)) h.1)
+    let first = h.0 in (
+      pair_kept bs (Some c) at p cs j first (window_behind bs c p.from (span_of j).to (omega (arith, low, first.begins, first.from))),
+      behind bs c ((span_of j).to + 1) ms (omega (arith, low, first.begins, first.to)) h.1,
+    )
 
 -- which of the members a name means: one of the later ones, or the first
 which : {R : Type 0} (o : Option Json) (b : Bool) (j w : Json) → or_else o (if_named b j) ≡ Some w → (o ≡ Some w → R) → (j ≡ w → R) → R
@@ -278,10 +281,10 @@ changed bs name c at (member p cs j ms) w h e place text =
     let to : c.span.to ≡ (span_of w).to = ap (λ (s : Span). s.to) place in
     which (named name ms) (bytes_eq name cs) j w e
     (λ k. let l : Behind ((span_of j).to + 1) w = later bs name ((span_of j).to + 1) ms w h.1 k in
-      (pair_kept bs (Some c) at p cs j first (window_before bs c p.from (span_of j).to (omega (arith, l.begins, l.rises, to))), changed bs name c ((span_of j).to + 1) ms w h.1 k place text))
+    (pair_kept bs (Some c) at p cs j first (window_before bs c p.from (span_of j).to (omega (arith, l.begins, l.rises, to))), changed bs name c ((span_of j).to + 1) ms w h.1 k place text))
     (λ same. let here : c.span ≡ span_of j = place ∙ ap span_of (sym same) in
-      let start : c.span.from ≡ (span_of j).from = ap (λ (s : Span). s.from) here in
-      (pair_changed bs c at p cs j first here (subst (λ z. Says z c.text) (sym same) text), behind bs c ((span_of j).to + 1) ms (omega (arith, start, first.value_from, first.to)) h.1))
+    let start : c.span.from ≡ (span_of j).from = ap (λ (s : Span). s.from) here in
+    (pair_changed bs c at p cs j first here (subst (λ z. Says z c.text) (sym same) text), behind bs c ((span_of j).to + 1) ms (omega (arith, start, first.value_from, first.to)) h.1))
 
 members_say : (bs : List ℕ) (ch : Option Change) (s : Span) (ms : Members) → Part (value (object s ms)) 0 bs → MayFit (object s ms) ch → AllSay bs ch ms
 members_say bs None s ms p f = unchanged bs 0 ms (object_in bs s ms p)
@@ -377,9 +380,11 @@ shown_value body first =
     let deep : depth tree ≡ depth k.r = sym (depth_bare tree) ∙ ap depth t.text.same in
     let read : tree_of (result_bytes body) ≡ Some tree = tree_complete (result_bytes body) tree ([], result_bytes body, refl, tt, (result_bytes body, [], sym (append-nil (result_bytes body)), t.text.stands, tt)) (omega (arith, deep, t.shallow)) in
     let s : Says tree (shown_text (result_bytes body) tree) = shown_text_says (result_bytes body) tree t.text.stands in
-    let p : Placed s.tree 0 (shown_text (result_bytes body) tree) = placed s.tree 0 (shown_text (result_bytes body) tree) s.form in
-    (bare s.tree, subst (λ z. IsShallowText 1023 (bare s.tree) (given_or (option_map (shown_text (result_bytes body)) z) [])) (sym read)
-    (record { text = record { tree = p.tree; stands = p.stands; same = p.same }; shallow = omega (arith, depth_bare s.tree, s.deep, deep, t.shallow) }))
+    let p : Placed s.tree 0 (shown_text (result_bytes body) tree) = placed s.tree 0 (shown_text (result_bytes body) tree) s.form in (
+      bare s.tree,
+      subst (λ z. IsShallowText 1023 (bare s.tree) (given_or (option_map (shown_text (result_bytes body)) z) [])) (sym read)
+          (record { text = record { tree = p.tree; stands = p.stands; same = p.same }; shallow = omega (arith, depth_bare s.tree, s.deep, deep, t.shallow) }),
+    )
 
 -- and an editor's `initialize` is answered with it
 pub shown_says : (initialize body : List ℕ) (id : Id) (method : List ℕ) (params : Option Json) → message_of initialize ≡ request id method params → is_first_result (message_of body) ≡ true

@@ -9,7 +9,7 @@ use Rattle.document_model.specs.Texts.{Texts}
 use Rattle.mux_history.specs.declared.cause.Cause.{Cause}
 use Rattle.mux_history.specs.declared.cause.Cause.TheVariants.{EditorGone, FromEditor, FromServer, Joined}
 use Rattle.mux_history.specs.declared.out.Out.TheVariants.{ToEditor, ToServer}
-use Rattle.rpc_message.specs.Message.{Id, Message, integer, request, result, message_of, same_id}
+use Rattle.rpc_message.specs.Message.{Id, Message, integer, request, message_of, same_id}
 use Rattle.rpc_message.specs.ValueTexts.{IsIdText, IsShallowText}
 use Rattle.event_model.specs.declared.phase.Phase.{Phase}
 use Rattle.event_model.specs.declared.phase.Phase.TheVariants.{Absent, New, Waiting}
