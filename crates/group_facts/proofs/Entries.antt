@@ -4,13 +4,13 @@ use Rattle.mux_history.specs.declared.cause.Cause.{Cause}
 use Rattle.mux_history.specs.declared.cause.Cause.TheVariants.{Joined, FromEditor, EditorGone, Started, StartFailed, FromServer, ServerGone, Drained, Tick}
 use Rattle.mux_history.specs.declared.cause.Why as link
 use Rattle.mux_history.specs.declared.out.Out.TheVariants.{ToEditor}
-use Rattle.rpc_message.specs.Message.{Message, request, notification, result, error, not_json, not_message, Id, message_of}
+use Rattle.rpc_message.specs.Message.{Message, result, error, Id, message_of}
 use Rattle.event_model.specs.declared.phase.Phase.{Phase}
 use Rattle.event_model.specs.declared.phase.Phase.TheVariants.{Absent, New, Waiting, Answered, Running, Down, Closed, Gone}
 use Rattle.event_model.specs.declared.stage.Stage.{Stage}
 use Rattle.event_model.specs.declared.stage.Stage.TheVariants.{Unspawned, Spawning, Initializing, Ready, Stopping, Ending, Ended}
 use Rattle.event_model.specs.Event.{Event, behind, heard, said, with_cause, requests}
-use Rattle.event_model.specs.Phases.{Desk, desk_hears, desk_of, editors_of, is_begun, is_malformed, is_there, is_waiting}
+use Rattle.event_model.specs.Phases.{Desk, desk_hears, desk_of, editors_of, is_begun, is_there, is_waiting}
 use Rattle.event_model.specs.Requests.{answered_id, with_request, is_open, open_of, without, next_number}
 use Rattle.event_model.specs.Row.{choose, nothing, on, outs, send}
 use Rattle.event_model.specs.Settings.{Settings}

@@ -25,7 +25,7 @@ pub returns-in_ok-from_editor-in-FromEditor-clause-does : goal.returns-in_ok-fro
 returns-in_ok-from_editor-in-FromEditor-clause-does c = λ settings before servers default grace first known settled fits built st ds.
     let is = c.in-FromEditor.is in
     subst (λ cause. Done (λ k events. AllStand settings k events) (row_of settings before cause) (with_cause before cause) [] (c.from_editor.new.tables, nothing_owed) c.from_editor.new.outs) (sym is)
-    (c.in_ok-from_editor-in-FromEditor.ensures.does settings before servers default first known settled (subst (λ cause. fits_behind before cause ≡ true) is fits) (subst (λ cause. built_behind settings before cause ≡ true) is built) st ds)
+    (c.in_ok-from_editor-in-FromEditor.ensures.does settings before servers default first known settled (subst (λ cause. fits_behind before cause ≡ true) is fits) st ds)
 
 pub returns-in-StartFailed-clause-does : goal.returns-in-StartFailed-clause-does
 returns-in-StartFailed-clause-does c = λ settings before servers default grace first known settled fits built st ds.
