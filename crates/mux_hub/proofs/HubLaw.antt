@@ -1,8 +1,7 @@
 -- A step of the hub leads from a history to the longer one.
 use Rattle.std.proofs.Common.{◌≡◌, ℕ, ◌+◌, ◌^◌, ◌<◌, ◌≤◌, List, [], ◌∷◌, ◌++◌, length, nat_lt, if◌then◌else◌, ap, sym, subst, ◌∙◌, append_assoc, append-nil, refl, arith, lit≤, Bool, true, false}
-use Rattle.std.specs.Prelude.{Option, Some, None, Result, Err, IsTrue, IfOk}
+use Rattle.std.specs.Prelude.{Option, Some, None, Err, IsTrue}
 use Rattle.std.proofs.lemmas.List.Sums.{fold-append}
-use Rattle.message_body.specs.declared.Memory.{Memory as Wanted}
 use Rattle.mux_history.specs.declared.cause.Cause.{Cause}
 use Rattle.mux_history.specs.declared.out.Out.{Out}
 use Rattle.mux_history.specs.declared.entry.Entry.{Entry}
@@ -117,11 +116,9 @@ append_says p Failed e is few = subst (λ x. Counted p (Err x)) (sym is) few
 append_says p Memory e is few = subst (λ x. Counted p (Err x)) (sym is) tt
 
 -- the answer over the tables is that of the history
-pub built_answer : {J : Type 0} (told : J → Option (List Entry)) (hub : HubView J) (history : List Entry) (cause : Cause) (result : Result Bool Wanted) → InRange hub.settings
-    → ((settings : Settings) (before : List Event) → Known settings before → Settled settings before → Stands settings hub.tables before → IfOk result (λ answer. answer ≡ built_behind settings before cause))
-    → HubStands told hub history → hub.spent ≡ false → IfOk result (λ answer. answer ≡ built hub.settings history cause)
-built_answer told hub history cause result range says h s =
-    says hub.settings (events_of history) (known_holds hub.settings range history h.legal) (settled_holds hub.settings range history h.legal) (h.tables s).tables
+pub built_answer : {J : Type 0} (told : J → Option (List Entry)) (hub : HubView J) (history : List Entry) (cause : Cause) (result : Bool) → ((settings : Settings) (before : List Event) → Stands settings hub.tables before → result ≡ built_behind settings before cause)
+    → HubStands told hub history → hub.spent ≡ false → result ≡ built hub.settings history cause
+built_answer told hub history cause result says h s = says hub.settings (events_of history) (h.tables s).tables
 
 -- tables and counts of nothing stand for the empty history, and are sound
 pub begins : {J : Type 0} (told : J → Option (List Entry)) (settings : Settings) (kept : Tables) (counts places : List ℕ) (journal : J) → Tells (told journal) [] → Stands settings kept [] → DocumentsStand settings nothing_owed kept []

@@ -1,10 +1,9 @@
 // The hub: the tables, the journal, and whether a step had a fault.
-ghost use Rattle.std.specs.Prelude.{◌≡◌, ℕ, ◌+◌, ◌^◌, ◌≤◌, ◌<◌, ◌↔◌, List, [], ◌∷◌, ◌++◌, Bool, true, false, length, nat_lt, if◌then◌else◌, Some, None, IsTrue, IsNone, IfOk, OnOk, OnErr, IsErrOf, IfErr, slice_get};
+ghost use Rattle.std.specs.Prelude.{◌≡◌, ◌+◌, ◌^◌, ◌≤◌, ◌<◌, ◌↔◌, List, [], ◌∷◌, ◌++◌, true, false, nat_lt, if◌then◌else◌, Some, None, IsTrue, IsNone, IfOk, OnOk, OnErr, IsErrOf, IfErr, slice_get};
 ghost use Rattle.group_sessions.specs.group_facts.specs.Ceilings.{HaveCeilings};
 ghost use Rattle.outside_io.specs.Faults.{Rose};
 ghost use Rattle.mux_history.specs.declared.entry.Entry.{Entry};
 ghost use Rattle.mux_history.specs.Cores.{body_length, joined, spawns};
-ghost use Rattle.mux_history.specs.Journals.{append_told};
 ghost use Rattle.event_model.specs.Event.{Event, behind, events_of, with_cause};
 ghost use Rattle.event_model.specs.Settings.{Settings};
 ghost use Rattle.mux_model.specs.Fits.{fits, fits_behind};
@@ -182,13 +181,12 @@ impl<J: Journal> Hub<J> {
         self.tables.is_stopped()
     }
 
-    /// Whether this cause, which fits, meets only rows of the routing table that are built.
-    pub fn built(&self, cause: &Cause) -> Result<bool, Memory>
-        requires { body_length cause.now ≤ 268435456 }
+    /// Whether this cause, which fits, meets only rows of the routing table that are built: all but the end of a program whose group lives.
+    pub fn built(&self, cause: &Cause) -> bool
         ensures { (history : List Entry) → HubStands J.told self.now history → self.now.spent ≡ false
-            → IfOk result (λ answer. answer ≡ built self.now.settings history cause.now) }
+            → result ≡ built self.now.settings history cause.now }
     {
-        mux_causes::built(&self.tables, self.alloc, cause)
+        mux_causes::built(&self.tables, cause)
     }
 
     /// Takes a cause and gives its outs: those of the routing table. The entry was appended to the journal. Where the causes and outs
@@ -276,7 +274,7 @@ impl<J: Journal> Steps for Hub<J> {
         if self.spent {
             return Err(CoreFault::Spent);
         }
-        if !matches!(self.built(&cause), Ok(true)) {
+        if !self.built(&cause) {
             self.spent = true;
             return Err(CoreFault::Memory);
         }

@@ -1,5 +1,5 @@
 -- A step that answers Ok: the turn is the routing table's, and the hub stands for the longer history.
-use Rattle.std.proofs.Common.{◌≡◌, ◌+◌, [], ◌∷◌, ◌++◌, length, nat_lt, if◌then◌else◌, Some, None, ap, sym, subst, ◌∙◌, true, false}
+use Rattle.std.proofs.Common.{◌≡◌, ◌+◌, [], ◌∷◌, ◌++◌, nat_lt, if◌then◌else◌, Some, None, ap, sym, subst, ◌∙◌, true, false}
 use Rattle.std.specs.Prelude.{IsTrue}
 use Rattle.std.proofs.lemmas.Result.{err_from_is_err_and}
 use Rattle.group_sessions.specs.group_facts.specs.Built.{built}
