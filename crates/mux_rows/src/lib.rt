@@ -18,6 +18,8 @@ mod play;
 #[cfg(test)]
 mod registered;
 #[cfg(test)]
+mod slow;
+#[cfg(test)]
 mod statuses;
 #[cfg(test)]
 mod stops;

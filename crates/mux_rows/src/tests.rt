@@ -1,4 +1,5 @@
 use crate::play::{limits, play};
+use crate::slow::{BOTH_SLOW, FILLED, TAKEN, TOO_MANY_TAKEN};
 use crate::statuses::STATUSES;
 use crate::stops::{STOPPED, UNSTOPPED};
 use lspmux_program::{Hub, Refusal, StepFault, Stop};
@@ -708,6 +709,24 @@ fn an_idle_group_ends_for_another(rt: HostRuntime) -> Result<(), Fail> {
     let mut few = limits(MOST, MOST);
     few.groups = 1;
     play(&rt, alloc, few, &[&OPENING, &EVICTED], Ok(()))
+}
+
+#[test]
+fn an_editor_that_is_slow_leaves(rt: HostRuntime) -> Result<(), Fail> {
+    let alloc = rt.alloc();
+    let absent = Err(Stop::Refused(7, Refusal::Absent));
+    let sessions: [(&[&[(&str, &str)]], Result<(), Stop>); 4] = [
+        (&[&OPENING, &FILLED], Ok(())),
+        (&[&OPENING, &TAKEN], Ok(())),
+        (&[&OPENING, &TOO_MANY_TAKEN], absent),
+        (&[&TWO_EDITORS, &BOTH_SLOW], Ok(())),
+    ];
+    for (parts, end) in sessions {
+        let mut few = limits(MOST, MOST);
+        few.backlog = 1_024;
+        play(&rt, alloc, few, parts, end)?;
+    }
+    Ok(())
 }
 
 #[test]
