@@ -14,6 +14,8 @@ mod languages;
 #[cfg(test)]
 mod lists;
 #[cfg(test)]
+mod offers;
+#[cfg(test)]
 mod play;
 #[cfg(test)]
 mod registered;

@@ -1,3 +1,4 @@
+use crate::offers::OFFERING;
 use crate::play::{limits, play};
 use crate::slow::{BOTH_SLOW, FILLED, TAKEN, TOO_MANY_TAKEN};
 use crate::statuses::STATUSES;
@@ -670,7 +671,7 @@ fn sessions_bring_their_lines(rt: HostRuntime) -> Result<(), Fail> {
 #[test]
 fn several_editors_bring_their_lines(rt: HostRuntime) -> Result<(), Fail> {
     let alloc = rt.alloc();
-    let sessions: [&[&[(&str, &str)]]; 17] = [
+    let sessions: [&[&[(&str, &str)]]; 18] = [
         &[&TWO_EDITORS, &A_THIRD],
         &[&TWO_EDITORS, &WRONG_NAMES],
         &[&TWO_EDITORS, &BOTH_ASK],
@@ -688,6 +689,7 @@ fn several_editors_bring_their_lines(rt: HostRuntime) -> Result<(), Fail> {
         &[&OPENING, &UNSTOPPED],
         &[&OPENED],
         &[&OPENING, &IDLING],
+        &[&OFFERING],
     ];
     for parts in sessions {
         play(&rt, alloc, limits(MOST, MOST), parts, Ok(()))?;
