@@ -1,13 +1,11 @@
 -- What is built: all but the end of a program whose group lives.
-use Rattle.std.proofs.Common.{◌≡◌, ℕ, Bool, true, false, not, List, refl, ap, sym, ◌∙◌}
+use Rattle.std.proofs.Common.{◌≡◌, ℕ, Bool, true, false, not, List, ap, sym, ◌∙◌}
 use Rattle.std.specs.Prelude.{Some, None, slice_get}
 use Rattle.std.specs.Option.{option_map_or}
-use Rattle.mux_history.specs.declared.cause.Cause.{Cause}
-use Rattle.mux_history.specs.declared.cause.Cause.TheVariants.{StartFailed, ServerGone}
 use Rattle.event_model.specs.Event.{Event}
 use Rattle.event_model.specs.Settings.{Settings}
 use Rattle.group_words.specs.Houses.{groups_of}
-use Rattle.mux_turns.specs.group_facts.specs.Built.{built_behind, is_left}
+use Rattle.mux_turns.specs.group_facts.specs.Built.{is_left}
 use Rattle.mux_turns.specs.group_facts.specs.Lively.{lives_at}
 use Rattle.mux_turns.specs.mux_tables.specs.declared.tables.Tables.{Tables}
 use Rattle.mux_turns.specs.mux_tables.specs.Stands.{Stands}
@@ -18,9 +16,3 @@ left_here settings t before s g b st at is = ap not is ∙ ap (λ o. not (option
 
 pub left_nowhere : (settings : Settings) (t : Tables) (before : List Event) (s : ℕ) → Stands settings t before → None ≡ slice_get t.origins.groups.items s → true ≡ is_left settings before s
 left_nowhere settings t before s st at = ap (λ o. not (option_map_or (λ h. lives_at h (groups_of settings before)) o false)) (at ∙ sym (st.origins.group s))
-
--- other causes
-pub others_built : (settings : Settings) (before : List Event) (cause : Cause) → ((s : ℕ) → cause ≡ StartFailed s → ⊥) → ((s : ℕ) → cause ≡ ServerGone s → ⊥) → true ≡ built_behind settings before cause
-others_built settings before (StartFailed s) failed gone = absurd (failed s refl)
-others_built settings before (ServerGone s) failed gone = absurd (gone s refl)
-others_built settings before other failed gone = refl
