@@ -1,5 +1,5 @@
 -- What the class and the sort of a message of an editor say of it.
-use Rattle.std.proofs.Common.{◌≡◌, ℕ, Bool, true, false, not, ◌&&◌, ◌||◌, List, refl, ap, sym, ◌∙◌, ◌⊎◌, inl, inr, codes, bytes_eq}
+use Rattle.std.proofs.Common.{◌≡◌, ℕ, Bool, true, false, not, ◌&&◌, ◌||◌, List, refl, ap, sym, ◌∙◌, ◌⊎◌, inl, inr, codes, bytes_eq, arith}
 use Rattle.std.specs.Prelude.{Option, Some}
 use Rattle.json_text.specs.Json.{Json}
 use Rattle.lsp_method.specs.Class.{class_of, editor_request, own_request}
@@ -58,7 +58,7 @@ unfolding editor_request own_request
 standard_named m a b c = grind arith
 
 none_of : (a b c : Bool) → (a || (b || c)) ≡ false → (a ≡ false) × ((b ≡ false) × (c ≡ false))
-none_of false false false h = (refl, refl, refl)
+none_of false false false h = (refl, (refl, refl))
 none_of true b c h = absurd (cc)
 none_of false true c h = absurd (cc)
 none_of false false true h = absurd (cc)

@@ -1,5 +1,5 @@
 -- What a start that is ready asks and tells, by its row.
-use Rattle.std.proofs.Common.{◌≡◌, ℕ, Bool, true, false, List, [], ◌∷◌, refl, ap, sym, ◌∙◌}
+use Rattle.std.proofs.Common.{◌≡◌, ℕ, Bool, true, false, List, [], ◌∷◌, refl, ap, sym, ◌∙◌, arith}
 use Rattle.std.specs.Prelude.{Some}
 use Rattle.std.specs.List.{AllByRecursion}
 use Rattle.lsp_method.specs.Class.{class_of, server_notification, server_request}
@@ -51,7 +51,7 @@ lowest Register r d f g u n h = absurd (g refl)
 lowest Unregister r d f g u n h = absurd (u refl)
 lowest Create r d f g u n h = absurd (n refl)
 lowest Lowest r d f g u n h = refl
-lowest other r d f g u n h = never (sym h)
+lowest _ r d f g u n h = never (sym h)
 
 -- the classes of its notifications
 abbrev pub is_telling : Class → Bool

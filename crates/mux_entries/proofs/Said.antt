@@ -238,7 +238,7 @@ module _ (settings : Settings) (before : List Event) (s : ℕ) (body : List ℕ)
         says = k.2;
         first = first;
         shown = record { value = shown.0; text = shown.1 };
-        row = is_first (ap (from_server settings before s body (message_of body)) stage) first;
+        row = is_first (ap (from_server settings s before body (message_of body)) stage) first;
       }
 
 -- S5
