@@ -27,7 +27,8 @@ use Rattle.mux_turns.specs.mux_facts.proofs.Table.{waiting_is}
 use Rattle.editor_session.specs.declared.session.Session.{Session}
 use Rattle.group_words.specs.Houses.{home_of, is_first_error, is_home}
 use Rattle.group_rows.specs.Leaves.{leave_bodies}
-use Rattle.group_rows.specs.Rows.{close_all, members_in, refusal, refused_in, refused_row, waiting_in}
+use Rattle.group_rows.specs.Asks.{members_in}
+use Rattle.group_rows.specs.Rows.{close_all, refusal, refused_in, refused_row, waiting_in}
 use Rattle.group_rows.specs.Texts.{texts_of}
 use Rattle.mux_turns.specs.group_facts.proofs.PutOut.{homes_stay}
 use Rattle.mux_turns.specs.group_facts.proofs.RefusedRow.{IsError, error_is}
