@@ -5,6 +5,7 @@ mod answers;
 mod asks;
 mod created;
 mod documents;
+mod exits;
 mod halts;
 mod hears;
 mod last_lists;
