@@ -249,8 +249,8 @@ impl Tables {
         self.origins.created.end_start(last.life.start());
     }
 
-    // Nothing is kept any more of a group whose last start ended and has nothing to answer. The groups that were founded later move by one place.
-    fn forget(&mut self, g: usize)
+    /// Nothing is kept any more of a group whose last start ended and has nothing to answer. The groups that were founded later move by one place.
+    pub fn forget(&mut self, g: usize)
         requires { g < length self.old.lasts.items }
         ensures fewer { length self.new.lasts.items + 1 ≡ length self.old.lasts.items }
         ensures requests { self.new.requests ≡ self.old.requests }
