@@ -1,20 +1,22 @@
 -- X1 to X3: why each out is sent where a start ends that gives its group no new one.
-use Rattle.std.proofs.Common.{◌≡◌, ℕ, ◌^◌, ◌<◌, Bool, true, false, not, ◌&&◌, List, [], ◌∷◌, ◌++◌, codes, cond, decimal, filter, nat_eq, if◌then◌else◌, Option, Some, None, refl, sym, ◌∙◌, ap, ap₂, subst, append_assoc, append-nil, ltb-true, arith}
+use Rattle.std.proofs.Common.{◌≡◌, ℕ, ◌+◌, ◌^◌, ◌<◌, Bool, true, false, not, ◌&&◌, List, [], ◌∷◌, ◌++◌, codes, cond, decimal, filter, nat_eq, if◌then◌else◌, Option, Some, None, refl, sym, ◌∙◌, ap, ap₂, subst, append_assoc, append-nil, ltb-true, arith}
 use Rattle.std.specs.Prelude.{slice_get}
 use Rattle.std.specs.List.{AllByRecursion, range_with_len}
 use Rattle.std.specs.Option.{option_map_or}
 use Rattle.std.proofs.lemmas.Bool.{and_parts}
+use Rattle.std.proofs.lemmas.List.Sums.{fold-append}
 use Rattle.json_text.specs.Json.{Json}
 use Rattle.mux_history.specs.declared.cause.Cause.{Cause}
+use Rattle.mux_history.specs.declared.cause.Cause.TheVariants.{Joined}
 use Rattle.mux_history.specs.declared.out.Out.{Out}
 use Rattle.mux_history.specs.declared.out.Out.TheVariants.{ToEditor, ToServer, Spawn, CloseEditor, EndServer}
-use Rattle.rpc_message.specs.Message.{Id, Message, error, id_bytes, integer, message_of, notification, request}
+use Rattle.rpc_message.specs.Message.{Id, Message, error, id_bytes, integer, message_of, not_json, not_message, notification, request, result}
 use Rattle.rpc_message.specs.Texts.{error_text, error_tree, request_failed}
 use Rattle.rpc_message.specs.ValueTexts.{IsIdText}
 use Rattle.event_model.specs.declared.phase.Phase.{Phase}
 use Rattle.event_model.specs.declared.phase.Phase.TheVariants.{Absent, New, Waiting, Answered, Running, Down, Closed, Gone}
 use Rattle.event_model.specs.declared.stage.Stage.TheVariants.{Ready}
-use Rattle.event_model.specs.Event.{Event, behind, said, with_cause}
+use Rattle.event_model.specs.Event.{Event, behind, did, heard, said, with_cause}
 use Rattle.event_model.specs.Phases.{Desk, desk_of, editors_of, is_begun, is_running, is_there, is_waiting, phase_closed, phase_told}
 use Rattle.event_model.specs.Requests.{answered_id, is_open, open_of, without}
 use Rattle.event_model.specs.Row.{Row, choose, each, nothing, on, outs, send, ◌⨾◌}
@@ -36,10 +38,11 @@ use Rattle.group_words.specs.declared.kept.Kept.{Kept}
 use Rattle.group_words.specs.Houses.{groups_of, home_of, is_home}
 use Rattle.group_words.specs.Rows.{spawn}
 use Rattle.group_rows.specs.diagnostics_route.specs.declared.last_list.LastList.{LastList}
-use Rattle.group_rows.specs.Asks.{Ask, Asking, asking_of, asks_of, has_number, is_with, members_in, next_ask, running_in}
-use Rattle.group_rows.specs.Created.{Taking, Token, created_of, is_at}
-use Rattle.group_rows.specs.ExitRows.{begins_again, cancel_ask, cancel_take, empty_list, ends_group, end_token, exit_in, lose_sent, lose_start, lost_row, starts_again, turn_out, unanswered_at}
+use Rattle.group_rows.specs.Asks.{Ask, Asking, asked_behind, asking_of, asks_of, has_number, is_with, members_in, next_ask, running_in}
+use Rattle.group_rows.specs.Created.{Taking, Token, created_of, created_text, is_at}
+use Rattle.group_rows.specs.ExitRows.{begins_again, cancel_ask, cancel_take, empty_list, ends_group, end_text, end_token, exit_in, lose_sent, lose_start, lost_row, starts_again, turn_out, unanswered_at}
 use Rattle.group_rows.specs.Forwarded.{Forwarded, Forwarding, forwarding_of, is_of}
+use Rattle.group_rows.specs.Leaves.{cancel_text}
 use Rattle.group_rows.specs.Lists.{lists_of}
 use Rattle.group_rows.specs.Live.{live_of, unregister_text}
 use Rattle.group_rows.specs.LiveRows.{unregister_any}
@@ -68,7 +71,7 @@ use Rattle.group_facts.proofs.StopWhy.{IsBody, there_told}
 
 -- Phases
 
-waiting_told : (phase : Phase) (initialize : List ℕ) (m : Message) → is_waiting (phase_told phase initialize m) ≡ true → is_waiting phase ≡ true
+pub waiting_told : (phase : Phase) (initialize : List ℕ) (m : Message) → is_waiting (phase_told phase initialize m) ≡ true → is_waiting phase ≡ true
 waiting_told Waiting initialize m h = refl
 waiting_told Absent initialize m h = h
 waiting_told New initialize m h = h
@@ -78,7 +81,7 @@ waiting_told Down initialize m h = h
 waiting_told Closed initialize m h = h
 waiting_told Gone initialize m h = h
 
-waiting_closed : (phase : Phase) → is_waiting (phase_closed phase) ≡ false
+pub waiting_closed : (phase : Phase) → is_waiting (phase_closed phase) ≡ false
 waiting_closed Gone = refl
 waiting_closed other = refl
 
@@ -248,6 +251,40 @@ module _ (settings : Settings) (before : List Event) (facts : Facts settings bef
     waits = ap (is_open k.id) (exit.opens f.editor) ∙ k.waits;
   }
 
+  -- What asks an editor nothing leaves the number of its next request
+
+  abbrev Calm : ℕ → Out → Type 0
+  Calm e out = (n : ℕ) → asked_behind e n (said out) ≡ n
+
+  asked_off : (e k : ℕ) (text : List ℕ) (m : Message) (n : ℕ) → nat_eq k e ≡ false → asked_behind e n (did (ToEditor k text) m) ≡ n
+  asked_off e k text (request id method params) n other = ap (λ b. if b then n + 1 else n) other
+  asked_off e k text (notification method params) n other = refl
+  asked_off e k text (result id r) n other = refl
+  asked_off e k text (error id x) n other = refl
+  asked_off e k text not_json n other = refl
+  asked_off e k text not_message n other = refl
+
+  abbrev Unasked : ℕ → List Event → Type 0
+  Unasked e events = next_ask e events ≡ next_ask e before
+
+  unasked_behind : (e : ℕ) (events : List Event) (row : Row) → Because (λ places out. Calm e out) events row → Unasked e events → Unasked e (behind events (outs row events))
+  unasked_behind e events row calm h = reasons_keep (λ places out. Calm e out) (Unasked e) (λ places out still k. fold-append (asked_behind e) 1 places (said out ∷ []) ∙ (still (next_ask e places) ∙ k)) events (outs row events) calm.why h
+
+  requests_calm : (e : ℕ) (gs : List Forwarded) → AllByRecursion (IsForwarded before) gs → (events : List Event) → Because (λ places out. Calm e out) events (each lose_request gs)
+  requests_calm e [] askers events = by_nothing
+  requests_calm e (f ∷ gs) askers events = by_then (by_send (λ n. ap (λ m. asked_behind e n (did (ToEditor f.editor (lost_text f)) m)) (lost_says before f askers.0))) (requests_calm e gs askers.1 (events ++ said (ToEditor f.editor (lost_text f)) ∷ []))
+
+  sent_calm : AllForwarded before → (e : ℕ) (es : List ℕ) (events : List Event) → Because (λ places out. Calm e out) events (each (lose_sent before s) es)
+  sent_calm askers e [] events = by_nothing
+  sent_calm askers e (k ∷ es) events = by_then (requests_calm e (filter (is_of k) fs) (all_filtered (IsForwarded before) (IsForwarded before) (is_of k) (λ f is j. j) fs (askers s)) events) (sent_calm askers e es (behind events (outs (lose_sent before s k) events)))
+
+  unasked_now : (e : ℕ) → Unasked e now
+  unasked_now e = fold-append (asked_behind e) 1 before (heard cause ∷ []) ∙ heard_asks cause (next_ask e before)
+    where
+      heard_asks : (c : Cause) (n : ℕ) → asked_behind e n (heard c) ≡ n
+      heard_asks (Joined k) n = refl
+      heard_asks other n = refl
+
   module _ (g : ℕ) (home : group_of s before ≡ Some g) where
     abbrev is_member : ℕ → Bool
     is_member e = is_begun (desk_of e before).phase && is_home g (home_of settings e before)
@@ -314,14 +351,14 @@ module _ (settings : Settings) (before : List Event) (facts : Facts settings bef
           (asks_why (earlier ++ a ∷ []) cs (order ∙ sym (append_assoc earlier (a ∷ []) cs)) all.1 (behind events (outs (cancel_ask e a) events)) (place_behind events (cancel_ask e a) (by_send tt) p))
 
       -- what is registered
-      module _ (events : List Event) (p : Place events) (room : has_number e events ≡ true) where
+      module _ (events : List Event) (p : Place events) (first : Unasked e events) (room : has_number e events ≡ true) where
         forget_says : (params : Json) × (message_of (unregister_text (live_of settings s before) (next_ask e events)) ≡ request (integer (decimal (next_ask e events))) (codes "client/unregisterCapability") (Some params))
         forget_says = unregister_says (live_of settings s before) (live_written settings s before) (next_ask e events) (let small : next_ask e events < 2 ^ 64 = ltb-true (next_ask e events) (2 ^ 64) room in omega (arith, small))
 
         forget_why : R events (ToEditor e (unregister_text (live_of settings s before) (next_ask e events)))
         forget_why = calls (record {
           start = s;
-          told = forgets lost_by refl;
+          told = forgets lost_by first refl;
           ready = ready;
           running = p.runs e ran;
           idle = p.idle;
@@ -332,26 +369,49 @@ module _ (settings : Settings) (before : List Event) (facts : Facts settings bef
           says = forget_says.1;
         })
 
-      registered_why : (events : List Event) → Place events → Because R events (unregister_any (live_of settings s before) e)
-      registered_why events p = by_choose (λ some. by_look (by_choose (λ room. by_send (forget_why events p room)) (λ full. by_nothing))) (λ none. by_nothing)
+      registered_why : (events : List Event) → Place events → Unasked e events → Because R events (unregister_any (live_of settings s before) e)
+      registered_why events p first = by_choose (λ some. by_look (by_choose (λ room. by_send (forget_why events p first room)) (λ full. by_nothing))) (λ none. by_nothing)
 
       -- lists
       empties_why : (earlier ls : List LastList) → lists_of s before ≡ earlier ++ ls → AllByRecursion IsList ls → (events : List Event) → Place events → Because R events (each (empty_list before e) ls)
       empties_why earlier [] order all events p = by_nothing
       empties_why earlier (l ∷ ls) order all events p = by_then
-          (by_choose (λ full. by_send (losing events _ p (empties l earlier ls order full refl) (codes "textDocument/publishDiagnostics") _ (empty_says l.uri (all.0).spelt))) (λ none. by_nothing))
+          (by_choose (λ full. by_send (losing events _ p (empties l earlier ls order full (all.0).spelt refl) (codes "textDocument/publishDiagnostics") _ (empty_says l.uri (all.0).spelt))) (λ none. by_nothing))
           (empties_why (earlier ++ l ∷ []) ls (order ∙ sym (append_assoc earlier (l ∷ []) ls)) all.1 (behind events (outs (empty_list before e l) events))
           (place_behind events (empty_list before e l) (by_choose (λ full. by_send tt) (λ none. by_nothing)) p))
 
-      start_why : (events : List Event) → Place events → Because R events (lose_start settings before s e)
-      start_why events p =
+      -- nothing of it but what takes back what is registered asks
+      tokens_calm : (ts : List Token) (events : List Event) → Because (λ places out. Calm e out) events (each (end_token s e (created_of settings s before)) ts)
+      tokens_calm [] events = by_nothing
+      tokens_calm (t ∷ ts) events = by_then (by_choose (λ begun. by_send (λ n. ap (λ m. asked_behind e n (did (ToEditor e (end_text (created_text s t.number))) m)) (end_says s t.number))) (λ not_yet. by_nothing))
+          (tokens_calm ts (behind events (outs (end_token s e (created_of settings s before) t) events)))
+
+      takes_calm : (cs : List Taking) → AllByRecursion (λ (c : Taking). Open c.number) cs → (events : List Event) → Because (λ places out. Calm e out) events (each (cancel_take e) cs)
+      takes_calm [] all events = by_nothing
+      takes_calm (c ∷ cs) all events = by_then (by_send (λ n. ap (λ m. asked_behind e n (did (ToEditor e (cancel_text c.number)) m)) (cancel_says c.number (all.0).0))) (takes_calm cs all.1 (behind events (outs (cancel_take e c) events)))
+
+      asks_calm : (cs : List Ask) → AllByRecursion (λ (a : Ask). Open a.number) cs → (events : List Event) → Because (λ places out. Calm e out) events (each (cancel_ask e) cs)
+      asks_calm [] all events = by_nothing
+      asks_calm (a ∷ cs) all events = by_then (by_send (λ n. ap (λ m. asked_behind e n (did (ToEditor e (cancel_text a.number)) m)) (cancel_says a.number (all.0).0))) (asks_calm cs all.1 (behind events (outs (cancel_ask e a) events)))
+
+      all_takes : AllByRecursion (λ (c : Taking). Open c.number) (filter (unanswered_at e) (created_of settings s before).takings)
+      all_takes = all_filtered (IsTake before) (λ (c : Taking). Open c.number) (unanswered_at e) (λ c is k. take_open c is k) (created_of settings s before).takings ((facts.steady).takes s)
+
+      all_asks : AllByRecursion (λ (a : Ask). Open a.number) (filter (is_with e) (asks_of settings s before))
+      all_asks = all_filtered (IsAsked s before) (λ (a : Ask). Open a.number) (is_with e) (λ a is k. ask_open a is k) (asks_of settings s before) ((facts.steady).asks s).asked
+
+      start_why : (events : List Event) → Place events → Unasked e events → Because R events (lose_start settings before s e)
+      start_why events p unasked =
+          let calm : Unasked e (behind (behind (behind events tokens) takes) asks) = unasked_behind e (behind (behind events tokens) takes) (each (cancel_ask e) (filter (is_with e) (asks_of settings s before))) (asks_calm (filter (is_with e) (asks_of settings s before)) all_asks (behind (behind events tokens) takes))
+          (unasked_behind e (behind events tokens) (each (cancel_take e) (filter (unanswered_at e) (created_of settings s before).takings)) (takes_calm (filter (unanswered_at e) (created_of settings s before).takings) all_takes (behind events tokens))
+          (unasked_behind e events (each (end_token s e (created_of settings s before)) (created_of settings s before).tokens) (tokens_calm (created_of settings s before).tokens events) unasked)) in
           let first : Place (behind events tokens) = reasons_keep (λ places out. IsBody out) Place place_body events tokens (tokens_by (λ places out. IsBody out) e (λ places body. tt) s (created_of settings s before) (created_of settings s before).tokens events).why p in
           let second : Place (behind (behind events tokens) takes) = reasons_keep (λ places out. IsBody out) Place place_body (behind events tokens) takes (takes_by (λ places out. IsBody out) e (λ places body. tt) s (filter (unanswered_at e) (created_of settings s before).takings) (behind events tokens)).why first in
           let third : Place (behind (behind (behind events tokens) takes) asks) = reasons_keep (λ places out. IsBody out) Place place_body (behind (behind events tokens) takes) asks (asks_by (λ places out. IsBody out) e (λ places body. tt) s (filter (is_with e) (asks_of settings s before)) (behind (behind events tokens) takes)).why second in
           by_then (tokens_why [] (created_of settings s before).tokens refl events p)
-          (by_then (takes_why [] (filter (unanswered_at e) (created_of settings s before).takings) refl (all_filtered (IsTake before) (λ (c : Taking). Open c.number) (unanswered_at e) (λ c is k. take_open c is k) (created_of settings s before).takings ((facts.steady).takes s)) (behind events tokens) first)
-          (by_then (asks_why [] (filter (is_with e) (asks_of settings s before)) refl (all_filtered (IsAsked s before) (λ (a : Ask). Open a.number) (is_with e) (λ a is k. ask_open a is k) (asks_of settings s before) ((facts.steady).asks s).asked) (behind (behind events tokens) takes) second)
-          (by_then (registered_why (behind (behind (behind events tokens) takes) asks) third)
+          (by_then (takes_why [] (filter (unanswered_at e) (created_of settings s before).takings) refl all_takes (behind events tokens) first)
+          (by_then (asks_why [] (filter (is_with e) (asks_of settings s before)) refl all_asks (behind (behind events tokens) takes) second)
+          (by_then (registered_why (behind (behind (behind events tokens) takes) asks) third calm)
           (empties_why [] (lists_of s before) refl (lists_kept s before (facts.base).meant) _ (place_behind (behind (behind (behind events tokens) takes) asks) (unregister_any (live_of settings s before) e) (registered_by (λ places out. IsBody out) e (λ places body. tt) s (live_of settings s before) (behind (behind (behind events tokens) takes) asks)) third)))))
         where
           tokens : List Out
@@ -368,6 +428,7 @@ module _ (settings : Settings) (before : List Event) (facts : Facts settings bef
 
     record Runs_at (e : ℕ) (events : List Event) : Type 0 where
       place : Place events
+      unasked : Unasked e events
       ran : (desk_of e before).phase ≡ Running
       at_home : home_of settings e before ≡ Some g
 
@@ -375,11 +436,11 @@ module _ (settings : Settings) (before : List Event) (facts : Facts settings bef
     home_is None h = never (sym h)
     home_is (Some i) h = ap (λ n. Some n) (number_same i g h)
 
-    runs_by : (e : ℕ) → runs_here e ≡ true → (events : List Event) → Place events → Runs_at e events
-    runs_by e t events p = let q = and_parts (is_running (desk_of e before).phase) (is_home g (home_of settings e before)) t in record { place = p; ran = running_is (desk_of e before).phase q.0; at_home = home_is (home_of settings e before) q.1 }
+    runs_by : (e : ℕ) → runs_here e ≡ true → (events : List Event) → Place events → Unasked e events → Runs_at e events
+    runs_by e t events p unasked = let q = and_parts (is_running (desk_of e before).phase) (is_home g (home_of settings e before)) t in record { place = p; unasked = unasked; ran = running_is (desk_of e before).phase q.0; at_home = home_is (home_of settings e before) q.1 }
 
     runs_still : (k e : ℕ) (events : List Event) → nat_eq k e ≡ false → Runs_at e events → Runs_at e (behind events (outs (lose_start settings before s k) events))
-    runs_still k e events other h = record { place = place_behind events (lose_start settings before s k) (start_by (λ places out. IsBody out) k (λ places body. tt) s settings before events) h.place; ran = h.ran; at_home = h.at_home }
+    runs_still k e events other h = record { place = place_behind events (lose_start settings before s k) (start_by (λ places out. IsBody out) k (λ places body. tt) s settings before events) h.place; unasked = unasked_behind e events (lose_start settings before s k) (start_by (λ places out. Calm e out) k (λ places body n. asked_off e k body (message_of body) n other) s settings before events) h.unasked; ran = h.ran; at_home = h.at_home }
 
     abbrev losing_row : Row
     losing_row = choose (is_ready (life_of s before).stage) (each (lose_start settings before s) (running_in settings g before)) nothing
@@ -390,12 +451,18 @@ module _ (settings : Settings) (before : List Event) (facts : Facts settings bef
     place_errors : Place told
     place_errors = place_behind now (each (lose_sent before s) (members_in settings g before)) (sent_by (λ places out. IsBody out) before s (members_in settings g before) (bodies_sent (members_in settings g before)) now) place_now
 
+    ran_there : (e : ℕ) → runs_here e ≡ true → is_there (desk_of e before).phase ≡ true
+    ran_there e t = ap is_there (running_is (desk_of e before).phase (and_parts (is_running (desk_of e before).phase) (is_home g (home_of settings e before)) t).0)
+
+    unasked_errors : (e : ℕ) → is_there (desk_of e before).phase ≡ true → Unasked e told
+    unasked_errors e there = unasked_behind e now (each (lose_sent before s) (members_in settings g before)) (sent_calm (asked_here e there) e (members_in settings g before) now) (unasked_now e)
+
     losses_why : Because R told losing_row
     losses_why = by_choose (λ is. all_told (ready_is (life_of s before).stage is)) (λ off. by_nothing)
       where
         all_told : (life_of s before).stage ≡ Ready → Because R told (each (lose_start settings before s) (running_in settings g before))
         all_told ready = subst (λ ns. Because R told (each (lose_start settings before s) (filter runs_here ns))) (sym (range_below (editors_of before)))
-            (by_rising (lose_start settings before s) Runs_at (λ e events h. start_why ready e h.ran h.at_home events h.place) runs_still told runs_here (λ e t. runs_by e t told place_errors) (editors_of before))
+            (by_rising (lose_start settings before s) Runs_at (λ e events h. start_why ready e h.ran h.at_home events h.place h.unasked) runs_still told runs_here (λ e t. runs_by e t told place_errors (unasked_errors e (ran_there e t))) (editors_of before))
 
     abbrev losses : List Out
     losses = outs losing_row told

@@ -357,7 +357,7 @@ module _ (settings : Settings) (before : List Event) (cause : Cause) where
       called_takers spawned k (displaces asked items c found is) = plain_takers (ap makes (ap message_of is ∙ (unregister_says (again items (live_of settings k.start before)) (again_written items (live_of settings k.start before) (live_written settings k.start before)) (next_ask e events) (call_small k)).1) ∙ unregister_plain)
       called_takers spawned k (enrols asked items c found is) = plain_takers (ap makes (ap message_of is ∙ (register_says items (registered_written asked items found) (next_ask e events) (call_small k)).1) ∙ register_plain)
       called_takers spawned k (releases asked items c found is) = plain_takers (ap makes (ap message_of is ∙ (unregister_says (again items (live_of settings k.start before)) (again_written items (live_of settings k.start before) (live_written settings k.start before)) (next_ask e events) (call_small k)).1) ∙ unregister_plain)
-      called_takers spawned k (forgets r is) = plain_takers (ap makes (ap message_of is ∙ (unregister_says (live_of settings k.start before) (live_written settings k.start before) (next_ask e events) (call_small k)).1) ∙ unregister_plain)
+      called_takers spawned k (forgets r first is) = plain_takers (ap makes (ap message_of is ∙ (unregister_says (live_of settings k.start before) (live_written settings k.start before) (next_ask e events) (call_small k)).1) ∙ unregister_plain)
       called_takers spawned k (restores r is) = plain_takers (ap makes (ap message_of is ∙ (register_says (live_of settings k.start before) (live_written settings k.start before) (next_ask e events) (call_small k)).1) ∙ register_plain)
       called_takers spawned k (creates asked token c found is) = made_takers k.start token.number (next_ask e events) (ltb-true (next_ask e events) (2 ^ 64) k.room) is k.ready spawned (record {
         running = still_runs events e body e k.running;

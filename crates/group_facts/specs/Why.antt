@@ -1,5 +1,5 @@
 -- Why each out of the routing table over several editors and groups is sent, with what is known at its place: `before` are the events before the entry, `events` those before the out.
-use Rattle.std.specs.Prelude.{◌≡◌, ℕ, ◌<◌, Bool, true, false, not, ◌&&◌, ◌||◌, List, [], ◌∷◌, ◌++◌, find, flat_map, if◌then◌else◌, length, map, nat_eq, nat_lt, codes, decimal, filter, ◌^◌}
+use Rattle.std.specs.Prelude.{◌≡◌, ℕ, ◌<◌, Bool, true, false, not, ◌&&◌, ◌||◌, List, [], ◌∷◌, ◌++◌, find, flat_map, if◌then◌else◌, length, map, nat_eq, nat_lt, codes, decimal, filter, ◌^◌, IsUtf8}
 use Rattle.std.specs.Prelude.{Option, Some, None, slice_get}
 use Rattle.std.specs.List.{AllByRecursion, list_any}
 use Rattle.std.specs.Option.{option_and_then, option_map}
@@ -472,12 +472,12 @@ pub record IsLost (settings : Settings) (before : List Event) (cause : Cause) (e
   pub kept : group_of s before ≡ Some group
   pub home : home_of settings e before ≡ Some group
 
--- what is taken back since its ids come again, and what is registered (S6), what is taken back (S7), all that is live (L2), and that this is taken back as the start ends (X2); a token that the start creates (S8), and each that lives, in the order of creation (L2)
+-- what is taken back since its ids come again, and what is registered (S6), what is taken back (S7), all that is live (L2), and that this is taken back as the start ends, by the first request to the editor then (X2); a token that the start creates (S8), and each that lives, in the order of creation (L2)
 pub data Calling (settings : Settings) (before : List Event) (cause : Cause) (e s n : ℕ) (body : List ℕ) : Type 0 where
   displaces : (asked : List ℕ) (items : List Registration) → IsChange settings before cause e s asked Register → registered asked ≡ Some items → body ≡ unregister_text (again items (live_of settings s before)) n → Calling settings before cause e s n body
   enrols : (asked : List ℕ) (items : List Registration) → IsChange settings before cause e s asked Register → registered asked ≡ Some items → body ≡ register_text items n → Calling settings before cause e s n body
   releases : (asked : List ℕ) (items : List Registration) → IsChange settings before cause e s asked Unregister → taken_back asked (live_of settings s before) ≡ Some items → body ≡ unregister_text (again items (live_of settings s before)) n → Calling settings before cause e s n body
-  forgets : IsLost settings before cause e s → body ≡ unregister_text (live_of settings s before) n → Calling settings before cause e s n body
+  forgets : IsLost settings before cause e s → n ≡ next_ask e before → body ≡ unregister_text (live_of settings s before) n → Calling settings before cause e s n body
   restores : IsRestoring settings before cause e s → body ≡ register_text (live_of settings s before) n → Calling settings before cause e s n body
   creates : (asked : List ℕ) (token : Token) → IsChange settings before cause e s asked Create → created_token asked (created_of settings s before) ≡ Some token → body ≡ create_text s token.number n → Calling settings before cause e s n body
   revives : (token : Token) (earlier later : List Token) → IsRestoring settings before cause e s → (created_of settings s before).tokens ≡ earlier ++ token ∷ later → body ≡ create_text s token.number n → Calling settings before cause e s n body
@@ -596,7 +596,7 @@ pub data Unanswered (settings : Settings) (before : List Event) (e s number : �
 pub data Losing (settings : Settings) (before : List Event) (events : List Event) (e s : ℕ) (body : List ℕ) : Type 0 where
   ends : (token : Token) (earlier later : List Token) → (created_of settings s before).tokens ≡ earlier ++ token ∷ later → has_begun e token.number (created_of settings s before) ≡ true → body ≡ end_text (created_text s token.number) → Losing settings before events e s body
   frees : (number : ℕ) → Unanswered settings before e s number → number < 2 ^ 64 → is_open (integer (decimal number)) (asked_of e events) ≡ true → body ≡ cancel_text number → Losing settings before events e s body
-  empties : (list : LastList) (earlier later : List LastList) → lists_of s before ≡ earlier ++ list ∷ later → is_full e list.uri before ≡ true → body ≡ empty_text list.uri → Losing settings before events e s body
+  empties : (list : LastList) (earlier later : List LastList) → lists_of s before ≡ earlier ++ list ∷ later → is_full e list.uri before ≡ true → IsUtf8 list.uri → body ≡ empty_text list.uri → Losing settings before events e s body
 
 -- to an editor that runs
 pub record IsLosing (settings : Settings) (before : List Event) (cause : Cause) (events : List Event) (e : ℕ) (body : List ℕ) : Type 0 where
