@@ -1,5 +1,5 @@
 -- The servers of the starts, one event further.
-use Rattle.std.proofs.Common.{◌≡◌, ℕ, zero, suc, ◌+◌, List, [], ◌∷◌, ◌++◌, fold, length, map, take, refl, ap, ap₂, sym, ◌∙◌, append_assoc, append-nil, if◌then◌else◌, Bool, true, false, not, ◌&&◌}
+use Rattle.std.proofs.Common.{◌≡◌, ℕ, zero, suc, List, [], ◌∷◌, ◌++◌, fold, length, map, take, refl, ap, ap₂, sym, ◌∙◌, append_assoc, append-nil, if◌then◌else◌, Bool, true, false, not, ◌&&◌}
 use Rattle.std.specs.Prelude.{Option, Some, None, slice_get}
 use Rattle.std.proofs.lemmas.List.{length-append}
 use Rattle.mux_history.specs.declared.cause.Cause.{Cause}
