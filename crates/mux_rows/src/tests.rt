@@ -766,7 +766,8 @@ fn a_hub_whose_journal_failed_is_spent(rt: HostRuntime) -> Result<(), Fail> {
     };
     let cause = Cause::Joined(0);
     assert!(rt; hub.fits(&cause));
-    assert!(rt; hub.built(&cause));
+    let built = hub.built(&cause)?;
+    assert!(rt; built);
     assert!(rt; matches!(hub.step(cause), Err(StepFault::Journal)));
     assert!(rt; hub.close().entries().is_empty());
     Ok(())
