@@ -10,7 +10,7 @@ use Rattle.document_model.specs.Sayings.{saying_of}
 use Rattle.mux_history.specs.declared.cause.Cause.TheVariants.{FromServer, Started}
 use Rattle.mux_history.specs.declared.out.Out.{Out}
 use Rattle.mux_history.specs.declared.out.Out.TheVariants.{ToEditor, ToServer}
-use Rattle.rpc_message.specs.Message.{Message, request, notification, result, error, not_json, not_message, Id, integer, message_of, id_bytes, result_bytes}
+use Rattle.rpc_message.specs.Message.{Message, request, notification, result, error, not_json, not_message, Id, message_of, id_bytes, result_bytes}
 use Rattle.rpc_message.specs.Texts.{ok_text, initialized_text, error_text, invalid_request}
 use Rattle.rpc_message.proofs.Fixed.{initialized_law}
 use Rattle.event_model.specs.declared.stage.Stage.{Stage}
@@ -29,12 +29,12 @@ use Rattle.mux_model.proofs.DocumentFolds.{outs_to_start}
 use Rattle.group_rows.specs.response_route.specs.Answers.{answer_text}
 use Rattle.mux_facts.specs.Allowed.{is_response}
 use Rattle.mux_facts.specs.Ranges.{InRange}
-use Rattle.mux_facts.proofs.Bodies.{IsResponseTo, is_result, is_error, welcome_says, refusal_says}
+use Rattle.mux_facts.proofs.Bodies.{IsResponseTo, is_result, is_error, refusal_says}
 use Rattle.mux_facts.proofs.Folds.{desk_more, life_more, opens_more}
 use Rattle.mux_facts.proofs.Lists.{found_is}
 use Rattle.mux_facts.proofs.Reasons.{Because, by_nothing, by_send, by_then, by_choose, by_look, by_on}
 use Rattle.mux_facts.proofs.Rising.{by_rising}
-use Rattle.mux_facts.proofs.Table.{FirstResult, desk_untold, first_result_is, waiting_is}
+use Rattle.mux_facts.proofs.Table.{desk_untold, waiting_is}
 use Rattle.mux_facts.proofs.Tellings.{sent_more}
 use Rattle.mux_facts.proofs.Waits.{AllWaiting, Waits, waits_at}
 use Rattle.mux_facts.proofs.Why.{is_early}
@@ -47,7 +47,6 @@ use Rattle.group_rows.specs.Forwarded.{Forwarded, answered_by, forwarding_of}
 use Rattle.group_rows.specs.Rows.{first_result, from_server, ready_row, replay_bodies, result_in, started, waiting_in, welcome, hasty_answer, hasty_row}
 use Rattle.group_rows.specs.Texts.{texts_of}
 use Rattle.group_facts.specs.Facts.{AllForwarded, Apart, Asks, asked_by, IsAsker, IsForwarded, IsWaiting, IsWritten, Opened, Untold, Written}
-use Rattle.group_facts.specs.Built.{built_ready}
 use Rattle.group_facts.proofs.Asks.{asked_by_more}
 use Rattle.group_facts.proofs.AskingRows.{notified_why, question_why}
 use Rattle.group_facts.proofs.Apart.{alone_answered}
@@ -57,6 +56,7 @@ use Rattle.group_facts.proofs.Forwards.{Still, get_all, still_notified, still_no
 use Rattle.group_rows.proofs.Stops.{range_below}
 use Rattle.group_facts.proofs.RefusedRow.{refused_why}
 use Rattle.group_facts.proofs.SharedRows.{AllTold, replay_told}
+use Rattle.group_facts.proofs.ShownResult.{shown_says}
 use Rattle.group_facts.proofs.Tellings.{Calm, tells_row}
 use Rattle.group_facts.specs.Why.{IsPassing, Why, begins, greeted, greets, passes, welcomes, responds, exits, stopped}
 use Rattle.json_text.specs.declared.kind.Word.TheVariants.{Null}
@@ -133,18 +133,16 @@ module _ (settings : Settings) (range : InRange settings) (before : List Event) 
 
   -- S2
 
-  module _ (r : Json) (says : message_of body ≡ result (Some (integer (codes "1"))) r) (whole : shown_of (result_bytes body) ≡ result_bytes body) where
+  module _ (first : is_first_result (message_of body) ≡ true) where
     record IsToWait (e : ℕ) (events : List Event) : Type 0 where
       id : Id
       waiting : IsWaiting events e id
 
     welcomed : (n : ℕ) (events : List Event) → IsToWait n events → Because R events (welcome body n)
-    welcomed n events w = by_look (by_send (welcomes (record {
-      id = w.id;
-      r = r;
-      waiting = w.waiting;
-      says = ap (λ z. message_of (ok_text (id_bytes (desk_of n events).initialize) z)) whole ∙ welcome_says (desk_of n events).initialize body w.id (codes "initialize") (w.waiting).params (Some (integer (codes "1"))) r (w.waiting).asks says;
-    })))
+    welcomed n events w =
+        let shown : (r : Json) × (message_of (ok_text (id_bytes (desk_of n events).initialize) (shown_of (result_bytes body))) ≡ result (Some w.id) r)
+        = shown_says (desk_of n events).initialize body w.id (codes "initialize") (w.waiting).params (w.waiting).asks first in
+        by_look (by_send (welcomes (record { id = w.id; r = shown.0; waiting = w.waiting; says = shown.1 })))
 
     still_waits : (n k : ℕ) (events : List Event) → nat_eq n k ≡ false → IsToWait k events → IsToWait k (behind events (outs (welcome body n) events))
     still_waits n k events other w = record {
@@ -168,7 +166,7 @@ module _ (settings : Settings) (range : InRange settings) (before : List Event) 
         (by_rising (welcome body) IsToWait welcomed still_waits events (λ e. is_waiting (desk_of e events).phase && is_home g (home_of settings e events))
         (λ k t. all k (waiting_is (desk_of k events).phase (and_parts (is_waiting (desk_of k events).phase) (is_home g (home_of settings k events)) t).0)) (editors_of events))
 
-    module _ (stage : (life_of s before).stage ≡ Initializing) (first : is_first_result (message_of body) ≡ true) (opened : Opened settings before) (untold : Untold before) (waiting : AllWaiting before) (g : ℕ) where
+    module _ (stage : (life_of s before).stage ≡ Initializing) (opened : Opened settings before) (untold : Untold before) (waiting : AllWaiting before) (g : ℕ) where
       ready : (life_of s now).stage ≡ Ready
       ready = ap (λ (l : Life). l.stage) (life_more s before (heard (FromServer s body)))
           ∙ ap (λ b. (if b then record { stage = stage_hears (life_of s before).stage (message_of body); started = (life_of s before).started } else life_of s before).stage) (same_number s)
@@ -249,27 +247,26 @@ module _ (settings : Settings) (range : InRange settings) (before : List Event) 
   hasty_why at other not_message says = by_nothing
 
   module _ (opened : Opened settings before) (untold : Untold before) (waiting : AllWaiting before) (all : (e : ℕ) → is_there (desk_of e before).phase ≡ true → AllForwarded before) (apart : Apart before) (meant : AllMeant before) (asks : Asks settings before) (written : Written settings before) where
-    result_why : FirstResult (message_of body) → (life_of s before).stage ≡ Initializing → is_first_result (message_of body) ≡ true → shown_of (result_bytes body) ≡ result_bytes body → Because R now (first_result settings before s body)
-    result_why first at is whole = by_on (λ none. by_nothing) (λ g home. greet_why first.r first.is whole at is opened untold waiting g)
+    result_why : (life_of s before).stage ≡ Initializing → is_first_result (message_of body) ≡ true → Because R now (first_result settings before s body)
+    result_why at first = by_on (λ none. by_nothing) (λ g home. greet_why first at opened untold waiting g)
 
     -- S5, and what it asks and tells
-    ready_why : (life_of s before).stage ≡ Ready → built_ready settings before s (message_of body) ≡ true → (m : Message) → message_of body ≡ m → Because R now (ready_row settings s before body m)
-    ready_why at built (request id method params) says = question_why settings before s body at meant written id method params says (ap (built_ready settings before s) (sym says) ∙ built)
-    ready_why at built (notification method params) says = notified_why settings before s body at asks meant method params says
-    ready_why at built (result id r) says = subst (λ m. Because R now (answer_row settings s before body m)) says (response_why all apart meant)
-    ready_why at built (error id x) says = subst (λ m. Because R now (answer_row settings s before body m)) says (response_why all apart meant)
-    ready_why at built not_json says = subst (λ m. Because R now (answer_row settings s before body m)) says (response_why all apart meant)
-    ready_why at built not_message says = subst (λ m. Because R now (answer_row settings s before body m)) says (response_why all apart meant)
+    ready_why : (life_of s before).stage ≡ Ready → (m : Message) → message_of body ≡ m → Because R now (ready_row settings s before body m)
+    ready_why at (request id method params) says = question_why settings before s body at meant written id method params says
+    ready_why at (notification method params) says = notified_why settings before s body at asks meant method params says
+    ready_why at (result id r) says = subst (λ m. Because R now (answer_row settings s before body m)) says (response_why all apart meant)
+    ready_why at (error id x) says = subst (λ m. Because R now (answer_row settings s before body m)) says (response_why all apart meant)
+    ready_why at not_json says = subst (λ m. Because R now (answer_row settings s before body m)) says (response_why all apart meant)
+    ready_why at not_message says = subst (λ m. Because R now (answer_row settings s before body m)) says (response_why all apart meant)
 
-    pub server_why : ((life_of s before).stage ≡ Initializing → is_first_result (message_of body) ≡ true → shown_of (result_bytes body) ≡ result_bytes body)
-        → ((life_of s before).stage ≡ Ready → built_ready settings before s (message_of body) ≡ true) → (stage : Stage) → (life_of s before).stage ≡ stage → Because R now (from_server settings s before body (message_of body) stage)
-    server_why whole built Initializing at = by_choose (λ yes. result_why (first_result_is (message_of body) yes) at yes (whole at yes)) (λ no. by_choose (λ refuses. refused_why settings before s body at refuses waiting) (λ other. hasty_why at no (message_of body) refl))
-    server_why whole built Ready at = ready_why at (built at) (message_of body) refl
-    server_why whole built Unspawned at = by_nothing
-    server_why whole built Spawning at = by_nothing
-    server_why whole built Stopping at = by_choose (λ yes. exits_why at yes) (λ no. by_nothing)
-    server_why whole built Ending at = by_nothing
-    server_why whole built Ended at = by_nothing
+    pub server_why : (stage : Stage) → (life_of s before).stage ≡ stage → Because R now (from_server settings s before body (message_of body) stage)
+    server_why Initializing at = by_choose (λ yes. result_why at yes) (λ no. by_choose (λ refuses. refused_why settings before s body at refuses waiting) (λ other. hasty_why at no (message_of body) refl))
+    server_why Ready at = ready_why at (message_of body) refl
+    server_why Unspawned at = by_nothing
+    server_why Spawning at = by_nothing
+    server_why Stopping at = by_choose (λ yes. exits_why at yes) (λ no. by_nothing)
+    server_why Ending at = by_nothing
+    server_why Ended at = by_nothing
 
 -- a program that begins is sent the daemon's own `initialize`
 module _ (settings : Settings) (before : List Event) (s : ℕ) (written : Written settings before) where

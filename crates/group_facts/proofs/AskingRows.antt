@@ -68,7 +68,6 @@ use Rattle.group_rows.specs.LiveRows.{accept, call, decline, has_some, register_
 use Rattle.group_rows.proofs.LiveTexts.{again_written, live_written, register_says, registered_written, unregister_says}
 use Rattle.group_rows.proofs.Versions.{AllMeant, current_flat}
 use Rattle.group_rows.proofs.Cancels.{cancel_says, params_tree}
-use Rattle.group_facts.specs.Built.{built_asking}
 use Rattle.group_facts.specs.Facts.{Asks, IsAsked, IsWritten, Written, asked_by}
 use Rattle.group_facts.specs.Why.{IsChange, IsRecall, IsCall, Calling, Resolution, Why, asks, denied, displaces, enrolled, enrols, created, creates, uncreated, IsNotified, IsTaken, of_held, of_request, of_token, is_call, granted, handed_back, listed, moves, recalls, calls, released, releases, resolves, spreads, unapplied, unenrolled, unreleased, IsProgress, progresses, comes, shows}
 use Rattle.group_facts.proofs.Asks.{asked_by_more, asked_of_more, asking_more}
@@ -743,20 +742,18 @@ module _ (settings : Settings) (before : List Event) (s : ℕ) (body : List ℕ)
               says = made.1;
             }))
 
-    asking_why : (c : Class) → class_of method Server false ≡ c → built_asking c ≡ true → Because R now (asking_row settings before g s body method c)
-    asking_why Refresh class built = refresh_why class
-    asking_why Focused class built = by_on
+    asking_why : (c : Class) → class_of method Server false ≡ c → Because R now (asking_row settings before g s body method c)
+    asking_why Refresh class = refresh_why class
+    asking_why Focused class = by_on
         (λ none. let is = refusal_says body id method params request_failed says in
         by_send (resolves (record { id = id; resolution = denied body method params refl says class refl; ready = still_ready; stays = rests; response = ap is_response is; answers = ap answered_id is; waits = waits_now })))
         (λ e found. let k : Here e = focus_is Here (running_in settings g before) (forwarding_of s before).open_requests e all_here found in by_choose (λ edit. edit_why class e edit k) (λ plain. asked_why (uncreating Focused class refl) plain (λ patient. never (sym patient ∙ unhurried Focused class refl)) e now k.1 work_now (λ single. refl) k.0))
-    asking_why Lowest class built = by_on (λ none. by_nothing) (λ e found. let k : Here e = first_is Here (running_in settings g before) e all_here found in asked_why (uncreating Lowest class refl) (other_method Lowest class refl) (λ patient. ap (λ o. option_map_or (λ h. is_some (first_in (running_in settings h before))) o false) at_home ∙ ap is_some found) e now k.1 work_now (λ single. refl) k.0)
-    asking_why Folders class built = folders_why class
-    asking_why Register class built = register_why class
-    asking_why Unregister class built = unregister_why class
-    asking_why Create class built = create_why class
-    asking_why _ class built = by_nothing
+    asking_why Lowest class = by_on (λ none. by_nothing) (λ e found. let k : Here e = first_is Here (running_in settings g before) e all_here found in asked_why (uncreating Lowest class refl) (other_method Lowest class refl) (λ patient. ap (λ o. option_map_or (λ h. is_some (first_in (running_in settings h before))) o false) at_home ∙ ap is_some found) e now k.1 work_now (λ single. refl) k.0)
+    asking_why Folders class = folders_why class
+    asking_why Register class = register_why class
+    asking_why Unregister class = unregister_why class
+    asking_why Create class = create_why class
+    asking_why _ class = by_nothing
 
-  pub question_why : AllMeant before → Written settings before → (id : Id) (method : List ℕ) (params : Option Json) → message_of body ≡ request id method params
-      → (is_taken (Some id) (asking_of settings s before) || built_asking (class_of method Server false)) ≡ true → Because R now (question_row settings s before body id method)
-  question_why meant written id method params says built = by_choose (λ twice. by_nothing) (λ fresh. by_on (λ none. by_nothing) (λ g home. asking_why meant written id method params says fresh g home (class_of method Server false) refl
-      (ap (λ b. b || built_asking (class_of method Server false)) (sym fresh) ∙ built)))
+  pub question_why : AllMeant before → Written settings before → (id : Id) (method : List ℕ) (params : Option Json) → message_of body ≡ request id method params → Because R now (question_row settings s before body id method)
+  question_why meant written id method params says = by_choose (λ twice. by_nothing) (λ fresh. by_on (λ none. by_nothing) (λ g home. asking_why meant written id method params says fresh g home (class_of method Server false) refl))

@@ -1,5 +1,5 @@
 -- Starts that aren't up: no out but a new start's changes that, and behind end(g) the last start of g is one of them.
-use Rattle.std.proofs.Common.{◌≡◌, ℕ, ◌<◌, ◌^◌, Bool, true, false, List, [], ◌∷◌, ◌++◌, map, nat_eq, codes, if◌then◌else◌, Option, None, Some, refl, sym, ◌∙◌, ap, subst, append-nil, append_assoc}
+use Rattle.std.proofs.Common.{◌≡◌, ℕ, ◌<◌, ◌^◌, Bool, true, false, List, [], ◌∷◌, ◌++◌, fold, map, nat_eq, codes, if◌then◌else◌, Option, None, Some, refl, sym, ◌∙◌, ap, subst, append-nil, append_assoc}
 use Rattle.std.specs.List.{AllByRecursion}
 use Rattle.mux_history.specs.declared.cause.Cause.{Cause}
 use Rattle.mux_history.specs.declared.cause.Cause.TheVariants.{Joined, FromEditor, EditorGone, Started, StartFailed, FromServer, ServerGone, Drained, Tick}
@@ -12,8 +12,8 @@ use Rattle.event_model.specs.declared.stage.Stage.TheVariants.{Unspawned, Spawni
 use Rattle.event_model.specs.Event.{Event, behind, did, heard, requests, said, took, with_cause}
 use Rattle.event_model.specs.Requests.{next_number}
 use Rattle.event_model.specs.Row.{each, nothing, on, outs}
-use Rattle.event_model.specs.Spawns.{start_of}
-use Rattle.event_model.specs.Stages.{Life, is_first_result, life_behind, life_of, stage_ending, stage_hears, stage_started, stage_told}
+use Rattle.event_model.specs.Spawns.{start_behind, start_of}
+use Rattle.event_model.specs.Stages.{Life, is_first_result, life_behind, life_of, no_life, stage_ending, stage_hears, stage_started, stage_told}
 use Rattle.event_model.proofs.Frames.{never}
 use Rattle.mux_facts.proofs.Folds.{life_more, number_more}
 use Rattle.mux_facts.proofs.Keeps.{behind_both}
@@ -93,6 +93,22 @@ spawned_next s life (did (Spawn n g) m) h = by_test is_spawned true (nat_eq n s)
 spawned_next s life (did (ToServer n body) m) h = by_test is_spawned true (nat_eq n s) (record { stage = stage_told life.stage m; started = life.started }) life (spawned_told life.stage m h) h
 spawned_next s life (did (EndServer n) m) h = by_test is_spawned true (nat_eq n s) (record { stage = stage_ending life.stage; started = life.started }) life (spawned_ending life.stage) h
 spawned_next s life other h = h
+
+-- whatever came, the last start of a group was spawned
+spawned_step : (g s : ℕ) (o : Option ℕ) (life : Life) (event : Event) → (o ≡ Some s → is_spawned life.stage ≡ true) → start_behind g o event ≡ Some s → is_spawned (life_behind s life event).stage ≡ true
+spawned_step g s o life (did (Spawn n i) m) h = go (nat_eq i g)
+  where
+    go : (b : Bool) → (if b then Some n else o) ≡ Some s → is_spawned (if nat_eq n s then record { stage = Spawning; started = false } else life).stage ≡ true
+    go true k = let same : n ≡ s = cc in ap (λ b. is_spawned (if b then record { stage = Spawning; started = false } else life).stage) (subst (λ z. nat_eq n z ≡ true) same (same_number n))
+    go false k = by_test is_spawned true (nat_eq n s) (record { stage = Spawning; started = false }) life refl (h k)
+spawned_step g s o life other h = λ at. spawned_next s life other (h at)
+
+pub all_spawned : (g s : ℕ) (events : List Event) → start_of g events ≡ Some s → is_spawned (life_of s events).stage ≡ true
+all_spawned g s events = go None no_life events (λ e. absurd (cc))
+  where
+    go : (o : Option ℕ) (life : Life) (events : List Event) → (o ≡ Some s → is_spawned life.stage ≡ true) → fold (start_behind g) o events ≡ Some s → is_spawned (fold (life_behind s) life events).stage ≡ true
+    go o life [] h = h
+    go o life (event ∷ events) h = go (start_behind g o event) (life_behind s life event) events (spawned_step g s o life event h)
 
 spawned_more : (s : ℕ) (events : List Event) (event : Event) → is_spawned (life_of s events).stage ≡ true → is_spawned (life_of s (events ++ event ∷ [])).stage ≡ true
 spawned_more s events event h = ap (λ (l : Life). is_spawned l.stage) (life_more s events event) ∙ spawned_next s (life_of s events) event h

@@ -5,13 +5,13 @@ use Rattle.mux_history.specs.declared.cause.Cause.{Cause}
 use Rattle.mux_history.specs.declared.cause.Cause.TheVariants.{Joined, FromEditor, EditorGone, Started, StartFailed, FromServer, ServerGone, Drained, Tick}
 use Rattle.mux_history.specs.declared.cause.Why as link
 use Rattle.mux_history.specs.declared.out.Out.TheVariants.{ToEditor}
-use Rattle.rpc_message.specs.Message.{Message, request, notification, result, error, not_json, not_message, Id, message_of}
+use Rattle.rpc_message.specs.Message.{Message, result, error, Id, message_of}
 use Rattle.event_model.specs.declared.phase.Phase.{Phase}
 use Rattle.event_model.specs.declared.phase.Phase.TheVariants.{Absent, New, Waiting, Answered, Running, Down, Closed, Gone}
 use Rattle.event_model.specs.declared.stage.Stage.{Stage}
 use Rattle.event_model.specs.declared.stage.Stage.TheVariants.{Unspawned, Spawning, Initializing, Ready, Stopping, Ending, Ended}
 use Rattle.event_model.specs.Event.{Event, behind, heard, said, with_cause, requests}
-use Rattle.event_model.specs.Phases.{Desk, desk_hears, desk_of, editors_of, is_begun, is_malformed, is_there, is_waiting}
+use Rattle.event_model.specs.Phases.{Desk, desk_hears, desk_of, editors_of, is_begun, is_there, is_waiting}
 use Rattle.event_model.specs.Requests.{answered_id, with_request, is_open, open_of, without, next_number}
 use Rattle.event_model.specs.Row.{choose, nothing, on, outs, send}
 use Rattle.event_model.specs.Settings.{Settings}
@@ -30,8 +30,8 @@ use Rattle.group_rows.specs.Answers.{answer_row, hand_on, own_version}
 use Rattle.group_rows.specs.ExitRows.{begins_again}
 use Rattle.group_rows.specs.Rows.{from_server, outs_of, ready_row}
 use Rattle.group_rows.proofs.Versions.{own_flat}
-use Rattle.group_facts.specs.Built.{built_behind, built_from_server}
-use Rattle.group_facts.specs.Facts.{ends_with, is_too_many, is_up, turned_away, is_crowded}
+use Rattle.group_facts.specs.Built.{built_behind}
+use Rattle.group_facts.specs.Facts.{ends_with, is_too_many, is_unbegun, is_up, turned_away, is_crowded}
 use Rattle.group_facts.specs.Lively.{Lively, is_unplaced}
 use Rattle.group_facts.specs.Settled.{is_answered}
 use Rattle.group_facts.proofs.AnswerRows.{answers_only, response_is}
@@ -356,31 +356,21 @@ module _ (settings : Settings) (range : InRange settings) (before : List Event) 
               (subst (λ z. is_open id (open_of e (behind now (outs z now))) ≡ true) (row_of (message_of body) is) still)
           go false other = none_answered id (none_of (message_of body) other) k
 
-      -- what isn't a response answers nothing
-      malformed_none : (m : Message) → is_malformed m ≡ true → answered_id m ≡ None
-      malformed_none not_json h = refl
-      malformed_none not_message h = refl
-      malformed_none (request id method params) h = absurd (cc)
-      malformed_none (notification method params) h = absurd (cc)
-      malformed_none (result id r) h = absurd (cc)
-      malformed_none (error id x) h = absurd (cc)
-
       -- none is open before the first result
-      early_not : (life_of s before).stage ≡ Initializing → (id : Id) → Passed settings e id before s body → ⊥
-      early_not at id k = none_sent (λ (f : Forwarded). IsOf e id f × (answered_by (answered_id (message_of body)) f ≡ true)) fs
-          (subst (λ n. Rising 2 n fs) (subst (λ z. TiedAt z (next_number s before) (forwarding_of s before).next) at (facts.tied s)).1 (rising_of s before)) k
+      early_not : (forwarding_of s before).next ≡ 2 → (id : Id) → Passed settings e id before s body → ⊥
+      early_not first id k = none_sent (λ (f : Forwarded). IsOf e id f × (answered_by (answered_id (message_of body)) f ≡ true)) fs (subst (λ n. Rising 2 n fs) first (rising_of s before)) k
 
-      fine_not : (stage : Stage) → (life_of s before).stage ≡ stage → is_up stage ≡ true → built_from_server settings before s stage body (message_of body) ≡ true → (id : Id) → Passed settings e id before s body → Stays stage id
-      fine_not Initializing at up fine id k served still = early_not at id k
-      fine_not Ready at up fine id k served still = ready_not at id k served still
-      fine_not Stopping at up fine id k served still = never (sym up)
-      fine_not Ending at up fine id k served still = never (sym up)
-      fine_not Ended at up fine id k served still = never (sym up)
-      fine_not Unspawned at up fine id k served still = none_answered id (malformed_none (message_of body) fine) k
-      fine_not Spawning at up fine id k served still = none_answered id (malformed_none (message_of body) fine) k
+      fine_not : (stage : Stage) → (life_of s before).stage ≡ stage → is_up stage ≡ true → (id : Id) → Passed settings e id before s body → Stays stage id
+      fine_not Initializing at up id k served still = early_not (subst (λ z. TiedAt z (next_number s before) (forwarding_of s before).next) at (facts.tied s)).1 id k
+      fine_not Ready at up id k served still = ready_not at id k served still
+      fine_not Stopping at up id k served still = never (sym up)
+      fine_not Ending at up id k served still = never (sym up)
+      fine_not Ended at up id k served still = never (sym up)
+      fine_not Unspawned at up id k served still = early_not ((facts.steady).unbegun s (ap is_unbegun at)).1 id k
+      fine_not Spawning at up id k served still = early_not ((facts.steady).unbegun s (ap is_unbegun at)).1 id k
 
       passed_not : (id : Id) → Answers id → Stays (life_of s before).stage id
-      passed_not id k = fine_not (life_of s before).stage refl k.0 built id k.1
+      passed_not id k = fine_not (life_of s before).stage refl k.0 id k.1
 
       stays_at : turned_away settings before (FromServer s body) e ≡ false → OpenAt settings e Nobody (later (FromServer s body))
       stays_at stays = if_other (S settings e Answers (later (FromServer s body))) (S settings e Nobody (later (FromServer s body))) (desk_of e (later (FromServer s body))).phase (desk_of e (later (FromServer s body))).initialize (open_of e (later (FromServer s body)))

@@ -15,11 +15,11 @@ use Rattle.mux_facts.proofs.Waits.{AllWaiting, Waits, WaitsAt, waits_at}
 use Rattle.group_rows.specs.Forwarded.{forwarding_of}
 use Rattle.group_rows.specs.StopRows.{stopped}
 use Rattle.group_rows.proofs.Versions.{AllMeant}
-use Rattle.group_facts.specs.Facts.{AllForwarded, Apart, Asks, Bounded, Housed, Known, Numbered, Opened, Plain, Quit, Stopped, Takes, Unbegun, Untold, Written, turned_away}
+use Rattle.group_facts.specs.Facts.{AllForwarded, Apart, Asks, Bounded, Housed, Known, Numbered, Opened, Quit, Results, Stopped, Takes, Unbegun, Untold, Written, turned_away}
 
 pub record Base (settings : Settings) (events : List Event) : Type 0 where
   pub opened : Opened settings events
-  pub plain : Plain events
+  pub results : Results events
   pub written : Written settings events
   pub meant : AllMeant events
 
@@ -98,7 +98,7 @@ known_of settings events h = record {
   stopped = stopped_of events h.tied;
   waiting = λ e at. let w : Waits (desk_of e events).initialize (open_of e events) = waits_at events e at h.waiting in (w.id, record { params = w.params; phase = at; asks = w.asks; waits = w.waits });
   opened = (h.base).opened;
-  plain = (h.base).plain;
+  results = (h.base).results;
   written = (h.base).written;
   meant = (h.base).meant;
 }

@@ -45,8 +45,8 @@ use Rattle.group_facts.proofs.Levels.{Fresh, unbegun_falls, unready_falls, up_fa
 use Rattle.group_facts.proofs.Numbers.{bounded_said, bounded_sent, bounded_took, spawn_fresh, unbegun_said, unbegun_sent, unbegun_took, untold_said, untold_sent, untold_took}
 use Rattle.group_facts.proofs.Numbered.{ending_tied, tied_life, tied_rests, tied_said, tied_sent, tied_took}
 use Rattle.group_facts.proofs.Opened.{opened_did, opened_none, opened_took}
-use Rattle.group_facts.proofs.Plain.{plain_did, plain_none, plain_took}
 use Rattle.group_facts.proofs.Quits.{not_stopped, stopped_back}
+use Rattle.group_facts.proofs.Results.{results_did, results_none, results_took}
 use Rattle.group_facts.proofs.SlowRow.{parting, parting_why, quit_built, quit_turns_none, slow_there, whole_entry}
 use Rattle.group_facts.proofs.StopEntry.{quit_rests, stopped_outs}
 use Rattle.group_facts.proofs.Table.{reasons}
@@ -59,7 +59,7 @@ module _ (settings : Settings) where
   -- What the events before tell
 
   base_took : (events : List Event) (cause : Cause) → built_behind settings events cause ≡ true → Base settings events → Base settings (with_cause events cause)
-  base_took events cause built h = record { opened = opened_took settings events cause h.opened; plain = plain_took settings events cause built h.plain; written = written_took settings events cause built h.written; meant = meant_more events (heard cause) h.meant (meant_heard cause) }
+  base_took events cause built h = record { opened = opened_took settings events cause h.opened; results = results_took events cause h.results; written = written_took settings events cause built h.written; meant = meant_more events (heard cause) h.meant (meant_heard cause) }
 
   -- a program that is to be ended was spawned
   begun_end : (events : List Event) (n : ℕ) → WhyEnd settings events n → (life_of n events).stage ≡ Unspawned → ⊥
@@ -67,16 +67,8 @@ module _ (settings : Settings) where
   begun_end events n (refused early left) at = let clash : Initializing ≡ Unspawned = sym early ∙ at in cc
   begun_end events n (stopped stopping) at = let clash : Stopping ≡ Unspawned = sym stopping ∙ at in cc
 
-  -- a start that is spawned wasn't before
-  fresh_out : (before : List Event) (cause : Cause) (events : List Event) (out : Out) → Why settings before cause events out → starts.Starts events → (s : ℕ) → Fresh is_up up_falls s (life_of s events) (said out)
-  fresh_out before cause events (Spawn n g) why none s = λ same. spawn_fresh is_up refl events none s (subst (λ k. nat_eq k s ≡ true) why.0 same)
-  fresh_out before cause events (ToEditor e body) why none s = tt
-  fresh_out before cause events (ToServer n body) why none s = tt
-  fresh_out before cause events (CloseEditor e) why none s = tt
-  fresh_out before cause events (EndServer n) why none s = tt
-
-  base_did : (events : List Event) (out : Out) → ((s : ℕ) → Fresh is_up up_falls s (life_of s events) (said out)) → Base settings events → Base settings (events ++ said out ∷ [])
-  base_did events out fresh h = record { opened = opened_did settings events out h.opened; plain = plain_did events out fresh h.plain; written = written_did settings events out h.written; meant = meant_more events (said out) h.meant (meant_said out) }
+  base_did : (events : List Event) (out : Out) → Base settings events → Base settings (events ++ said out ∷ [])
+  base_did events out h = record { opened = opened_did settings events out h.opened; results = results_did events out h.results; written = written_did settings events out h.written; meant = meant_more events (said out) h.meant (meant_said out) }
 
   -- At a cause
 
@@ -253,7 +245,7 @@ module _ (settings : Settings) where
     }
 
     pub here_did : (before : List Event) (cause : Cause) → Facts settings before → built_behind settings before cause ≡ true → (events : List Event) (out : Out) → Why settings before cause events out → Here before cause events → Here before cause (events ++ said out ∷ [])
-    here_did before cause facts built events out why h = record { base = base_did events out (fresh_out before cause events out why ((h.mid).steady).starts) h.base; mid = mid_did range before cause facts built events out why h.mid }
+    here_did before cause facts built events out why h = record { base = base_did events out h.base; mid = mid_did range before cause facts built events out why h.mid }
 
     pub entry_keeps : (before : List Event) (cause : Cause) → fits_behind before cause ≡ true → built_behind settings before cause ≡ true → Facts settings before → Facts settings (behind (with_cause before cause) (outs_of settings before cause))
     entry_keeps before cause fits built h =
@@ -277,7 +269,7 @@ module _ (settings : Settings) where
 
     pub no_facts : Facts settings []
     no_facts = record {
-      base = record { opened = opened_none settings; plain = plain_none; written = tt; meant = tt };
+      base = record { opened = opened_none settings; results = results_none; written = tt; meant = tt };
       steady = record { starts = λ s le. refl; unbegun = λ s un. (refl, refl); untold = λ s un u. refl; bounded = λ s up. (omega arith, omega arith); editors = λ e le. refl; asked = λ on s. tt; apart = λ s. tt; asks = no_asks settings; takes = no_takes settings; housed = λ s below. absurd (omega (arith, below)) };
       tied = λ s. tt;
       waiting = λ e. tt;

@@ -5,7 +5,7 @@ use Rattle.std.proofs.Common.{◌≡◌, ℕ, true, List, [], ◌∷◌, ◌++�
 use Rattle.json_text.specs.Json.{Json}
 use Rattle.mux_history.specs.declared.cause.Cause.TheVariants.{FromEditor}
 use Rattle.mux_history.specs.declared.out.Out.TheVariants.{ToEditor, ToServer, EndServer}
-use Rattle.rpc_message.specs.Message.{request, Id, message_of, id_bytes}
+use Rattle.rpc_message.specs.Message.{request, result, Id, message_of, id_bytes, result_bytes}
 use Rattle.rpc_message.specs.Texts.{ok_text, error_text, request_text, request_failed, error_tree}
 use Rattle.event_model.specs.declared.phase.Phase.TheVariants.{New, Waiting}
 use Rattle.event_model.specs.declared.stage.Stage.{Stage}
@@ -17,10 +17,10 @@ use Rattle.event_model.specs.Requests.{next_number}
 use Rattle.event_model.specs.Row.{Row, nothing, on, outs}
 use Rattle.event_model.specs.Settings.{Settings}
 use Rattle.event_model.specs.Spawns.{start_of}
-use Rattle.event_model.specs.Stages.{Life, is_ready, life_of}
+use Rattle.event_model.specs.Stages.{Life, is_first_result, life_of}
 use Rattle.event_model.proofs.Frames.{never}
 use Rattle.mux_facts.specs.Ranges.{InRange}
-use Rattle.mux_facts.proofs.Bodies.{refusal_says, welcome_says}
+use Rattle.mux_facts.proofs.Bodies.{refusal_says}
 use Rattle.mux_facts.proofs.Folds.{number_more, desk_more, life_more}
 use Rattle.mux_facts.proofs.Late.{error_told}
 use Rattle.mux_facts.proofs.Reasons.{Because, by_nothing, by_send, by_then, by_choose, by_look, by_on}
@@ -35,12 +35,13 @@ use Rattle.group_words.specs.Keys.{Common}
 use Rattle.group_words.specs.Placing.{changed, ended, evicting, first_from, founded, founding, idlest_from, joining, live_count, placed_in, takes, with_editor}
 use Rattle.group_words.proofs.Frames.{changed_length, groups_more, groups_stay}
 use Rattle.mux_facts.proofs.Keeps.{behind_nothing}
-use Rattle.group_words.specs.Rows.{answer_with, end_group, end_start, initialize_row, placed_row}
+use Rattle.group_words.specs.Rows.{answer_with, end_group, end_start, initialize_row, placed_row, shown_of}
 use Rattle.group_facts.specs.Lively.{IsDying, lives_at}
 use Rattle.group_facts.proofs.GroupEnds.{start_ends}
 use Rattle.group_facts.proofs.LiveGroups.{IsFair, over_at, placed_fair}
-use Rattle.group_facts.specs.Facts.{Bounded, IsPlain, IsWaiting, Plain, is_parting, is_put_out, is_up, turned_away}
+use Rattle.group_facts.specs.Facts.{Bounded, IsWaiting, Results, is_parting, is_put_out, turned_away}
 use Rattle.group_facts.proofs.RequestRow.{R, asked, desk_taken, either_desk}
+use Rattle.group_facts.proofs.ShownResult.{shown_says}
 use Rattle.group_facts.specs.Why.{turns_away, welcomes}
 
 -- a new group is the next one
@@ -63,10 +64,6 @@ placed_next limit key declared groups = go (first_from 0 (takes key declared) gr
     go : (o : Option ℕ) → IsNext (length groups) (joining o (founding limit groups))
     go (Some g) = tt
     go None = founded_next limit groups
-
-ready_up : (stage : Stage) → is_ready stage ≡ true → is_up stage ≡ true
-ready_up Ready h = refl
-ready_up other h = never (sym h)
 
 or_first : (a b : Bool) → a ≡ true → (a || b) ≡ true
 or_first true b h = refl
@@ -92,13 +89,10 @@ module _ (settings : Settings) (range : InRange settings) (before : List Event) 
       desk = desk_taken settings before e body ∙ ap₂ (λ p m. desk_hears p (desk_of e before).initialize body m) new says
 
   -- the result of a start that is ready
-  joins : Plain before → (s : ℕ) (given : List ℕ) → IsPlain given → Mine (answer_with e body given)
-  joins plain s given k = by_send (welcomes (record {
-    id = id;
-    r = k.r;
-    waiting = waits_now;
-    says = ap (λ z. message_of (ok_text (id_bytes body) z)) k.whole ∙ welcome_says body given id (codes "initialize") params k.id k.r says k.says;
-  }))
+  joins : (given : List ℕ) → is_first_result (message_of given) ≡ true → Mine (answer_with e body given)
+  joins given first =
+      let shown : (r : Json) × (message_of (ok_text (id_bytes body) (shown_of (result_bytes given))) ≡ result (Some id) r) = shown_says body given id (codes "initialize") params says first in
+      by_send (welcomes (record { id = id; r = shown.0; waiting = waits_now; says = shown.1 }))
 
   -- end(g), of an idle group
   unsent : (s : ℕ) → server_part s now ≡ server_part s before
@@ -177,12 +171,12 @@ module _ (settings : Settings) (range : InRange settings) (before : List Event) 
     turn = by_then (by_send (turns_away (record { id = id; x = error_tree request_failed; waiting = waits_now; turned = turned; says = refusal_says body id (codes "initialize") params request_failed says })))
         (by_send (or_first (turned_away settings before (FromEditor e body) e) ((nat_eq e e && is_parting before e (message_of body)) || is_put_out settings before (FromEditor e body) e) turned, there_still))
 
-  placed_why : Plain before → Bounded settings before → (p : Placed) → placed_for settings before e body (groups_of settings before) ≡ p → Mine (placed_row e body before p)
-  placed_why plain bounded (Joins g) at = by_on (λ none. by_nothing) (λ s start. by_choose (λ ready. by_on (λ none. by_nothing) (λ given found. joins plain s given (plain.whole s given (ready_up (life_of s before).stage ready) found))) (λ no. by_nothing))
-  placed_why plain bounded (Founds g) at = by_look (by_send (refl, founds_kept g at))
-  placed_why plain bounded (Evicts a g) at = by_then (evicts bounded a g at) (by_look (by_send (refl, subst (λ z. g < length z) (sym (evicted_groups (start_of a now))) (evicts_kept a g at))))
-  placed_why plain bounded TooMany at = turn at
+  placed_why : Results before → Bounded settings before → (p : Placed) → placed_for settings before e body (groups_of settings before) ≡ p → Mine (placed_row e body before p)
+  placed_why results bounded (Joins g) at = by_on (λ none. by_nothing) (λ s start. by_choose (λ ready. by_on (λ none. by_nothing) (λ given found. joins given (results.each s given found))) (λ no. by_nothing))
+  placed_why results bounded (Founds g) at = by_look (by_send (refl, founds_kept g at))
+  placed_why results bounded (Evicts a g) at = by_then (evicts bounded a g at) (by_look (by_send (refl, subst (λ z. g < length z) (sym (evicted_groups (start_of a now))) (evicts_kept a g at))))
+  placed_why results bounded TooMany at = turn at
 
   -- the whole row
-  pub initialize_why : Plain before → Bounded settings before → Mine (initialize_row settings before e body)
-  initialize_why plain bounded = placed_why plain bounded (placed_for settings before e body (groups_of settings before)) refl
+  pub initialize_why : Results before → Bounded settings before → Mine (initialize_row settings before e body)
+  initialize_why results bounded = placed_why results bounded (placed_for settings before e body (groups_of settings before)) refl

@@ -5,7 +5,7 @@ use Rattle.std.proofs.lemmas.Slice.Eq.{bytes_eq-Decides}
 use Rattle.json_text.specs.Json.{Json}
 use Rattle.mux_history.specs.declared.cause.Cause.{Cause}
 use Rattle.mux_history.specs.declared.cause.Cause.TheVariants.{Joined, FromEditor, EditorGone, Started, StartFailed, FromServer, ServerGone, Tick}
-use Rattle.rpc_message.specs.Message.{Message, request, notification, result, error, not_json, not_message, Id, message_of, result_bytes}
+use Rattle.rpc_message.specs.Message.{Message, request, notification, result, error, not_json, not_message, Id, message_of}
 use Rattle.rpc_message.specs.Texts.{error_tree, invalid_request}
 use Rattle.event_model.specs.declared.phase.Phase.{Phase}
 use Rattle.event_model.specs.declared.phase.Phase.TheVariants.{Absent, New, Waiting, Answered, Running, Down, Closed, Gone}
@@ -14,8 +14,7 @@ use Rattle.event_model.specs.Phases.{is_running, desk_of, is_begun, is_malformed
 use Rattle.event_model.specs.Requests.{is_open, open_of}
 use Rattle.event_model.specs.Row.{Row, choose, nothing, outs, ◌⨾◌}
 use Rattle.event_model.specs.Settings.{Settings}
-use Rattle.event_model.specs.Stages.{is_first_result, life_of}
-use Rattle.event_model.specs.declared.stage.Stage.TheVariants.{Initializing}
+use Rattle.event_model.specs.Stages.{life_of}
 use Rattle.lsp_method.specs.Class.{class_of}
 use Rattle.lsp_method.specs.declared.variants.Origin.TheVariants.{Editor}
 use Rattle.mux_model.specs.Methods.{is_wrong}
@@ -26,10 +25,9 @@ use Rattle.event_model.proofs.Frames.{never}
 use Rattle.mux_facts.proofs.Reasons.{Because, by_nothing, by_send, by_choose, by_then}
 use Rattle.mux_facts.proofs.Why.{is_early}
 use Rattle.group_words.specs.Houses.{is_doubled, stops}
-use Rattle.group_words.specs.Rows.{shown_of}
 use Rattle.group_rows.specs.AskRows.{run_row}
 use Rattle.group_rows.specs.Rows.{asks_lspmux, closing_row, down_row, early_code, early_row, exit_row, from_editor, lspmux_row, message_row, row_of, served_notice, served_request, served_row, taken_row, wrong_code}
-use Rattle.group_facts.specs.Built.{built_behind, built_early, built_from_server, is_shown_whole}
+use Rattle.group_facts.specs.Built.{built_behind}
 use Rattle.group_facts.specs.Facts.{AllForwarded, IsAlone, is_parting, leaves}
 use Rattle.group_facts.proofs.AskingRows.{response_why}
 use Rattle.group_facts.proofs.AnswerRows.{server_why, start_why}
@@ -117,7 +115,7 @@ module _ (settings : Settings) (range : InRange settings) (before : List Event) 
 
   new_why : (m : Message) → message_of body ≡ m → (desk_of e before).phase ≡ New → Mine (taken_row settings before e body m New)
   new_why (request id method params) says at = by_choose
-      (λ yes. initialize_why settings range before e body id params (says ∙ ap (λ z. request id z params) (sym ((bytes_eq-Decides (codes "initialize") method).0 yes))) at (facts.base).plain (facts.steady).bounded)
+      (λ yes. initialize_why settings range before e body id params (says ∙ ap (λ z. request id z params) (sym ((bytes_eq-Decides (codes "initialize") method).0 yes))) at (facts.base).results (facts.steady).bounded)
       (λ no. early_new settings before e body id method params says (ap is_there at) (alone_early before (asked_here (ap is_there at)) e id (ap is_early at)) (early_code method) at no)
   new_why (notification method params) says at = by_choose (λ yes. absurd (cc)) (λ no. exits (notification method params) says (ap is_there at))
   new_why (result id r) says at = by_choose (λ yes. absurd (cc)) (λ no. by_nothing)
@@ -221,30 +219,12 @@ module _ (settings : Settings) (range : InRange settings) (before : List Event) 
           (λ there. by_send (rejects (record { asked = body; x = error_tree (malformed_code (message_of body)); there = there; from = refl; place = refl; malformed = malformed; says = malformed_says (message_of body) })))
           (λ gone. by_nothing)
 
--- what is built of a start that gave no result yet: editors are shown all of its result
-pub shown_whole : (m : Message) (body : List ℕ) → built_early body m ≡ true → is_first_result m ≡ true → shown_of (result_bytes body) ≡ result_bytes body
-shown_whole (result id r) body h first = (bytes_eq-Decides (shown_of (result_bytes body)) (result_bytes body)).0 (first_whole (is_first_result (result id r)) (is_shown_whole body) first h)
-  where
-    first_whole : (a b : Bool) → a ≡ true → (not a || b) ≡ true → b ≡ true
-    first_whole true b is h = h
-    first_whole false b is h = absurd (cc)
-shown_whole (error id x) body h first = absurd (cc)
-shown_whole (request id method params) body h first = absurd (cc)
-shown_whole (notification method params) body h first = absurd (cc)
-shown_whole not_json body h first = absurd (cc)
-shown_whole not_message body h first = absurd (cc)
-
-pub first_shown : (settings : Settings) (before : List Event) (s : ℕ) (body : List ℕ) → built_from_server settings before s (life_of s before).stage body (message_of body) ≡ true
-    → (life_of s before).stage ≡ Initializing → is_first_result (message_of body) ≡ true → shown_of (result_bytes body) ≡ result_bytes body
-first_shown settings before s body built at first = shown_whole (message_of body) body (ap (λ stage. built_from_server settings before s stage body (message_of body)) (sym at) ∙ built) first
-
 module _ (settings : Settings) (range : InRange settings) (before : List Event) (facts : Facts settings before) where
   -- every out of every entry has its reason
   pub reasons : (cause : Cause) → built_behind settings before cause ≡ true → Because (Why settings before cause) (with_cause before cause) (row_of settings before cause)
   reasons (FromEditor e body) built = editor_why settings range before facts e body
   reasons (EditorGone e why) built = gone_why settings range before (facts.base).opened (facts.steady).bounded (facts.steady).asks e why (desk_of e before).phase
-  reasons (FromServer s body) built = server_why settings range before s body (facts.base).opened (facts.steady).untold facts.waiting (asked_while before (facts.steady).asked facts.quit) (facts.steady).apart (facts.base).meant (facts.steady).asks (facts.base).written (first_shown settings before s body built)
-      (λ at. ap (λ stage. built_from_server settings before s stage body (message_of body)) (sym at) ∙ built) (life_of s before).stage refl
+  reasons (FromServer s body) built = server_why settings range before s body (facts.base).opened (facts.steady).untold facts.waiting (asked_while before (facts.steady).asked facts.quit) (facts.steady).apart (facts.base).meant (facts.steady).asks (facts.base).written (life_of s before).stage refl
   reasons (Joined e) built = joined_why settings before e
   reasons (Started s) built = start_why settings before s (facts.base).written (life_of s before).stage refl
   reasons (Tick t) built = tick_why settings range.requests before (facts.steady).bounded t

@@ -30,7 +30,7 @@ use Rattle.group_rows.specs.Example.{all_outs, both_ask, closing, switching, two
 use Rattle.group_rows.specs.Forwarded.{forwarding_of}
 use Rattle.group_facts.specs.SlowExample.{few_bytes, slowing}
 use Rattle.group_facts.specs.Built.{built_behind}
-use Rattle.group_facts.specs.Example.{asking_again, asking_again_outs, one_group, one_waits, played, played_from, taken_from, two_ask, one_refused}
+use Rattle.group_facts.specs.Example.{asking_again, asking_again_outs, offering_more, offering_more_outs, one_group, one_waits, played, played_from, taken_from, two_ask, one_refused}
 use Rattle.group_facts.specs.Legal.{Legal, LegalFrom}
 use Rattle.group_facts.specs.SlowRows.{entry_outs}
 
@@ -110,6 +110,16 @@ it_is_refused = refl
 its_first_is_kept : message_of (desk_of 0 (events_of (played (with_groups 8) asking_again))).initialize ≡ message_of (codes "{\"jsonrpc\":\"2.0\",\"id\":0,\"method\":\"initialize\",\"params\":{\"rootUri\":\"file:///w\",\"capabilities\":{}}}")
 unfolding computes url_on_literals message_of named no_name_twice is_integer member_bytes with_id_text id_edits escape_byte digits own_request own_notification goes_nowhere editor_request editor_notification
 its_first_is_kept = refl
+
+-- A server that offers more than the multiplexer serves
+
+offering_more_is_legal : Legal (with_groups 8) (played (with_groups 8) offering_more)
+unfolding computes url_on_literals message_of named no_name_twice is_integer member_bytes with_id_text id_edits escape_byte digits own_request own_notification goes_nowhere editor_request editor_notification
+offering_more_is_legal = legal (with_groups 8) offering_more refl
+
+the_rest_is_shown : all_outs offering_more ≡ offering_more_outs
+unfolding computes url_on_literals message_of named no_name_twice is_integer member_bytes with_id_text id_edits escape_byte digits own_request own_notification goes_nowhere editor_request editor_notification
+the_rest_is_shown = refl
 
 -- What a start asks
 

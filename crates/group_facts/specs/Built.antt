@@ -1,31 +1,20 @@
--- Which causes meet only rows of the table over several editors and groups that are built, until all are.
--- Not built of a start: the end of a program whose group goes on with a new start.
--- Of S2, what is read back must be what was meant: editors are shown all of the result.
-use Rattle.std.specs.Prelude.{ℕ, Bool, true, false, not, ◌&&◌, ◌||◌, List, bytes_eq}
-use Rattle.std.specs.Prelude.{Some}
+-- Which causes meet only rows of the table over several editors and groups that are built, until all are: all but the end of a program whose group goes on with a new start.
+use Rattle.std.specs.Prelude.{ℕ, Bool, true, false, not, ◌&&◌, List}
 use Rattle.std.specs.Option.{option_map_or}
 use Rattle.mux_history.specs.declared.cause.Cause.{Cause}
-use Rattle.mux_history.specs.declared.cause.Cause.TheVariants.{Joined, FromEditor, EditorGone, Started, StartFailed, FromServer, ServerGone, Drained, Tick}
+use Rattle.mux_history.specs.declared.cause.Cause.TheVariants.{StartFailed, ServerGone}
 use Rattle.mux_history.specs.declared.entry.Entry.{Entry}
-use Rattle.lsp_method.specs.Class.{class_of}
 use Rattle.lsp_method.specs.declared.variants.Class.{Class}
-use Rattle.lsp_method.specs.declared.variants.Class.TheVariants.{Broadcast, Cancel, Create, Diagnostics, Focused, Folders, Initialize, Lowest, Other, Progress, Refresh, Register, Shutdown, Unregister, Wrong}
-use Rattle.lsp_method.specs.declared.variants.Origin.TheVariants.{Editor, Server}
-use Rattle.rpc_message.specs.Message.{Id, Message, request, notification, result, message_of, result_bytes}
+use Rattle.lsp_method.specs.declared.variants.Class.TheVariants.{Initialize, Other, Shutdown, Wrong}
+use Rattle.rpc_message.specs.Message.{Id}
 use Rattle.event_model.specs.declared.phase.Phase.{Phase}
-use Rattle.event_model.specs.declared.stage.Stage.{Stage}
-use Rattle.event_model.specs.declared.stage.Stage.TheVariants.{Initializing, Ready, Stopping, Ending}
 use Rattle.event_model.specs.Event.{Event, events_of}
-use Rattle.event_model.specs.Phases.{is_begun, is_malformed}
+use Rattle.event_model.specs.Phases.{is_begun}
 use Rattle.event_model.specs.Requests.{is_open}
 use Rattle.event_model.specs.Settings.{Settings}
 use Rattle.event_model.specs.Spawns.{group_of}
-use Rattle.event_model.specs.Stages.{life_of, is_first_result}
 use Rattle.group_words.specs.Houses.{groups_of}
-use Rattle.group_words.specs.Rows.{shown_of}
-use Rattle.group_rows.specs.Asks.{asking_of, is_taken}
 use Rattle.group_rows.specs.ExitRows.{begins_again}
-use Rattle.group_rows.specs.Rows.{names_lspmux}
 use Rattle.group_facts.specs.Lively.{lives_at}
 
 -- a method of the standard, not of the multiplexer
@@ -40,70 +29,14 @@ is_standard _ = false
 abbrev pub doubles : Phase → Id → List Id → Bool
 doubles phase id ids = is_begun phase && is_open id ids
 
--- E3 to E10 and J2
-abbrev pub built_request : List ℕ → Bool
-built_request method = names_lspmux method || is_standard (class_of method Editor false)
-
-abbrev pub built_from_editor : Message → Bool
-built_from_editor (request id method params) = built_request method
-built_from_editor other = true
-
--- S2: editors are shown all of the result
-abbrev pub is_shown_whole : List ℕ → Bool
-is_shown_whole body = bytes_eq (shown_of (result_bytes body)) (result_bytes body)
-
--- S2 to S4
-abbrev pub built_early : List ℕ → Message → Bool
-built_early body (result id r) = not (is_first_result (result id r)) || is_shown_whole body
-built_early body other = true
-
--- S6 to S12
-abbrev pub built_asking : Class → Bool
-built_asking Create = true
-built_asking Refresh = true
-built_asking Folders = true
-built_asking Focused = true
-built_asking Lowest = true
-built_asking Register = true
-built_asking Unregister = true
-built_asking _ = false
-
--- S13 to S15, and what goes to each editor
-abbrev pub built_telling : Class → Bool
-built_telling Cancel = true
-built_telling Progress = true
-built_telling Diagnostics = true
-built_telling Broadcast = true
-built_telling _ = false
-
--- of a start that is ready: a request under the id of an open ask, and those; S5
-abbrev pub built_ready : Settings → List Event → ℕ → Message → Bool
-built_ready settings before s (request id method params) = is_taken (Some id) (asking_of settings s before) || built_asking (class_of method Server false)
-built_ready settings before s (notification method params) = built_telling (class_of method Server true)
-built_ready settings before s other = true
-
--- S4 of a start that is to end; S1 in every stage, and those
-abbrev pub built_from_server : Settings → List Event → ℕ → Stage → List ℕ → Message → Bool
-built_from_server settings before s Initializing body m = built_early body m
-built_from_server settings before s Ready body m = built_ready settings before s m
-built_from_server settings before s Stopping body m = true
-built_from_server settings before s Ending body m = true
-built_from_server settings before s other body m = is_malformed m
-
 -- the start's group lives no more
 abbrev pub is_left : Settings → List Event → ℕ → Bool
 is_left settings before s = not (option_map_or (λ g. lives_at g (groups_of settings before)) (group_of s before) false)
 
 abbrev pub built_behind : Settings → List Event → Cause → Bool
-built_behind settings before (Joined e) = true
-built_behind settings before (Started s) = true
-built_behind settings before (FromEditor e body) = built_from_editor (message_of body)
-built_behind settings before (EditorGone e why) = true
-built_behind settings before (FromServer s body) = built_from_server settings before s (life_of s before).stage body (message_of body)
-built_behind settings before (Drained e k) = true
 built_behind settings before (StartFailed s) = not (begins_again settings before s)
 built_behind settings before (ServerGone s) = not (begins_again settings before s)
-built_behind settings before (Tick t) = true
+built_behind settings before other = true
 
 abbrev pub built : Settings → List Entry → Cause → Bool
 built settings history cause = built_behind settings (events_of history) cause

@@ -90,3 +90,21 @@ asking_again_outs = Spawn 0 0
     ∷ ToEditor 0 (codes "{\"jsonrpc\":\"2.0\",\"id\":4,\"error\":{\"code\":-32600,\"message\":\"Invalid Request\"}}")
     ∷ CloseEditor 0
     ∷ []
+
+-- a server that offers notebooks and workspace folders, which the multiplexer doesn't serve, beside others: an editor that waits and one that comes later are shown the others
+abbrev pub offering_more : List Cause
+offering_more = Joined 0
+    ∷ FromEditor 0 (codes "{\"jsonrpc\":\"2.0\",\"id\":0,\"method\":\"initialize\",\"params\":{\"rootUri\":\"file:///w\",\"capabilities\":{}}}")
+    ∷ Started 0
+    ∷ FromServer 0 (codes "{\"jsonrpc\":\"2.0\",\"id\":1,\"result\":{\"capabilities\": {\"hoverProvider\": true, \"notebookDocumentSync\": {\"notebookSelector\": [{\"notebook\": \"*\"}]}, \"workspace\" : {\"workspaceFolders\": {\"supported\": true}, \"fileOperations\": {}}}, \"serverInfo\": {\"name\": \"s\"}}}")
+    ∷ Joined 1
+    ∷ FromEditor 1 (codes "{\"jsonrpc\":\"2.0\",\"id\":\"a\",\"method\":\"initialize\",\"params\":{\"rootUri\":\"file:///w\",\"capabilities\":{}}}")
+    ∷ []
+
+abbrev pub offering_more_outs : List Out
+offering_more_outs = Spawn 0 0
+    ∷ ToServer 0 (codes "{\"jsonrpc\":\"2.0\",\"id\":1,\"method\":\"initialize\",\"params\":{\"processId\":null,\"clientInfo\":{\"name\":\"lspmux\"},\"rootUri\":\"file:///w\",\"capabilities\":{},\"trace\":\"off\"}}")
+    ∷ ToServer 0 (codes "{\"jsonrpc\":\"2.0\",\"method\":\"initialized\",\"params\":{}}")
+    ∷ ToEditor 0 (codes "{\"jsonrpc\":\"2.0\",\"id\":0,\"result\":{\"capabilities\": {\"hoverProvider\": true,\"workspace\" : {\"fileOperations\": {}}}, \"serverInfo\": {\"name\": \"s\"}}}")
+    ∷ ToEditor 1 (codes "{\"jsonrpc\":\"2.0\",\"id\":\"a\",\"result\":{\"capabilities\": {\"hoverProvider\": true,\"workspace\" : {\"fileOperations\": {}}}, \"serverInfo\": {\"name\": \"s\"}}}")
+    ∷ []

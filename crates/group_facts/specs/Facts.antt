@@ -9,7 +9,7 @@ use Rattle.document_model.specs.Texts.{Texts}
 use Rattle.mux_history.specs.declared.cause.Cause.{Cause}
 use Rattle.mux_history.specs.declared.cause.Cause.TheVariants.{EditorGone, FromEditor, FromServer, Joined, ServerGone, StartFailed}
 use Rattle.mux_history.specs.declared.out.Out.TheVariants.{ToEditor, ToServer}
-use Rattle.rpc_message.specs.Message.{Id, Message, integer, request, result, message_of, result_bytes, same_id}
+use Rattle.rpc_message.specs.Message.{Id, Message, integer, request, message_of, same_id}
 use Rattle.rpc_message.specs.ValueTexts.{IsIdText, IsShallowText}
 use Rattle.event_model.specs.declared.phase.Phase.{Phase}
 use Rattle.event_model.specs.declared.phase.Phase.TheVariants.{Absent, New, Waiting}
@@ -20,13 +20,13 @@ use Rattle.event_model.specs.Phases.{desk_of, editors_of, is_begun, is_there, is
 use Rattle.event_model.specs.Requests.{answered_id, next_number, is_open, open_of, with_request, without}
 use Rattle.event_model.specs.Settings.{Settings}
 use Rattle.event_model.specs.Spawns.{group_of, starts_of}
-use Rattle.event_model.specs.Stages.{is_initializing, is_ready, life_of, no_life}
+use Rattle.event_model.specs.Stages.{is_first_result, is_initializing, is_ready, life_of, no_life}
 use Rattle.mux_model.specs.Documents.{held_at}
 use Rattle.group_words.specs.declared.kept.Kept.{Kept}
 use Rattle.group_words.specs.declared.placed.Placed.{Placed}
 use Rattle.group_words.specs.declared.placed.Placed.TheVariants.{TooMany}
 use Rattle.group_words.specs.Houses.{groups_of, home_of, is_doubled, is_first_error, is_home, places, placed_for, stops}
-use Rattle.group_words.specs.Rows.{folders_text, initialize_of, result_of, shown_of}
+use Rattle.group_words.specs.Rows.{folders_text, initialize_of, result_of}
 use Rattle.group_rows.specs.Asks.{Ask, Parked, asks_of, is_patient, is_under, parked_of, waits_under}
 use Rattle.group_rows.specs.Created.{Taking, created_of}
 use Rattle.group_rows.specs.ExitRows.{ends_group}
@@ -71,16 +71,9 @@ is_up Initializing = true
 is_up Ready = true
 is_up other = false
 
--- editors are shown all of the result that a start gave
-pub record IsPlain (body : List ℕ) : Type 0 where
-  pub id : Option Id
-  pub r : Json
-  pub says : message_of body ≡ result id r
-  pub whole : shown_of (result_bytes body) ≡ result_bytes body
-
--- and isn't to end; and one that is ready gave one
-pub record Plain (events : List Event) : Type 0 where
-  pub whole : (s : ℕ) (body : List ℕ) → is_up (life_of s events).stage ≡ true → result_of s events ≡ Some body → IsPlain body
+-- what a start gave is a result with id 1, and one that is ready gave one
+pub record Results (events : List Event) : Type 0 where
+  pub each : (s : ℕ) (body : List ℕ) → result_of s events ≡ Some body → is_first_result (message_of body) ≡ true
   pub given : (s : ℕ) → is_ready (life_of s events).stage ≡ true → is_some (result_of s events) ≡ true
 
 -- the daemon's own `initialize` to the starts of a group is a request with the number 1, and its folders are a value's text
@@ -323,6 +316,6 @@ pub record Known (settings : Settings) (events : List Event) : Type 0 where
   pub stopped : Stopped events
   pub waiting : WaitingAsked events
   pub opened : Opened settings events
-  pub plain : Plain events
+  pub results : Results events
   pub written : Written settings events
   pub meant : Meant events

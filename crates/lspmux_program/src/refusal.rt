@@ -1,8 +1,7 @@
 // Why a line is refused.
-ghost use Rattle.std.specs.Prelude.{◌≡◌, ℕ, ◌≤◌, Ok, Err, false, true, IsTrue, IfOk, IfErr, IfSome, IfNone, Some, List};
+ghost use Rattle.std.specs.Prelude.{◌≡◌, Ok, Err, false, IsTrue, IfOk, IfSome, IfNone, Some, List};
 ghost use Rattle.mux_history.specs.declared.entry.Entry.{Entry};
-ghost use Rattle.mux_history.specs.Cores.{body_length};
-ghost use Rattle.mux_hub.specs.Hubs.{HubView, HubStands};
+ghost use Rattle.mux_hub.specs.Hubs.{HubStands};
 ghost use Rattle.mux_model.specs.Fits.{fits};
 ghost use Rattle.mux_hub.specs.group_facts.specs.Built.{built};
 ghost use Rattle.lspmux_program.specs.Runs.{judged};
@@ -10,7 +9,6 @@ ghost use Rattle.lspmux_program.specs.Runs.{judged};
 use message_body::Memory;
 use mux_history::{Cause, Journal};
 use mux_hub::Hub;
-use std::alloc::Global;
 
 /// The most bytes of a body.
 pub const CONTENT: u32 = 67_108_864;
@@ -29,7 +27,6 @@ pub enum Refusal {
 /// Why a cause is refused, if it is.
 pub fn refusal_of<J: Journal>(cause: &Cause, hub: &Hub<J>) -> Result<Option<Refusal>, Memory>
     requires ready { hub.now.spent ≡ false }
-    requires small { body_length cause.now ≤ 67108864 }
     ensures refused { (history : List Entry) → HubStands J.told hub.now history
         → IfOk result (λ refusal. IfSome refusal (λ r. judged hub.now.settings history (Some cause.now) ≡ Err r)) }
     ensures taken { (history : List Entry) → HubStands J.told hub.now history

@@ -8,8 +8,6 @@ use Rattle.json_text.specs.Tree.{tree_of}
 use Rattle.mux_history.specs.declared.cause.Cause.TheVariants.{FromEditor}
 use Rattle.mux_history.specs.declared.out.Out.{Out}
 use Rattle.rpc_message.specs.Message.{Message, message_of}
-use Rattle.rpc_message.specs.ValueTexts.{IsShallowText}
-use Rattle.rpc_message.proofs.Ids.{result_bytes_law}
 use Rattle.event_model.specs.declared.phase.Phase.{Phase}
 use Rattle.event_model.specs.declared.phase.Phase.TheVariants.{Absent, New, Waiting, Answered, Running, Down, Closed, Gone}
 use Rattle.event_model.specs.declared.settings.Server.{Server}
@@ -28,10 +26,9 @@ use Rattle.event_model.proofs.Turns.{alike, alike_then, does_alike, does_nothing
 use Rattle.editor_session.specs.declared.session.Session.{Session}
 use Rattle.capability_meet.specs.DeclaredTree.{declared_of, declared_tree}
 use Rattle.capability_meet.specs.MeetTree.{whole_text}
-use Rattle.mux_turns.specs.group_facts.specs.Facts.{Numbered, Plain, is_up}
+use Rattle.mux_turns.specs.group_facts.specs.Facts.{Numbered}
 use Rattle.mux_turns.specs.group_facts.specs.Settled.{Settled}
 use Rattle.mux_turns.specs.group_facts.proofs.Waiting.{new_is}
-use Rattle.mux_turns.proofs.Ready.{is_that_ready}
 use Rattle.mux_turns.proofs.Rows.{is_second}
 use Rattle.mux_tables.specs.group_table.specs.Tables.{declared_text}
 use Rattle.group_words.specs.declared.idle.Idle.{Idle}
@@ -48,7 +45,6 @@ use Rattle.mux_tables.specs.Stands.{HasEnded, Stands, phase_in}
 use Rattle.mux_tables.proofs.Frames.{itself}
 use Rattle.mux_turns.specs.group_facts.specs.Ceilings.{HaveCeilings, IsCeiling}
 use Rattle.mux_turns.specs.Founding.{IsNext}
-use Rattle.mux_turns.specs.Welcomes.{IsShown}
 use Rattle.mux_turns.proofs.Evictions.{numbered_heard}
 use Rattle.mux_turns.proofs.Matched.{whole_entry}
 
@@ -222,12 +218,6 @@ module _ (before : List Event) (e : ℕ) (body : List ℕ) (xs : List Out) (firs
 
   pub numbered_now : Numbered before → Numbered (behind (with_cause before (FromEditor e body)) xs)
   numbered_now k = subst Numbered (sym here) (numbered_heard before e body k)
-
--- what editors are shown of a start's result
-pub shown_by : (before : List Event) → Plain before → (s : ℕ) (given : List ℕ) → is_ready (life_of s before).stage ≡ true → result_of s before ≡ Some given → IsShown given
-shown_by before plain s given ready gave =
-    let p = plain.whole s given (ap is_up (is_that_ready (life_of s before).stage ready)) gave in
-    record { value = p.r; text = subst (IsShallowText 1023 p.r) (sym p.whole) (result_bytes_law given p.id p.r p.says) }
 
 -- an editor that joins a group waits, where its start isn't ready behind the message
 pub joins_waits : (settings : Settings) (t : Tables) (before : List Event) (e : ℕ) (body : List ℕ) (g : ℕ) (xs : List Out) → xs ≡ [] → (Stands settings t (with_cause before (FromEditor e body)) → Alike (placed_row e body (with_cause before (FromEditor e body)) (Joins g)) nothing)

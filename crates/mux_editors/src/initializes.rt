@@ -6,7 +6,7 @@ ghost use Rattle.event_model.specs.Does.{Does, Done};
 ghost use Rattle.event_model.specs.Event.{Event, with_cause};
 ghost use Rattle.event_model.specs.Phases.{desk_of};
 ghost use Rattle.event_model.specs.Settings.{Settings};
-ghost use Rattle.mux_turns.specs.group_facts.specs.Facts.{Known, Plain};
+ghost use Rattle.mux_turns.specs.group_facts.specs.Facts.{Known, Results};
 ghost use Rattle.mux_turns.specs.group_facts.specs.Settled.{Settled};
 ghost use Rattle.group_words.specs.declared.placed.Placed.TheVariants.{Joins};
 ghost use Rattle.group_words.specs.Houses.{groups_of, placed_for, places, server_for};
@@ -85,7 +85,7 @@ fn join(
     ensures requests { tables.new.requests ≡ tables.old.requests }
     ensures versions { tables.new.versions ≡ tables.old.versions }
     ensures does { (settings : Settings) (before : List Event) (body method : List ℕ) (id : Id) (params : Option Json) → IsRead message.now body
-        → message_of body ≡ request id method params → places (desk_of e before).phase (message_of body) ≡ true → Plain before → outs.old ≡ []
+        → message_of body ≡ request id method params → places (desk_of e before).phase (message_of body) ≡ true → Results before → outs.old ≡ []
         → AllStand settings (tables.old, nothing_owed) (with_cause before (FromEditor e body))
         → OnOk result (Does (λ k events. AllStand settings k events) (placed_row e body before (Joins g)) (with_cause before (FromEditor e body))
         (tables.old, nothing_owed) outs.old (tables.new, nothing_owed) outs.new) }

@@ -1,8 +1,8 @@
--- What the causes that are built say of a message of an editor.
-use Rattle.std.proofs.Common.{◌≡◌, ℕ, Bool, true, false, not, ◌&&◌, ◌||◌, List, refl, ap, sym, ◌∙◌, ◌⊎◌, inl, inr, codes, bytes_eq}
+-- What the class and the sort of a message of an editor say of it.
+use Rattle.std.proofs.Common.{◌≡◌, ℕ, Bool, true, false, not, ◌&&◌, ◌||◌, List, refl, ap, sym, ◌∙◌, ◌⊎◌, inl, inr, codes, bytes_eq, arith}
 use Rattle.std.specs.Prelude.{Option, Some}
 use Rattle.json_text.specs.Json.{Json}
-use Rattle.lsp_method.specs.Class.{class_of}
+use Rattle.lsp_method.specs.Class.{class_of, editor_request, own_request}
 use Rattle.lsp_method.specs.declared.variants.Class.{Class}
 use Rattle.lsp_method.specs.declared.variants.Class.TheVariants as class
 use Rattle.lsp_method.specs.declared.variants.Origin.TheVariants.{Editor}
@@ -16,13 +16,13 @@ use Rattle.event_model.specs.declared.phase.Phase.{Phase}
 use Rattle.event_model.specs.declared.phase.Phase.TheVariants.{Absent, New, Waiting, Answered, Running, Down, Closed, Gone}
 use Rattle.event_model.specs.Event.{Event, requests}
 use Rattle.event_model.specs.Phases.{desk_of, is_begun, is_served, is_there, needs_server}
-use Rattle.mux_starts.specs.group_facts.specs.Built.{built_from_editor, is_standard}
+use Rattle.mux_starts.specs.group_facts.specs.Built.{is_standard}
 use Rattle.mux_starts.specs.group_facts.specs.Facts.{is_early}
 use Rattle.group_rows.specs.Rows.{asks_lspmux, names_lspmux}
 use Rattle.group_words.specs.Houses.{is_doubled, stops}
 use Rattle.group_rows.specs.Rows.{is_misplaced}
 use Rattle.mux_starts.specs.mux_tables.specs.Documents.{changes_documents}
-use Rattle.mux_editors.proofs.Classes.{first_named, is_initialize}
+use Rattle.mux_editors.proofs.Classes.{first_named, is_initialize, swapped}
 
 pub second_of : (a b : Bool) → (a && b) ≡ true → b ≡ true
 second_of true b h = h
@@ -40,11 +40,6 @@ not_so : (a : Bool) → not a ≡ true → a ≡ false
 not_so false h = refl
 not_so true h = absurd (cc)
 
--- a request that isn't the multiplexer's own
-other_built : (b c : Bool) → b ≡ false → (b || c) ≡ true → c ≡ true
-other_built true c h k = absurd (cc)
-other_built false c h k = k
-
 -- a message that isn't the multiplexer's own stops nothing
 last_off : (a b c : Bool) → (a || (b || c)) ≡ false → c ≡ false
 last_off a b false h = refl
@@ -58,8 +53,20 @@ unasked_goes before e (request id method params) none = ap (λ b. b && (is_there
 unasked_goes before e other none = refl
 
 -- a request that isn't the multiplexer's own is one of the standard
-pub standard_built : (id : Id) (method : List ℕ) (params : Option Json) → names_lspmux method ≡ false → built_from_editor (request id method params) ≡ true → is_standard (class_of method Editor false) ≡ true
-standard_built id method params none h = other_built (names_lspmux method) (is_standard (class_of method Editor false)) none h
+standard_named : (m : List ℕ) → bytes_eq m (codes "lspmux/open") ≡ false → bytes_eq m (codes "lspmux/status") ≡ false → bytes_eq m (codes "lspmux/stop") ≡ false → is_standard (class_of m Editor false) ≡ true
+unfolding editor_request own_request
+standard_named m a b c = grind arith
+
+none_of : (a b c : Bool) → (a || (b || c)) ≡ false → (a ≡ false) × ((b ≡ false) × (c ≡ false))
+none_of false false false h = (refl, (refl, refl))
+none_of true b c h = absurd (cc)
+none_of false true c h = absurd (cc)
+none_of false false true h = absurd (cc)
+
+pub standard_asks : (method : List ℕ) → names_lspmux method ≡ false → is_standard (class_of method Editor false) ≡ true
+standard_asks method none =
+    let k = none_of (bytes_eq (codes "lspmux/open") method) (bytes_eq (codes "lspmux/status") method) (bytes_eq (codes "lspmux/stop") method) none in
+    standard_named method (swapped (codes "lspmux/open") method k.0) (swapped (codes "lspmux/status") method k.1.0) (swapped (codes "lspmux/stop") method k.1.1)
 
 -- a request of an editor that is there, which isn't the multiplexer's own
 pub unasked_there : (p : Phase) (m : Message) → is_there p ≡ true → (is_there p && asks_lspmux m) ≡ false → asks_lspmux m ≡ false

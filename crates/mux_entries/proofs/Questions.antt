@@ -1,8 +1,8 @@
 -- What a start that is ready asks and tells, by its row.
-use Rattle.std.proofs.Common.{◌≡◌, ℕ, Bool, true, false, ◌||◌, List, [], ◌∷◌, refl, ap, sym, ◌∙◌}
+use Rattle.std.proofs.Common.{◌≡◌, ℕ, Bool, true, false, List, [], ◌∷◌, refl, ap, sym, ◌∙◌, arith}
 use Rattle.std.specs.Prelude.{Some}
 use Rattle.std.specs.List.{AllByRecursion}
-use Rattle.lsp_method.specs.Class.{class_of}
+use Rattle.lsp_method.specs.Class.{class_of, server_notification, server_request}
 use Rattle.lsp_method.specs.declared.variants.Class.{Class}
 use Rattle.lsp_method.specs.declared.variants.Class.TheVariants.{Broadcast, Cancel, Create, Diagnostics, Focused, Folders, Lowest, Progress, Refresh, Register, Unregister}
 use Rattle.lsp_method.specs.declared.variants.Origin.TheVariants.{Server}
@@ -20,7 +20,6 @@ use Rattle.event_model.specs.Spawns.{group_of}
 use Rattle.event_model.specs.Stages.{life_of}
 use Rattle.event_model.proofs.Frames.{never}
 use Rattle.event_model.proofs.Turns.{alike}
-use Rattle.mux_starts.specs.group_facts.specs.Built.{built_asking, built_from_server, built_ready, built_telling}
 use Rattle.mux_starts.specs.group_facts.specs.Settled.{HasSeat, Settled}
 use Rattle.mux_starts.specs.group_facts.proofs.StopDown.{ready_unstopped}
 use Rattle.group_rows.specs.AskRows.{asking_row}
@@ -29,27 +28,49 @@ use Rattle.group_rows.specs.Rows.{from_server}
 use Rattle.group_rows.specs.Rows as rows
 use Rattle.mux_starts.specs.mux_tables.specs.Stands.{is_request}
 
--- classes that aren't built
-pub unbuilt_class : {A : Type 0} (c : Class) → (c ≡ Refresh → ⊥) → (c ≡ Folders → ⊥) → (c ≡ Focused → ⊥) → (c ≡ Lowest → ⊥) → (c ≡ Register → ⊥) → (c ≡ Unregister → ⊥) → (c ≡ Create → ⊥) → built_asking c ≡ true → A
-unbuilt_class Refresh r d f l g u n h = absurd (r refl)
-unbuilt_class Folders r d f l g u n h = absurd (d refl)
-unbuilt_class Focused r d f l g u n h = absurd (f refl)
-unbuilt_class Lowest r d f l g u n h = absurd (l refl)
-unbuilt_class Register r d f l g u n h = absurd (g refl)
-unbuilt_class Unregister r d f l g u n h = absurd (u refl)
-unbuilt_class Create r d f l g u n h = absurd (n refl)
-unbuilt_class other r d f l g u n h = never (sym h)
+-- the classes of a server's requests
+abbrev pub is_asking : Class → Bool
+is_asking Create = true
+is_asking Refresh = true
+is_asking Folders = true
+is_asking Focused = true
+is_asking Lowest = true
+is_asking Register = true
+is_asking Unregister = true
+is_asking _ = false
 
-pub broadcasts : (c : Class) → (c ≡ Cancel → ⊥) → (c ≡ Progress → ⊥) → (c ≡ Diagnostics → ⊥) → built_telling c ≡ true → c ≡ Broadcast
+pub asked_kinds : (m : List ℕ) → is_asking (class_of m Server false) ≡ true
+unfolding server_request
+asked_kinds m = grind arith
+
+pub lowest : (c : Class) → (c ≡ Refresh → ⊥) → (c ≡ Folders → ⊥) → (c ≡ Focused → ⊥) → (c ≡ Register → ⊥) → (c ≡ Unregister → ⊥) → (c ≡ Create → ⊥) → is_asking c ≡ true → c ≡ Lowest
+lowest Refresh r d f g u n h = absurd (r refl)
+lowest Folders r d f g u n h = absurd (d refl)
+lowest Focused r d f g u n h = absurd (f refl)
+lowest Register r d f g u n h = absurd (g refl)
+lowest Unregister r d f g u n h = absurd (u refl)
+lowest Create r d f g u n h = absurd (n refl)
+lowest Lowest r d f g u n h = refl
+lowest _ r d f g u n h = never (sym h)
+
+-- the classes of its notifications
+abbrev pub is_telling : Class → Bool
+is_telling Cancel = true
+is_telling Progress = true
+is_telling Diagnostics = true
+is_telling Broadcast = true
+is_telling _ = false
+
+pub told_kinds : (m : List ℕ) → is_telling (class_of m Server true) ≡ true
+unfolding server_notification
+told_kinds m = grind arith
+
+pub broadcasts : (c : Class) → (c ≡ Cancel → ⊥) → (c ≡ Progress → ⊥) → (c ≡ Diagnostics → ⊥) → is_telling c ≡ true → c ≡ Broadcast
 broadcasts Cancel other more most h = absurd (other refl)
 broadcasts Progress other more most h = absurd (more refl)
 broadcasts Diagnostics other more most h = absurd (most refl)
 broadcasts Broadcast other more most h = refl
 broadcasts c other more most h = never (sym h)
-
--- it is under no open id
-pub built_else : (a b : Bool) → a ≡ false → (a || b) ≡ true → b ≡ true
-built_else a b none h = ap (λ c. c || b) (sym none) ∙ h
 
 pub question_there : (settings : Settings) (before : List Event) (s g : ℕ) (body method : List ℕ) → group_of s before ≡ Some g → Alike (on (group_of s before) nothing (λ h. asking_row settings before h s body method (class_of method Server false))) (asking_row settings before g s body method (class_of method Server false))
 question_there settings before s g body method home = alike (ap (λ o. on o nothing (λ h. asking_row settings before h s body method (class_of method Server false))) home)
@@ -75,6 +96,3 @@ all_run settings before s ready settled = go (asks_of settings s before) (settle
 module _ (settings : Settings) (before : List Event) (s : ℕ) (body : List ℕ) (m : Message) (stage : (life_of s before).stage ≡ Ready) (is : message_of body ≡ m) where
   pub asks_here : Alike (from_server settings s before body (message_of body) (life_of s before).stage) (rows.ready_row settings s before body m)
   asks_here = alike (ap (from_server settings s before body (message_of body)) stage ∙ ap (rows.ready_row settings s before body) is)
-
-  pub built_here : built_from_server settings before s (life_of s before).stage body (message_of body) ≡ true → built_ready settings before s m ≡ true
-  built_here built = ap (built_ready settings before s) (sym is) ∙ (ap (λ g. built_from_server settings before s g body (message_of body)) (sym stage) ∙ built)

@@ -1,19 +1,11 @@
 -- What a start says, by where it stands.
-use Rattle.std.proofs.Common.{◌≡◌, ℕ, Bool, true, false, not, List, [], ◌∷◌, map, nat_eq, refl, ap, sym, subst, ◌∙◌, codes, if◌then◌else◌, ◌||◌}
+use Rattle.std.proofs.Common.{◌≡◌, ℕ, Bool, true, false, not, List, [], ◌∷◌, map, nat_eq, refl, ap, sym, subst, ◌∙◌, codes, if◌then◌else◌}
 use Rattle.std.specs.Prelude.{Option, Some, None, bytes_eq, find, fold, slice_get}
 use Rattle.std.proofs.lemmas.Bool.{and_parts}
-use Rattle.std.proofs.lemmas.Slice.Eq.{bytes_eq-Decides}
 use Rattle.json_text.specs.Json.{Json}
 use Rattle.mux_history.specs.declared.cause.Cause.TheVariants.{Joined, FromEditor, EditorGone, Started, StartFailed, FromServer, ServerGone, Drained, Tick}
 use Rattle.mux_history.specs.declared.out.Out.TheVariants.{ToEditor, ToServer, Spawn, CloseEditor, EndServer}
-use Rattle.rpc_message.specs.declared.envelope.Envelope.{Envelope}
-use Rattle.rpc_message.specs.declared.envelope.Envelope.TheVariants.{Request, Notification, Outcome, Failure}
-use Rattle.rpc_message.specs.Envelopes.{Tells}
-use Rattle.json_nodes.specs.Doc.{Doc}
-use Rattle.rpc_message.specs.Message.{Message, Id, message_of, request, notification, result, error, not_json, not_message, result_bytes}
-use Rattle.rpc_message.specs.Parsed.{IsRead, Parsed}
-use Rattle.rpc_message.specs.ValueTexts.{IsShallowText}
-use Rattle.rpc_message.proofs.Ids.{result_bytes_law}
+use Rattle.rpc_message.specs.Message.{Message, Id, message_of, request, notification, result, error, not_json, not_message}
 use Rattle.event_model.specs.declared.stage.Stage.{Stage}
 use Rattle.event_model.specs.declared.stage.Stage.TheVariants.{Unspawned, Spawning, Initializing, Ready, Stopping, Ending, Ended}
 use Rattle.event_model.specs.Does.{Alike}
@@ -25,15 +17,16 @@ use Rattle.event_model.specs.Settings.{Settings}
 use Rattle.event_model.specs.Stages.{Life, is_ended, is_first_result, life_behind, life_of, no_life, runs, stage_ending, stage_hears, stage_started, stage_told}
 use Rattle.event_model.proofs.Frames.{never}
 use Rattle.event_model.proofs.Turns.{alike, alike_then}
-use Rattle.mux_starts.specs.group_facts.specs.Built.{built_early, built_from_server, is_shown_whole}
+use Rattle.mux_starts.specs.group_facts.proofs.Ceased.{all_spawned, is_spawned}
+use Rattle.mux_starts.specs.group_facts.proofs.ShownResult.{shown_value}
 use Rattle.mux_starts.specs.group_facts.specs.Facts.{AllForwarded, IsForwarded, WaitingAsked, is_early}
 use Rattle.group_rows.specs.Answers.{answer_row, hand_on}
 use Rattle.group_rows.specs.Rows as rows
+use Rattle.event_model.specs.Spawns.{start_of}
 use Rattle.group_rows.specs.Forwarded.{Forwarded, answered_by, forwarding_of, names}
 use Rattle.group_rows.specs.Rows.{first_result, from_server, refused_row, hasty_row, stopping_row}
 use Rattle.group_rows.specs.Ends.{last_number}
 use Rattle.group_words.specs.Houses.{is_first_error}
-use Rattle.group_words.specs.Rows.{shown_of}
 use Rattle.mux_starts.specs.mux_facts.proofs.Lists.{found_is}
 use Rattle.mux_starts.specs.mux_tables.specs.declared.tables.Start.{Start}
 use Rattle.mux_starts.specs.mux_tables.specs.declared.tables.Tables.{Tables}
@@ -213,29 +206,6 @@ module _ (settings : Settings) (s : ℕ) (before : List Event) (body : List ℕ)
       pub hasty_here : (id : Id) (method : List ℕ) (params : Option Json) → m ≡ request id method params → Alike (from_server settings s before body m stage) (hasty_row s body (request id method params))
       hasty_here id method params is = alike_then second_row (alike (ap (hasty_row s body) is))
 
--- a body that was read is a message
-tells_one : (doc : Doc) (envelope : Envelope) (m : Message) → Tells doc envelope m → is_malformed m ≡ false
-tells_one doc (Request id method params) m h = ap is_malformed h.is
-tells_one doc (Notification method params) m h = ap is_malformed h.is
-tells_one doc (Outcome id value) m h = ap is_malformed h.is
-tells_one doc (Failure id failure) m h = ap is_malformed h.is
-
-pub read_well : (parsed : Parsed) (body : List ℕ) → IsRead parsed body → is_malformed (message_of body) ≡ false
-read_well parsed body read = tells_one parsed.doc parsed.envelope (message_of body) read.tells
-
--- what is built of a start that gave no result yet: that result is shown whole
-early_whole : (body : List ℕ) (m : Message) → built_early body m ≡ true → is_first_result m ≡ true → is_shown_whole body ≡ true
-early_whole body (result id r) h first = go (is_first_result (result id r)) first h
-  where
-    go : (b : Bool) → b ≡ true → (not b || is_shown_whole body) ≡ true → is_shown_whole body ≡ true
-    go true is k = k
-    go false is k = absurd (cc)
-early_whole body (error id r) h first = absurd (cc)
-early_whole body (request id method params) h first = absurd (cc)
-early_whole body (notification method params) h first = absurd (cc)
-early_whole body not_json h first = absurd (cc)
-early_whole body not_message h first = absurd (cc)
-
 -- S2
 first_is : (m : Message) → is_first_result m ≡ true → (id : Option Id) × (r : Json) × (m ≡ result id r)
 first_is (result id r) h = (id, r, refl)
@@ -257,19 +227,17 @@ pub record IsFirst (settings : Settings) (before : List Event) (s : ℕ) (body :
   pub shown : IsShown body
   pub row : Alike (from_server settings s before body (message_of body) (life_of s before).stage) (first_result settings before s body)
 
-module _ (settings : Settings) (before : List Event) (s : ℕ) (body : List ℕ) (stage : (life_of s before).stage ≡ Initializing) (built : built_from_server settings before s (life_of s before).stage body (message_of body) ≡ true) where
-  now_built : built_early body (message_of body) ≡ true
-  now_built = ap (λ g. built_from_server settings before s g body (message_of body)) (sym stage) ∙ built
-
+module _ (settings : Settings) (before : List Event) (s : ℕ) (body : List ℕ) (stage : (life_of s before).stage ≡ Initializing) where
   pub first_entry : is_first_result (message_of body) ≡ true → IsFirst settings before s body
   first_entry first =
       let k = first_is (message_of body) first in
+      let shown = shown_value body first in
       record {
         id = k.0;
         value = k.1;
         says = k.2;
         first = first;
-        shown = record { value = k.1; text = subst (IsShallowText 1023 k.1) (sym ((bytes_eq-Decides (shown_of (result_bytes body)) (result_bytes body)).0 (early_whole body (message_of body) now_built first))) (result_bytes_law body k.0 k.1 k.2) };
+        shown = record { value = shown.0; text = shown.1 };
         row = is_first (ap (from_server settings s before body (message_of body)) stage) first;
       }
 
@@ -288,16 +256,13 @@ answer_here settings before s body stage r n = alike (ap (from_server settings s
 pub stopped_row : (settings : Settings) (before : List Event) (s : ℕ) (body : List ℕ) → (life_of s before).stage ≡ Stopping → Alike (from_server settings s before body (message_of body) (life_of s before).stage) (stopping_row s before (message_of body))
 stopped_row settings before s body stage = alike (ap (from_server settings s before body (message_of body)) stage)
 
--- in other stages no message is built
-others_none : (settings : Settings) (before : List Event) (s : ℕ) (stage : Stage) (body : List ℕ) (m : Message) → (stage ≡ Initializing → ⊥) → (stage ≡ Ready → ⊥) → (stage ≡ Stopping → ⊥) → (stage ≡ Ending → ⊥) → built_from_server settings before s stage body m ≡ is_malformed m
-others_none settings before n Initializing body m i r s e = absurd (i refl)
-others_none settings before n Ready body m i r s e = absurd (r refl)
-others_none settings before n Stopping body m i r s e = absurd (s refl)
-others_none settings before n Ending body m i r s e = absurd (e refl)
-others_none settings before n Unspawned body m i r s e = refl
-others_none settings before n Spawning body m i r s e = refl
-others_none settings before n Ended body m i r s e = refl
-
-pub built_elsewhere : {A : Type 0} (settings : Settings) (before : List Event) (n : ℕ) (stage kept : Stage) (body : List ℕ) (m : Message) → stage ≡ kept → (kept ≡ Initializing → ⊥) → (kept ≡ Ready → ⊥) → (kept ≡ Stopping → ⊥) → (kept ≡ Ending → ⊥)
-    → is_malformed m ≡ false → built_from_server settings before n stage body m ≡ true → A
-built_elsewhere settings before n stage kept body m at i r s e well built = never (sym built ∙ others_none settings before n stage body m (λ h. i (sym at ∙ h)) (λ h. r (sym at ∙ h)) (λ h. s (sym at ∙ h)) (λ h. e (sym at ∙ h)) ∙ well)
+-- a start that is the last of its group, and whose program runs, is in one of these stages
+pub runs_elsewhere : {A : Type 0} (before : List Event) (g s : ℕ) (stage : Stage) → start_of g before ≡ Some s → runs (life_of s before) ≡ true → (life_of s before).stage ≡ stage
+    → (stage ≡ Initializing → ⊥) → (stage ≡ Ready → ⊥) → (stage ≡ Stopping → ⊥) → (stage ≡ Ending → ⊥) → A
+runs_elsewhere before g s Initializing last run at i r p e = absurd (i refl)
+runs_elsewhere before g s Ready last run at i r p e = absurd (r refl)
+runs_elsewhere before g s Stopping last run at i r p e = absurd (p refl)
+runs_elsewhere before g s Ending last run at i r p e = absurd (e refl)
+runs_elsewhere before g s Unspawned last run at i r p e = never (sym (all_spawned g s before last) ∙ ap is_spawned at)
+runs_elsewhere before g s Spawning last run at i r p e = absurd (runs_late s before Spawning run at refl)
+runs_elsewhere before g s Ended last run at i r p e = never (sym (and_parts (life_of s before).started (not (is_ended (life_of s before).stage)) run).1 ∙ ap (λ q. not (is_ended q)) at)

@@ -6,7 +6,7 @@ ghost use Rattle.event_model.specs.Event.{Event, requests, with_cause};
 ghost use Rattle.event_model.specs.Phases.{desk_of, is_begun, is_served, is_there};
 ghost use Rattle.event_model.specs.Row.{◌⨾◌};
 ghost use Rattle.event_model.specs.Settings.{Settings};
-ghost use Rattle.mux_starts.specs.group_facts.specs.Built.{built_behind, is_standard};
+ghost use Rattle.mux_starts.specs.group_facts.specs.Built.{is_standard};
 ghost use Rattle.mux_starts.specs.group_facts.specs.Facts.{Known, Meant, is_early};
 ghost use Rattle.mux_starts.specs.group_facts.specs.Settled.{Settled};
 ghost use Rattle.group_rows.specs.Rows.{asks_lspmux, down_row, early_row, exit_row, lspmux_row, row_of, served_request, served_row};
@@ -187,7 +187,6 @@ fn from_new(
     ensures same_versions { tables.new.versions ≡ tables.old.versions }
     ensures does { (settings : Settings) (before : List Event) (body : List ℕ) → IsRead message.now body → (desk_of e before).phase ≡ New
         → settings.servers ≡ servers.now → settings.default ≡ default → outs.old ≡ [] → Known settings before → Settled settings before
-        → built_behind settings before (FromEditor e body) ≡ true
         → (is_there (desk_of e before).phase && asks_lspmux (message_of body)) ≡ false
         → Stands settings tables.old before → DocumentsStand settings nothing_owed tables.old before
         → OnOk result (Done (λ k events. AllStand settings k events) (row_of settings before (FromEditor e body))
@@ -285,7 +284,7 @@ fn from_served(
     ensures same_limit { tables.new.requests ≡ tables.old.requests }
     ensures same_versions { tables.new.versions ≡ tables.old.versions }
     ensures does { (settings : Settings) (before : List Event) (body : List ℕ) → IsRead message.now body → is_served (desk_of e before).phase ≡ true
-        → outs.old ≡ [] → Known settings before → Settled settings before → built_behind settings before (FromEditor e body) ≡ true
+        → outs.old ≡ [] → Known settings before → Settled settings before
         → (is_begun (desk_of e before).phase && is_doubled before e (message_of body)) ≡ false
         → (is_there (desk_of e before).phase && asks_lspmux (message_of body)) ≡ false
         → Stands settings tables.old before → DocumentsStand settings nothing_owed tables.old before
@@ -327,7 +326,7 @@ fn from_phase(
     ensures same_versions { tables.new.versions ≡ tables.old.versions }
     ensures does { (settings : Settings) (before : List Event) (body : List ℕ) → IsRead message.now body
         → settings.servers ≡ servers.now → settings.default ≡ default → outs.old ≡ [] → Known settings before → Settled settings before
-        → fits_behind before (FromEditor e body) ≡ true → built_behind settings before (FromEditor e body) ≡ true
+        → fits_behind before (FromEditor e body) ≡ true
         → (is_begun (desk_of e before).phase && is_doubled before e (message_of body)) ≡ false
         → (is_there (desk_of e before).phase && asks_lspmux (message_of body)) ≡ false
         → Stands settings tables.old before → DocumentsStand settings nothing_owed tables.old before
@@ -390,7 +389,7 @@ fn from_doubled(
     ensures same_limit { tables.new.requests ≡ tables.old.requests }
     ensures same_versions { tables.new.versions ≡ tables.old.versions }
     ensures does { (settings : Settings) (before : List Event) (body : List ℕ) → IsRead message.now body
-        → outs.old ≡ [] → built_behind settings before (FromEditor e body) ≡ true
+        → outs.old ≡ []
         → (is_begun (desk_of e before).phase && is_doubled before e (message_of body)) ≡ true
         → Settled settings before → Stands settings tables.old before → DocumentsStand settings nothing_owed tables.old before
         → OnOk result (Done (λ k events. AllStand settings k events) (row_of settings before (FromEditor e body))
@@ -454,7 +453,7 @@ fn from_single(
     ensures same_versions { tables.new.versions ≡ tables.old.versions }
     ensures does { (settings : Settings) (before : List Event) (body : List ℕ) → IsRead message.now body
         → settings.servers ≡ servers.now → settings.default ≡ default → outs.old ≡ [] → Known settings before → Settled settings before
-        → fits_behind before (FromEditor e body) ≡ true → built_behind settings before (FromEditor e body) ≡ true
+        → fits_behind before (FromEditor e body) ≡ true
         → (is_begun (desk_of e before).phase && is_doubled before e (message_of body)) ≡ false
         → Stands settings tables.old before → DocumentsStand settings nothing_owed tables.old before
         → OnOk result (Done (λ k events. AllStand settings k events) (row_of settings before (FromEditor e body))
@@ -487,7 +486,7 @@ fn from_message(
     ensures same_versions { tables.new.versions ≡ tables.old.versions }
     ensures does { (settings : Settings) (before : List Event) (body : List ℕ) → IsRead message.now body
         → settings.servers ≡ servers.now → settings.default ≡ default → outs.old ≡ [] → Known settings before → Settled settings before
-        → fits_behind before (FromEditor e body) ≡ true → built_behind settings before (FromEditor e body) ≡ true
+        → fits_behind before (FromEditor e body) ≡ true
         → Stands settings tables.old before → DocumentsStand settings nothing_owed tables.old before
         → OnOk result (Done (λ k events. AllStand settings k events) (row_of settings before (FromEditor e body))
         (with_cause before (FromEditor e body)) [] (tables.new, nothing_owed) outs.new) }
@@ -545,7 +544,6 @@ pub fn from_editor(
     ensures same_versions { tables.new.versions ≡ tables.old.versions }
     ensures does { (settings : Settings) (before : List Event) → settings.servers ≡ servers.now → settings.default ≡ default → outs.old ≡ []
         → Known settings before → Settled settings before → fits_behind before (FromEditor e body.now) ≡ true
-        → built_behind settings before (FromEditor e body.now) ≡ true
         → Stands settings tables.old before → DocumentsStand settings nothing_owed tables.old before
         → OnOk result (Done (λ k events. AllStand settings k events) (row_of settings before (FromEditor e body.now))
         (with_cause before (FromEditor e body.now)) [] (tables.new, nothing_owed) outs.new) }

@@ -7,7 +7,6 @@ ghost use Rattle.event_model.specs.Requests.{answered_id};
 ghost use Rattle.event_model.specs.Row.{nothing};
 ghost use Rattle.event_model.specs.Settings.{Settings};
 ghost use Rattle.event_model.specs.Stages.{is_first_result, life_of, runs};
-ghost use Rattle.mux_starts.specs.group_facts.specs.Built.{built_asking, built_behind, built_ready, built_telling};
 ghost use Rattle.mux_starts.specs.group_facts.specs.Facts.{Known};
 ghost use Rattle.mux_starts.specs.group_facts.specs.Settled.{Settled};
 ghost use Rattle.group_rows.specs.AskRows.{asking_row, notified_row, question_row};
@@ -124,7 +123,6 @@ fn take_first(
     ensures same_versions { tables.new.versions ≡ tables.old.versions }
     ensures does { (settings : Settings) (before : List Event) (body : List ℕ) (s : ℕ) → IsRead message.now body → outs.old ≡ []
         → slice_get (map number_in tables.old.lasts.items) g ≡ Some s → Known settings before → runs (life_of s before) ≡ true
-        → built_behind settings before (FromServer s body) ≡ true
         → Stands settings tables.old before → DocumentsStand settings nothing_owed tables.old before
         → OnOk result (Done (λ k events. AllStand settings k events) (row_of settings before (FromServer s body))
         (with_cause before (FromServer s body)) [] (tables.new, nothing_owed) outs.new) }
@@ -141,7 +139,7 @@ fn take_first(
     }
 }
 
-// S6 to S12: a request comes from a start that is ready, under the id of no open ask; other classes aren't built.
+// S6 to S12: a request comes from a start that is ready, under the id of no open ask.
 fn take_class(
     tables: &mut Tables,
     alloc: Global,
@@ -154,7 +152,7 @@ fn take_class(
     ensures same_versions { tables.new.versions ≡ tables.old.versions }
     ensures does { (settings : Settings) (before : List Event) (body method : List ℕ) (id : Id) (params : Option Json) (s : ℕ) (x : Start)
         → IsRead message.now body → message_of body ≡ request id method params → is_taken (Some id) (asking_of settings s before) ≡ false
-        → built_asking (class_of method Server false) ≡ true → outs.old ≡ []
+        → outs.old ≡ []
         → slice_get tables.old.lasts.items g ≡ Some x → x.life.stage ≡ Ready → slice_get (map number_in tables.old.lasts.items) g ≡ Some s
         → Known settings before → Settled settings before
         → Stands settings tables.old before → DocumentsStand settings nothing_owed tables.old before
@@ -174,10 +172,6 @@ fn take_class(
             take_focused(tables, alloc, outs, g, message)?;
             Ok(())
         }
-        Class::Lowest => {
-            take_lowest(tables, alloc, outs, g, message)?;
-            Ok(())
-        }
         Class::Register => {
             take_register(tables, alloc, outs, g, message)?;
             Ok(())
@@ -190,7 +184,10 @@ fn take_class(
             take_create(tables, alloc, outs, g, message)?;
             Ok(())
         }
-        _ => Ok(()),
+        _ => {
+            take_lowest(tables, alloc, outs, g, message)?;
+            Ok(())
+        }
     }
 }
 
@@ -207,7 +204,7 @@ fn take_question(
     ensures same_versions { tables.new.versions ≡ tables.old.versions }
     ensures does { (settings : Settings) (before : List Event) (body method : List ℕ) (id : Id) (params : Option Json) (s : ℕ) (x : Start)
         → IsRead message.now body → message_of body ≡ request id method params
-        → built_ready settings before s (request id method params) ≡ true → outs.old ≡ []
+        → outs.old ≡ []
         → slice_get tables.old.lasts.items g ≡ Some x → x.life.stage ≡ Ready → slice_get (map number_in tables.old.lasts.items) g ≡ Some s
         → Known settings before → Settled settings before
         → Stands settings tables.old before → DocumentsStand settings nothing_owed tables.old before
@@ -223,7 +220,7 @@ fn take_question(
     }
 }
 
-// S13 to S15, and what goes to each editor: a notification comes from a start that is ready; other classes aren't built.
+// S13 to S15, and what goes to each editor: a notification comes from a start that is ready.
 fn take_telling(
     tables: &mut Tables,
     alloc: Global,
@@ -236,7 +233,7 @@ fn take_telling(
     ensures same_versions { tables.new.versions ≡ tables.old.versions }
     ensures does { (settings : Settings) (before : List Event) (body method : List ℕ) (params : Option Json) (s : ℕ) (x : Start)
         → IsRead message.now body → message_of body ≡ notification method params
-        → built_telling (class_of method Server true) ≡ true → outs.old ≡ [] → Known settings before → Settled settings before
+        → outs.old ≡ [] → Known settings before → Settled settings before
         → slice_get tables.old.lasts.items g ≡ Some x → x.life.stage ≡ Ready → slice_get (map number_in tables.old.lasts.items) g ≡ Some s
         → Stands settings tables.old before → DocumentsStand settings nothing_owed tables.old before
         → OnOk result (Done (λ k events. AllStand settings k events) (notified_row settings s before body params (class_of method Server true))
@@ -276,7 +273,6 @@ fn take_ready(
     ensures same_versions { tables.new.versions ≡ tables.old.versions }
     ensures does { (settings : Settings) (before : List Event) (body : List ℕ) (s : ℕ) → IsRead message.now body → outs.old ≡ []
         → slice_get (map number_in tables.old.lasts.items) g ≡ Some s → Known settings before → Settled settings before
-        → built_behind settings before (FromServer s body) ≡ true
         → Stands settings tables.old before → DocumentsStand settings nothing_owed tables.old before
         → OnOk result (Done (λ k events. AllStand settings k events) (row_of settings before (FromServer s body))
         (with_cause before (FromServer s body)) [] (tables.new, nothing_owed) outs.new) }
@@ -298,7 +294,7 @@ fn take_ready(
 }
 
 // A message comes from the group's last start. Behind its `shutdown` the response to it ends the start, and all else there, as all
-// behind its end, gives nothing (S4); in other stages than these none is built.
+// behind its end, gives nothing (S4); a start whose program runs is in no other stage than these.
 fn take_message(
     tables: &mut Tables,
     alloc: Global,
@@ -311,7 +307,6 @@ fn take_message(
     ensures same_versions { tables.new.versions ≡ tables.old.versions }
     ensures does { (settings : Settings) (before : List Event) (body : List ℕ) (s : ℕ) → IsRead message.now body → outs.old ≡ []
         → slice_get (map number_in tables.old.lasts.items) g ≡ Some s → Known settings before → Settled settings before → runs (life_of s before) ≡ true
-        → built_behind settings before (FromServer s body) ≡ true
         → Stands settings tables.old before → DocumentsStand settings nothing_owed tables.old before
         → OnOk result (Done (λ k events. AllStand settings k events) (row_of settings before (FromServer s body))
         (with_cause before (FromServer s body)) [] (tables.new, nothing_owed) outs.new) }
@@ -352,7 +347,6 @@ fn take_body(
     ensures same_versions { tables.new.versions ≡ tables.old.versions }
     ensures does { (settings : Settings) (before : List Event) (s : ℕ) → outs.old ≡ []
         → slice_get (map number_in tables.old.lasts.items) g ≡ Some s → Known settings before → Settled settings before → runs (life_of s before) ≡ true
-        → built_behind settings before (FromServer s body.now) ≡ true
         → Stands settings tables.old before → DocumentsStand settings nothing_owed tables.old before
         → OnOk result (Done (λ k events. AllStand settings k events) (row_of settings before (FromServer s body.now))
         (with_cause before (FromServer s body.now)) [] (tables.new, nothing_owed) outs.new) }
@@ -384,7 +378,7 @@ pub fn from_server(
     ensures same_limit { tables.new.requests ≡ tables.old.requests }
     ensures same_versions { tables.new.versions ≡ tables.old.versions }
     ensures does { (settings : Settings) (before : List Event) → outs.old ≡ [] → Known settings before → Settled settings before
-        → fits_behind before (FromServer s body.now) ≡ true → built_behind settings before (FromServer s body.now) ≡ true
+        → fits_behind before (FromServer s body.now) ≡ true
         → Stands settings tables.old before → DocumentsStand settings nothing_owed tables.old before
         → OnOk result (Done (λ k events. AllStand settings k events) (row_of settings before (FromServer s body.now))
         (with_cause before (FromServer s body.now)) [] (tables.new, nothing_owed) outs.new) }

@@ -1,15 +1,15 @@
 -- The count of causes and outs: behind one more entry, and where it would be too great.
-use Rattle.std.proofs.Common.{◌≡◌, ℕ, ◌+◌, ◌≤◌, Bool, true, false, List, [], ◌∷◌, ◌++◌, length, map, nat_lt, if◌then◌else◌, refl, ap, ap₂, sym, subst, ◌∙◌, arith, length-append}
-use Rattle.std.specs.Prelude.{Option, Some, None, Result, Ok, Err, IsErrOf, IfOk}
+use Rattle.std.proofs.Common.{◌≡◌, ℕ, ◌+◌, ◌≤◌, Bool, true, false, List, [], ◌∷◌, ◌++◌, length, map, nat_lt, if◌then◌else◌, refl, ap, ap₂, sym, ◌∙◌, arith, length-append}
+use Rattle.std.specs.Prelude.{Some, None}
 use Rattle.std.proofs.lemmas.Bool.Decides.{nat_tests}
 use Rattle.std.proofs.lemmas.List.{length-map}
 use Rattle.std.proofs.lemmas.List.Sums.{fold-append}
 use Rattle.mux_history.specs.declared.cause.Cause.{Cause}
 use Rattle.mux_history.specs.declared.entry.Entry.{Entry}
 use Rattle.mux_history.specs.declared.out.Out.{Out}
-use Rattle.event_model.specs.Event.{Event, heard, said, with_cause, with_entry, events_of}
+use Rattle.event_model.specs.Event.{heard, said, with_cause, with_entry, events_of}
 use Rattle.event_model.specs.Settings.{Settings}
-use Rattle.mux_hub.specs.Entries.{emits, entry_of, most_events, passes}
+use Rattle.mux_hub.specs.Entries.{emits, most_events, passes}
 
 -- one more entry is its cause and its outs
 pub entry_counts : (history : List Entry) (entry : Entry) → length (events_of (history ++ entry ∷ [])) ≡ length (events_of history) + (1 + length entry.outs)

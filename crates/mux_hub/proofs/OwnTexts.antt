@@ -1,8 +1,7 @@
 -- Behind one more entry each message that went on behind a sync stood on its editor's own texts.
-use Rattle.std.proofs.Common.{◌≡◌, ℕ, ◌≤◌, ◌<◌, ◌^◌, Bool, true, false, List, [], ◌∷◌, ◌++◌, flat_map, length, map, fold, nat_lt, refl, sym, ◌∙◌, ap, subst, append-nil, append_assoc, arith, ltb-true}
+use Rattle.std.proofs.Common.{◌≡◌, ℕ, ◌<◌, ◌^◌, true, List, [], ◌∷◌, ◌++◌, flat_map, map, fold, refl, sym, ◌∙◌, ap, subst, append-nil, append_assoc}
 use Rattle.std.specs.Prelude.{Option, Some, None, slice_get}
 use Rattle.std.specs.List.{AllByRecursion}
-use Rattle.std.proofs.lemmas.Bool.Decides.{nat_tests}
 use Rattle.mux_history.specs.declared.cause.Cause.{Cause}
 use Rattle.mux_history.specs.declared.cause.Cause.TheVariants.{FromEditor}
 use Rattle.mux_history.specs.declared.entry.Entry.{Entry}
@@ -23,7 +22,7 @@ use Rattle.event_model.specs.Settings.{Settings}
 use Rattle.event_model.specs.Spawns.{group_behind, group_of, start_of}
 use Rattle.event_model.specs.Stages.{Life, is_ready, life_of}
 use Rattle.event_model.proofs.Frames.{never, one_more, outs_more}
-use Rattle.event_model.proofs.Places.{item_at, same_item}
+use Rattle.event_model.proofs.Places.{same_item}
 use Rattle.focus_switch.specs.Documents.{Documents, version_held}
 use Rattle.mux_facts.specs.Ranges.{InRange}
 use Rattle.mux_facts.proofs.DocumentRow.{ready_is}
@@ -43,7 +42,6 @@ use Rattle.mux_causes.specs.group_laws.specs.Stands.{HeldStands}
 use Rattle.mux_causes.specs.group_laws.proofs.OwnTexts.{own_texts}
 use Rattle.mux_causes.specs.group_laws.proofs.Asking.{sync_speaks, to}
 use Rattle.mux_causes.specs.group_laws.proofs.Entries.{first_behind, texts_told}
-use Rattle.mux_causes.specs.mux_tables.specs.declared.tables.Start.{Start}
 use Rattle.mux_causes.specs.mux_tables.specs.declared.tables.Tables.{Tables}
 use Rattle.mux_causes.specs.mux_tables.specs.Documents.{DocumentsStand, SharedStands, nothing_owed}
 use Rattle.mux_causes.specs.mux_tables.specs.Stands.{Stands, of_life}

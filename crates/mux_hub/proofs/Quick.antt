@@ -1,11 +1,11 @@
 -- No editor is slow behind an entry: those that were leave behind its row.
-use Rattle.std.proofs.Common.{◌≡◌, ℕ, ◌<◌, ◌≤◌, Bool, true, false, List, [], ◌++◌, length, nat_lt, refl, ap, sym, subst, ◌∙◌, arith, ltb-false, ltb-true}
+use Rattle.std.proofs.Common.{◌≡◌, ℕ, ◌≤◌, true, List, [], ◌++◌, length, ap, sym, subst, ◌∙◌, arith}
 use Rattle.std.proofs.lemmas.Option.{slice_get_past}
 use Rattle.mux_history.specs.declared.cause.Cause.{Cause}
 use Rattle.mux_history.specs.declared.cause.Cause.TheVariants.{Joined}
 use Rattle.mux_history.specs.declared.out.Out.{Out}
 use Rattle.event_model.specs.Event.{Event, behind}
-use Rattle.event_model.specs.Phases.{backlog_of, desk_of, editors_of, is_there}
+use Rattle.event_model.specs.Phases.{backlog_of, editors_of}
 use Rattle.event_model.specs.Row.{outs}
 use Rattle.event_model.specs.Settings.{Settings}
 use Rattle.event_model.proofs.Frames.{never}
@@ -15,7 +15,7 @@ use Rattle.mux_model.specs.Fits.{fits_behind}
 use Rattle.group_sessions.specs.group_facts.specs.SlowRows.{slow_row}
 use Rattle.mux_causes.specs.Backlogs.{BacklogsStand, bytes_in}
 use Rattle.mux_causes.specs.mux_tables.specs.declared.tables.Tables.{Tables}
-use Rattle.mux_causes.specs.mux_tables.specs.Stands.{Stands, phase_in}
+use Rattle.mux_causes.specs.mux_tables.specs.Stands.{Stands}
 use Rattle.mux_slow.specs.Told.{Quick}
 use Rattle.mux_slow.proofs.Joined.{there_joined}
 use Rattle.mux_slow.proofs.Quick.{quick_rests}

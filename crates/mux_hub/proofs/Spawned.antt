@@ -1,5 +1,5 @@
 -- The servers of the starts, one event further.
-use Rattle.std.proofs.Common.{◌≡◌, ℕ, zero, suc, ◌+◌, List, [], ◌∷◌, ◌++◌, fold, length, map, take, get_or, refl, ap, ap₂, sym, subst, ◌∙◌, append_assoc, append-nil, arith, if◌then◌else◌, Bool, true, false, not, ◌&&◌}
+use Rattle.std.proofs.Common.{◌≡◌, ℕ, zero, suc, List, [], ◌∷◌, ◌++◌, fold, length, map, take, refl, ap, ap₂, sym, ◌∙◌, append_assoc, append-nil, if◌then◌else◌, Bool, true, false, not, ◌&&◌}
 use Rattle.std.specs.Prelude.{Option, Some, None, slice_get}
 use Rattle.std.proofs.lemmas.List.{length-append}
 use Rattle.mux_history.specs.declared.cause.Cause.{Cause}
@@ -11,7 +11,7 @@ use Rattle.event_model.specs.Settings.{Settings}
 use Rattle.event_model.specs.Spawns.{starts_of, starts_behind}
 use Rattle.group_words.specs.declared.kept.Kept.{Kept}
 use Rattle.event_model.specs.Phases.{desk_of, is_begun}
-use Rattle.group_words.specs.Houses.{emptied, groups_of, groups_next, has_editor, house_of, idle_if_live, time_of}
+use Rattle.group_words.specs.Houses.{emptied, groups_of, has_editor, house_of, idle_if_live, time_of}
 use Rattle.group_words.specs.Past.{past}
 use Rattle.group_words.specs.Placing.{changed, idle_from}
 use Rattle.group_words.proofs.Frames.{groups_more, groups_stay, past_more}

@@ -1,10 +1,9 @@
 // The hub: the tables, the journal, and whether a step had a fault.
-ghost use Rattle.std.specs.Prelude.{◌≡◌, ℕ, ◌+◌, ◌^◌, ◌≤◌, ◌<◌, ◌↔◌, List, [], ◌∷◌, ◌++◌, Bool, true, false, length, nat_lt, if◌then◌else◌, Some, None, IsTrue, IsNone, IfOk, OnOk, OnErr, IsErrOf, IfErr, slice_get};
+ghost use Rattle.std.specs.Prelude.{◌≡◌, ◌+◌, ◌^◌, ◌≤◌, ◌<◌, ◌↔◌, List, [], ◌∷◌, ◌++◌, true, false, nat_lt, if◌then◌else◌, Some, None, IsTrue, IsNone, IfOk, OnOk, OnErr, IsErrOf, IfErr, slice_get};
 ghost use Rattle.group_sessions.specs.group_facts.specs.Ceilings.{HaveCeilings};
 ghost use Rattle.outside_io.specs.Faults.{Rose};
 ghost use Rattle.mux_history.specs.declared.entry.Entry.{Entry};
 ghost use Rattle.mux_history.specs.Cores.{body_length, joined, spawns};
-ghost use Rattle.mux_history.specs.Journals.{append_told};
 ghost use Rattle.event_model.specs.Event.{Event, behind, events_of, with_cause};
 ghost use Rattle.event_model.specs.Settings.{Settings};
 ghost use Rattle.mux_model.specs.Fits.{fits, fits_behind};
@@ -31,10 +30,9 @@ use std::marker::Model;
 // answer is an error they stand for nothing any more.
 fn turn(
     alloc: Global,
+    limits: &Limits,
     servers: &[Server],
     default: u32,
-    grace: u64,
-    backlog: u64,
     tables: &mut Tables,
     backlogs: &mut Backlogs,
     starts: &mut Vec<u32>,
@@ -46,16 +44,16 @@ fn turn(
     requires ceilings { HaveCeilings servers.now }
     ensures same_limit { tables.new.requests ≡ tables.old.requests }
     ensures same_versions { tables.new.versions ≡ tables.old.versions }
-    ensures takes { (settings : Settings) (before : List Event) → settings.servers ≡ servers.now → settings.default ≡ default → settings.limits.grace ≡ grace
-        → settings.limits.backlog ≡ backlog → Known settings before → Settled settings before
+    ensures takes { (settings : Settings) (before : List Event) → settings.limits ≡ limits.now → settings.servers ≡ servers.now → settings.default ≡ default
+        → Known settings before → Settled settings before
         → fits_behind before cause.now ≡ true → built_behind settings before cause.now ≡ true
         → TablesStand settings tables.old backlogs.old starts.old.items before
         → IfOk result (λ outs. (outs ≡ entry_outs settings before cause.now)
         × TablesStand settings tables.new backlogs.new starts.new.items (behind (with_cause before cause.now) outs)) }
 {
-    let mut outs = mux_entries::take(tables, alloc, servers, default, grace, cause)?;
+    let mut outs = mux_entries::take(tables, alloc, limits, servers, default, cause)?;
     backlogs.take(cause, &outs)?;
-    mux_slow::leave_slow(tables, alloc, backlogs, backlog, &mut outs)?;
+    mux_slow::leave_slow(tables, alloc, backlogs, limits.backlog, &mut outs)?;
     note_spawns(starts, tables, default, &outs)?;
     Ok(outs)
 }
@@ -182,13 +180,13 @@ impl<J: Journal> Hub<J> {
         self.tables.is_stopped()
     }
 
-    /// Whether this cause, which fits, meets only rows of the routing table that are built.
+    /// Whether this cause, which fits, meets only rows of the routing table that are built: all but the end of a program whose group goes on
+    /// with a new start.
     pub fn built(&self, cause: &Cause) -> Result<bool, Memory>
-        requires { body_length cause.now ≤ 268435456 }
         ensures { (history : List Entry) → HubStands J.told self.now history → self.now.spent ≡ false
             → IfOk result (λ answer. answer ≡ built self.now.settings history cause.now) }
     {
-        mux_causes::built(&self.tables, self.alloc, cause)
+        mux_causes::built(&self.tables, self.limits.restarts as u64, cause)
     }
 
     /// Takes a cause and gives its outs: those of the routing table. The entry was appended to the journal. Where the causes and outs
@@ -217,10 +215,9 @@ impl<J: Journal> Hub<J> {
         self.spent = true;
         let outs = turn(
             self.alloc,
+            &self.limits,
             self.servers.as_slice(),
             self.default,
-            self.limits.grace,
-            self.limits.backlog,
             &mut self.tables,
             &mut self.backlogs,
             &mut self.starts,

@@ -10,13 +10,19 @@ mod cores;
 #[cfg(test)]
 mod created;
 #[cfg(test)]
+mod exits;
+#[cfg(test)]
 mod languages;
 #[cfg(test)]
 mod lists;
 #[cfg(test)]
+mod offers;
+#[cfg(test)]
 mod play;
 #[cfg(test)]
 mod registered;
+#[cfg(test)]
+mod slow;
 #[cfg(test)]
 mod statuses;
 #[cfg(test)]

@@ -1,4 +1,7 @@
+use crate::exits::{LOST, LOST_DOWN, LOST_EARLY, LOST_IDLE, NOT_RUN};
+use crate::offers::OFFERING;
 use crate::play::{limits, play};
+use crate::slow::{BOTH_SLOW, FILLED, TAKEN, TOO_MANY_TAKEN};
 use crate::statuses::STATUSES;
 use crate::stops::{STOPPED, UNSTOPPED};
 use lspmux_program::{Hub, Refusal, StepFault, Stop};
@@ -669,7 +672,7 @@ fn sessions_bring_their_lines(rt: HostRuntime) -> Result<(), Fail> {
 #[test]
 fn several_editors_bring_their_lines(rt: HostRuntime) -> Result<(), Fail> {
     let alloc = rt.alloc();
-    let sessions: [&[&[(&str, &str)]]; 17] = [
+    let sessions: [&[&[(&str, &str)]]; 18] = [
         &[&TWO_EDITORS, &A_THIRD],
         &[&TWO_EDITORS, &WRONG_NAMES],
         &[&TWO_EDITORS, &BOTH_ASK],
@@ -687,6 +690,7 @@ fn several_editors_bring_their_lines(rt: HostRuntime) -> Result<(), Fail> {
         &[&OPENING, &UNSTOPPED],
         &[&OPENED],
         &[&OPENING, &IDLING],
+        &[&OFFERING],
     ];
     for parts in sessions {
         play(&rt, alloc, limits(MOST, MOST), parts, Ok(()))?;
@@ -708,6 +712,40 @@ fn an_idle_group_ends_for_another(rt: HostRuntime) -> Result<(), Fail> {
     let mut few = limits(MOST, MOST);
     few.groups = 1;
     play(&rt, alloc, few, &[&OPENING, &EVICTED], Ok(()))
+}
+
+#[test]
+fn a_group_ends_with_its_last_start(rt: HostRuntime) -> Result<(), Fail> {
+    let alloc = rt.alloc();
+    let once: [&[&[(&str, &str)]]; 3] = [&[&TWO_EDITORS, &LOST], &[&LOST_EARLY], &[&NOT_RUN]];
+    for parts in once {
+        let mut few = limits(MOST, MOST);
+        few.restarts = 0;
+        play(&rt, alloc, few, parts, Ok(()))?;
+    }
+    let unneeded: [&[&[(&str, &str)]]; 2] = [&[&OPENING, &LOST_IDLE], &[&TWO_EDITORS, &LOST_DOWN]];
+    for parts in unneeded {
+        play(&rt, alloc, limits(MOST, MOST), parts, Ok(()))?;
+    }
+    Ok(())
+}
+
+#[test]
+fn an_editor_that_is_slow_leaves(rt: HostRuntime) -> Result<(), Fail> {
+    let alloc = rt.alloc();
+    let absent = Err(Stop::Refused(7, Refusal::Absent));
+    let sessions: [(&[&[(&str, &str)]], Result<(), Stop>); 4] = [
+        (&[&OPENING, &FILLED], Ok(())),
+        (&[&OPENING, &TAKEN], Ok(())),
+        (&[&OPENING, &TOO_MANY_TAKEN], absent),
+        (&[&TWO_EDITORS, &BOTH_SLOW], Ok(())),
+    ];
+    for (parts, end) in sessions {
+        let mut few = limits(MOST, MOST);
+        few.backlog = 1_024;
+        play(&rt, alloc, few, parts, end)?;
+    }
+    Ok(())
 }
 
 #[test]

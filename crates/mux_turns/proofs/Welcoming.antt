@@ -5,11 +5,13 @@ use Rattle.std.specs.List.{All, range_with_len}
 use Rattle.std.proofs.lemmas.Bool.{eqb-true}
 use Rattle.std.proofs.lemmas.List.Elements.{All-get_or, filter_passes}
 use Rattle.std.proofs.lemmas.Slice.Eq.{bytes_eq-Decides}
+use Rattle.json_text.specs.Json.{Json}
 use Rattle.mux_history.specs.declared.out.Out.{Out}
 use Rattle.mux_history.specs.declared.out.Out.TheVariants.{ToEditor, ToServer, Spawn, CloseEditor, EndServer}
 use Rattle.rpc_message.specs.Message.{Message, request, notification, result, error, not_json, not_message, Id, id_bytes, message_of, result_bytes, same_id}
 use Rattle.rpc_message.specs.Message as messages
 use Rattle.rpc_message.specs.Texts.{ok_text}
+use Rattle.rpc_message.specs.ValueTexts.{IsShallowText}
 use Rattle.rpc_message.proofs.Fixed.{id_as_response, ok_law}
 use Rattle.rpc_message.proofs.Ids.{request_id_bytes}
 use Rattle.event_model.specs.declared.phase.Phase.{Phase}
@@ -19,12 +21,14 @@ use Rattle.event_model.specs.Event.{Event, behind, said}
 use Rattle.event_model.specs.Phases.{Desk, desk_behind, desk_of, editors_of, has_id, is_waiting, phase_told}
 use Rattle.event_model.specs.Row.{send}
 use Rattle.event_model.specs.Settings.{Settings}
+use Rattle.event_model.specs.Stages.{is_first_result}
 use Rattle.event_model.proofs.Frames.{one_more}
 use Rattle.event_model.proofs.Turns.{behind_more, does_look}
 use Rattle.mux_tables.specs.editor_session.specs.declared.session.Session.{Session}
 use Rattle.group_words.specs.Houses.{home_of, is_home}
 use Rattle.group_words.specs.Rows.{shown_of}
 use Rattle.group_facts.specs.group_rows.specs.Rows.{waiting_in, welcome}
+use Rattle.group_facts.proofs.ShownResult.{shown_value}
 use Rattle.mux_tables.specs.declared.tables.Tables.{Tables}
 use Rattle.mux_tables.specs.Documents.{AllStand, DocumentsStand, nothing_owed}
 use Rattle.mux_tables.specs.Names.{NamesStand, id_in}
@@ -95,6 +99,10 @@ same_desk base e xs ys more is h = ap (λ es. (desk_of e es).initialize) (ap (be
 pub bodies_join : (xs ys : List Out) → AreBodies xs → AreBodies ys → AreBodies (xs ++ ys)
 bodies_join [] ys h k = k
 bodies_join (x ∷ xs) ys h k = (h.0, bodies_join xs ys h.1 k)
+
+-- what editors are shown of a start's first result
+pub result_shown : (body : List ℕ) → is_first_result (message_of body) ≡ true → IsShown body
+result_shown body first = let k : (v : Json) × IsShallowText 1023 v (shown_of (result_bytes body)) = shown_value body first in record { value = k.0; text = k.1 }
 
 -- the answer to its `initialize`
 module _ (e : ℕ) (events : List Event) (body text shown : List ℕ) (k : IsGreeted events e) (s : IsShown body) (is : text ≡ ok_text (id_bytes (desk_of e events).initialize) shown) (are : shown ≡ shown_of (result_bytes body)) where

@@ -14,7 +14,7 @@ returns-in_ok-join-in-Joins-clause-does c = λ settings before body method id pa
     let e = c.args.e in
     let moves = c.in_ok-placed.ensures.moves settings before body method id params read says new all (sym (c.server-server.ensures settings before st (new_here before e (message_of body) new) default)) st ds in
     placed_entry settings c.seat.new.tables c.join.new.tables before e body (Joins c.in-Joins.g) c.args.outs.now c.join.new.outs first (sym c.in-Joins.is ∙ moves.0) moves.1
-    (c.in_ok-join-in-Joins.ensures.does settings before body method id params read says new known.plain first moves.1)
+    (c.in_ok-join-in-Joins.ensures.does settings before body method id params read says new known.results first moves.1)
 
 pub returns-in_ok-found-in-New-clause-does : goal.returns-in_ok-found-in-New-clause-does
 returns-in_ok-found-in-New-clause-does c = λ settings before body method id params read says new all default first known settled st ds.

@@ -8,17 +8,17 @@ use Rattle.mux_entries.proofs.EditorRows.{unlinked}
 use Rattle.mux_entries.proofs.editors.from_editor.Goals as goal
 
 pub returns-then-e-count-clause-does : goal.returns-then-e-count-clause-does
-returns-then-e-count-clause-does c = λ settings before servers default first known settled fits built st ds.
+returns-then-e-count-clause-does c = λ settings before servers default first known settled fits st ds.
     let count = st.house.editors.count in
     let past : editors_of before ≤ c.args.e = omega arith in
     absurd (unlinked (desk_of c.args.e before).phase (known.editors c.args.e past) fits)
 
 pub returns-in_ok-from_message-in-Ok-clause-does : goal.returns-in_ok-from_message-in-Ok-clause-does
-returns-in_ok-from_message-in-Ok-clause-does c = λ settings before servers default first known settled fits built st ds.
+returns-in_ok-from_message-in-Ok-clause-does c = λ settings before servers default first known settled fits st ds.
     let read = subst (λ b. IsRead c.in-Ok.message b) c.bytes.ensures c.in-Ok.ensures.ok in
-    c.in_ok-from_message-in-Ok.ensures.does settings before c.args.body.now read servers default first known settled fits built st ds
+    c.in_ok-from_message-in-Ok.ensures.does settings before c.args.body.now read servers default first known settled fits st ds
 
 pub returns-in_ok-from_malformed-in-Err-clause-does : goal.returns-in_ok-from_malformed-in-Err-clause-does
-returns-in_ok-from_malformed-in-Err-clause-does c = λ settings before servers default first known settled fits built st ds.
+returns-in_ok-from_malformed-in-Err-clause-does c = λ settings before servers default first known settled fits st ds.
     let refuses = subst (λ b. Refuses c.in-Err.fault (message_of b)) c.bytes.ensures c.in-Err.ensures.refused in
     c.in_ok-from_malformed-in-Err.ensures.does settings before c.args.body.now refuses first st ds

@@ -12,7 +12,7 @@ use Rattle.mux_entries.proofs.EditorRows.{asks_by_name, begins, done_alike, earl
 use Rattle.mux_entries.proofs.editors.from_new.Goals as goal
 
 pub returns-in_ok-take_initialize-clause-does : goal.returns-in_ok-take_initialize-clause-does
-returns-in_ok-take_initialize-clause-does c = λ settings before body read at servers default first known settled built none st ds.
+returns-in_ok-take_initialize-clause-does c = λ settings before body read at servers default first known settled none st ds.
     let e = c.args.e in
     let m = message_of body in
     let named : requests (codes "initialize") m ≡ true = sym (c.is_initialize.ensures body read) ∙ c.if-is_initialize.true in
@@ -22,7 +22,7 @@ returns-in_ok-take_initialize-clause-does c = λ settings before body read at se
     (c.in_ok-take_initialize.ensures.does settings before body asks.method asks.id asks.params read asks.is placed servers default first known settled st ds)
 
 pub returns-in_ok-from_early-clause-does : goal.returns-in_ok-from_early-clause-does
-returns-in_ok-from_early-clause-does c = λ settings before body read at servers default first known settled built none st ds.
+returns-in_ok-from_early-clause-does c = λ settings before body read at servers default first known settled none st ds.
     let e = c.args.e in
     let m = message_of body in
     let other : requests (codes "initialize") m ≡ false = sym (c.is_initialize.ensures body read) ∙ c.if-is_initialize.false in

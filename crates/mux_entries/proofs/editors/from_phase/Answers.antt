@@ -13,12 +13,12 @@ use Rattle.mux_entries.proofs.EditorRows.{closed_one, done_alike, done_quietly, 
 use Rattle.mux_entries.proofs.editors.from_phase.Goals as goal
 
 pub returns-in_ok-from_new-in-New-clause-does : goal.returns-in_ok-from_new-in-New-clause-does
-returns-in_ok-from_new-in-New-clause-does c = λ settings before body read servers default first known settled fits built single none st ds.
+returns-in_ok-from_new-in-New-clause-does c = λ settings before body read servers default first known settled fits single none st ds.
     let at = sym (c.phase.ensures settings before st) ∙ c.in-New.is in
-    c.in_ok-from_new-in-New.ensures.does settings before body read at servers default first known settled built none st ds
+    c.in_ok-from_new-in-New.ensures.does settings before body read at servers default first known settled none st ds
 
 pub returns-in_ok-from_early-in-Waiting-clause-does : goal.returns-in_ok-from_early-in-Waiting-clause-does
-returns-in_ok-from_early-in-Waiting-clause-does c = λ settings before body read servers default first known settled fits built single none st ds.
+returns-in_ok-from_early-in-Waiting-clause-does c = λ settings before body read servers default first known settled fits single none st ds.
     let e = c.args.e in
     let m = message_of body in
     let at = sym (c.phase.ensures settings before st) ∙ c.in-Waiting.is in
@@ -27,12 +27,12 @@ returns-in_ok-from_early-in-Waiting-clause-does c = λ settings before body read
     (c.in_ok-from_early-in-Waiting.ensures.does settings before body read (ap is_early at) unplaced (unasked_goes before e m (unasked_there (desk_of e before).phase m (ap is_there at) none)) (unasked_there (desk_of e before).phase m (ap is_there at) none) (asked_none settings before e m settled (ap is_served at)) first settled st ds)
 
 pub returns-in_ok-from_served-in-Answered-clause-does : goal.returns-in_ok-from_served-in-Answered-clause-does
-returns-in_ok-from_served-in-Answered-clause-does c = λ settings before body read servers default first known settled fits built single none st ds.
+returns-in_ok-from_served-in-Answered-clause-does c = λ settings before body read servers default first known settled fits single none st ds.
     let served = ap is_served (sym (c.phase.ensures settings before st)) ∙ served_one c.phase.result c.in-Answered.is in
-    c.in_ok-from_served-in-Answered.ensures.does settings before body read served first known settled built single none st ds
+    c.in_ok-from_served-in-Answered.ensures.does settings before body read served first known settled single none st ds
 
 pub returns-in_ok-from_down-in-Down-clause-does : goal.returns-in_ok-from_down-in-Down-clause-does
-returns-in_ok-from_down-in-Down-clause-does c = λ settings before body read servers default first known settled fits built single none st ds.
+returns-in_ok-from_down-in-Down-clause-does c = λ settings before body read servers default first known settled fits single none st ds.
     let e = c.args.e in
     let m = message_of body in
     let at = sym (c.phase.ensures settings before st) ∙ c.in-Down.is in
@@ -40,7 +40,7 @@ returns-in_ok-from_down-in-Down-clause-does c = λ settings before body read ser
     (c.in_ok-from_down-in-Down.ensures.does settings before body read at (unasked_goes before e m (unasked_there (desk_of e before).phase m (ap is_there at) none)) (asked_none settings before e m settled (ap is_served at)) first settled st ds)
 
 pub returns-in-Closed-clause-does : goal.returns-in-Closed-clause-does
-returns-in-Closed-clause-does c = λ settings before body read servers default first known settled fits built single none st ds.
+returns-in-Closed-clause-does c = λ settings before body read servers default first known settled fits single none st ds.
     let e = c.args.e in
     let is = sym (c.phase.ensures settings before st) in
     let at = is ∙ closed_one c.phase.result c.in-Closed.is (ap is_linked (sym is) ∙ fits) in

@@ -9,7 +9,7 @@ use Rattle.mux_entries.proofs.EditorRows.{done_alike, read_well, told}
 use Rattle.mux_entries.proofs.editors.from_single.Goals as goal
 
 pub returns-in_ok-from_own-clause-does : goal.returns-in_ok-from_own-clause-does
-returns-in_ok-from_own-clause-does c = λ settings before body read servers default first known settled fits built single st ds.
+returns-in_ok-from_own-clause-does c = λ settings before body read servers default first known settled fits single st ds.
     let e = c.args.e in
     let m = message_of body in
     let asks : (is_there (desk_of e before).phase && asks_lspmux m) ≡ true = sym (c.asks_own.ensures settings before body st read) ∙ c.if-asks_own.true in
@@ -17,5 +17,5 @@ returns-in_ok-from_own-clause-does c = λ settings before body read servers defa
     (c.in_ok-from_own.ensures.does settings before body read (second_of (is_there (desk_of e before).phase) (asks_lspmux m) asks) servers first known settled (first_of (is_there (desk_of e before).phase) (asks_lspmux m) asks) single st ds)
 
 pub returns-in_ok-from_phase-clause-does : goal.returns-in_ok-from_phase-clause-does
-returns-in_ok-from_phase-clause-does c = λ settings before body read servers default first known settled fits built single st ds.
-    c.in_ok-from_phase.ensures.does settings before body read servers default first known settled fits built single (sym (c.asks_own.ensures settings before body st read) ∙ c.if-asks_own.false) st ds
+returns-in_ok-from_phase-clause-does c = λ settings before body read servers default first known settled fits single st ds.
+    c.in_ok-from_phase.ensures.does settings before body read servers default first known settled fits single (sym (c.asks_own.ensures settings before body st read) ∙ c.if-asks_own.false) st ds

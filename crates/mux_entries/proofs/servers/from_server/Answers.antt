@@ -4,8 +4,8 @@ use Rattle.event_model.proofs.Frames.{never}
 use Rattle.mux_entries.proofs.servers.from_server.Goals as goal
 
 pub returns-in-None-clause-does : goal.returns-in-None-clause-does
-returns-in-None-clause-does c = λ settings before first known settled fits built st ds. never (sym fits ∙ c.in-None.ensures.halted settings before st)
+returns-in-None-clause-does c = λ settings before first known settled fits st ds. never (sym fits ∙ c.in-None.ensures.halted settings before st)
 
 pub returns-in_ok-take_body-in-Some-clause-does : goal.returns-in_ok-take_body-in-Some-clause-does
-returns-in_ok-take_body-in-Some-clause-does c = λ settings before first known settled fits built st ds.
-    c.in_ok-take_body-in-Some.ensures.does settings before c.args.s first c.in-Some.ensures.found known settled fits built st ds
+returns-in_ok-take_body-in-Some-clause-does c = λ settings before first known settled fits st ds.
+    c.in_ok-take_body-in-Some.ensures.does settings before c.args.s first c.in-Some.ensures.found known settled fits st ds

@@ -9,15 +9,15 @@ use Rattle.mux_entries.proofs.Said.{asking, first_entry, refused_here, stage_her
 use Rattle.mux_entries.proofs.servers.take_first.Goals as goal
 
 pub returns-in_ok-take_result-clause-does : goal.returns-in_ok-take_result-clause-does
-returns-in_ok-take_result-clause-does c = λ settings before body s read first at known run built st ds.
+returns-in_ok-take_result-clause-does c = λ settings before body s read first at known run st ds.
     let t = c.args.tables.now in
     let x = item_at t.lasts.items c.args.g c.requires.group in
     let stage = stage_here settings t before c.args.g s x.0 x.1 at st ∙ c.requires.stage x.0 x.1 in
-    let k = first_entry settings before s body stage built (sym (c.is_first_result.ensures body read) ∙ c.if-is_first_result.true) in
+    let k = first_entry settings before s body stage (sym (c.is_first_result.ensures body read) ∙ c.if-is_first_result.true) in
     done_alike (λ k events. AllStand settings k events) k.row (c.in_ok-take_result.ensures.does settings before body k.id k.value s read k.says k.first at first k.shown (asking before known.waiting) st ds)
 
 pub returns-in_ok-take_refused-clause-does : goal.returns-in_ok-take_refused-clause-does
-returns-in_ok-take_refused-clause-does c = λ settings before body s read first at known run built st ds.
+returns-in_ok-take_refused-clause-does c = λ settings before body s read first at known run st ds.
     let t = c.args.tables.now in
     let x = item_at t.lasts.items c.args.g c.requires.group in
     let stage = stage_here settings t before c.args.g s x.0 x.1 at st ∙ c.requires.stage x.0 x.1 in
@@ -26,5 +26,5 @@ returns-in_ok-take_refused-clause-does c = λ settings before body s read first 
     (c.in_ok-take_refused.ensures.does settings before body s read refuses at first (asking before known.waiting) st ds)
 
 pub returns-in_ok-take_other-clause-does : goal.returns-in_ok-take_other-clause-does
-returns-in_ok-take_other-clause-does c = λ settings before body s read first at known run built st ds.
+returns-in_ok-take_other-clause-does c = λ settings before body s read first at known run st ds.
     c.in_ok-take_other.ensures.does settings before body s read first at run (sym (c.is_first_result.ensures body read) ∙ c.if-is_first_result.false) (sym (c.is_first_error.ensures body read) ∙ c.if-is_first_error.false) st ds

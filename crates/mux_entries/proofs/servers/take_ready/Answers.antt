@@ -7,33 +7,33 @@ use Rattle.mux_starts.specs.group_facts.proofs.StopDown.{ready_unstopped}
 use Rattle.mux_starts.specs.mux_tables.specs.Documents.{AllStand}
 use Rattle.mux_entries.proofs.EditorRows.{asks_by_sort, done_alike, notes_by_sort, unasking, unnoting}
 use Rattle.mux_entries.proofs.Said.{answer_here, asked, stage_here}
-use Rattle.mux_entries.proofs.Questions.{asks_here, built_here, no_request}
+use Rattle.mux_entries.proofs.Questions.{asks_here, no_request}
 use Rattle.mux_starts.proofs.Uncreated.{answers_create}
 use Rattle.mux_starts.proofs.Unlisted.{answers_unlisted}
 use Rattle.mux_entries.proofs.servers.take_ready.Goals as goal
 
 pub returns-in_ok-take_question-in-Request-clause-does : goal.returns-in_ok-take_question-in-Request-clause-does
-returns-in_ok-take_question-in-Request-clause-does c = λ settings before body s read first at known settled built st ds.
+returns-in_ok-take_question-in-Request-clause-does c = λ settings before body s read first at known settled st ds.
     let t = c.args.tables.now in
     let x = item_at t.lasts.items c.args.g c.requires.group in
     let ready = c.requires.stage x.0 x.1 in
     let stage = stage_here settings t before c.args.g s x.0 x.1 at st ∙ ready in
     let asks = asks_by_sort (message_of body) (c.sort.ensures body read ∙ ap (λ k. Some k) c.in-Request.is) in
     done_alike (λ k events. AllStand settings k events) (asks_here settings before s body (request asks.id asks.method asks.params) stage asks.is)
-    (c.in_ok-take_question-in-Request.ensures.does settings before body asks.method asks.id asks.params s x.0 read asks.is (built_here settings before s body (request asks.id asks.method asks.params) stage asks.is built) first x.1 ready at known settled st ds)
+    (c.in_ok-take_question-in-Request.ensures.does settings before body asks.method asks.id asks.params s x.0 read asks.is first x.1 ready at known settled st ds)
 
 pub returns-in_ok-take_telling-in-Notification-clause-does : goal.returns-in_ok-take_telling-in-Notification-clause-does
-returns-in_ok-take_telling-in-Notification-clause-does c = λ settings before body s read first at known settled built st ds.
+returns-in_ok-take_telling-in-Notification-clause-does c = λ settings before body s read first at known settled st ds.
     let t = c.args.tables.now in
     let x = item_at t.lasts.items c.args.g c.requires.group in
     let ready = c.requires.stage x.0 x.1 in
     let stage = stage_here settings t before c.args.g s x.0 x.1 at st ∙ ready in
     let notes = notes_by_sort (message_of body) (c.sort.ensures body read ∙ ap (λ k. Some k) c.in-Notification.is) in
     done_alike (λ k events. AllStand settings k events) (asks_here settings before s body (notification notes.method notes.params) stage notes.is)
-    (c.in_ok-take_telling-in-Notification.ensures.does settings before body notes.method notes.params s x.0 read notes.is (built_here settings before s body (notification notes.method notes.params) stage notes.is built) first known settled x.1 ready at st ds)
+    (c.in_ok-take_telling-in-Notification.ensures.does settings before body notes.method notes.params s x.0 read notes.is first known settled x.1 ready at st ds)
 
 pub returns-in_ok-take_answer-in-Result-clause-does : goal.returns-in_ok-take_answer-in-Result-clause-does
-returns-in_ok-take_answer-in-Result-clause-does c = λ settings before body s read first at known settled built st ds.
+returns-in_ok-take_answer-in-Result-clause-does c = λ settings before body s read first at known settled st ds.
     let t = c.args.tables.now in
     let m = message_of body in
     let x = item_at t.lasts.items c.args.g c.requires.group in

@@ -1,5 +1,5 @@
 -- Its link is to be ended, and it leaves.
-use Rattle.std.proofs.Common.{ap, map, subst, sym, ◌∙◌}
+use Rattle.std.proofs.Common.{ap, map, subst, sym}
 use Rattle.event_model.specs.Event.{behind}
 use Rattle.event_model.proofs.Turns.{does_knowing, does_then}
 use Rattle.mux_tables.specs.Documents.{nothing_owed}

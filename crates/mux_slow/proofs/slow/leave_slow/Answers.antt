@@ -1,14 +1,13 @@
 -- All that are slow leave.
-use Rattle.std.proofs.Common.{◌≡◌, ◌++◌, ℕ, true, nat_eq, ap, subst, sym, ◌∙◌}
+use Rattle.std.proofs.Common.{◌≡◌, ◌++◌, true, nat_eq, ap, subst, sym, ◌∙◌}
 use Rattle.std.specs.List.{list_any}
 use Rattle.std.proofs.lemmas.Bool.{and_parts}
 use Rattle.event_model.specs.Event.{behind}
-use Rattle.event_model.specs.Phases.{desk_of, editors_of, is_there}
+use Rattle.event_model.specs.Phases.{desk_of, is_there}
 use Rattle.event_model.specs.Row.{each, outs}
 use Rattle.event_model.proofs.Turns.{behind_more}
-use Rattle.group_facts.specs.SlowRows.{close_slow, is_slow, slow_row}
+use Rattle.group_facts.specs.SlowRows.{close_slow}
 use Rattle.mux_causes.specs.Backlogs.{BacklogsStand}
-use Rattle.mux_slow.specs.Told.{told_in}
 use Rattle.mux_slow.proofs.Among.{Rises, in_rises}
 use Rattle.mux_slow.proofs.Closing.{each_count}
 use Rattle.mux_slow.proofs.Joined.{there_joined}

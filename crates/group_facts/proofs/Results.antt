@@ -1,25 +1,19 @@
--- Editors are shown all of the result that a start gave which isn't to end, and one that is ready gave one.
-use Rattle.std.proofs.Common.{◌≡◌, ℕ, Bool, true, false, List, [], ◌∷◌, ◌++◌, nat_eq, is_some, if◌then◌else◌, Option, Some, None, refl, sym, ◌∙◌, ap, subst, codes}
+-- What each start gave is a result with id 1, and one that is ready gave one.
+use Rattle.std.proofs.Common.{◌≡◌, ℕ, Bool, true, false, List, [], ◌∷◌, ◌++◌, nat_eq, is_some, if◌then◌else◌, Option, Some, None, refl, sym, ◌∙◌, ap}
 use Rattle.std.proofs.lemmas.List.Sums.{fold-append}
 use Rattle.mux_history.specs.declared.cause.Cause.{Cause}
 use Rattle.mux_history.specs.declared.cause.Cause.TheVariants.{Started, StartFailed, FromServer, ServerGone}
 use Rattle.mux_history.specs.declared.out.Out.{Out}
 use Rattle.mux_history.specs.declared.out.Out.TheVariants.{ToEditor, ToServer, Spawn, EndServer}
-use Rattle.rpc_message.specs.Message.{Message, integer, message_of}
+use Rattle.rpc_message.specs.Message.{Message, message_of}
 use Rattle.event_model.specs.declared.stage.Stage.{Stage}
-use Rattle.event_model.specs.declared.stage.Stage.TheVariants.{Spawning, Initializing, Ready, Ended, Stopping, Ending, Unspawned}
+use Rattle.event_model.specs.declared.stage.Stage.TheVariants.{Spawning, Initializing, Ready, Ended}
 use Rattle.event_model.specs.Event.{Event, took, did, heard, said, with_cause}
-use Rattle.event_model.specs.Settings.{Settings}
 use Rattle.event_model.specs.Stages.{Life, is_first_result, is_ready, life_behind, life_of, stage_ending, stage_hears, stage_started, stage_told}
 use Rattle.event_model.proofs.Frames.{never}
 use Rattle.mux_facts.proofs.Folds.{life_more}
-use Rattle.mux_facts.proofs.Table.{FirstResult, first_result_is}
-use Rattle.mux_facts.proofs.Words.{number_same}
 use Rattle.group_words.specs.Rows.{result_behind, result_of}
-use Rattle.group_facts.specs.Built.{built_behind, built_from_server}
-use Rattle.group_facts.specs.Facts.{IsPlain, Plain, is_up}
-use Rattle.group_facts.proofs.Levels.{Fresh, falls_back, up_falls}
-use Rattle.group_facts.proofs.Table.{shown_whole}
+use Rattle.group_facts.specs.Facts.{Results}
 
 result_more : (s : ℕ) (events : List Event) (event : Event) → result_of s (events ++ event ∷ []) ≡ result_behind s (result_of s events) event
 result_more s events event = fold-append (result_behind s) None events (event ∷ [])
@@ -88,63 +82,43 @@ gave s n life body m None f h = go (nat_eq n s) h
 by_life : (s : ℕ) (events : List Event) (event : Event) → is_ready (life_of s (events ++ event ∷ [])).stage ≡ true → is_ready (life_behind s (life_of s events) event).stage ≡ true
 by_life s events event h = sym (ap (λ (l : Life). is_ready l.stage) (life_more s events event)) ∙ h
 
--- one that isn't to end behind an event wasn't before it
-was_up : (s : ℕ) (events : List Event) (event : Event) → Fresh is_up up_falls s (life_of s events) event → is_up (life_of s (events ++ event ∷ [])).stage ≡ true → is_up (life_of s events).stage ≡ true
-was_up s events event fresh up = falls_back is_up up_falls s (life_of s events) event fresh (sym (ap (λ (l : Life). is_up l.stage) (life_more s events event)) ∙ up)
-
-quiet_more : (events : List Event) (event : Event) → is_heard event ≡ false → ((s : ℕ) → Fresh is_up up_falls s (life_of s events) event) → Plain events → Plain (events ++ event ∷ [])
-quiet_more events event quietly fresh h = record {
-  whole = λ s body up e. h.whole s body (was_up s events event (fresh s) up) (sym (result_more s events event ∙ quiet s (result_of s events) event quietly) ∙ e);
+quiet_more : (events : List Event) (event : Event) → is_heard event ≡ false → Results events → Results (events ++ event ∷ [])
+quiet_more events event quietly h = record {
+  each = λ s body e. h.each s body (sym (result_more s events event ∙ quiet s (result_of s events) event quietly) ∙ e);
   given = λ s ready. ap is_some (result_more s events event) ∙ kept s (result_of s events) event (h.given s (was_ready s (life_of s events) event quietly (by_life s events event ready)));
 }
 
 the_body : {a b : List ℕ} → ◌≡◌ {A = Option (List ℕ)} (Some a) (Some b) → a ≡ b
 the_body h = cc
 
--- what is built of a start that gave no result: its first result is shown whole
-module _ (settings : Settings) (events : List Event) (n : ℕ) (body : List ℕ) (built : built_behind settings events (FromServer n body) ≡ true) (h : Plain events) where
-  fresh_first : (stage : Stage) → (life_of n events).stage ≡ stage → is_up stage ≡ true → built_from_server settings events n stage body (message_of body) ≡ true → result_of n events ≡ None → is_first_result (message_of body) ≡ true → IsPlain body
-  fresh_first Initializing at up fine none first = let k : FirstResult (message_of body) = first_result_is (message_of body) first in record { id = Some (integer (codes "1")); r = k.r; says = k.is; whole = shown_whole (message_of body) body fine first }
-  fresh_first Ready at up fine none first = never (sym (sym (ap is_some none) ∙ h.given n (ap is_ready at)))
-  fresh_first Stopping at up fine none first = never (sym up)
-  fresh_first Ending at up fine none first = never (sym up)
-  fresh_first Ended at up fine none first = never (sym up)
-  fresh_first Unspawned at up fine none first = let k : FirstResult (message_of body) = first_result_is (message_of body) first in absurd (let no : false ≡ true = sym (ap (built_from_server settings events n Unspawned body) k.is) ∙ fine in cc)
-  fresh_first Spawning at up fine none first = let k : FirstResult (message_of body) = first_result_is (message_of body) first in absurd (let no : false ≡ true = sym (ap (built_from_server settings events n Spawning body) k.is) ∙ fine in cc)
-
-  heard_whole : (s : ℕ) (b : List ℕ) → is_up (life_of s (with_cause events (FromServer n body))).stage ≡ true → result_of s (with_cause events (FromServer n body)) ≡ Some b → IsPlain b
-  heard_whole s b after e = go (result_of s events) refl (sym (result_more s events (heard (FromServer n body))) ∙ e)
+-- a body of a start may be its result
+module _ (events : List Event) (n : ℕ) (body : List ℕ) (h : Results events) where
+  heard_result : (s : ℕ) (b : List ℕ) → result_of s (with_cause events (FromServer n body)) ≡ Some b → is_first_result (message_of b) ≡ true
+  heard_result s b e = go (result_of s events) refl (sym (result_more s events (heard (FromServer n body))) ∙ e)
     where
-      up : is_up (life_of s events).stage ≡ true
-      up = was_up s events (heard (FromServer n body)) tt after
+      fresh : (c d : Bool) → is_first_result (message_of body) ≡ d → (if c then (if d then Some body else None) else None) ≡ Some b → is_first_result (message_of b) ≡ true
+      fresh true true first k = ap (λ z. is_first_result (message_of z)) (sym (the_body k)) ∙ first
+      fresh true false first k = absurd (cc)
+      fresh false d first k = absurd (cc)
 
-      first_given : (c d : Bool) → nat_eq n s ≡ c → is_first_result (message_of body) ≡ d → result_of s events ≡ None → (if c then (if d then Some body else None) else None) ≡ Some b → IsPlain b
-      first_given true true same first none k = let is : n ≡ s = number_same n s same in
-          subst IsPlain (the_body k) (fresh_first (life_of n events).stage refl (ap (λ i. is_up (life_of i events).stage) is ∙ up) built (ap (λ i. result_of i events) is ∙ none) first)
-      first_given true false same first none k = absurd (cc)
-      first_given false d same first none k = absurd (cc)
-
-      go : (x : Option (List ℕ)) → result_of s events ≡ x → result_behind s x (heard (FromServer n body)) ≡ Some b → IsPlain b
-      go None at k = first_given (nat_eq n s) (is_first_result (message_of body)) refl refl at k
-      go (Some c) at k = h.whole s b up (at ∙ k)
+      go : (x : Option (List ℕ)) → result_of s events ≡ x → result_behind s x (heard (FromServer n body)) ≡ Some b → is_first_result (message_of b) ≡ true
+      go None at k = fresh (nat_eq n s) (is_first_result (message_of body)) refl k
+      go (Some c) at k = h.each s b (at ∙ k)
 
   heard_given : (s : ℕ) → is_ready (life_of s (with_cause events (FromServer n body))).stage ≡ true → is_some (result_of s (with_cause events (FromServer n body))) ≡ true
   heard_given s ready = ap is_some (result_more s events (heard (FromServer n body)))
       ∙ gave s n (life_of s events) body (message_of body) (result_of s events) (h.given s) (by_life s events (heard (FromServer n body)) ready)
 
-  heard_plain : Plain (with_cause events (FromServer n body))
-  heard_plain = record { whole = heard_whole; given = heard_given }
+pub results_took : (events : List Event) (cause : Cause) → Results events → Results (with_cause events cause)
+results_took events (FromServer n body) h = record { each = heard_result events n body h; given = heard_given events n body h }
+results_took events cause h = quiet_more events (heard cause) refl h
 
-pub plain_took : (settings : Settings) (events : List Event) (cause : Cause) → built_behind settings events cause ≡ true → Plain events → Plain (with_cause events cause)
-plain_took settings events (FromServer n body) built h = heard_plain settings events n body built h
-plain_took settings events cause built h = quiet_more events (heard cause) refl (λ s. tt) h
-
-pub plain_did : (events : List Event) (out : Out) → ((s : ℕ) → Fresh is_up up_falls s (life_of s events) (said out)) → Plain events → Plain (events ++ said out ∷ [])
-plain_did events out fresh h = quiet_more events (said out) (silent out) fresh h
+pub results_did : (events : List Event) (out : Out) → Results events → Results (events ++ said out ∷ [])
+results_did events out h = quiet_more events (said out) (silent out) h
   where
     silent : (out : Out) → is_heard (said out) ≡ false
     silent (ToEditor e body) = refl
     silent other = refl
 
-pub plain_none : Plain []
-plain_none = record { whole = λ s body up e. cc; given = λ s ready. never (sym ready) }
+pub results_none : Results []
+results_none = record { each = λ s body e. cc; given = λ s ready. never (sym ready) }
