@@ -29,11 +29,12 @@ use Rattle.mux_facts.proofs.Reasons.{reasons_keep}
 use Rattle.mux_facts.proofs.Words.{number_same, same_number}
 use Rattle.group_words.specs.Houses.{groups_of, home_of, is_doubled, is_first_error, is_home, placed_for, places, stops}
 use Rattle.group_rows.specs.Asks.{Ask, Asking, asks_of, is_with}
+use Rattle.group_rows.specs.Earlier.{was_shown}
 use Rattle.group_rows.specs.ExitRows.{ends_group}
 use Rattle.group_rows.specs.Leaves.{leave_row}
 use Rattle.group_rows.specs.Rows.{closing_row, from_editor, gone_row, outs_of, shutdown_row}
 use Rattle.group_facts.specs.Built.{built_behind}
-use Rattle.group_facts.specs.Facts.{ends_with, is_exit, is_in, is_parting, is_refusing, is_too_many, is_unready, ends_link, leaves, shuts, turned_away, is_crowded, is_put_out}
+use Rattle.group_facts.specs.Facts.{ends_with, is_exit, is_in, is_other, is_parted, is_parting, is_refused, is_refusing, is_too_many, is_unready, ends_link, leaves, shuts, turned_away, is_crowded, is_put_out}
 use Rattle.group_facts.specs.Lively.{Lively}
 use Rattle.group_facts.specs.Settled.{HasSeat, is_answered}
 use Rattle.group_facts.specs.Why.{Why, WhyToEditor, answers, asks, calls, loses, winds_up, passes, progresses, recalls, refuses, rejects, resumes, shows, spreads, turns_away, welcomes}
@@ -187,7 +188,7 @@ module _ (settings : Settings) (range : InRange settings) (before : List Event) 
       (leave_clean settings before (EditorGone n why) (facts.steady).asks n (with_cause before (EditorGone n why)) (λ t. took_all settings (MidSeat settings before (EditorGone n why) t) t before (EditorGone n why) (seats_in (EditorGone n why) fits t))
       (λ t. took_all settings (Pending n (filter (is_with n) (asks_of settings t before))) t before (EditorGone n why) (all_pending n (asks_of settings t before))) s)
 
-  -- S3: no start that gave no result asked
+  -- S2 and S3: no start that gave no result asked
   refused_none : (t : ℕ) (body : List ℕ) (e : ℕ) → leaves settings before (FromServer t body) e ≡ true → (s : ℕ) (a : Ask) → MidSeat settings before (FromServer t body) s a → a.editor ≡ e → ⊥
   refused_none t body e h s a k same = go (on_either (ends_link settings before (FromServer t body) e) false h)
     where
@@ -195,13 +196,21 @@ module _ (settings : Settings) (range : InRange settings) (before : List Event) 
       in_group None none is = never (sym is)
       in_group (Some g) at is = at ∙ ap (λ i. Some i) (sym (number_same k.group g (sym (ap (is_home g) (seat_home settings before (FromServer t body) s a k e same)) ∙ is)))
 
+      asked_none : is_initializing (life_of t before).stage ≡ true → is_in settings before t e ≡ true → ⊥
+      asked_none waits member =
+          let is : s ≡ t = the (sym k.last ∙ lasts t k.group (in_group (group_of t before) refl member) (alive_initializing (life_of t before).stage waits)) in
+          never (sym waits ∙ (ap (λ i. is_initializing (life_of i before).stage) (sym is) ∙ ap is_initializing k.ready))
+
+      refused_or_parted : (is_refused settings before t body e ≡ true) ⊎ (is_parted settings before t body e ≡ true) → ⊥
+      refused_or_parted (inl out) =
+          let p = and_parts (is_refusing before t (message_of body)) (is_begun (desk_of e before).phase && is_in settings before t e) out in
+          asked_none (and_parts (is_first_error (message_of body)) (is_initializing (life_of t before).stage) p.0).1 (and_parts (is_begun (desk_of e before).phase) (is_in settings before t e) p.1).1
+      refused_or_parted (inr out) =
+          let p = and_parts (is_other before t body) (was_shown (desk_of e before).phase && is_in settings before t e) out in
+          asked_none (and_parts (is_initializing (life_of t before).stage) _ p.0).0 (and_parts (was_shown (desk_of e before).phase) (is_in settings before t e) p.1).1
+
       go : (ends_link settings before (FromServer t body) e ≡ true) ⊎ (false ≡ true) → ⊥
-      go (inl ends) =
-          let p = and_parts (is_refusing before t (message_of body)) (is_begun (desk_of e before).phase && is_in settings before t e) ends in
-          let q = and_parts (is_begun (desk_of e before).phase) (is_in settings before t e) p.1 in
-          let r = and_parts (is_first_error (message_of body)) (is_initializing (life_of t before).stage) p.0 in
-          let is : s ≡ t = the (sym k.last ∙ lasts t k.group (in_group (group_of t before) refl q.1) (alive_initializing (life_of t before).stage r.1)) in
-          never (sym r.1 ∙ (ap (λ i. is_initializing (life_of i before).stage) (sym is) ∙ ap is_initializing k.ready))
+      go (inl ends) = refused_or_parted (on_either (is_refused settings before t body e) (is_parted settings before t body e) ends)
       go (inr off) = never (sym off)
 
   abbrev None_at : Ask → Type 0

@@ -68,6 +68,7 @@ pub mod Moved
 pub mod Homes
 pub mod Resuming
 pub mod Spreads
+pub mod Configured
 pub mod LastStarts
 pub mod AskSeats
 pub mod AskRest
