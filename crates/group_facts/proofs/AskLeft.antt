@@ -33,7 +33,6 @@ use Rattle.group_rows.specs.Earlier.{was_shown}
 use Rattle.group_rows.specs.ExitRows.{ends_group}
 use Rattle.group_rows.specs.Leaves.{leave_row}
 use Rattle.group_rows.specs.Rows.{closing_row, from_editor, gone_row, outs_of, shutdown_row}
-use Rattle.group_facts.specs.Built.{built_behind}
 use Rattle.group_facts.specs.Facts.{ends_with, is_exit, is_in, is_other, is_parted, is_parting, is_refused, is_refusing, is_too_many, is_unready, ends_link, leaves, shuts, turned_away, is_crowded, is_put_out}
 use Rattle.group_facts.specs.Lively.{Lively}
 use Rattle.group_facts.specs.Settled.{HasSeat, is_answered}
@@ -253,13 +252,13 @@ module _ (settings : Settings) (range : InRange settings) (before : List Event) 
     none_did events (CloseEditor n) why h = did_all settings None_at t events (CloseEditor n) tt h
     none_did events (EndServer n) why h = did_all settings None_at t events (EndServer n) tt h
 
-    none_later : built_behind settings before cause ≡ true → AllByRecursion None_at (asks_of settings t (later cause))
-    none_later built = reasons_keep (λ events out. Why settings before cause events out) (λ events. AllByRecursion None_at (asks_of settings t events)) none_did (with_cause before cause) (outs_of settings before cause) (reasons settings range before facts cause built).why
+    none_later : AllByRecursion None_at (asks_of settings t (later cause))
+    none_later = reasons_keep (λ events out. Why settings before cause events out) (λ events. AllByRecursion None_at (asks_of settings t events)) none_did (with_cause before cause) (outs_of settings before cause) (reasons settings range before facts cause).why
         (subst (AllByRecursion None_at) (sym exit.unasked) tt)
 
-  module _ (begun : Begun settings before) (cause : Cause) (built : built_behind settings before cause ≡ true) (fits : fits_behind before cause ≡ true) (goes_on : stopped (later cause) ≡ false) where
-    inside : Inner settings range before facts lasts seats cause built (later cause)
-    inside = inner_rests settings range before facts lasts seats cause built fits
+  module _ (begun : Begun settings before) (cause : Cause) (fits : fits_behind before cause ≡ true) (goes_on : stopped (later cause) ≡ false) where
+    inside : Inner settings range before facts lasts seats cause (later cause)
+    inside = inner_rests settings range before facts lasts seats cause fits
 
     abbrev AllAway : ℕ → Type 0
     AllAway e = (s : ℕ) → AllByRecursion (Away e) (asks_of settings s (later cause))
@@ -279,7 +278,7 @@ module _ (settings : Settings) (range : InRange settings) (before : List Event) 
     exit_away t exit e out s = go (nat_eq t s) refl
       where
         go : (b : Bool) → nat_eq t s ≡ b → AllByRecursion (Away e) (asks_of settings s (later cause))
-        go true same = subst (λ k. AllByRecursion (Away e) (asks_of settings k (later cause))) (number_same t s same) (all_of None_at (Away e) (λ a k. absurd k) (asks_of settings t (later cause)) (none_later cause t exit fits built))
+        go true same = subst (λ k. AllByRecursion (Away e) (asks_of settings k (later cause))) (number_same t s same) (all_of None_at (Away e) (λ a k. absurd k) (asks_of settings t (later cause)) (none_later cause t exit fits))
         go false other = none_with settings before cause e s (asks_of settings s (later cause)) (inside.seated s) (λ a k same. never (sym (ap (nat_eq t) (the_start cause t exit fits e s a out k same) ∙ same_number t) ∙ other))
 
     by_cause : (c : Cause) → cause ≡ c → (e : ℕ) → leaves settings before c e ≡ true → is_running (desk_of e before).phase ≡ true → AllAway e
@@ -313,7 +312,7 @@ module _ (settings : Settings) (range : InRange settings) (before : List Event) 
         let running : (desk_of a.editor (later cause)).phase ≡ Running = inside.runs a.editor stays (k.running stays) in
         let home : home_of settings a.editor (later cause) ≡ Some k.group = homes_stay settings a.editor (with_cause before cause) (outs_of settings before cause)
         ∙ took_home settings before a.editor k.old cause (off_both (ends_link settings before cause a.editor) (shuts cause a.editor) stays).1 ∙ k.home in
-        let last : start_of k.group (later cause) ≡ Some s = start_kept settings before cause begun built k.group s k.last in
+        let last : start_of k.group (later cause) ≡ Some s = start_kept settings before cause begun k.group s k.last in
         let kept : group_of s (later cause) ≡ Some k.group = (lively.last k.group s last).0 in
         record {
           running = running;

@@ -35,7 +35,6 @@ use Rattle.group_rows.specs.Asks.{members_in}
 use Rattle.group_rows.specs.Rows.{close_all, outs_of, refusal, waiting_in}
 use Rattle.group_rows.specs.StopRows.{stopped, stopped_next}
 use Rattle.group_rows.specs.Ticks.{due_of, overdue_of}
-use Rattle.group_facts.specs.Built.{built_behind}
 use Rattle.group_facts.specs.Facts.{Housed, IsHoused, Quit, is_refusing, is_up}
 use Rattle.group_facts.specs.Lively.{Lively, lives_at}
 use Rattle.group_facts.specs.Settled.{IsServing}
@@ -229,26 +228,26 @@ module _ (settings : Settings) (before : List Event) (low : Low before) (spawned
       go None none = never (sym (ap (lives_at g) (same ∙ ap (λ o. at_group o (λ k. end_live) groups) none) ∙ live) ∙ over)
       go (Some i) home = apart i home (nat_eq i g) refl
 
-  cause_ends : (cause : Cause) → fits_behind before cause ≡ true → built_behind settings before cause ≡ true → Ends cause
-  cause_ends (Joined n) fits built = none_ends (Joined n) (groups_more settings before (heard (Joined n)))
-  cause_ends (Drained n k) fits built = none_ends (Drained n k) (groups_more settings before (heard (Drained n k)))
-  cause_ends (Started n) fits built = none_ends (Started n) (groups_more settings before (heard (Started n)))
-  cause_ends (StartFailed n) fits built = lost_ends n (StartFailed n) (alive_exit before (StartFailed n) n (same_number n) fits) (failed_groups settings before n built) (off_there n (StartFailed n) (life_more n before (heard (StartFailed n)))) (all_outs NoSpawn _ _ (quiet_loss settings before n built (with_cause before (StartFailed n))).why)
-  cause_ends (ServerGone n) fits built = lost_ends n (ServerGone n) (alive_exit before (ServerGone n) n (same_number n) fits) (gone_groups settings before n built) (off_there n (ServerGone n) (life_more n before (heard (ServerGone n)))) (all_outs NoSpawn _ _ (quiet_loss settings before n built (with_cause before (ServerGone n))).why)
-  cause_ends (EditorGone n why) fits built = λ g s live over at. never (sym live ∙ (sym (ap (lives_at g) (groups_more settings before (heard (EditorGone n why))) ∙ emptied_lives (home_of settings n before) _ _ _ g groups) ∙ over))
-  cause_ends (Tick t) fits built = tick_ends t
-  cause_ends (FromEditor e body) fits built = heard_ends e body (places (desk_of e before).phase (message_of body)) (stops before e (message_of body)) refl refl
-  cause_ends (FromServer n body) fits built = said_ends n body (is_refusing before n (message_of body)) (group_of n before) refl refl
+  cause_ends : (cause : Cause) → fits_behind before cause ≡ true → Ends cause
+  cause_ends (Joined n) fits = none_ends (Joined n) (groups_more settings before (heard (Joined n)))
+  cause_ends (Drained n k) fits = none_ends (Drained n k) (groups_more settings before (heard (Drained n k)))
+  cause_ends (Started n) fits = none_ends (Started n) (groups_more settings before (heard (Started n)))
+  cause_ends (StartFailed n) fits = lost_ends n (StartFailed n) (alive_exit before (StartFailed n) n (same_number n) fits) (failed_groups settings before n) (off_there n (StartFailed n) (life_more n before (heard (StartFailed n)))) (all_outs NoSpawn _ _ (quiet_loss settings before n (with_cause before (StartFailed n))).why)
+  cause_ends (ServerGone n) fits = lost_ends n (ServerGone n) (alive_exit before (ServerGone n) n (same_number n) fits) (gone_groups settings before n) (off_there n (ServerGone n) (life_more n before (heard (ServerGone n)))) (all_outs NoSpawn _ _ (quiet_loss settings before n (with_cause before (ServerGone n))).why)
+  cause_ends (EditorGone n why) fits = λ g s live over at. never (sym live ∙ (sym (ap (lives_at g) (groups_more settings before (heard (EditorGone n why))) ∙ emptied_lives (home_of settings n before) _ _ _ g groups) ∙ over))
+  cause_ends (Tick t) fits = tick_ends t
+  cause_ends (FromEditor e body) fits = heard_ends e body (places (desk_of e before).phase (message_of body)) (stops before e (message_of body)) refl refl
+  cause_ends (FromServer n body) fits = said_ends n body (is_refusing before n (message_of body)) (group_of n before) refl refl
 
 -- A whole entry
 
-module _ (settings : Settings) (before : List Event) (cause : Cause) (begun : Begun settings before) (built : built_behind settings before cause ≡ true) where
+module _ (settings : Settings) (before : List Event) (cause : Cause) (begun : Begun settings before) where
   abbrev after : List Event
   after = behind (with_cause before cause) (outs_of settings before cause)
 
   -- the last start of a group that lives no more was there before
   start_back : (g s : ℕ) → lives_at g (groups_of settings (with_cause before cause)) ≡ false → start_of g after ≡ Some s → start_of g before ≡ Some s
-  start_back g s over = by_founding settings before cause begun (λ xs. start_of g (behind (with_cause before cause) xs) ≡ Some s → start_of g before ≡ Some s) (λ xs all at. sym (start_quiet settings before cause begun g xs all) ∙ at) last (founding_of settings before cause built)
+  start_back g s over = by_founding settings before cause begun (λ xs. start_of g (behind (with_cause before cause) xs) ≡ Some s → start_of g before ≡ Some s) (λ xs all at. sym (start_quiet settings before cause begun g xs all) ∙ at) last (founding_of settings before cause)
     where
       last : (xs : List Out) (n : ℕ) → AllByRecursion NoSpawn xs → lives_at (N settings before cause begun) (groups_of settings (with_cause before cause)) ≡ true → start_of g (behind (with_cause before cause) (xs ++ Spawn n (N settings before cause begun) ∷ [])) ≡ Some s → start_of g before ≡ Some s
       last xs n all live at = go (nat_eq (N settings before cause begun) g) refl (sym (start_last settings before cause begun g n xs all) ∙ at)
@@ -259,7 +258,7 @@ module _ (settings : Settings) (before : List Event) (cause : Cause) (begun : Be
 
   -- and if it wasn't up, it isn't
   off_kept : (g s : ℕ) → start_of g before ≡ Some s → group_of s after ≡ Some g → IsOff s before → IsOff s after
-  off_kept g s at home off = by_founding settings before cause begun (λ xs. group_of s (behind (with_cause before cause) xs) ≡ Some g → IsOff s (behind (with_cause before cause) xs)) (λ xs all is. quiet xs all) last (founding_of settings before cause built) home
+  off_kept g s at home off = by_founding settings before cause begun (λ xs. group_of s (behind (with_cause before cause) xs) ≡ Some g → IsOff s (behind (with_cause before cause) xs)) (λ xs all is. quiet xs all) last (founding_of settings before cause) home
     where
       quiet : (xs : List Out) → AllByRecursion NoSpawn xs → IsOff s (behind (with_cause before cause) xs)
       quiet xs all = off_outs s (with_cause before cause) xs all (off_took s before cause off)
@@ -273,19 +272,18 @@ module _ (settings : Settings) (before : List Event) (cause : Cause) (begun : Be
           fresh true same k = absurd (let its : N settings before cause begun ≡ g = the_same k in let below : g < N settings before cause begun = kept_below settings before cause begun g s at in omega (arith, its, below))
           fresh false other k = refl
 
-pub down_rests : (settings : Settings) (before : List Event) → Low before → Spawned before → Lively settings before → AllLast before → AllDown settings before → (cause : Cause) → fits_behind before cause ≡ true → Begun settings before → built_behind settings before cause ≡ true
-    → Lively settings (behind (with_cause before cause) (outs_of settings before cause)) → AllDown settings (behind (with_cause before cause) (outs_of settings before cause))
-down_rests settings before low spawned lively lasts down cause fits begun built later g s over at = go (lives_at g (groups_of settings before)) refl
+pub down_rests : (settings : Settings) (before : List Event) → Low before → Spawned before → Lively settings before → AllLast before → AllDown settings before → (cause : Cause) → fits_behind before cause ≡ true → Begun settings before → Lively settings (behind (with_cause before cause) (outs_of settings before cause)) → AllDown settings (behind (with_cause before cause) (outs_of settings before cause))
+down_rests settings before low spawned lively lasts down cause fits begun later g s over at = go (lives_at g (groups_of settings before)) refl
   where
     over_now : lives_at g (groups_of settings (with_cause before cause)) ≡ false
     over_now = sym (lives_outs settings g (with_cause before cause) (outs_of settings before cause)) ∙ over
 
     was : start_of g before ≡ Some s
-    was = start_back settings before cause begun built g s over_now at
+    was = start_back settings before cause begun g s over_now at
 
     go : (b : Bool) → lives_at g (groups_of settings before) ≡ b → IsOff s (behind (with_cause before cause) (outs_of settings before cause))
-    go true live = cause_ends settings before low spawned lively lasts cause fits built g s live over_now was
-    go false dead = off_kept settings before cause begun built g s was (later.last g s at).0 (down g s dead was)
+    go true live = cause_ends settings before low spawned lively lasts cause fits g s live over_now was
+    go false dead = off_kept settings before cause begun g s was (later.last g s at).0 (down g s dead was)
 
 pub down_none : (settings : Settings) → AllDown settings []
 down_none settings g s over at = absurd (cc)

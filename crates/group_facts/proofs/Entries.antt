@@ -30,7 +30,6 @@ use Rattle.group_rows.specs.Answers.{answer_row, hand_on, own_version}
 use Rattle.group_rows.specs.ExitRows.{begins_again}
 use Rattle.group_rows.specs.Rows.{from_server, outs_of, ready_row}
 use Rattle.group_rows.proofs.Versions.{own_flat}
-use Rattle.group_facts.specs.Built.{built_behind}
 use Rattle.group_facts.specs.Facts.{ends_with, is_too_many, is_unbegun, is_up, turned_away, is_crowded}
 use Rattle.group_facts.specs.Lively.{Lively, is_unplaced}
 use Rattle.group_facts.specs.Settled.{is_answered}
@@ -74,12 +73,12 @@ module _ (settings : Settings) (range : InRange settings) (before : List Event) 
   other_stays : (n : ℕ) (body : List ℕ) (e : ℕ) → stops before n (message_of body) ≡ false → nat_eq n e ≡ false → turned_away settings before (FromEditor n body) e ≡ false
   other_stays n body e on other = ap₂ (λ a b. a || b) (ap (λ b. b && (places (desk_of n before).phase (message_of body) && is_too_many (placed_for settings before n body (groups_of settings before)))) other) (ap (λ b. b && is_waiting (desk_of e before).phase) on)
 
-  own_entry : (n : ℕ) (body : List ℕ) → stops before n (message_of body) ≡ false → fits_behind before (FromEditor n body) ≡ true → built_behind settings before (FromEditor n body) ≡ true → OpenAt settings n Nobody (later (FromEditor n body))
-  own_entry n body on fits built = go (places (desk_of n before).phase (message_of body)) refl (is_crowded settings before n body n) refl
+  own_entry : (n : ℕ) (body : List ℕ) → stops before n (message_of body) ≡ false → fits_behind before (FromEditor n body) ≡ true → OpenAt settings n Nobody (later (FromEditor n body))
+  own_entry n body on fits = go (places (desk_of n before).phase (message_of body)) refl (is_crowded settings before n body n) refl
     where
       go : (b : Bool) → places (desk_of n before).phase (message_of body) ≡ b → (c : Bool) → is_crowded settings before n body n ≡ c → OpenAt settings n Nobody (later (FromEditor n body))
       go b place true turned = turned_rests settings before n body turned
-      go true place false few = open_entry settings n Nobody before (FromEditor n body) (ap₂ (λ a b. a || b) few (ap (λ b. b && is_waiting (desk_of n before).phase) on)) range facts begun built (placed_open settings before n body (h n) place)
+      go true place false few = open_entry settings n Nobody before (FromEditor n body) (ap₂ (λ a b. a || b) few (ap (λ b. b && is_waiting (desk_of n before).phase) on)) range facts begun (placed_open settings before n body (h n) place)
       go false place false few = message_rests settings before n body (h n) range facts fits on place
 
   -- E6: behind it an editor that was there is closed, and of one that wasn't nothing is changed
@@ -104,8 +103,8 @@ module _ (settings : Settings) (range : InRange settings) (before : List Event) 
       go true same = subst (λ k. is_there (desk_of k (with_cause before (FromEditor n body))).phase ≡ true) (number_same n e same) (there_taken settings before n body own)
       go false other = ap (λ (d : Desk). is_there d.phase) (desk_more e before (heard (FromEditor n body)) ∙ ap (λ b. if b then desk_hears (desk_of e before).phase (desk_of e before).initialize body (message_of body) else desk_of e before) other) ∙ there
 
-  stop_entry : (n : ℕ) (body : List ℕ) → stops before n (message_of body) ≡ true → built_behind settings before (FromEditor n body) ≡ true → OpenAll settings (later (FromEditor n body))
-  stop_entry n body stop built e = go (is_there (desk_of e before).phase) refl
+  stop_entry : (n : ℕ) (body : List ℕ) → stops before n (message_of body) ≡ true → OpenAll settings (later (FromEditor n body))
+  stop_entry n body stop e = go (is_there (desk_of e before).phase) refl
     where
       own : is_there (desk_of n before).phase ≡ true
       own = (and_parts (is_there (desk_of n before).phase) (not (is_begun (desk_of n before).phase && is_doubled before n (message_of body))) (and_parts (requests (codes "lspmux/stop") (message_of body)) _ stop).1).0
@@ -119,21 +118,21 @@ module _ (settings : Settings) (range : InRange settings) (before : List Event) 
           (none_there settings before n body stop (facts.steady).editors e) (none_absent settings before n body stop (facts.steady).editors e (there_heard_now n body e own there))
       go false gone = let away : nat_eq n e ≡ false = other gone (nat_eq n e) refl in open_entry settings e Nobody before (FromEditor n body)
           (ap₂ (λ a b. a || b) (ap (λ b. b && (places (desk_of n before).phase (message_of body) && is_too_many (placed_for settings before n body (groups_of settings before)))) away)
-          (ap₂ (λ a b. a && b) stop (unthere_late (desk_of e before).phase gone))) range facts begun built (other_heard n body e away)
+          (ap₂ (λ a b. a && b) stop (unthere_late (desk_of e before).phase gone))) range facts begun (other_heard n body e away)
 
-  ordinary : (n : ℕ) (body : List ℕ) → stops before n (message_of body) ≡ false → fits_behind before (FromEditor n body) ≡ true → built_behind settings before (FromEditor n body) ≡ true → OpenAll settings (later (FromEditor n body))
-  ordinary n body on fits built e = go (nat_eq n e) refl
+  ordinary : (n : ℕ) (body : List ℕ) → stops before n (message_of body) ≡ false → fits_behind before (FromEditor n body) ≡ true → OpenAll settings (later (FromEditor n body))
+  ordinary n body on fits e = go (nat_eq n e) refl
     where
       go : (b : Bool) → nat_eq n e ≡ b → OpenAt settings e Nobody (later (FromEditor n body))
-      go true same = subst (λ k. OpenAt settings k Nobody (later (FromEditor n body))) (number_same n e same) (own_entry n body on fits built)
-      go false other = open_entry settings e Nobody before (FromEditor n body) (other_stays n body e on other) range facts begun built (other_heard n body e other)
+      go true same = subst (λ k. OpenAt settings k Nobody (later (FromEditor n body))) (number_same n e same) (own_entry n body on fits)
+      go false other = open_entry settings e Nobody before (FromEditor n body) (other_stays n body e on other) range facts begun (other_heard n body e other)
 
-  editor_entry : (n : ℕ) (body : List ℕ) → fits_behind before (FromEditor n body) ≡ true → built_behind settings before (FromEditor n body) ≡ true → OpenAll settings (later (FromEditor n body))
-  editor_entry n body fits built e = choose_by (stops before n (message_of body)) refl
+  editor_entry : (n : ℕ) (body : List ℕ) → fits_behind before (FromEditor n body) ≡ true → OpenAll settings (later (FromEditor n body))
+  editor_entry n body fits e = choose_by (stops before n (message_of body)) refl
     where
       choose_by : (c : Bool) → stops before n (message_of body) ≡ c → OpenAt settings e Nobody (later (FromEditor n body))
-      choose_by true stop = stop_entry n body stop built e
-      choose_by false on = ordinary n body on fits built e
+      choose_by true stop = stop_entry n body stop e
+      choose_by false on = ordinary n body on fits e
 
   -- an editor that joins
   joined_now : (n e : ℕ) → fits_behind before (Joined n) ≡ true → OpenAt settings e Nobody (with_cause before (Joined n))
@@ -199,7 +198,7 @@ module _ (settings : Settings) (range : InRange settings) (before : List Event) 
   over_by T Closed initialize ids unbegun placed = tt
   over_by T Gone initialize ids unbegun placed = tt
 
-  module _ (s : ℕ) (built : not (begins_again settings before s) ≡ true) (e : ℕ) where
+  module _ (s : ℕ) (ends : not (begins_again settings before s) ≡ true) (e : ℕ) where
     abbrev StaysIn : Type 0
     StaysIn = (ends_with settings before s e && is_begun (desk_of e before).phase) ≡ false
 
@@ -210,7 +209,7 @@ module _ (settings : Settings) (range : InRange settings) (before : List Event) 
         go : (b : Bool) → nat_eq s k.start ≡ b → b ≡ false
         go true same =
             let home : group_of s before ≡ Some k.group = ap (λ n. group_of n before) (number_same s k.start same) ∙ (lively.last k.group k.start k.last).0 in
-            never (sym (ap₂ (λ a b. a && b) (ap₂ (λ a b. a && b) (ends_live settings before s built k.group home (lives_of settings before lively e k.group served k.home))
+            never (sym (ap₂ (λ a b. a && b) (ap₂ (λ a b. a && b) (ends_live settings before s k.group home (lives_of settings before lively e k.group served k.home))
             (ap (λ o. option_map_or (λ i. is_home i (home_of settings e before)) o false) home ∙ (ap (is_home k.group) k.home ∙ same_number k.group))) (begun_answered (desk_of e before).phase served)) ∙ rest)
         go false other = refl
 
@@ -249,18 +248,18 @@ module _ (settings : Settings) (range : InRange settings) (before : List Event) 
       where
         go : (b : Bool) → (ends_with settings before s e && is_begun (desk_of e before).phase) ≡ b → OpenAt settings e Nobody (later (StartFailed s))
         go true out = put_out_over (StartFailed s) (failed_exit settings before s) out
-        go false rest = open_entry settings e Nobody before (StartFailed s) (stays_waiting rest) range facts begun built (failed_now rest)
+        go false rest = open_entry settings e Nobody before (StartFailed s) (stays_waiting rest) range facts begun (failed_now rest)
 
     ended_at : OpenAt settings e Nobody (later (ServerGone s))
     ended_at = go (ends_with settings before s e && is_begun (desk_of e before).phase) refl
       where
         go : (b : Bool) → (ends_with settings before s e && is_begun (desk_of e before).phase) ≡ b → OpenAt settings e Nobody (later (ServerGone s))
         go true out = put_out_over (ServerGone s) (gone_exit settings before s) out
-        go false rest = open_entry settings e Nobody before (ServerGone s) (stays_waiting rest) range facts begun built (ended_now rest)
+        go false rest = open_entry settings e Nobody before (ServerGone s) (stays_waiting rest) range facts begun (ended_now rest)
 
   -- Entries of starts
 
-  module _ (s : ℕ) (body : List ℕ) (built : built_behind settings before (FromServer s body) ≡ true) where
+  module _ (s : ℕ) (body : List ℕ) where
     abbrev now : List Event
     now = with_cause before (FromServer s body)
 
@@ -374,7 +373,7 @@ module _ (settings : Settings) (range : InRange settings) (before : List Event) 
 
       stays_at : turned_away settings before (FromServer s body) e ≡ false → OpenAt settings e Nobody (later (FromServer s body))
       stays_at stays = if_other (S settings e Answers (later (FromServer s body))) (S settings e Nobody (later (FromServer s body))) (desk_of e (later (FromServer s body))).phase (desk_of e (later (FromServer s body))).initialize (open_of e (later (FromServer s body)))
-          (λ served id still k. go id served still k) (open_entry settings e Answers before (FromServer s body) stays range facts begun built response_now)
+          (λ served id still k. go id served still k) (open_entry settings e Answers before (FromServer s body) stays range facts begun response_now)
         where
           go : (id : Id) → is_answered (desk_of e (later (FromServer s body))).phase ≡ true → is_open id (open_of e (later (FromServer s body))) ≡ true → SentAt settings (later (FromServer s body)) e id ⊎ Answers id → SentAt settings (later (FromServer s body)) e id ⊎ ⊥
           go id served still (inl k) = inl k
@@ -389,13 +388,13 @@ module _ (settings : Settings) (range : InRange settings) (before : List Event) 
           go true turned = over_by (S settings e Nobody (later (FromServer s body))) (desk_of e (later (FromServer s body))).phase (desk_of e (later (FromServer s body))).initialize (open_of e (later (FromServer s body)))
               (turned_ends settings before s body (facts.steady).editors e turned) (turned_placed settings before s body e turned)
 
-  pub open_rests : (cause : Cause) → fits_behind before cause ≡ true → built_behind settings before cause ≡ true → OpenAll settings (later cause)
-  open_rests (FromEditor n body) fits built = editor_entry n body fits built
-  open_rests (FromServer s body) fits built = λ e. server_at s body built e
-  open_rests (Joined n) fits built = λ e. open_entry settings e Nobody before (Joined n) refl range facts begun built (joined_now n e fits)
-  open_rests (Started s) fits built = λ e. open_entry settings e Nobody before (Started s) refl range facts begun built (started_now s e)
-  open_rests (Drained n k) fits built = λ e. open_entry settings e Nobody before (Drained n k) refl range facts begun built (drained_now n k e)
-  open_rests (EditorGone n why) fits built = λ e. open_entry settings e Nobody before (EditorGone n why) refl range facts begun built (gone_now n why e)
-  open_rests (StartFailed s) fits built = λ e. failed_at s built e
-  open_rests (ServerGone s) fits built = λ e. ended_at s built e
-  open_rests (Tick t) fits built = λ e. open_entry settings e Nobody before (Tick t) refl range facts begun built (ticked_now t e)
+  pub open_rests : (cause : Cause) → fits_behind before cause ≡ true → OpenAll settings (later cause)
+  open_rests (FromEditor n body) fits = editor_entry n body fits
+  open_rests (FromServer s body) fits = λ e. server_at s body e
+  open_rests (Joined n) fits = λ e. open_entry settings e Nobody before (Joined n) refl range facts begun (joined_now n e fits)
+  open_rests (Started s) fits = λ e. open_entry settings e Nobody before (Started s) refl range facts begun (started_now s e)
+  open_rests (Drained n k) fits = λ e. open_entry settings e Nobody before (Drained n k) refl range facts begun (drained_now n k e)
+  open_rests (EditorGone n why) fits = λ e. open_entry settings e Nobody before (EditorGone n why) refl range facts begun (gone_now n why e)
+  open_rests (StartFailed s) fits = λ e. failed_at s e
+  open_rests (ServerGone s) fits = λ e. ended_at s e
+  open_rests (Tick t) fits = λ e. open_entry settings e Nobody before (Tick t) refl range facts begun (ticked_now t e)

@@ -613,21 +613,21 @@ module _ (settings : Settings) (before : List Event) (facts : Facts settings bef
 
     -- The row
 
-    module _ (built : not (begins_again settings before s) ≡ true) (x : Kept) (found : slice_get (groups_of settings before) g ≡ Some x) where
+    module _ (ends : not (begins_again settings before s) ≡ true) (x : Kept) (found : slice_get (groups_of settings before) g ≡ Some x) where
       both : (a b : Bool) → a ≡ true → b ≡ true → (a && b) ≡ true
       both true b is also = also
       both false b is also = is
 
       alive_why : x.live ≡ true → Because R now (each (lose_sent before s) (members_in settings g before) ⨾ (losing_row ⨾ choose (starts_again settings before g x) (spawn g) (each turn_out (members_in settings g before))))
       alive_why live = by_then errors_why (by_then losses_why (by_choose
-          (λ again. never (sym (both x.live (starts_again settings before g x) live again) ∙ none_again settings before s built g x home found))
-          (λ last. leaves_why (ends_live settings before s built g home (ap lives found ∙ live)))))
+          (λ again. never (sym (both x.live (starts_again settings before g x) live again) ∙ none_again settings before s g x home found))
+          (λ last. leaves_why (ends_live settings before s g home (ap lives found ∙ live)))))
 
       kept_why : Because R now (exit_in settings before s g x)
       kept_why = by_choose (λ live. alive_why live) (λ over. by_nothing)
 
   group_why : not (begins_again settings before s) ≡ true → (g : ℕ) → group_of s before ≡ Some g → Because R now (on (slice_get (groups_of settings before) g) nothing (exit_in settings before s g))
-  group_why built g home = by_on (λ none. by_nothing) (λ x found. kept_why g home built x found)
+  group_why g home = by_on (λ none. by_nothing) (λ x found. kept_why g home x found)
 
   pub lost_why : not (begins_again settings before s) ≡ true → Because R now (lost_row settings before s)
-  lost_why built = by_on (λ none. by_nothing) (λ g home. group_why built g home)
+  lost_why = by_on (λ none. by_nothing) (λ g home. group_why g home)

@@ -1,4 +1,4 @@
--- A start that didn't end is the last one of its group, and no entry changes the last start of a group so far.
+-- A start that didn't end is the last one of its group, and an entry changes the last start of a group only where that ends.
 use Rattle.std.proofs.Common.{◌≡◌, ℕ, ◌<◌, ◌≤◌, Bool, true, false, not, List, [], ◌∷◌, ◌++◌, map, length, nat_eq, if◌then◌else◌, Option, None, Some, refl, sym, ◌∙◌, ap, subst, arith, append-nil, append_assoc}
 use Rattle.std.specs.List.{AllByRecursion}
 use Rattle.std.proofs.lemmas.Bool.{and_parts}
@@ -10,18 +10,18 @@ use Rattle.event_model.specs.declared.stage.Stage.{Stage}
 use Rattle.event_model.specs.declared.stage.Stage.TheVariants.{Unspawned, Spawning, Initializing, Ready, Stopping, Ending, Ended}
 use Rattle.event_model.specs.Event.{Event, behind, heard, said, with_cause}
 use Rattle.event_model.specs.Settings.{Settings}
-use Rattle.event_model.specs.Spawns.{group_of, start_of}
-use Rattle.event_model.specs.Stages.{is_ended, is_initializing, life_of, may_begin}
+use Rattle.event_model.specs.Spawns.{group_of, start_of, starts_of}
+use Rattle.event_model.specs.Stages.{Life, is_ended, is_initializing, life_of, may_begin}
 use Rattle.event_model.proofs.Frames.{never}
 use Rattle.mux_model.specs.Fits.{fits_behind}
+use Rattle.mux_facts.proofs.Folds.{life_more}
 use Rattle.mux_facts.proofs.Keeps.{behind_both}
 use Rattle.mux_facts.proofs.Words.{number_same, same_number}
 use Rattle.group_words.specs.Houses.{groups_of}
 use Rattle.group_rows.specs.Rows.{outs_of}
-use Rattle.group_facts.specs.Built.{built_behind}
 use Rattle.group_facts.specs.Facts.{is_exit}
 use Rattle.group_facts.specs.Lively.{lives_at}
-use Rattle.group_facts.proofs.Begun.{Begun, Founding, NoSpawn, founding_of, founds, quiet, start_more, start_took, starts_stay}
+use Rattle.group_facts.proofs.Begun.{Begun, Founding, NoSpawn, founding_of, founds, quiet, renews, start_more, start_took, starts_stay}
 use Rattle.group_facts.proofs.Ceased.{unended_outs, unended_spawn, unended_took}
 use Rattle.group_facts.proofs.Housed.{group_more}
 
@@ -42,6 +42,53 @@ group_did s events (EndServer n) h = group_more s events (said (EndServer n))
 pub groups_rest : (s : ℕ) (events : List Event) (xs : List Out) → AllByRecursion NoSpawn xs → group_of s (behind events xs) ≡ group_of s events
 groups_rest s events [] h = ap (group_of s) (append-nil events)
 groups_rest s events (x ∷ xs) h = ap (group_of s) (sym (append_assoc events (said x ∷ []) (map said xs))) ∙ (groups_rest s (events ++ said x ∷ []) xs h.1 ∙ group_did s events x h.0)
+
+-- A start that ends by a cause that fits hadn't ended
+
+alive_starting : (stage : Stage) → may_begin stage ≡ true → is_ended stage ≡ false
+alive_starting Spawning h = refl
+alive_starting Ending h = refl
+alive_starting Unspawned h = refl
+alive_starting Initializing h = refl
+alive_starting Ready h = refl
+alive_starting Stopping h = refl
+alive_starting Ended h = never (sym h)
+
+pub alive_initializing : (stage : Stage) → is_initializing stage ≡ true → is_ended stage ≡ false
+alive_initializing Initializing h = refl
+alive_initializing Unspawned h = refl
+alive_initializing Spawning h = refl
+alive_initializing Ready h = refl
+alive_initializing Stopping h = refl
+alive_initializing Ending h = refl
+alive_initializing Ended h = never (sym h)
+
+turned_off : (b : Bool) → not b ≡ true → b ≡ false
+turned_off true h = never (sym h)
+turned_off false h = refl
+
+-- and it ended behind the cause
+exit_over : (before : List Event) (cause : Cause) (s : ℕ) → is_exit cause s ≡ true → is_ended (life_of s (with_cause before cause)).stage ≡ true
+exit_over before (StartFailed n) s is = ap (λ (l : Life). is_ended l.stage) (life_more s before (heard (StartFailed n))) ∙ ap (λ b. is_ended (if b then record { stage = Ended; started = (life_of s before).started } else life_of s before).stage) is
+exit_over before (ServerGone n) s is = ap (λ (l : Life). is_ended l.stage) (life_more s before (heard (ServerGone n))) ∙ ap (λ b. is_ended (if b then record { stage = Ended; started = (life_of s before).started } else life_of s before).stage) is
+exit_over before (Joined n) s is = never (sym is)
+exit_over before (FromEditor n body) s is = never (sym is)
+exit_over before (EditorGone n why) s is = never (sym is)
+exit_over before (Started n) s is = never (sym is)
+exit_over before (FromServer n body) s is = never (sym is)
+exit_over before (Drained n k) s is = never (sym is)
+exit_over before (Tick t) s is = never (sym is)
+
+pub alive_exit : (before : List Event) (cause : Cause) (s : ℕ) → is_exit cause s ≡ true → fits_behind before cause ≡ true → is_ended (life_of s before).stage ≡ false
+alive_exit before (StartFailed n) s is fits = subst (λ k. is_ended (life_of k before).stage ≡ false) (number_same n s is) (alive_starting (life_of n before).stage (and_parts (may_begin (life_of n before).stage) (not (life_of n before).started) fits).0)
+alive_exit before (ServerGone n) s is fits = subst (λ k. is_ended (life_of k before).stage ≡ false) (number_same n s is) (turned_off (is_ended (life_of n before).stage) (and_parts (life_of n before).started (not (is_ended (life_of n before).stage)) fits).1)
+alive_exit before (Joined n) s is fits = never (sym is)
+alive_exit before (FromEditor n body) s is fits = never (sym is)
+alive_exit before (EditorGone n why) s is fits = never (sym is)
+alive_exit before (Started n) s is fits = never (sym is)
+alive_exit before (FromServer n body) s is fits = never (sym is)
+alive_exit before (Drained n k) s is fits = never (sym is)
+alive_exit before (Tick t) s is fits = never (sym is)
 
 module _ (settings : Settings) (before : List Event) (cause : Cause) (begun : Begun settings before) where
   abbrev pub N : ℕ
@@ -74,74 +121,72 @@ module _ (settings : Settings) (before : List Event) (cause : Cause) (begun : Be
   group_quiet s xs all = groups_rest s now xs all ∙ group_took s before cause
 
   -- behind its start
-  pub start_last : (g n : ℕ) (xs : List Out) → AllByRecursion NoSpawn xs → start_of g (behind now (xs ++ Spawn n N ∷ [])) ≡ (if nat_eq N g then Some n else start_of g before)
-  start_last g n xs all = ap (start_of g) (behind_both now xs (Spawn n N ∷ [])) ∙ start_more g (behind now xs) (said (Spawn n N)) ∙ ap (λ o. if nat_eq N g then Some n else o) (start_quiet g xs all)
+  -- behind a start of group i
+  pub start_last : (g n i : ℕ) (xs : List Out) → AllByRecursion NoSpawn xs → start_of g (behind now (xs ++ Spawn n i ∷ [])) ≡ (if nat_eq i g then Some n else start_of g before)
+  start_last g n i xs all = ap (start_of g) (behind_both now xs (Spawn n i ∷ [])) ∙ start_more g (behind now xs) (said (Spawn n i)) ∙ ap (λ o. if nat_eq i g then Some n else o) (start_quiet g xs all)
 
-  pub group_last : (s n : ℕ) (xs : List Out) → AllByRecursion NoSpawn xs → group_of s (behind now (xs ++ Spawn n N ∷ [])) ≡ (if nat_eq n s then Some N else group_of s before)
-  group_last s n xs all = ap (group_of s) (behind_both now xs (Spawn n N ∷ [])) ∙ group_more s (behind now xs) (said (Spawn n N)) ∙ ap (λ o. if nat_eq n s then Some N else o) (group_quiet s xs all)
+  pub group_last : (s n i : ℕ) (xs : List Out) → AllByRecursion NoSpawn xs → group_of s (behind now (xs ++ Spawn n i ∷ [])) ≡ (if nat_eq n s then Some i else group_of s before)
+  group_last s n i xs all = ap (group_of s) (behind_both now xs (Spawn n i ∷ [])) ∙ group_more s (behind now xs) (said (Spawn n i)) ∙ ap (λ o. if nat_eq n s then Some i else o) (group_quiet s xs all)
 
   pub by_founding : (P : List Out → Type 0) → ((xs : List Out) → AllByRecursion NoSpawn xs → P xs) → ((xs : List Out) (n : ℕ) → AllByRecursion NoSpawn xs → lives_at N (groups_of settings now) ≡ true → P (xs ++ Spawn n N ∷ []))
+      → ((xs : List Out) (s i : ℕ) → AllByRecursion NoSpawn xs → is_exit cause s ≡ true → group_of s before ≡ Some i → lives_at i (groups_of settings now) ≡ true → P (xs ++ Spawn (starts_of before) i ∷ []))
       → Founding settings before cause → P (outs_of settings before cause)
-  by_founding P f g (quiet all same) = f (outs_of settings before cause) all
-  by_founding P f g (founds xs n all sent more live) = subst P (sym sent) (g xs n all live)
+  by_founding P f g h (quiet all same) = f (outs_of settings before cause) all
+  by_founding P f g h (founds xs n all sent more live) = subst P (sym sent) (g xs n all live)
+  by_founding P f g h (renews xs s i all sent same is home live) = subst P (sym sent) (h xs s i all is home live)
 
-  module _ (built : built_behind settings before cause ≡ true) where
-    pub start_kept : (g s : ℕ) → start_of g before ≡ Some s → start_of g (behind now (outs_of settings before cause)) ≡ Some s
-    start_kept g s at = by_founding (λ xs. start_of g (behind now xs) ≡ Some s) (λ xs all. start_quiet g xs all ∙ at)
-        (λ xs n all live. start_last g n xs all ∙ ap (λ b. if b then Some n else start_of g before) (apart g (kept_below g s at)) ∙ at) (founding_of settings before cause built)
+  -- of a cause that fits
+  module _ (fits : fits_behind before cause ≡ true) (lasts : AllLast before) where
+    -- the start of a group stays, but where it ends
+    pub start_kept : (g s : ℕ) → start_of g before ≡ Some s → is_exit cause s ≡ false → start_of g (behind now (outs_of settings before cause)) ≡ Some s
+    start_kept g s at goes_on = by_founding (λ xs. start_of g (behind now xs) ≡ Some s) (λ xs all. start_quiet g xs all ∙ at)
+        (λ xs n all live. start_last g n N xs all ∙ ap (λ b. if b then Some n else start_of g before) (apart g (kept_below g s at)) ∙ at) renewed (founding_of settings before cause)
+      where
+        renewed : (xs : List Out) (t i : ℕ) → AllByRecursion NoSpawn xs → is_exit cause t ≡ true → group_of t before ≡ Some i → lives_at i (groups_of settings now) ≡ true → start_of g (behind now (xs ++ Spawn (starts_of before) i ∷ [])) ≡ Some s
+        renewed xs t i all is home live = start_last g (starts_of before) i xs all ∙ go (nat_eq i g) refl
+          where
+            go : (b : Bool) → nat_eq i g ≡ b → (if b then Some (starts_of before) else start_of g before) ≡ Some s
+            go true same = absurd (let both : ◌≡◌ {A = Option ℕ} (Some t) (Some s) = sym (lasts t i home (alive_exit before cause t is fits)) ∙ (ap (λ k. start_of k before) (number_same i g same) ∙ at) in
+                let it : t ≡ s = cc in let clash : true ≡ false = sym is ∙ (ap (is_exit cause) it ∙ goes_on) in cc)
+            go false other = at
 
-    pub last_rests : AllLast before → AllLast (behind now (outs_of settings before cause))
-    last_rests h s g = by_founding (λ xs. group_of s (behind now xs) ≡ Some g → is_ended (life_of s (behind now xs)).stage ≡ false → start_of g (behind now xs) ≡ Some s)
-        (λ xs all at alive. start_quiet g xs all ∙ h s g (sym (group_quiet s xs all) ∙ at) (alive_before xs all alive)) last (founding_of settings before cause built)
+    pub last_rests : AllLast (behind now (outs_of settings before cause))
+    last_rests s g = by_founding (λ xs. group_of s (behind now xs) ≡ Some g → is_ended (life_of s (behind now xs)).stage ≡ false → start_of g (behind now xs) ≡ Some s)
+        (λ xs all at alive. start_quiet g xs all ∙ lasts s g (sym (group_quiet s xs all) ∙ at) (alive_before xs all alive)) last renewed (founding_of settings before cause)
       where
         alive_before : (xs : List Out) → AllByRecursion NoSpawn xs → is_ended (life_of s (behind now xs)).stage ≡ false → is_ended (life_of s before).stage ≡ false
         alive_before xs all alive = unended_took s before cause (unended_outs s now xs all alive)
 
+        -- behind a start that isn't s
+        alive_quiet : (xs : List Out) (n i : ℕ) → nat_eq n s ≡ false → is_ended (life_of s (behind now (xs ++ Spawn n i ∷ []))).stage ≡ false → is_ended (life_of s (behind now xs)).stage ≡ false
+        alive_quiet xs n i other alive = unended_spawn s n i (behind now xs) other (subst (λ z. is_ended (life_of s z).stage ≡ false) (behind_both now xs (Spawn n i ∷ [])) alive)
+
         last : (xs : List Out) (n : ℕ) → AllByRecursion NoSpawn xs → lives_at N (groups_of settings now) ≡ true → group_of s (behind now (xs ++ Spawn n N ∷ [])) ≡ Some g → is_ended (life_of s (behind now (xs ++ Spawn n N ∷ []))).stage ≡ false
             → start_of g (behind now (xs ++ Spawn n N ∷ [])) ≡ Some s
-        last xs n all live at alive = start_last g n xs all ∙ go (nat_eq n s) refl (sym (group_last s n xs all) ∙ at)
+        last xs n all live at alive = start_last g n N xs all ∙ go (nat_eq n s) refl (sym (group_last s n N xs all) ∙ at)
           where
-            was : nat_eq n s ≡ false → is_ended (life_of s before).stage ≡ false
-            was other = alive_before xs all (unended_spawn s n N (behind now xs) other (subst (λ z. is_ended (life_of s z).stage ≡ false) (behind_both now xs (Spawn n N ∷ [])) alive))
-
             go : (b : Bool) → nat_eq n s ≡ b → (if b then Some N else group_of s before) ≡ Some g → (if nat_eq N g then Some n else start_of g before) ≡ Some s
             go true same k = let is : N ≡ g = cc in ap (λ b. if b then Some n else start_of g before) (subst (λ z. nat_eq N z ≡ true) is (same_number N)) ∙ ap (λ z. Some z) (number_same n s same)
-            go false other k = let kept : start_of g before ≡ Some s = h s g k (was other) in ap (λ b. if b then Some n else start_of g before) (apart g (kept_below g s kept)) ∙ kept
+            go false other k = let kept : start_of g before ≡ Some s = lasts s g k (alive_before xs all (alive_quiet xs n N other alive)) in ap (λ b. if b then Some n else start_of g before) (apart g (kept_below g s kept)) ∙ kept
+
+        renewed : (xs : List Out) (t i : ℕ) → AllByRecursion NoSpawn xs → is_exit cause t ≡ true → group_of t before ≡ Some i → lives_at i (groups_of settings now) ≡ true → group_of s (behind now (xs ++ Spawn (starts_of before) i ∷ [])) ≡ Some g
+            → is_ended (life_of s (behind now (xs ++ Spawn (starts_of before) i ∷ []))).stage ≡ false → start_of g (behind now (xs ++ Spawn (starts_of before) i ∷ [])) ≡ Some s
+        renewed xs t i all is home live at alive = start_last g (starts_of before) i xs all ∙ go (nat_eq (starts_of before) s) refl (sym (group_last s (starts_of before) i xs all) ∙ at)
+          where
+            the : {v w : ℕ} → ◌≡◌ {A = Option ℕ} (Some v) (Some w) → v ≡ w
+            the e = cc
+
+            -- the one that ends is the only other one that could be the last of its group
+            old : nat_eq (starts_of before) s ≡ false → group_of s before ≡ Some g → (c : Bool) → nat_eq i g ≡ c → (if c then Some (starts_of before) else start_of g before) ≡ Some s
+            old other k false far = lasts s g k (alive_before xs all (alive_quiet xs (starts_of before) i other alive))
+            old other k true same = absurd (let here : start_of g before ≡ Some s = lasts s g k (alive_before xs all (alive_quiet xs (starts_of before) i other alive)) in
+                let it : t ≡ s = the (sym (lasts t i home (alive_exit before cause t is fits)) ∙ (ap (λ k. start_of k before) (number_same i g same) ∙ here)) in
+                let over : is_ended (life_of s now).stage ≡ true = subst (λ k. is_ended (life_of k now).stage ≡ true) it (exit_over before cause t is) in
+                let clash : true ≡ false = sym over ∙ unended_outs s now xs all (alive_quiet xs (starts_of before) i other alive) in cc)
+
+            go : (b : Bool) → nat_eq (starts_of before) s ≡ b → (if b then Some i else group_of s before) ≡ Some g → (if nat_eq i g then Some (starts_of before) else start_of g before) ≡ Some s
+            go true same k = ap (λ b. if b then Some (starts_of before) else start_of g before) (subst (λ z. nat_eq i z ≡ true) (the k) (same_number i)) ∙ ap (λ z. Some z) (number_same (starts_of before) s same)
+            go false other k = old other k (nat_eq i g) refl
 
 pub last_none : AllLast []
 last_none s g at alive = absurd (cc)
-
--- A start that ends by a cause that fits hadn't ended
-
-alive_starting : (stage : Stage) → may_begin stage ≡ true → is_ended stage ≡ false
-alive_starting Spawning h = refl
-alive_starting Ending h = refl
-alive_starting Unspawned h = refl
-alive_starting Initializing h = refl
-alive_starting Ready h = refl
-alive_starting Stopping h = refl
-alive_starting Ended h = never (sym h)
-
-pub alive_initializing : (stage : Stage) → is_initializing stage ≡ true → is_ended stage ≡ false
-alive_initializing Initializing h = refl
-alive_initializing Unspawned h = refl
-alive_initializing Spawning h = refl
-alive_initializing Ready h = refl
-alive_initializing Stopping h = refl
-alive_initializing Ending h = refl
-alive_initializing Ended h = never (sym h)
-
-turned_off : (b : Bool) → not b ≡ true → b ≡ false
-turned_off true h = never (sym h)
-turned_off false h = refl
-
-pub alive_exit : (before : List Event) (cause : Cause) (s : ℕ) → is_exit cause s ≡ true → fits_behind before cause ≡ true → is_ended (life_of s before).stage ≡ false
-alive_exit before (StartFailed n) s is fits = subst (λ k. is_ended (life_of k before).stage ≡ false) (number_same n s is) (alive_starting (life_of n before).stage (and_parts (may_begin (life_of n before).stage) (not (life_of n before).started) fits).0)
-alive_exit before (ServerGone n) s is fits = subst (λ k. is_ended (life_of k before).stage ≡ false) (number_same n s is) (turned_off (is_ended (life_of n before).stage) (and_parts (life_of n before).started (not (is_ended (life_of n before).stage)) fits).1)
-alive_exit before (Joined n) s is fits = never (sym is)
-alive_exit before (FromEditor n body) s is fits = never (sym is)
-alive_exit before (EditorGone n why) s is fits = never (sym is)
-alive_exit before (Started n) s is fits = never (sym is)
-alive_exit before (FromServer n body) s is fits = never (sym is)
-alive_exit before (Drained n k) s is fits = never (sym is)
-alive_exit before (Tick t) s is fits = never (sym is)

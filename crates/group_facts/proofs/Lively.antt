@@ -35,7 +35,6 @@ use Rattle.group_words.proofs.Frames.{groups_more, home_more}
 use Rattle.group_rows.specs.ExitRows.{begins_again}
 use Rattle.group_rows.specs.Rows.{outs_of}
 use Rattle.group_facts.specs.SlowRows.{is_slow}
-use Rattle.group_facts.specs.Built.{built_behind}
 use Rattle.group_facts.specs.Facts.{ends_with, is_parted, is_put_out, is_refused, is_refusing, is_up}
 use Rattle.group_facts.specs.Lively.{IsDying, Lively, is_busy_at, is_unplaced, lives_at}
 use Rattle.group_facts.specs.Settled.{is_answered}
@@ -49,7 +48,7 @@ use Rattle.group_facts.proofs.LiveGroups.{IsFair, busy_apart, busy_emptied, busy
 use Rattle.group_facts.proofs.Numbered.{no_shutdown}
 use Rattle.group_facts.proofs.PutOut.{begun_closed, begun_told, or_first, unplaced_closed, unplaced_told}
 use Rattle.group_facts.proofs.RequestRow.{either_desk}
-use Rattle.group_facts.proofs.SlowRow.{parting, parting_why, quit_built}
+use Rattle.group_facts.proofs.SlowRow.{parting, parting_why}
 use Rattle.group_facts.proofs.StopEnds.{over_all}
 use Rattle.group_facts.proofs.StopEntry.{begun_there, put_out_ends, there_heard}
 use Rattle.group_facts.proofs.Table.{reasons}
@@ -357,16 +356,16 @@ module _ (settings : Settings) (before : List Event) (h : Lively settings before
           ∙ (ap (λ b. is_begun (if b then record { phase = Gone; initialize = (desk_of e before).initialize } else desk_of e before).phase) other ∙ k)) at) (h.busy e g k at)
 
   -- a start ends that gives its group no new one: the group ends
-  module _ (n : ℕ) (built : not (begins_again settings before n) ≡ true) where
+  module _ (n : ℕ) (ends : not (begins_again settings before n) ≡ true) where
     lost_busy : (e g : ℕ) → (ends_with settings before n e && is_begun (desk_of e before).phase) ≡ false → is_begun (desk_of e before).phase ≡ true → home_of settings e before ≡ Some g → is_busy_at g (groups_lose settings before n (house_of settings before)) ≡ true
-    lost_busy e g rest begun at = ap (is_busy_at g) (lost_is settings before n built) ∙ go (group_of n before) refl
+    lost_busy e g rest begun at = ap (is_busy_at g) (lost_is settings before n) ∙ go (group_of n before) refl
       where
         go : (o : Option ℕ) → group_of n before ≡ o → is_busy_at g (at_group o (λ k. end_live) groups) ≡ true
         go None none = h.busy e g begun at
         go (Some i) home = busy_apart i g end_live groups (λ same. never (sym (out same) ∙ rest)) (h.busy e g begun at)
           where
             out : g ≡ i → (ends_with settings before n e && is_begun (desk_of e before).phase) ≡ true
-            out same = ap₂ (λ a b. a && b) (ap₂ (λ a b. a && b) (ends_live settings before n built i home (ap (λ k. lives_at k groups) (sym same) ∙ lives_busy g groups (h.busy e g begun at)))
+            out same = ap₂ (λ a b. a && b) (ap₂ (λ a b. a && b) (ends_live settings before n i home (ap (λ k. lives_at k groups) (sym same) ∙ lives_busy g groups (h.busy e g begun at)))
                 (ap (λ o. option_map_or (λ k. is_home k (home_of settings e before)) o false) home ∙ (ap (is_home i) (at ∙ ap (λ k. Some k) same) ∙ same_number i))) begun
 
     lost_up : (g s : ℕ) → lives_at g (groups_lose settings before n (house_of settings before)) ≡ true → start_of g before ≡ Some s → is_up (if nat_eq n s then record { stage = Ended; started = (life_of s before).started } else life_of s before).stage ≡ true
@@ -374,7 +373,7 @@ module _ (settings : Settings) (before : List Event) (h : Lively settings before
         (λ same. never (sym kept ∙ lost_over settings before n g (ap (λ k. group_of k before) (number_same n s same) ∙ (h.last g s at).0))) (λ other. h.up g s (lost_lived settings before n g kept) at)
       where
         kept : lives_at g (groups_lost settings before n) ≡ true
-        kept = ap (lives_at g) (sym (lost_is settings before n built)) ∙ live
+        kept = ap (lives_at g) (sym (lost_is settings before n)) ∙ live
 
     failed : Mostly settings (is_put_out settings before (StartFailed n)) (with_cause before (StartFailed n))
     failed = most_words settings (is_put_out settings before (StartFailed n)) before (heard (StartFailed n)) h.unplaced lost_busy h.last lost_up
@@ -382,22 +381,22 @@ module _ (settings : Settings) (before : List Event) (h : Lively settings before
     exited : Mostly settings (is_put_out settings before (ServerGone n)) (with_cause before (ServerGone n))
     exited = most_words settings (is_put_out settings before (ServerGone n)) before (heard (ServerGone n)) h.unplaced lost_busy h.last lost_up
 
-took : (settings : Settings) (before : List Event) (cause : Cause) → fits_behind before cause ≡ true → built_behind settings before cause ≡ true → Editors before → Editors (with_cause before cause) → Begun settings before → Lively settings before
+took : (settings : Settings) (before : List Event) (cause : Cause) → fits_behind before cause ≡ true → Editors before → Editors (with_cause before cause) → Begun settings before → Lively settings before
     → Mostly settings (is_put_out settings before cause) (with_cause before cause)
-took settings before (Joined n) fits built absent after begun h = mostly settings _ _ (joined settings before h n fits absent)
-took settings before (Drained n k) fits built absent after begun h = mostly settings _ _ (drained settings before h n k)
-took settings before (Started n) fits built absent after begun h = mostly settings _ _ (began settings before h n)
-took settings before (EditorGone n why) fits built absent after begun h = mostly settings _ _ (gone settings before h n why after)
-took settings before (FromServer n body) fits built absent after begun h = said_by settings before h n body
-took settings before (FromEditor n body) fits built absent after begun h = go (places (desk_of n before).phase (message_of body)) (stops before n (message_of body)) refl refl
+took settings before (Joined n) fits absent after begun h = mostly settings _ _ (joined settings before h n fits absent)
+took settings before (Drained n k) fits absent after begun h = mostly settings _ _ (drained settings before h n k)
+took settings before (Started n) fits absent after begun h = mostly settings _ _ (began settings before h n)
+took settings before (EditorGone n why) fits absent after begun h = mostly settings _ _ (gone settings before h n why after)
+took settings before (FromServer n body) fits absent after begun h = said_by settings before h n body
+took settings before (FromEditor n body) fits absent after begun h = go (places (desk_of n before).phase (message_of body)) (stops before n (message_of body)) refl refl
   where
     go : (b c : Bool) → places (desk_of n before).phase (message_of body) ≡ b → stops before n (message_of body) ≡ c → Mostly settings (is_put_out settings before (FromEditor n body)) (with_cause before (FromEditor n body))
     go true c here stop = mostly settings _ _ (placing settings before h n body begun here)
     go false true off stop = stopped_by settings before h n body off stop
     go false false off on = mostly settings _ _ (heard_on settings before h n body off on)
-took settings before (StartFailed n) fits built absent after begun h = failed settings before h n built
-took settings before (ServerGone n) fits built absent after begun h = exited settings before h n built
-took settings before (Tick t) fits built absent after begun h = mostly settings _ _ (ticked settings before h t)
+took settings before (StartFailed n) fits absent after begun h = failed settings before h n
+took settings before (ServerGone n) fits absent after begun h = exited settings before h n
+took settings before (Tick t) fits absent after begun h = mostly settings _ _ (ticked settings before h t)
 
 -- Outs
 
@@ -504,14 +503,14 @@ module _ (settings : Settings) (range : InRange settings) (before : List Event) 
     here : Here settings before cause events
     lively : Mostly settings (is_put_out settings before cause) events
 
-  pub lively_rests : (cause : Cause) → fits_behind before cause ≡ true → built_behind settings before cause ≡ true → Lively settings (behind (with_cause before cause) (outs_of settings before cause))
-  lively_rests cause fits built =
-      let first : Here settings before cause (with_cause before cause) = here_took settings range before cause fits built facts in
+  pub lively_rests : (cause : Cause) → fits_behind before cause ≡ true → Lively settings (behind (with_cause before cause) (outs_of settings before cause))
+  lively_rests cause fits =
+      let first : Here settings before cause (with_cause before cause) = here_took settings range before cause fits facts in
       let last : At cause (behind (with_cause before cause) (outs_of settings before cause)) = reasons_keep (λ events out. Why settings before cause events out) (At cause)
-      (λ events out why i. let next : Here settings before cause (events ++ said out ∷ []) = here_did settings range before cause facts built events out why i.here in
+      (λ events out why i. let next : Here settings before cause (events ++ said out ∷ []) = here_did settings range before cause facts events out why i.here in
       record { here = next; lively = did settings (is_put_out settings before cause) events i.lively before cause out why ((next.mid).steady).editors })
-      (with_cause before cause) (outs_of settings before cause) (reasons settings range before facts cause built).why
-      (record { here = first; lively = took settings before cause fits built (facts.steady).editors ((first.mid).steady).editors begun h }) in
+      (with_cause before cause) (outs_of settings before cause) (reasons settings range before facts cause).why
+      (record { here = first; lively = took settings before cause fits (facts.steady).editors ((first.mid).steady).editors begun h }) in
       all_lively cause last.lively
     where
       -- those that were left out are in no group any more
@@ -534,7 +533,7 @@ module _ (settings : Settings) (range : InRange settings) (place : List Event) (
     lively : Mostly settings none_out events
 
   slow_did : (events : List Event) (out : Out) → Why settings place (quitting e) events out → AtSlow events → AtSlow (events ++ said out ∷ [])
-  slow_did events out why i = let next : Here settings place (quitting e) (events ++ said out ∷ []) = here_did settings range place (quitting e) facts (quit_built settings place e) events out why i.here in
+  slow_did events out why i = let next : Here settings place (quitting e) (events ++ said out ∷ []) = here_did settings range place (quitting e) facts events out why i.here in
       record { here = next; lively = did settings none_out events i.lively place (quitting e) out why ((next.mid).steady).editors }
 
   pub lively_slow : Lively settings place → Lively settings (behind place (parting settings place e))

@@ -24,7 +24,6 @@ use Rattle.mux_facts.proofs.Starts.{Starts}
 use Rattle.mux_facts.proofs.Tellings.{sent_more}
 use Rattle.mux_facts.proofs.Words.{number_same, same_number}
 use Rattle.group_rows.specs.Forwarded.{Forwarding, forwarding_of, forwards, no_forwarding, numbered}
-use Rattle.group_facts.specs.Built.{built_behind}
 use Rattle.group_facts.specs.Facts.{Bounded, Unbegun, Untold, is_unready, is_up}
 use Rattle.group_facts.proofs.Facts.{Facts}
 use Rattle.group_facts.proofs.Forwards.{forwarding_more, notified_next}
@@ -66,16 +65,16 @@ next_left : (b : Bool) (x : Forwarding) → b ≡ false → (if b then no_forwar
 next_left true x h = never h
 next_left false x h = refl
 
-pub forwarding_heard : (settings : Settings) (s : ℕ) (events : List Event) (cause : Cause) → built_behind settings events cause ≡ true → ends_now cause s ≡ false → (forwarding_of s (with_cause events cause)).next ≡ (forwarding_of s events).next
-forwarding_heard settings s events (Joined e) built on = ap (λ (x : Forwarding). x.next) (forwarding_more s events (heard (Joined e)))
-forwarding_heard settings s events (FromEditor e body) built on = ap (λ (x : Forwarding). x.next) (forwarding_more s events (heard (FromEditor e body)))
-forwarding_heard settings s events (Started n) built on = ap (λ (x : Forwarding). x.next) (forwarding_more s events (heard (Started n)))
-forwarding_heard settings s events (FromServer n body) built on = ap (λ (x : Forwarding). x.next) (forwarding_more s events (heard (FromServer n body)))
-forwarding_heard settings s events (Drained e k) built on = ap (λ (x : Forwarding). x.next) (forwarding_more s events (heard (Drained e k)))
-forwarding_heard settings s events (Tick t) built on = ap (λ (x : Forwarding). x.next) (forwarding_more s events (heard (Tick t)))
-forwarding_heard settings s events (EditorGone e why) built on = ap (λ (x : Forwarding). x.next) (forwarding_more s events (heard (EditorGone e why)))
-forwarding_heard settings s events (StartFailed n) built on = ap (λ (x : Forwarding). x.next) (forwarding_more s events (heard (StartFailed n))) ∙ next_left (nat_eq n s) (forwarding_of s events) on
-forwarding_heard settings s events (ServerGone n) built on = ap (λ (x : Forwarding). x.next) (forwarding_more s events (heard (ServerGone n))) ∙ next_left (nat_eq n s) (forwarding_of s events) on
+pub forwarding_heard : (settings : Settings) (s : ℕ) (events : List Event) (cause : Cause) → ends_now cause s ≡ false → (forwarding_of s (with_cause events cause)).next ≡ (forwarding_of s events).next
+forwarding_heard settings s events (Joined e) on = ap (λ (x : Forwarding). x.next) (forwarding_more s events (heard (Joined e)))
+forwarding_heard settings s events (FromEditor e body) on = ap (λ (x : Forwarding). x.next) (forwarding_more s events (heard (FromEditor e body)))
+forwarding_heard settings s events (Started n) on = ap (λ (x : Forwarding). x.next) (forwarding_more s events (heard (Started n)))
+forwarding_heard settings s events (FromServer n body) on = ap (λ (x : Forwarding). x.next) (forwarding_more s events (heard (FromServer n body)))
+forwarding_heard settings s events (Drained e k) on = ap (λ (x : Forwarding). x.next) (forwarding_more s events (heard (Drained e k)))
+forwarding_heard settings s events (Tick t) on = ap (λ (x : Forwarding). x.next) (forwarding_more s events (heard (Tick t)))
+forwarding_heard settings s events (EditorGone e why) on = ap (λ (x : Forwarding). x.next) (forwarding_more s events (heard (EditorGone e why)))
+forwarding_heard settings s events (StartFailed n) on = ap (λ (x : Forwarding). x.next) (forwarding_more s events (heard (StartFailed n))) ∙ next_left (nat_eq n s) (forwarding_of s events) on
+forwarding_heard settings s events (ServerGone n) on = ap (λ (x : Forwarding). x.next) (forwarding_more s events (heard (ServerGone n))) ∙ next_left (nat_eq n s) (forwarding_of s events) on
 
 -- Bodies to a start
 
@@ -186,18 +185,18 @@ module _ (settings : Settings) where
   bounds_by s events later a f k = (subst (λ z. z ≤ (forwarding_of s later).next) (sym a) (subst (λ z. next_number s events ≤ z) (sym f) k.0), subst (λ z. z ≤ settings.limits.requests + 2) (sym f) k.1)
 
   -- at a cause
-  module _ (events : List Event) (cause : Cause) (built : built_behind settings events cause ≡ true) where
+  module _ (events : List Event) (cause : Cause) where
     pub unbegun_took : ((s : ℕ) → Fresh is_unbegun unbegun_falls s (life_of s events) (heard cause)) → Unbegun events → Unbegun (with_cause events cause)
-    unbegun_took fresh h = level_more is_unbegun unbegun_falls NoRequest events (heard cause) fresh (λ s was after k. (number_heard s events cause ∙ k.0, forwarding_heard settings s events cause built (goes_on is_unbegun refl s (life_of s events) cause after) ∙ k.1)) h
+    unbegun_took fresh h = level_more is_unbegun unbegun_falls NoRequest events (heard cause) fresh (λ s was after k. (number_heard s events cause ∙ k.0, forwarding_heard settings s events cause (goes_on is_unbegun refl s (life_of s events) cause after) ∙ k.1)) h
 
     pub untold_took : ((s : ℕ) → Fresh is_unready unready_falls s (life_of s events) (heard cause)) → Untold events → Untold (with_cause events cause)
     untold_took fresh h = level_more is_unready unready_falls HasNone events (heard cause) fresh (λ s was after k u. held_heard s u events cause ∙ k u) h
 
     pub bounded_took : ((s : ℕ) → Fresh is_up up_falls s (life_of s events) (heard cause)) → Bounded settings events → Bounded settings (with_cause events cause)
-    bounded_took fresh h = level_more is_up up_falls InBounds events (heard cause) fresh (λ s was after k. bounds_by s events (with_cause events cause) (number_heard s events cause) (forwarding_heard settings s events cause built (goes_on is_up refl s (life_of s events) cause after)) k) h
+    bounded_took fresh h = level_more is_up up_falls InBounds events (heard cause) fresh (λ s was after k. bounds_by s events (with_cause events cause) (number_heard s events cause) (forwarding_heard settings s events cause (goes_on is_up refl s (life_of s events) cause after)) k) h
 
   -- at a body to a start
-  module _ (before : List Event) (cause : Cause) (facts : Facts settings before) (built : built_behind settings before cause ≡ true) (events : List Event) (n : ℕ) (body : List ℕ) (why : WhyToServer settings before cause events n body) where
+  module _ (before : List Event) (cause : Cause) (facts : Facts settings before) (events : List Event) (n : ℕ) (body : List ℕ) (why : WhyToServer settings before cause events n body) where
     abbrev sent : List Event
     sent = events ++ said (ToServer n body) ∷ []
 

@@ -19,7 +19,6 @@ use Rattle.mux_facts.proofs.Words.{number_same, same_number}
 use Rattle.group_words.specs.Houses.{groups_of}
 use Rattle.mux_facts.proofs.Why.{is_early}
 use Rattle.group_rows.specs.Rows.{outs_of}
-use Rattle.group_facts.specs.Built.{built_behind}
 use Rattle.group_facts.specs.Facts.{turned_away}
 use Rattle.group_facts.proofs.Listens.{listens_late}
 use Rattle.group_facts.specs.Why.{Why, WhyToEditor, calls, rejects, resumes, refuses, answers, turns_away, welcomes, passes, asks, recalls, spreads, progresses, shows, loses, winds_up}
@@ -149,8 +148,8 @@ module _ (settings : Settings) (e : ℕ) (E : Id → Type 0) where
     open_outs events (x ∷ xs) why calm h = subst OpenAt (append_assoc events (said x ∷ []) (map said xs)) (open_outs (events ++ said x ∷ []) xs why.1 calm.1 (open_did events x why.0 calm.0 h))
 
     -- all outs of an entry
-    pub open_entry : InRange settings → Facts settings before → Begun settings before → built_behind settings before cause ≡ true → OpenAt (with_cause before cause) → OpenAt (behind (with_cause before cause) (outs_of settings before cause))
-    open_entry range facts begun built h = go (founding_of settings before cause built) (reasons settings range before facts cause built).why
+    pub open_entry : InRange settings → Facts settings before → Begun settings before → OpenAt (with_cause before cause) → OpenAt (behind (with_cause before cause) (outs_of settings before cause))
+    open_entry range facts begun h = go (founding_of settings before cause) (reasons settings range before facts cause).why
       where
         last : (xs : List Out) (s : ℕ) → AllByRecursion NoSpawn xs → Reasons R now (xs ++ Spawn s N ∷ []) → OpenAt (behind now (xs ++ Spawn s N ∷ []))
         last xs s calm why = subst OpenAt (sym (behind_both now xs (Spawn s N ∷ [])))

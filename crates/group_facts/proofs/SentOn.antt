@@ -246,7 +246,7 @@ module _ (settings : Settings) (before : List Event) (cause : Cause) (events : L
 
 sent_law : (settings : Settings) → Law settings AllSentOn
 sent_law settings = record {
-  took = λ before cause fits built known h. quiet before (heard cause) (silent_cause cause) (fewer_took settings before cause built) h;
+  took = λ before cause fits known h. quiet before (heard cause) (silent_cause cause) (fewer_took settings before cause) h;
   to_editor = λ before cause events e body why known here i h. quiet events (said (ToEditor e body)) refl (fewer_said events (ToEditor e body) (λ s. refl)) h;
   to_server = λ before cause events s body why known here i h. one_sent settings before cause events s body why h;
   close = λ before cause events e ends there known here i h. quiet events (said (CloseEditor e)) refl (fewer_said events (CloseEditor e) (λ s. refl)) h;

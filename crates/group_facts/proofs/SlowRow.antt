@@ -40,7 +40,6 @@ use Rattle.group_rows.proofs.Exits.{exit_says}
 use Rattle.group_rows.proofs.Going.{no_exit}
 use Rattle.event_model.proofs.Frames.{never}
 use Rattle.group_facts.proofs.Asides.{answer_aside, spoken_aside, unsynced}
-use Rattle.group_facts.specs.Built.{built_behind}
 use Rattle.group_facts.specs.Facts.{ends_link, is_parting, is_put_out, turned_away}
 use Rattle.group_facts.specs.Why.{IsWorkCancel, Why, WhyToServer, begins, cancels, cancels_work, exits, forwarded, greets, conveys, notes, quitting, resolves, responds, shuts, tells}
 use Rattle.group_facts.proofs.Asks.{asked_by_more}
@@ -115,9 +114,6 @@ IsToStart (ToServer s body) = Unit {0}
 IsToStart other = ⊥
 
 module _ (settings : Settings) where
-  pub quit_built : (before : List Event) (e : ℕ) → built_behind settings before (quitting e) ≡ true
-  quit_built before e = refl
-
   -- by it no editor is turned away
   pub quit_turns_none : (before : List Event) (e n : ℕ) → turned_away settings before (quitting e) n ≡ false
   quit_turns_none before e n = ap₂ (λ a b. a || b)

@@ -35,7 +35,6 @@ use Rattle.group_rows.specs.CreatedRows.{create_text}
 use Rattle.group_rows.specs.Rows.{outs_of}
 use Rattle.group_rows.proofs.CreatedTexts.{create_says, create_tree}
 use Rattle.group_rows.proofs.LiveTexts.{again_written, live_written, register_says, registered_written, unregister_says}
-use Rattle.group_facts.specs.Built.{built_behind}
 use Rattle.group_facts.specs.Facts.{is_unready, shuts}
 use Rattle.group_facts.specs.Lively.{Lively}
 use Rattle.group_facts.specs.Settled as settled_facts
@@ -416,7 +415,7 @@ module _ (settings : Settings) (before : List Event) (cause : Cause) where
 abbrev pub AllTaken : Settings → List Event → Type 0
 AllTaken settings events = starts_of events ≤ 2 ^ 64 → (s : ℕ) → AllByRecursion (HasTaken settings events s) (created_of settings s events).takings
 
-module _ (settings : Settings) (range : InRange settings) (before : List Event) (facts : Facts settings before) (lasts : AllLast before) (begun : Begun settings before) (cause : Cause) (built : built_behind settings before cause ≡ true) (fits : fits_behind before cause ≡ true)
+module _ (settings : Settings) (range : InRange settings) (before : List Event) (facts : Facts settings before) (lasts : AllLast before) (begun : Begun settings before) (cause : Cause) (fits : fits_behind before cause ≡ true)
     (none : Uncreated settings before) (taken : AllTaken settings before) where
   abbrev there : List Event
   there = behind (with_cause before cause) (outs_of settings before cause)
@@ -429,7 +428,7 @@ module _ (settings : Settings) (range : InRange settings) (before : List Event) 
   }
 
   place_rests : Place settings before cause there
-  place_rests = reasons_keep (λ events out. Why settings before cause events out) (Place settings before cause) (place_did settings before cause lasts (facts.steady).starts) (with_cause before cause) (outs_of settings before cause) (reasons settings range before facts cause built).why place_took
+  place_rests = reasons_keep (λ events out. Why settings before cause events out) (Place settings before cause) (place_did settings before cause lasts (facts.steady).starts) (with_cause before cause) (outs_of settings before cause) (reasons settings range before facts cause).why place_took
 
   pub uncreated_rests : Uncreated settings there
   uncreated_rests = place_rests.none
@@ -437,7 +436,7 @@ module _ (settings : Settings) (range : InRange settings) (before : List Event) 
   runs_there : Lively settings there → (s e : ℕ) → Taker settings before cause there s e → RunsAt settings there s e
   runs_there lively s e k =
       let home : home_of settings e there ≡ Some k.group = homes_stay settings e (with_cause before cause) (outs_of settings before cause) ∙ k.home in
-      let last : start_of k.group there ≡ Some s = start_kept settings before cause begun built k.group s k.last in
+      let last : start_of k.group there ≡ Some s = start_kept settings before cause begun k.group s k.last in
       let kept : group_of s there ≡ Some k.group = (lively.last k.group s last).0 in
       record {
         running = k.running;
@@ -445,7 +444,7 @@ module _ (settings : Settings) (range : InRange settings) (before : List Event) 
         group = k.group;
         kept = kept;
         last = last;
-        ready = up_ready (life_of s there).stage (up_of settings there lively e k.group s (ap settled_facts.is_answered k.running) home last) (onward_rests settings range before facts cause built fits s (ap is_unready k.ready));
+        ready = up_ready (life_of s there).stage (up_of settings there lively e k.group s (ap settled_facts.is_answered k.running) home last) (onward_rests settings range before facts cause fits s (ap is_unready k.ready));
       }
 
   pub taken_rests : Lively settings there → AllTaken settings there

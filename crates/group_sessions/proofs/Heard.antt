@@ -110,5 +110,5 @@ module _ (settings : Settings) (before : List Event) (facts : Facts settings bef
   heard_outs events (out ∷ outs) h k = (heard_out events out h.0 k.0, heard_outs (events ++ said out ∷ []) outs h.1 k.1)
 
 pub all_heard : (settings : Settings) → InRange settings → AllHeard settings
-all_heard settings range before so_far cause fits built = heard_outs settings before (facts_at settings range before so_far) (all_rests settings range before so_far) cause (with_cause before cause) (outs_of settings before cause)
+all_heard settings range before so_far cause fits = heard_outs settings before (facts_at settings range before so_far) (all_rests settings range before so_far) cause (with_cause before cause) (outs_of settings before cause)
     (all_known settings before (last_starts settings range before so_far) cause) (all_close settings before (facts_at settings range before so_far) (all_rests settings range before so_far) (last_starts settings range before so_far) cause)

@@ -41,7 +41,6 @@ use Rattle.group_rows.proofs.Cancels.{cancel_says}
 use Rattle.group_rows.proofs.ExitTexts.{empty_says, end_says}
 use Rattle.group_rows.proofs.ListsKept.{IsList, lists_kept}
 use Rattle.group_rows.proofs.LiveTexts.{live_written, unregister_says}
-use Rattle.group_facts.specs.Built.{built_behind}
 use Rattle.group_facts.specs.Facts.{IsAsked, IsForwarded, IsTake}
 use Rattle.group_facts.specs.Lively.{lives, lives_at}
 use Rattle.group_facts.specs.Settled.{Settled, is_answered}
@@ -328,8 +327,8 @@ module _ (settings : Settings) (range : InRange settings) (before : List Event) 
         go (Some g) hears = kept_lists g (slice_get (groups_of settings before) g) refl ∙ ap (λ b. if b then due else []) (sym hears)
         go None hears = ap (λ b. if b then due else []) (sym (hears ∙ off (is_ready (life_of s before).stage) (is_running (desk_of e before).phase)))
 
-  pub ending_lists : built_behind settings before cause ≡ true → lists_to e (outs_of settings before cause) ≡ due_ending settings s e before
-  ending_lists built = go (is_running (desk_of e before).phase) refl
+  pub ending_lists : lists_to e (outs_of settings before cause) ≡ due_ending settings s e before
+  ending_lists = go (is_running (desk_of e before).phase) refl
     where
       off : (a : Bool) → [] ≡ (if a && false then due else [])
       off true = refl
@@ -337,5 +336,5 @@ module _ (settings : Settings) (range : InRange settings) (before : List Event) 
 
       go : (b : Bool) → is_running (desk_of e before).phase ≡ b → lists_to e (outs_of settings before cause) ≡ due_ending settings s e before
       go true on = ap (lists_to e) exit.row ∙ by_group (running_is settings before (desk_of e before).phase on) (group_of s before) refl
-      go false none = unrun_off settings before cause e now (outs_of settings before cause) (reasons settings range before facts cause built).why (ap (λ (d : Desk). is_running d.phase) (exit.desk e) ∙ none)
+      go false none = unrun_off settings before cause e now (outs_of settings before cause) (reasons settings range before facts cause).why (ap (λ (d : Desk). is_running d.phase) (exit.desk e) ∙ none)
           ∙ (off (is_ready (life_of s before).stage) ∙ ap (λ b. if is_ready (life_of s before).stage && (b && serves settings before s e) then due else []) (sym none))

@@ -27,7 +27,6 @@ use Rattle.session_laws.proofs.Client4Law.{is_told}
 use Rattle.session_laws.proofs.Client7Law.{free_7}
 use Rattle.group_rows.specs.Live.{changes_live, is_registering, live_of, unregister_text}
 use Rattle.group_rows.specs.Rows.{outs_of}
-use Rattle.group_facts.specs.Built.{built_behind}
 use Rattle.group_facts.specs.Why.{progresses, IsAsk, IsChange, IsResumed, Calling, Why, WhyToEditor, answers, asks, displaces, enrols, passes, recalls, refuses, calls, rejects, releases, restores, creates, revives, resumes, shows, spreads, turns_away, welcomes, loses, winds_up, IsCall, IsLost, forgets}
 use Rattle.group_facts.proofs.Asks.{call_hurried}
 use Rattle.group_facts.proofs.Facts.{Facts}
@@ -242,6 +241,6 @@ module _ (settings : Settings) (before : List Event) (cause : Cause) (same : is_
     goes events (CloseEditor n) why h = unchanged events (said (CloseEditor n)) h (at_free e (ids e events) events (said (CloseEditor n)) refl (still events h))
     goes events (EndServer s) why h = unchanged events (said (EndServer s)) h (at_free e (ids e events) events (said (EndServer s)) refl (still events h))
 
-    pub entry_goes : InRange settings → Facts settings before → built_behind settings before cause ≡ true → Always ClientRule7 (editor_part e before) → Going (behind (with_cause before cause) (outs_of settings before cause))
-    entry_goes range facts built always = reasons_keep (λ events out. Why settings before cause events out) Going goes (with_cause before cause) (outs_of settings before cause) (reasons settings range before facts cause built).why
+    pub entry_goes : InRange settings → Facts settings before → Always ClientRule7 (editor_part e before) → Going (behind (with_cause before cause) (outs_of settings before cause))
+    entry_goes range facts always = reasons_keep (λ events out. Why settings before cause events out) Going goes (with_cause before cause) (outs_of settings before cause) (reasons settings range before facts cause).why
         (unchanged before (heard cause) (record { always = always; first = λ same. refl; kept = λ none. refl; above = omega arith }) (at_took e (ids e before) before cause (record { always = always; has = refl })))

@@ -29,7 +29,7 @@ running_ended events n h = more events (said (EndServer n)) (λ s. pick Link (na
 
 law : (settings : Settings) → Law settings Running
 law settings = record {
-  took = λ before cause fits built known h. running_took before cause h;
+  took = λ before cause fits known h. running_took before cause h;
   to_editor = λ before cause events e body why known here h i. more events (said (ToEditor e body)) i;
   to_server = λ before cause events n body why known here h i. running_sent events n body i;
   close = λ before cause events e turned there known here h i. more events (said (CloseEditor e)) i;

@@ -392,7 +392,7 @@ module _ (settings : Settings) (before : List Event) where
 
 law : (settings : Settings) → InRange settings → RestLaw settings Hands Within
 law settings range = record {
-  took = λ before cause fits built known h. record { hands = λ s still. hand_took before cause s (same_moves before cause s ∙ still) (h s); moved = λ s on. moved_took before cause s on };
+  took = λ before cause fits known h. record { hands = λ s still. hand_took before cause s (same_moves before cause s ∙ still) (h s); moved = λ s on. moved_took before cause s on };
   to_editor = λ before cause events e body why known here h m. within_editor before cause events m e body;
   to_server = λ before cause events s body why known here h m. sent settings range before cause events s body (step settings range before cause events s body why h m) m;
   close = λ before cause events e turned there known here h m. within_close before cause events m e;

@@ -202,7 +202,7 @@ module _ (settings : Settings) (before : List Event) (cause : Cause) (events : L
 
 law : (settings : Settings) → Law settings Ties
 law settings = record {
-  took = λ before cause fits built known h. took_it before cause h;
+  took = λ before cause fits known h. took_it before cause h;
   to_editor = λ before cause events e body why known here h i. λ s. more s events (said (ToEditor e body)) (i s);
   to_server = λ before cause events n body why known here h i. sent_it events n body (numbered_by settings before cause events n body why) i;
   close = λ before cause events e turned there known here h i. λ s. more s events (said (CloseEditor e)) (i s);

@@ -262,7 +262,7 @@ module _ (settings : Settings) (before : List Event) where
 
 law : (settings : Settings) → RestLaw settings Ties Within
 law settings = record {
-  took = λ before cause fits built known h. record { ties = λ s still. took_it before cause s still (h s); past = λ s on. past_took before cause s on };
+  took = λ before cause fits known h. record { ties = λ s still. took_it before cause s still (h s); past = λ s on. past_took before cause s on };
   to_editor = λ before cause events e body why known here h m. within_editor before cause events m e body;
   to_server = λ before cause events s body why known here h m. sent settings before cause events s body (step settings before cause events s body why h m) m;
   close = λ before cause events e turned there known here h m. within_close before cause events m e;

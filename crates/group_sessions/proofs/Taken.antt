@@ -34,7 +34,6 @@ use Rattle.group_rows.specs.Created.{Created, Taking, Token, accepts, answered, 
 use Rattle.group_rows.specs.Forwarded.{forwarding_of}
 use Rattle.group_rows.specs.Rows.{outs_of}
 use Rattle.group_rows.specs.Tokens.{is_told, marked_text}
-use Rattle.group_facts.specs.Built.{built_behind}
 use Rattle.group_facts.specs.Facts.{shuts, is_exit}
 use Rattle.group_facts.specs.Settled.{Settled}
 use Rattle.group_facts.specs.Why.{IsNotified, IsTaken, Telling, Why, WhyToEditor, answers, asks, calls, of_held, of_request, of_token, passes, progresses, recalls, refuses, rejects, resumes, shows, spreads, turns_away, welcomes, loses, winds_up, Losing, ends, frees, empties}
@@ -206,7 +205,7 @@ desk p i = record { phase = p; initialize = i }
 
 -- One entry
 
-module _ (settings : Settings) (range : InRange settings) (before : List Event) (facts : Facts settings before) (settled : Settled settings before) (free : Unreserved before) (lasts : AllLast before) (cause : Cause) (fits : fits_behind before cause ≡ true) (built : built_behind settings before cause ≡ true) where
+module _ (settings : Settings) (range : InRange settings) (before : List Event) (facts : Facts settings before) (settled : Settled settings before) (free : Unreserved before) (lasts : AllLast before) (cause : Cause) (fits : fits_behind before cause ≡ true) where
   abbrev now : List Event
   now = with_cause before cause
 
@@ -411,7 +410,7 @@ module _ (settings : Settings) (range : InRange settings) (before : List Event) 
   has_later events out e h = run_later (has_run (desk_of e events).phase) (has_run (desk_of e (events ++ said out ∷ [])).phase) (all_back (λ p. not (has_run p)) not_run e events (out ∷ [])) h
 
   has_now : (e : ℕ) → HasRun before e → HasRun now e
-  has_now e h = run_later (has_run (desk_of e before).phase) (has_run (desk_of e now).phase) (unrun settings range before facts settled cause fits built e) h
+  has_now e h = run_later (has_run (desk_of e before).phase) (has_run (desk_of e now).phase) (unrun settings range before facts settled cause fits e) h
 
   ran_later : (events : List Event) (out : Out) → At events → (s : ℕ) → AllByRecursion (λ (c : Taking). HasRun (events ++ said out ∷ []) c.editor) (created_of settings s events).takings
   ran_later events out i s = all_of (λ (c : Taking). HasRun events c.editor) (λ (c : Taking). HasRun (events ++ said out ∷ []) c.editor) (λ c h. has_later events out c.editor h) (created_of settings s events).takings (i.ran s)
@@ -421,7 +420,7 @@ module _ (settings : Settings) (range : InRange settings) (before : List Event) 
 
   more : (events : List Event) (out : Out) → Why settings before cause events out → At events → Tied Stands settings (events ++ said out ∷ []) → AllRan settings (events ++ said out ∷ []) → At (events ++ said out ∷ [])
   more events out why i tied ran_so = record {
-    here = here_did settings range before cause facts built events out why i.here;
+    here = here_did settings range before cause facts events out why i.here;
     outs = i.outs ++ out ∷ [];
     place = ap (λ z. z ++ said out ∷ []) i.place ∙ sym (behind_both now i.outs (out ∷ []));
     tied = tied;
@@ -469,7 +468,7 @@ module _ (settings : Settings) (range : InRange settings) (before : List Event) 
 
   first : Rests settings before → At now
   first h = record {
-    here = here_took settings range before cause fits built facts;
+    here = here_took settings range before cause fits facts;
     outs = [];
     place = sym (behind_nothing now);
     tied = took_tied Stands settings before cause (stands_tied h);
@@ -503,16 +502,16 @@ module _ (settings : Settings) (range : InRange settings) (before : List Event) 
       by_cause (Tick t) is = refl
 
   stood : (s e : ℕ) → RunsIn settings later s e → Stands s e
-  stood s e h = go (ran settings range before facts settled cause fits built e here)
+  stood s e h = go (ran settings range before facts settled cause fits e here)
     where
       here : is_running (desk_of e now).phase ≡ true
       here = all_back is_running runs_on e now (outs_of settings before cause) (ap is_running h.running)
 
       at : needs_server (desk_of e before).phase ≡ true → is_new (desk_of e before).phase ≡ false → shuts cause e ≡ false → ((desk_of e before).phase ≡ Running) ⊎ (begins before cause e ≡ true) → Stands s e
-      at needs old shut was = let k : Place settings range before facts settled cause fits built e h.group s = place settings range before facts settled cause fits built e h.group s needs old shut h.home h.last in record { was = was; group = h.group; home = k.home; last = k.start }
+      at needs old shut was = let k : Place settings range before facts settled cause fits e h.group s = place settings range before facts settled cause fits e h.group s needs old shut h.home h.last in record { was = was; group = h.group; home = k.home; last = k.start }
 
       go : ((desk_of e before).phase ≡ Running) ⊎ (begins before cause e ≡ true) → Stands s e
-      go (inl was) = at (ap needs_server was) (ap is_new was) (stays settings range before facts settled cause fits built e was here) (inl was)
+      go (inl was) = at (ap needs_server was) (ap is_new was) (stays settings range before facts settled cause fits e was here) (inl was)
       go (inr begun) = let was : (desk_of e before).phase ≡ Answered = answered_is (desk_of e before).phase (and_parts (is_answered_desk (desk_of e before).phase) (is_running (desk_of e now).phase) begun).0 in
           at (ap needs_server was) (ap is_new was) (unshut e was here) (inr begun)
 
@@ -520,7 +519,7 @@ module _ (settings : Settings) (range : InRange settings) (before : List Event) 
   entry_rests h = record { tied = λ s. all_of (TiedIf Stands s later) (TiedIf (RunsIn settings later) s later) (λ c tied at. tied (stood s c.editor at)) (created_of settings s later).takings (last.tied s); ran = last.ran }
     where
       last : At later
-      last = reasons_keep Both At step now (outs_of settings before cause) (both now (outs_of settings before cause) (reasons settings range before facts cause built).why (all_known settings before lasts cause)) (first h)
+      last = reasons_keep Both At step now (outs_of settings before cause) (both now (outs_of settings before cause) (reasons settings range before facts cause).why (all_known settings before lasts cause)) (first h)
 
 -- An editor that is slow leaves
 
@@ -552,6 +551,6 @@ module _ (settings : Settings) (place : List Event) (e : ℕ) where
 
 pub all_rests : (settings : Settings) → InRange settings → (before : List Event) → Reached settings before → Rests settings before
 all_rests settings range before legal = walk settings (Rests settings)
-    (λ earlier so_far cause fits built h. entry_rests settings range earlier (facts_at settings range earlier so_far) (settled_at settings range earlier so_far) (all_unreserved settings range earlier so_far) (last_starts settings range earlier so_far) cause fits built h)
+    (λ earlier so_far cause fits h. entry_rests settings range earlier (facts_at settings range earlier so_far) (settled_at settings range earlier so_far) (all_unreserved settings range earlier so_far) (last_starts settings range earlier so_far) cause fits h)
     (λ place at e is h. rests_slow settings place e h)
     (record { tied = λ s. tt; ran = λ s. tt }) before legal

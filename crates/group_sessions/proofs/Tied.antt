@@ -36,7 +36,6 @@ use Rattle.group_words.specs.Houses.{groups_of}
 use Rattle.group_rows.specs.Asks.{asking_of, is_taken}
 use Rattle.group_rows.specs.Live.{is_registering}
 use Rattle.std.specs.Option.{option_map_or}
-use Rattle.group_facts.specs.Built.{built_behind}
 use Rattle.group_facts.specs.Lively.{lives_at}
 use Rattle.group_facts.specs.Settled.{is_answered as answered_phase}
 use Rattle.group_facts.proofs.Lively.{lives_of}
@@ -248,7 +247,7 @@ pub record All (settings : Settings) (events : List Event) : Type 0 where
   pub tied : (e g s : ℕ) → (desk_of e events).phase ≡ Running → home_of settings e events ≡ Some g → start_of g events ≡ Some s → IsTied settings e s (ids e events) events
   pub unready : (s : ℕ) → is_unready (life_of s events).stage ≡ true → live_of settings s events ≡ []
 
-module _ (settings : Settings) (range : InRange settings) (before : List Event) (facts : Facts settings before) (settled : Settled settings before) (cause : Cause) (fits : fits_behind before cause ≡ true) (built : built_behind settings before cause ≡ true) where
+module _ (settings : Settings) (range : InRange settings) (before : List Event) (facts : Facts settings before) (settled : Settled settings before) (cause : Cause) (fits : fits_behind before cause ≡ true) where
   abbrev now : List Event
   now = with_cause before cause
 
@@ -358,7 +357,7 @@ module _ (settings : Settings) (range : InRange settings) (before : List Event) 
       group_is = let both : Some k.group ≡ Some g = sym k.home ∙ here in let is : k.group ≡ g = cc in is
 
       start_is : Some k.start ≡ Some s
-      start_is = sym (start_kept settings before cause settled.begun built k.group k.start k.last) ∙ ap (λ i. start_of i later) group_is ∙ start
+      start_is = sym (start_kept settings before cause settled.begun k.group k.start k.last) ∙ ap (λ i. start_of i later) group_is ∙ start
 
   -- Entries in which nothing changes of what is live
 
@@ -397,9 +396,9 @@ module _ (settings : Settings) (range : InRange settings) (before : List Event) 
 
       by_cause : (c : Cause) → cause ≡ c → is_exit c s ≡ true → is_begun (desk_of e later).phase ≡ false
       by_cause (StartFailed n) is h = let same : n ≡ s = number_same n s h in
-          put_out_ends settings before cause (facts.steady).editors e (ap (λ c. is_put_out settings before c e) (is ∙ ap (λ i. StartFailed i) same) ∙ over (ap (built_behind settings before) (sym (is ∙ ap (λ i. StartFailed i) same)) ∙ built))
+          put_out_ends settings before cause (facts.steady).editors e (ap (λ c. is_put_out settings before c e) (is ∙ ap (λ i. StartFailed i) same) ∙ over (ap (built_behind settings before) (sym (is ∙ ap (λ i. StartFailed i) same)) ∙))
       by_cause (ServerGone n) is h = let same : n ≡ s = number_same n s h in
-          put_out_ends settings before cause (facts.steady).editors e (ap (λ c. is_put_out settings before c e) (is ∙ ap (λ i. ServerGone i) same) ∙ over (ap (built_behind settings before) (sym (is ∙ ap (λ i. ServerGone i) same)) ∙ built))
+          put_out_ends settings before cause (facts.steady).editors e (ap (λ c. is_put_out settings before c e) (is ∙ ap (λ i. ServerGone i) same) ∙ over (ap (built_behind settings before) (sym (is ∙ ap (λ i. ServerGone i) same)) ∙))
       by_cause (Joined n) is h = never (sym h)
       by_cause (FromEditor n body) is h = never (sym h)
       by_cause (EditorGone n why) is h = never (sym h)
@@ -454,7 +453,7 @@ module _ (settings : Settings) (range : InRange settings) (before : List Event) 
         go (inr none) = never (sym room ∙ none)
 
     pub ordinary : (lasts : AllLast before) (e : ℕ) (runs : begins before cause e ≡ false) → Going settings before cause off e runs (tied_by lasts e) later
-    ordinary lasts e runs = entry_goes settings before cause off e runs (tied_by lasts e) range facts built (all.always e)
+    ordinary lasts e runs = entry_goes settings before cause off e runs (tied_by lasts e) range facts (all.always e)
 
     pub ordinary_tied : AllLast before → (e g s : ℕ) → begins before cause e ≡ false → (desk_of e later).phase ≡ Running → home_of settings e later ≡ Some g → start_of g later ≡ Some s → IsTied settings e s (ids e later) later
     ordinary_tied lasts e g s runs at home start = go (ran e here)

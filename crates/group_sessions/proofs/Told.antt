@@ -35,7 +35,6 @@ use Rattle.group_rows.specs.Live.{changes_live, unregister_text, is_heard, is_re
 use Rattle.group_rows.specs.LiveRows.{accept, call, decline, registering}
 use Rattle.group_rows.specs.Rows.{from_server, outs_of}
 use Rattle.group_rows.proofs.LiveTexts.{live_written, registered_written}
-use Rattle.group_facts.specs.Built.{built_behind}
 use Rattle.group_facts.specs.Settled.{Settled}
 use Rattle.group_facts.proofs.Facts.{Facts}
 use Rattle.group_facts.proofs.LastStarts.{AllLast}
@@ -47,7 +46,7 @@ use Rattle.group_sessions.proofs.Tied.{All, IsTied, Place, all_back, live_here, 
 -- A request of a ready start about registrations
 
 module _ (settings : Settings) (range : InRange settings) (before : List Event) (facts : Facts settings before) (settled : Settled settings before) (lasts : AllLast before) (all : All settings before)
-    (s : ℕ) (body : List ℕ) (fits : fits_behind before (FromServer s body) ≡ true) (built : built_behind settings before (FromServer s body) ≡ true) (ready : (life_of s before).stage ≡ Ready)
+    (s : ℕ) (body : List ℕ) (fits : fits_behind before (FromServer s body) ≡ true) (ready : (life_of s before).stage ≡ Ready)
     (id : Id) (method : List ℕ) (params : Option Json) (says : message_of body ≡ request id method params) where
   abbrev now : List Event
   now = with_cause before (FromServer s body)
@@ -63,14 +62,14 @@ module _ (settings : Settings) (range : InRange settings) (before : List Event) 
 
   -- what is live behind it
   live_is : (t : ℕ) → live_of settings t later ≡ (if nat_eq s t && is_heard settings t before id then live_by (class_of method Server false) body (live_of settings t before) else live_of settings t before)
-  live_is t = live_here settings range before facts settled (FromServer s body) fits built t ∙ ap (λ m. live_next settings t before (live_of settings t before) (took (FromServer s body) m)) says
+  live_is t = live_here settings range before facts settled (FromServer s body) fits t ∙ ap (λ m. live_next settings t before (live_of settings t before) (took (FromServer s body) m)) says
 
   other_live : (t : ℕ) → nat_eq s t ≡ false → live_of settings t later ≡ live_of settings t before
   other_live t other = live_is t ∙ ap (λ b. if b && is_heard settings t before id then live_by (class_of method Server false) body (live_of settings t before) else live_of settings t before) other
 
   -- an editor that runs behind it ran before, and where it was
   was_running : (e : ℕ) → (desk_of e later).phase ≡ Running → (desk_of e before).phase ≡ Running
-  was_running e at = go (ran settings range before facts settled (FromServer s body) fits built e here)
+  was_running e at = go (ran settings range before facts settled (FromServer s body) fits e here)
     where
       here : is_running (desk_of e now).phase ≡ true
       here = all_back is_running runs_on e now (outs_of settings before (FromServer s body)) (ap is_running at)
@@ -86,10 +85,10 @@ module _ (settings : Settings) (range : InRange settings) (before : List Event) 
           clash Running at h = at
           clash _ at h = never (sym h)
 
-  where_it_was : (e g t : ℕ) → (desk_of e later).phase ≡ Running → home_of settings e later ≡ Some g → start_of g later ≡ Some t → Place settings range before facts settled (FromServer s body) fits built e g t
+  where_it_was : (e g t : ℕ) → (desk_of e later).phase ≡ Running → home_of settings e later ≡ Some g → start_of g later ≡ Some t → Place settings range before facts settled (FromServer s body) fits e g t
   where_it_was e g t at home start = let was : (desk_of e before).phase ≡ Running = was_running e at in
-      place settings range before facts settled (FromServer s body) fits built e g t (ap needs_server was) (ap is_new was)
-      (stays settings range before facts settled (FromServer s body) fits built e was (all_back is_running runs_on e now (outs_of settings before (FromServer s body)) (ap is_running at))) home start
+      place settings range before facts settled (FromServer s body) fits e g t (ap needs_server was) (ap is_new was)
+      (stays settings range before facts settled (FromServer s body) fits e was (all_back is_running runs_on e now (outs_of settings before (FromServer s body)) (ap is_running at))) home start
 
   at_now : (e : ℕ) → At e (ids e before) now
   at_now e = at_took e (ids e before) before (FromServer s body) (record { always = all.always e; has = refl })
@@ -111,10 +110,10 @@ module _ (settings : Settings) (range : InRange settings) (before : List Event) 
       go (inr h) = inr (out_rests e now (outs_of settings before (FromServer s body)) (out_took e before (FromServer s body) h))
 
   -- it isn't told, and what is live at the start of its group stays
-  unchanged : (e : ℕ) → At e (ids e before) later → ((g t : ℕ) → Place settings range before facts settled (FromServer s body) fits built e g t → (desk_of e before).phase ≡ Running → nat_eq s t ≡ true → live_of settings t later ≡ live_of settings t before) → Outcome e
+  unchanged : (e : ℕ) → At e (ids e before) later → ((g t : ℕ) → Place settings range before facts settled (FromServer s body) fits e g t → (desk_of e before).phase ≡ Running → nat_eq s t ≡ true → live_of settings t later ≡ live_of settings t before) → Outcome e
   unchanged e at same = record { xs = ids e before; at = at; still = λ off. at; tied = λ g t runs home start. let k = where_it_was e g t runs home start in let was = was_running e runs in tied_same e g t at (by_number g t k was (nat_eq s t) refl) was k.home k.start }
     where
-      by_number : (g t : ℕ) → Place settings range before facts settled (FromServer s body) fits built e g t → (desk_of e before).phase ≡ Running → (b : Bool) → nat_eq s t ≡ b → live_of settings t later ≡ live_of settings t before
+      by_number : (g t : ℕ) → Place settings range before facts settled (FromServer s body) fits e g t → (desk_of e before).phase ≡ Running → (b : Bool) → nat_eq s t ≡ b → live_of settings t later ≡ live_of settings t before
       by_number g t k was false other = other_live t other
       by_number g t k was true is = same g t k was is
 
