@@ -35,6 +35,7 @@ use Rattle.mux_model.specs.Documents.{held_at}
 use Rattle.mux_model.specs.Rows.{malformed_row, to_start}
 use Rattle.mux_facts.proofs.Folds.{starts_more}
 use Rattle.mux_facts.proofs.Keeps.{behind_both}
+use Rattle.mux_facts.proofs.Lists.{all_of}
 use Rattle.mux_facts.proofs.Reasons.{Because, Reasons, by_nothing, by_send, by_then, by_choose, by_look, by_on}
 use Rattle.mux_facts.proofs.Words.{number_same, same_number}
 use Rattle.group_rows.specs.response_route.specs.Asked.{asked_text}
@@ -82,6 +83,21 @@ use Rattle.group_facts.proofs.Waiting.{first_unasked, new_is, whole_is}
 abbrev pub NoSpawn : Out → Type 0
 NoSpawn (Spawn s g) = ⊥
 NoSpawn out = Unit {0}
+
+-- and outs to editors
+abbrev pub IsTold : Out → Type 0
+IsTold (ToEditor e body) = Unit {0}
+IsTold out = ⊥
+
+pub told_quiet : (xs : List Out) → AllByRecursion IsTold xs → AllByRecursion NoSpawn xs
+told_quiet xs all = all_of IsTold NoSpawn one xs all
+  where
+    one : (out : Out) → IsTold out → NoSpawn out
+    one (ToEditor e body) h = tt
+    one (ToServer s body) h = absurd h
+    one (Spawn s g) h = absurd h
+    one (CloseEditor e) h = absurd h
+    one (EndServer s) h = absurd h
 
 abbrev pub Quiet : List Event → Row → Type 0
 Quiet events row = Because (λ events out. NoSpawn out) events row
@@ -538,9 +554,9 @@ pub quiet_loss : (settings : Settings) (before : List Event) (s : ℕ) → not (
 quiet_loss settings before s ends events = lost_by (λ places out. NoSpawn out) (λ e places body. tt) (λ places e. tt) settings before s ends events
 
 -- X1 and X2
-quiet_lost : (settings : Settings) (before : List Event) (s g : ℕ) (events : List Event) → Quiet events (each (lose_sent before s) (members_in settings g before)
+told_lost : (settings : Settings) (before : List Event) (s g : ℕ) (events : List Event) → Because (λ places out. IsTold out) events (each (lose_sent before s) (members_in settings g before)
     ⨾ choose (is_ready (life_of s before).stage) (each (lose_start settings before s) (running_in settings g before)) nothing)
-quiet_lost settings before s g events = told_by (λ places out. NoSpawn out) (λ e places body. tt) (λ places e. tt) settings before s g events
+told_lost settings before s g events = told_by (λ places out. IsTold out) (λ e places body. tt) settings before s g events
 
 -- a group that lives is kept
 lives_inside : (g : ℕ) (xs : List Kept) → lives_at g xs ≡ true → g < length xs
@@ -594,7 +610,7 @@ module _ (settings : Settings) where
     quiet : AllByRecursion NoSpawn (outs_of settings before cause) → count (with_cause before cause) ≡ count before → Founding before cause
     founds : (xs : List Out) (s : ℕ) → AllByRecursion NoSpawn xs → outs_of settings before cause ≡ xs ++ Spawn s (count before) ∷ [] → count (with_cause before cause) ≡ count before + 1
         → lives_at (count before) (groups_of settings (with_cause before cause)) ≡ true → Founding before cause
-    renews : (xs : List Out) (s g : ℕ) → AllByRecursion NoSpawn xs → outs_of settings before cause ≡ xs ++ Spawn (starts_of before) g ∷ [] → count (with_cause before cause) ≡ count before
+    renews : (xs : List Out) (s g : ℕ) → AllByRecursion IsTold xs → outs_of settings before cause ≡ xs ++ Spawn (starts_of before) g ∷ [] → count (with_cause before cause) ≡ count before
         → is_exit cause s ≡ true → group_of s before ≡ Some g → lives_at g (groups_of settings (with_cause before cause)) ≡ true → Founding before cause
 
   module _ (before : List Event) (e : ℕ) (body : List ℕ) (here : places (desk_of e before).phase (message_of body) ≡ true) where
@@ -643,7 +659,7 @@ module _ (settings : Settings) where
     same_count = ap length groups ∙ lose_length settings before s
 
     renewing : RenewsGroup settings before s → Founding before cause
-    renewing k = renews (first ++ second) s k.group quiet_both (row ∙ (goes_on ∙ (ap (λ n. first ++ (second ++ Spawn n k.group ∷ [])) number ∙ sym (append_assoc first second (Spawn (starts_of before) k.group ∷ [])))))
+    renewing k = renews (first ++ second) s k.group told_both (row ∙ (goes_on ∙ (ap (λ n. first ++ (second ++ Spawn n k.group ∷ [])) number ∙ sym (append_assoc first second (Spawn (starts_of before) k.group ∷ [])))))
         same_count is k.home (ap (lives_at k.group) groups ∙ (renewed_lives settings before s k k.group ∙ (ap lives k.found ∙ k.live)))
       where
         first : List Out
@@ -652,14 +668,14 @@ module _ (settings : Settings) where
         second : List Out
         second = outs (choose (is_ready (life_of s before).stage) (each (lose_start settings before s) (running_in settings k.group before)) nothing) (behind exit_now first)
 
-        quiet_both : AllByRecursion NoSpawn (first ++ second)
-        quiet_both = all_outs NoSpawn exit_now (first ++ second) (quiet_lost settings before s k.group exit_now).why
+        told_both : AllByRecursion IsTold (first ++ second)
+        told_both = all_outs IsTold exit_now (first ++ second) (told_lost settings before s k.group exit_now).why
 
         goes_on : outs (lost_row settings before s) exit_now ≡ first ++ (second ++ Spawn (starts_of (behind (behind exit_now first) second)) k.group ∷ [])
         goes_on = rw (k.home, k.found, k.live, k.again) refl
 
         number : starts_of (behind (behind exit_now first) second) ≡ starts_of before
-        number = ap starts_of (sym (behind_both exit_now first second)) ∙ (starts_quiet exit_now (first ++ second) quiet_both ∙ starts_took before cause)
+        number = ap starts_of (sym (behind_both exit_now first second)) ∙ (starts_quiet exit_now (first ++ second) (told_quiet (first ++ second) told_both) ∙ starts_took before cause)
 
     ending : not (begins_again settings before s) ≡ true → Founding before cause
     ending ends = quiet (subst (AllByRecursion NoSpawn) (sym row) (all_outs NoSpawn _ _ (quiet_loss settings before s ends exit_now).why)) same_count
@@ -737,4 +753,4 @@ module _ (settings : Settings) where
       go (quiet all same) = begun_quiet before cause h (outs_of settings before cause) all same
       go (founds xs s all sent more live) = subst (λ z. Begun (behind (with_cause before cause) z)) (sym sent) (begun_spawned before cause h xs s all more)
       go (renews xs s g all sent same is home live) = subst (λ z. Begun (behind (with_cause before cause) z)) (sym sent)
-          (begun_renewed before cause h xs (starts_of before) g all same (let below : g < count (with_cause before cause) = lives_inside g (groups_of settings (with_cause before cause)) live in omega (arith, below, same)))
+          (begun_renewed before cause h xs (starts_of before) g (told_quiet xs all) same (let below : g < count (with_cause before cause) = lives_inside g (groups_of settings (with_cause before cause)) live in omega (arith, below, same)))

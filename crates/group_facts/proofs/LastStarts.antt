@@ -21,7 +21,7 @@ use Rattle.group_words.specs.Houses.{groups_of}
 use Rattle.group_rows.specs.Rows.{outs_of}
 use Rattle.group_facts.specs.Facts.{is_exit}
 use Rattle.group_facts.specs.Lively.{lives_at}
-use Rattle.group_facts.proofs.Begun.{Begun, Founding, NoSpawn, founding_of, founds, quiet, renews, start_more, start_took, starts_stay}
+use Rattle.group_facts.proofs.Begun.{Begun, Founding, NoSpawn, founding_of, founds, quiet, renews, start_more, start_took, starts_stay, told_quiet}
 use Rattle.group_facts.proofs.Ceased.{unended_outs, unended_spawn, unended_took}
 use Rattle.group_facts.proofs.Housed.{group_more}
 
@@ -133,7 +133,7 @@ module _ (settings : Settings) (before : List Event) (cause : Cause) (begun : Be
       → Founding settings before cause → P (outs_of settings before cause)
   by_founding P f g h (quiet all same) = f (outs_of settings before cause) all
   by_founding P f g h (founds xs n all sent more live) = subst P (sym sent) (g xs n all live)
-  by_founding P f g h (renews xs s i all sent same is home live) = subst P (sym sent) (h xs s i all is home live)
+  by_founding P f g h (renews xs s i all sent same is home live) = subst P (sym sent) (h xs s i (told_quiet xs all) is home live)
 
   -- of a cause that fits
   module _ (fits : fits_behind before cause ≡ true) (lasts : AllLast before) where
