@@ -53,7 +53,6 @@ use Rattle.group_rows.proofs.ListsKept.{IsList, lists_kept}
 use Rattle.group_rows.proofs.LiveTexts.{live_written, unregister_says}
 use Rattle.group_rows.proofs.Stops.{range_below}
 use Rattle.group_facts.specs.Facts.{AllForwarded, IsAlone, IsAsked, IsForwarded, IsTake, IsWaiting, OneRequest, asked_of, ends_with, is_early, is_put_out, turned_away}
-use Rattle.group_facts.specs.Lively.{lives}
 use Rattle.group_facts.specs.Why.{IsLost, Losing, Why, calls, empties, ends, forgets, frees, of_ask, of_taking, winds_up, refuses, turns_away}
 use Rattle.group_facts.proofs.Asks.{asked_of_more, asking_more}
 use Rattle.group_facts.proofs.AskingRows.{still_runs, unregisters_all, work_told}

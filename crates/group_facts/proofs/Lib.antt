@@ -70,6 +70,7 @@ pub mod Resuming
 pub mod Spreads
 pub mod Configured
 pub mod LastStarts
+pub mod Lost
 pub mod AskSeats
 pub mod AskRest
 pub mod AskEntries

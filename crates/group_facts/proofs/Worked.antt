@@ -1,5 +1,5 @@
 -- Legal histories of two editors, worked out by the checker.
-use Rattle.std.proofs.Common.{◌≡◌, true, false, ◌&&◌, List, [], ◌∷◌, ◌++◌, codes, None, refl, ◌∙◌, ap}
+use Rattle.std.proofs.Common.{◌≡◌, true, false, List, [], ◌∷◌, ◌++◌, codes, None, refl, ◌∙◌, ap}
 use Rattle.std.specs.Fmt.{digits}
 use Rattle.std.proofs.lemmas.Bool.{and_parts}
 use Rattle.url.proofs.OnLiterals.{url_on_literals}
