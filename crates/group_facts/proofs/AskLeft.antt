@@ -43,7 +43,7 @@ use Rattle.group_facts.proofs.AskRest.{all_pending, leave_clean, none_with, seat
 use Rattle.group_facts.proofs.AskSeats.{Away, MidSeat, Pending, Unsaid, asks_more, did_all, took_all}
 use Rattle.group_facts.proofs.AskingRows.{running_is}
 use Rattle.group_facts.proofs.Begun.{Begun}
-use Rattle.group_facts.proofs.ExitEntry.{Exit, failed_exit, gone_exit}
+use Rattle.group_facts.proofs.ExitEntry.{Exit, exit_by, failed_exit, gone_exit}
 use Rattle.group_facts.proofs.Facts.{Facts}
 use Rattle.group_facts.proofs.Forwards.{zip_all}
 use Rattle.group_facts.proofs.Homes.{took_home}
@@ -307,12 +307,12 @@ module _ (settings : Settings) (range : InRange settings) (before : List Event) 
     all_stay [] = tt
     all_stay (a ∷ xs) = (λ h. never (sym (same_number a.editor) ∙ h.0), all_of (λ (b : Ask). AllByRecursion (Away b.editor) xs → ⊥) (λ (b : Ask). AllByRecursion (Away b.editor) (a ∷ xs) → ⊥) (λ b f h. f h.1) xs (all_stay xs))
 
-    one_seat : Lively settings (later cause) → (s : ℕ) (a : Ask) → MidSeat settings before cause s a → leaves settings before cause a.editor ≡ false → HasSeat settings (later cause) s a
-    one_seat lively s a k stays =
+    one_seat : Lively settings (later cause) → (s : ℕ) → is_exit cause s ≡ false → (a : Ask) → MidSeat settings before cause s a → leaves settings before cause a.editor ≡ false → HasSeat settings (later cause) s a
+    one_seat lively s goes_on a k stays =
         let running : (desk_of a.editor (later cause)).phase ≡ Running = inside.runs a.editor stays (k.running stays) in
         let home : home_of settings a.editor (later cause) ≡ Some k.group = homes_stay settings a.editor (with_cause before cause) (outs_of settings before cause)
         ∙ took_home settings before a.editor k.old cause (off_both (ends_link settings before cause a.editor) (shuts cause a.editor) stays).1 ∙ k.home in
-        let last : start_of k.group (later cause) ≡ Some s = start_kept settings before cause begun k.group s k.last in
+        let last : start_of k.group (later cause) ≡ Some s = start_kept settings before cause begun fits lasts k.group s k.last goes_on in
         let kept : group_of s (later cause) ≡ Some k.group = (lively.last k.group s last).0 in
         record {
           running = running;
@@ -324,17 +324,22 @@ module _ (settings : Settings) (range : InRange settings) (before : List Event) 
         }
 
     pub seats_rest : Lively settings (later cause) → AllSeats settings (later cause)
-    seats_rest lively s = go (asks_of settings s (later cause)) (inside.seated s) (all_stay (asks_of settings s (later cause)))
+    seats_rest lively s = by_exit (is_exit cause s) refl
       where
         stays : (a : Ask) → (AllByRecursion (Away a.editor) (asks_of settings s (later cause)) → ⊥) → (b : Bool) → leaves settings before cause a.editor ≡ b → b ≡ false
         stays a here true h = absurd (here (left_away a.editor h s))
         stays a here false h = refl
 
-        seat : (a : Ask) → MidSeat settings before cause s a → (AllByRecursion (Away a.editor) (asks_of settings s (later cause)) → ⊥) → HasSeat settings (later cause) s a
-        seat a k here = one_seat lively s a k (stays a here (leaves settings before cause a.editor) refl)
+        seat : is_exit cause s ≡ false → (a : Ask) → MidSeat settings before cause s a → (AllByRecursion (Away a.editor) (asks_of settings s (later cause)) → ⊥) → HasSeat settings (later cause) s a
+        seat goes_on a k here = one_seat lively s goes_on a k (stays a here (leaves settings before cause a.editor) refl)
 
-        go : (xs : List Ask) → AllByRecursion (MidSeat settings before cause s) xs → AllByRecursion (λ (a : Ask). AllByRecursion (Away a.editor) (asks_of settings s (later cause)) → ⊥) xs → AllByRecursion (HasSeat settings (later cause) s) xs
-        go xs h f = zip_all (MidSeat settings before cause s) (λ (a : Ask). AllByRecursion (Away a.editor) (asks_of settings s (later cause)) → ⊥) (HasSeat settings (later cause) s) seat xs h f
+        go : is_exit cause s ≡ false → (xs : List Ask) → AllByRecursion (MidSeat settings before cause s) xs → AllByRecursion (λ (a : Ask). AllByRecursion (Away a.editor) (asks_of settings s (later cause)) → ⊥) xs → AllByRecursion (HasSeat settings (later cause) s) xs
+        go goes_on xs h f = zip_all (MidSeat settings before cause s) (λ (a : Ask). AllByRecursion (Away a.editor) (asks_of settings s (later cause)) → ⊥) (HasSeat settings (later cause) s) (seat goes_on) xs h f
+
+        -- a start that ends asks nothing more
+        by_exit : (b : Bool) → is_exit cause s ≡ b → AllByRecursion (HasSeat settings (later cause) s) (asks_of settings s (later cause))
+        by_exit true is = all_of None_at (HasSeat settings (later cause) s) (λ a k. absurd k) (asks_of settings s (later cause)) (none_later cause s (exit_by settings before cause s is) fits)
+        by_exit false goes_on = go goes_on (asks_of settings s (later cause)) (inside.seated s) (all_stay (asks_of settings s (later cause)))
 
 pub no_seats : (settings : Settings) → AllSeats settings []
 no_seats settings s = tt

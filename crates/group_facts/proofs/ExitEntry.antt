@@ -93,6 +93,17 @@ failed_exit settings before s = record {
   out = λ e. refl;
 }
 
+pub exit_by : (settings : Settings) (before : List Event) (cause : Cause) (s : ℕ) → is_exit cause s ≡ true → Exit settings before cause s
+exit_by settings before (StartFailed n) s is = subst (Exit settings before (StartFailed n)) (number_same n s is) (failed_exit settings before n)
+exit_by settings before (ServerGone n) s is = subst (Exit settings before (ServerGone n)) (number_same n s is) (gone_exit settings before n)
+exit_by settings before (Joined n) s is = never (sym is)
+exit_by settings before (FromEditor n body) s is = never (sym is)
+exit_by settings before (EditorGone n why) s is = never (sym is)
+exit_by settings before (Started n) s is = never (sym is)
+exit_by settings before (FromServer n body) s is = never (sym is)
+exit_by settings before (Drained n k) s is = never (sym is)
+exit_by settings before (Tick t) s is = never (sym is)
+
 -- Links that are to be ended, one after the other
 
 closed_now : (events : List Event) (n e : ℕ) → nat_eq n e ≡ true → is_begun (desk_of e (events ++ said (CloseEditor n) ∷ [])).phase ≡ false

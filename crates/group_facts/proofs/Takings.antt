@@ -433,10 +433,10 @@ module _ (settings : Settings) (range : InRange settings) (before : List Event) 
   pub uncreated_rests : Uncreated settings there
   uncreated_rests = place_rests.none
 
-  runs_there : Lively settings there → (s e : ℕ) → Taker settings before cause there s e → RunsAt settings there s e
-  runs_there lively s e k =
+  runs_there : Lively settings there → (s e : ℕ) → is_exit cause s ≡ false → Taker settings before cause there s e → RunsAt settings there s e
+  runs_there lively s e goes_on k =
       let home : home_of settings e there ≡ Some k.group = homes_stay settings e (with_cause before cause) (outs_of settings before cause) ∙ k.home in
-      let last : start_of k.group there ≡ Some s = start_kept settings before cause begun k.group s k.last in
+      let last : start_of k.group there ≡ Some s = start_kept settings before cause begun fits lasts k.group s k.last goes_on in
       let kept : group_of s there ≡ Some k.group = (lively.last k.group s last).0 in
       record {
         running = k.running;
@@ -448,7 +448,28 @@ module _ (settings : Settings) (range : InRange settings) (before : List Event) 
       }
 
   pub taken_rests : Lively settings there → AllTaken settings there
-  taken_rests lively few s = all_so (Taker settings before cause there s) (RunsAt settings there s) (created_of settings s there) (λ e k. runs_there lively s e k) (place_rests.takers few s)
+  taken_rests lively few s = by_exit (is_exit cause s) refl
+    where
+      -- of a start that ends no token is left
+      none_now : (c : Cause) → is_exit c s ≡ true → created_next settings s before (created_of settings s before) (heard c) ≡ no_created
+      none_now (StartFailed n) is = ap (λ b. if b then no_created else created_of settings s before) is
+      none_now (ServerGone n) is = ap (λ b. if b then no_created else created_of settings s before) is
+      none_now (Joined n) is = never (sym is)
+      none_now (FromEditor n body) is = never (sym is)
+      none_now (EditorGone n why) is = never (sym is)
+      none_now (Started n) is = never (sym is)
+      none_now (FromServer n body) is = never (sym is)
+      none_now (Drained n k) is = never (sym is)
+      none_now (Tick t) is = never (sym is)
+
+      none_outs : (events : List Event) (xs : List Out) → created_of settings s events ≡ no_created → created_of settings s (behind events xs) ≡ no_created
+      none_outs events [] h = ap (created_of settings s) (append-nil events) ∙ h
+      none_outs events (x ∷ xs) h = ap (created_of settings s) (sym (append_assoc events (said x ∷ []) (map said xs)))
+          ∙ none_outs (events ++ said x ∷ []) xs (created_more settings s events (said x) ∙ (ap (λ y. created_next settings s events y (said x)) h ∙ none_did settings s events x))
+
+      by_exit : (b : Bool) → is_exit cause s ≡ b → AllByRecursion (HasTaken settings there s) (created_of settings s there).takings
+      by_exit true is = subst (λ (x : Created). AllByRecursion (HasTaken settings there s) x.takings) (sym (none_outs (with_cause before cause) (outs_of settings before cause) (created_more settings s before (heard cause) ∙ none_now cause is))) tt
+      by_exit false goes_on = all_so (Taker settings before cause there s) (RunsAt settings there s) (created_of settings s there) (λ e k. runs_there lively s e goes_on k) (place_rests.takers few s)
 
 pub none_uncreated : (settings : Settings) → Uncreated settings []
 none_uncreated settings s le = refl
