@@ -4,7 +4,7 @@ use Rattle.std.specs.List.{list_any}
 use Rattle.std.specs.Option.{option_map_or}
 use Rattle.std.proofs.lemmas.Bool.{and_parts}
 use Rattle.mux_history.specs.declared.cause.Cause.{Cause}
-use Rattle.mux_history.specs.declared.cause.Cause.TheVariants.{StartFailed, ServerGone}
+use Rattle.mux_history.specs.declared.cause.Cause.TheVariants.{Joined, FromEditor, EditorGone, Started, StartFailed, FromServer, ServerGone, Drained, Tick}
 use Rattle.mux_history.specs.declared.out.Out.{Out}
 use Rattle.mux_history.specs.declared.out.Out.TheVariants.{CloseEditor}
 use Rattle.event_model.specs.declared.phase.Phase.{Phase}
@@ -21,7 +21,7 @@ use Rattle.mux_facts.proofs.Editors.{Editors}
 use Rattle.mux_facts.proofs.Folds.{desk_more, opens_more}
 use Rattle.mux_facts.proofs.Keeps.{behind_both}
 use Rattle.mux_facts.proofs.Table.{waiting_is}
-use Rattle.mux_facts.proofs.Words.{same_number}
+use Rattle.mux_facts.proofs.Words.{number_same, same_number}
 use Rattle.group_words.specs.Houses.{home_of, is_home}
 use Rattle.group_words.proofs.Frames.{home_stays}
 use Rattle.group_rows.specs.Asks.{Asking, asking_of, asks_of, idle_asking, members_in, no_asking, running_in}

@@ -35,7 +35,7 @@ use Rattle.group_rows.specs.CreatedRows.{create_text}
 use Rattle.group_rows.specs.Rows.{outs_of}
 use Rattle.group_rows.proofs.CreatedTexts.{create_says, create_tree}
 use Rattle.group_rows.proofs.LiveTexts.{again_written, live_written, register_says, registered_written, unregister_says}
-use Rattle.group_facts.specs.Facts.{is_unready, shuts}
+use Rattle.group_facts.specs.Facts.{is_exit, is_unready, shuts}
 use Rattle.group_facts.specs.Lively.{Lively}
 use Rattle.group_facts.specs.Settled as settled_facts
 use Rattle.group_facts.specs.Settled.{HasTaken, RunsAt}
