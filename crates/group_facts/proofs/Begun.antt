@@ -658,9 +658,8 @@ module _ (settings : Settings) where
     same_count : count exit_now ≡ count before
     same_count = ap length groups ∙ lose_length settings before s
 
-    renewing : RenewsGroup settings before s → Founding before cause
-    renewing k = renews (first ++ second) s k.group told_both (row ∙ (goes_on ∙ (ap (λ n. first ++ (second ++ Spawn n k.group ∷ [])) number ∙ sym (append_assoc first second (Spawn (starts_of before) k.group ∷ [])))))
-        same_count is k.home (ap (lives_at k.group) groups ∙ (renewed_lives settings before s k k.group ∙ (ap lives k.found ∙ k.live)))
+    pub renewed_outs : (k : RenewsGroup settings before s) → (xs : List Out) × (AllByRecursion IsTold xs × (outs_of settings before cause ≡ xs ++ Spawn (starts_of before) k.group ∷ []))
+    renewed_outs k = (first ++ second, (told_both, row ∙ (goes_on ∙ (ap (λ n. first ++ (second ++ Spawn n k.group ∷ [])) number ∙ sym (append_assoc first second (Spawn (starts_of before) k.group ∷ []))))))
       where
         first : List Out
         first = outs (each (lose_sent before s) (members_in settings k.group before)) exit_now
@@ -677,8 +676,14 @@ module _ (settings : Settings) where
         number : starts_of (behind (behind exit_now first) second) ≡ starts_of before
         number = ap starts_of (sym (behind_both exit_now first second)) ∙ (starts_quiet exit_now (first ++ second) (told_quiet (first ++ second) told_both) ∙ starts_took before cause)
 
+    renewing : RenewsGroup settings before s → Founding before cause
+    renewing k = let r = renewed_outs k in renews r.0 s k.group r.1.0 r.1.1 same_count is k.home (ap (lives_at k.group) groups ∙ (renewed_lives settings before s k k.group ∙ (ap lives k.found ∙ k.live)))
+
+    pub ended_outs : not (begins_again settings before s) ≡ true → AllByRecursion NoSpawn (outs_of settings before cause)
+    ended_outs ends = subst (AllByRecursion NoSpawn) (sym row) (all_outs NoSpawn _ _ (quiet_loss settings before s ends exit_now).why)
+
     ending : not (begins_again settings before s) ≡ true → Founding before cause
-    ending ends = quiet (subst (AllByRecursion NoSpawn) (sym row) (all_outs NoSpawn _ _ (quiet_loss settings before s ends exit_now).why)) same_count
+    ending ends = quiet (ended_outs ends) same_count
 
     exit_founding : Founding before cause
     exit_founding = go (begins_again settings before s) refl

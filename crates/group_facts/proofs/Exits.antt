@@ -217,3 +217,11 @@ module _ (settings : Settings) (before : List Event) (s : ℕ) (now : List Event
       ∙ ap (λ b. outs (each (lose_sent before s) (members_in settings k.group before)
       ⨾ (choose (is_ready (life_of s before).stage) (each (lose_start settings before s) (running_in settings k.group before)) nothing
       ⨾ choose b (spawn k.group) (each turn_out (members_in settings k.group before)))) now) k.last
+
+-- none lives that didn't
+pub lose_lived : (settings : Settings) (before : List Event) (s g : ℕ) → lives_at g (groups_lose settings before s (house_of settings before)) ≡ true → lives_at g (groups_of settings before) ≡ true
+lose_lived settings before s g h = go (begins_again settings before s) refl
+  where
+    go : (b : Bool) → begins_again settings before s ≡ b → lives_at g (groups_of settings before) ≡ true
+    go true again = sym (renewed_lives settings before s (renews_parts settings before s again) g) ∙ h
+    go false last = lost_lived settings before s g (sym (ap (lives_at g) (lost_is settings before s (ap not last))) ∙ h)

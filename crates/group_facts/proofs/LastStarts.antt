@@ -17,12 +17,16 @@ use Rattle.mux_model.specs.Fits.{fits_behind}
 use Rattle.mux_facts.proofs.Folds.{life_more}
 use Rattle.mux_facts.proofs.Keeps.{behind_both}
 use Rattle.mux_facts.proofs.Words.{number_same, same_number}
-use Rattle.group_words.specs.Houses.{groups_of}
+use Rattle.group_words.specs.Houses.{groups_lose, groups_of, house_of}
+use Rattle.group_words.proofs.Frames.{groups_more}
+use Rattle.group_rows.specs.ExitRows.{begins_again}
 use Rattle.group_rows.specs.Rows.{outs_of}
 use Rattle.group_facts.specs.Facts.{is_exit}
 use Rattle.group_facts.specs.Lively.{lives_at}
-use Rattle.group_facts.proofs.Begun.{Begun, Founding, NoSpawn, founding_of, founds, quiet, renews, start_more, start_took, starts_stay, told_quiet}
+use Rattle.group_facts.proofs.Begun.{Begun, Founding, IsTold, NoSpawn, ended_outs, founding_of, founds, quiet, renewed_outs, renews, start_more, start_took, starts_stay, told_quiet}
 use Rattle.group_facts.proofs.Ceased.{unended_outs, unended_spawn, unended_took}
+use Rattle.group_facts.proofs.ExitEntry.{Exit, exit_by}
+use Rattle.group_facts.proofs.Exits.{RenewsGroup, lost_is, lost_over, renews_parts}
 use Rattle.group_facts.proofs.Housed.{group_more}
 
 abbrev pub AllLast : List Event → Type 0
@@ -187,6 +191,45 @@ module _ (settings : Settings) (before : List Event) (cause : Cause) (begun : Be
             go : (b : Bool) → nat_eq (starts_of before) s ≡ b → (if b then Some i else group_of s before) ≡ Some g → (if nat_eq i g then Some (starts_of before) else start_of g before) ≡ Some s
             go true same k = ap (λ b. if b then Some (starts_of before) else start_of g before) (subst (λ z. nat_eq i z ≡ true) (the k) (same_number i)) ∙ ap (λ z. Some z) (number_same (starts_of before) s same)
             go false other k = old other k (nat_eq i g) refl
+
+    -- a start that ends by the cause isn't the last one of a group that lives
+    pub over_last : ((g s : ℕ) → start_of g before ≡ Some s → (group_of s before ≡ Some g) × (s < starts_of before)) → (g s : ℕ) → is_exit cause s ≡ true → start_of g (behind now (outs_of settings before cause)) ≡ Some s → lives_at g (groups_of settings now) ≡ true → ⊥
+    over_last known g s is at live = go (begins_again settings before s) refl
+      where
+        exit : Exit settings before cause s
+        exit = exit_by settings before cause s is
+
+        groups : groups_of settings now ≡ groups_lose settings before s (house_of settings before)
+        groups = groups_by cause is
+          where
+            groups_by : (c : Cause) → is_exit c s ≡ true → groups_of settings (with_cause before c) ≡ groups_lose settings before s (house_of settings before)
+            groups_by (StartFailed n) same = groups_more settings before (heard (StartFailed n)) ∙ ap (λ k. groups_lose settings before k (house_of settings before)) (number_same n s same)
+            groups_by (ServerGone n) same = groups_more settings before (heard (ServerGone n)) ∙ ap (λ k. groups_lose settings before k (house_of settings before)) (number_same n s same)
+            groups_by (Joined n) same = never (sym same)
+            groups_by (FromEditor n body) same = never (sym same)
+            groups_by (EditorGone n why) same = never (sym same)
+            groups_by (Started n) same = never (sym same)
+            groups_by (FromServer n body) same = never (sym same)
+            groups_by (Drained n k) same = never (sym same)
+            groups_by (Tick t) same = never (sym same)
+
+        again : RenewsGroup settings before s → ⊥
+        again k = by_group (nat_eq k.group g) refl (sym (start_last g (starts_of before) k.group r.0 (told_quiet r.0 r.1.0)) ∙ (ap (λ xs. start_of g (behind now xs)) (sym r.1.1) ∙ at))
+          where
+            r : (xs : List Out) × (AllByRecursion IsTold xs × (outs_of settings before cause ≡ xs ++ Spawn (starts_of before) k.group ∷ []))
+            r = renewed_outs settings before cause s is exit.row groups k
+
+            by_group : (b : Bool) → nat_eq k.group g ≡ b → (if b then Some (starts_of before) else start_of g before) ≡ Some s → ⊥
+            by_group true same h = let it : starts_of before ≡ s = cc in let below : s < starts_of before = (known k.group s (lasts s k.group k.home (alive_exit before cause s is fits))).1 in omega (arith, it, below)
+            by_group false other h = let both : ◌≡◌ {A = Option ℕ} (Some k.group) (Some g) = sym k.home ∙ (known g s h).0 in let it : k.group ≡ g = cc in never (sym (ap (nat_eq k.group) (sym it) ∙ same_number k.group) ∙ other)
+
+        last : not (begins_again settings before s) ≡ true → ⊥
+        last ends = let was : start_of g before ≡ Some s = sym (start_quiet g (outs_of settings before cause) (ended_outs settings before cause s is exit.row groups ends)) ∙ at in
+            never (sym live ∙ (ap (lives_at g) (groups ∙ lost_is settings before s ends) ∙ lost_over settings before s g (known g s was).0))
+
+        go : (b : Bool) → begins_again settings before s ≡ b → ⊥
+        go true is_so = again (renews_parts settings before s is_so)
+        go false off = last (ap not off)
 
 pub last_none : AllLast []
 last_none s g at alive = absurd (cc)

@@ -84,15 +84,15 @@ module _ (settings : Settings) (range : InRange settings) where
     facts = entry_keeps settings range before cause fits h.facts;
     spelt = entry_all (AllSpelt settings) (all_did Spelt spelt_keeps settings) (with_cause before cause) (outs_of settings before cause) (all_took Spelt spelt_keeps settings before cause (λ e body. folders_utf8 body) h.spelt);
     begun = begun_rests settings before cause h.begun;
-    lively = lively_rests settings range before h.facts h.begun h.lively cause fits;
+    lively = lively_rests settings range before h.facts h.begun h.lively h.lasts cause fits;
     opens = open_rests settings range before h.facts h.begun h.lively h.lasts h.opens cause fits;
     placed = placed_rests settings before h.placed cause ((h.facts).steady).editors;
     lasts = last_rests settings before cause h.begun fits h.lasts;
-    seats = λ on. seats_rest settings range before h.facts h.lasts (h.seats (before_on before cause (outs_of settings before cause) on)) h.begun cause fits on (lively_rests settings range before h.facts h.begun h.lively cause fits);
+    seats = λ on. seats_rest settings range before h.facts h.lasts (h.seats (before_on before cause (outs_of settings before cause) on)) h.begun cause fits on (lively_rests settings range before h.facts h.begun h.lively h.lasts cause fits);
     uncreated = uncreated_rests settings range before h.facts h.lasts h.begun cause fits h.uncreated h.taken;
-    taken = taken_rests settings range before h.facts h.lasts h.begun cause fits h.uncreated h.taken (lively_rests settings range before h.facts h.begun h.lively cause fits);
+    taken = taken_rests settings range before h.facts h.lasts h.begun cause fits h.uncreated h.taken (lively_rests settings range before h.facts h.begun h.lively h.lasts cause fits);
     spawned = spawned_behind (with_cause before cause) (outs_of settings before cause) (spawned_took before cause h.spawned);
-    down = down_rests settings before (bounded_low settings range before ((h.facts).steady).bounded) h.spawned h.lively h.lasts h.down cause fits h.begun (lively_rests settings range before h.facts h.begun h.lively cause fits);
+    down = down_rests settings before (bounded_low settings range before ((h.facts).steady).bounded) h.spawned h.lively h.lasts h.down cause fits h.begun (lively_rests settings range before h.facts h.begun h.lively h.lasts cause fits);
     over = over_rests settings before (h.facts).quit h.over cause;
   }
 
