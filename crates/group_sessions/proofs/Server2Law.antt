@@ -39,7 +39,7 @@ use Rattle.group_rows.specs.StopRows.{close_each}
 use Rattle.group_facts.specs.Facts.{Housed, IsHoused, IsWritten, Written, is_unready}
 use Rattle.group_rows.proofs.Going.{no_initialized}
 use Rattle.group_facts.specs.Legal.{Legal}
-use Rattle.group_facts.specs.Why.{IsTelling, Turn, WhyToServer, begins, greets, conveys, forwarded, notes, tells, shuts, cancels, stays, greeted, moves, responds, exits, resolves, cancels_work}
+use Rattle.group_facts.specs.Why.{Turn, WhyToServer, begins, greets, conveys, forwarded, notes, tells, shuts, cancels, stays, greeted, moves, responds, exits, resolves, cancels_work}
 use Rattle.group_facts.proofs.Forwards.{get_all}
 use Rattle.group_facts.proofs.Facts.{Facts}
 use Rattle.group_facts.proofs.RestLaws.{RestLaw}
