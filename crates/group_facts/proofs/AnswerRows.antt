@@ -232,7 +232,7 @@ module _ (settings : Settings) (range : InRange settings) (before : List Event) 
         life : life_of s events ≡ life_of s now
         part : server_part s events ≡ server_part s now
         held : (u : List ℕ) → held_at s u events ≡ held_at s u now
-        opened : Opened settings events
+        texts : Opened settings events
         waits : (k : ℕ) → (desk_of k events).phase ≡ Waiting → desk_of k events ≡ desk_of k now
         opens : (k : ℕ) → open_of k events ≡ open_of k now
 
@@ -241,7 +241,7 @@ module _ (settings : Settings) (range : InRange settings) (before : List Event) 
         life = life_more s events (said (CloseEditor e)) ∙ h.life;
         part = filter-append (is_of_server s) events (said (CloseEditor e) ∷ []) ∙ (append-nil (server_part s events) ∙ h.part);
         held = λ u. ap (λ (x : Sent). x.held) (sent_more s u events (said (CloseEditor e))) ∙ h.held u;
-        opened = opened_did settings events (CloseEditor e) h.opened;
+        texts = opened_did settings events (CloseEditor e) h.texts;
         waits = λ k at. waits_by k (nat_eq e k) (desk_more k events (said (CloseEditor e))) at;
         opens = λ k. opens_more k events (said (CloseEditor e)) ∙ h.opens k;
       }
@@ -256,7 +256,7 @@ module _ (settings : Settings) (range : InRange settings) (before : List Event) 
       stands_still events (EndServer n) closing h = absurd closing
 
       stands_now : Stands now
-      stands_now = record { life = refl; part = refl; held = λ u. refl; opened = opened_took settings before (FromServer s body) opened; waits = λ k at. refl; opens = λ k. refl }
+      stands_now = record { life = refl; part = refl; held = λ u. refl; texts = opened_took settings before (FromServer s body) opened; waits = λ k at. refl; opens = λ k. refl }
 
       closings : (es : List ℕ) (events : List Event) → Because (λ places out. IsClosing out) events (close_each es)
       closings [] events = by_nothing
@@ -294,13 +294,13 @@ module _ (settings : Settings) (range : InRange settings) (before : List Event) 
       -- at a place behind that it is told of nothing but what it may be told
       record Greeted (events : List Event) : Type 0 where
         calm : Calm settings range before (FromServer s body) mid s events
-        opened : Opened settings events
+        texts : Opened settings events
         none : (u : List ℕ) → held_at s u events ≡ None
 
       greeted_here : Greeted greeted_now
       greeted_here = record {
         calm = record { still = still_notified mid s mid initialized_text (codes "initialized") (Some (object nowhere no_members)) initialized_law (still_now mid s ready); turn = greeted [] greeted_part };
-        opened = opened_did settings mid (ToServer s initialized_text) stands.opened;
+        texts = opened_did settings mid (ToServer s initialized_text) stands.texts;
         none = λ u. ap (λ (x : Sent). x.held) (sent_more s u mid (said (ToServer s initialized_text)))
             ∙ (ap₂ (λ b m. cond b (told (sent_of s u mid).encoding u (held_at s u mid) (saying_of m)) (held_at s u mid)) (same_number s) initialized_law
             ∙ (stands.held u ∙ (ap (λ (x : Sent). x.held) (sent_more s u before (heard (FromServer s body))) ∙ untold s (rw stage refl) u)));
@@ -340,7 +340,7 @@ module _ (settings : Settings) (range : InRange settings) (before : List Event) 
               turn = greeted (said (ToServer s text) ∷ []) (notified_part greeted_now text ∙ (ap (λ z. z ++ said (ToServer s text) ∷ []) greeted_part
                   ∙ append_assoc (server_part s before) (heard (FromServer s body) ∷ said (ToServer s initialized_text) ∷ []) (said (ToServer s text) ∷ [])));
             };
-            opened = opened_did settings greeted_now (ToServer s text) greeted_here.opened;
+            texts = opened_did settings greeted_now (ToServer s text) greeted_here.texts;
             none = λ u. ap (λ (x : Sent). x.held) (sent_more s u greeted_now (said (ToServer s text)))
                 ∙ (ap₂ (λ b m. cond b (told (sent_of s u greeted_now).encoding u (held_at s u greeted_now) (saying_of m)) (held_at s u greeted_now)) (same_number s) k.1 ∙ greeted_here.none u);
           }
@@ -350,7 +350,7 @@ module _ (settings : Settings) (range : InRange settings) (before : List Event) 
       opens = (texts_of settings g told_now).opens
 
       replayed : AllTold settings range before (FromServer s body) mid s told_now (replay_bodies [] opens opens)
-      replayed = replay_told settings range before (FromServer s body) mid s opens (told_here.opened g).spelt [] opens told_now told_here.calm (λ w k. told_here.none w)
+      replayed = replay_told settings range before (FromServer s body) mid s opens (told_here.texts g).spelt [] opens told_now told_here.calm (λ w k. told_here.none w)
 
       waits_still : (events : List Event) → Still mid s events → (k : ℕ) → (desk_of k events).phase ≡ Waiting → IsToWait k events
       waits_still events still k at =

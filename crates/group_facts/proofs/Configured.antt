@@ -29,7 +29,7 @@ module _ (settings : Settings) (g : ℕ) where
 
       go : (b : Bool) → configures settings g before e m ≡ b → Kept (if b then Some body else o)
       go true is text at = let same : body ≡ text = cc in subst IsConfiguration same (says is)
-      go false off = h
+      go false off text at = h text at
 
   next : (before : List Event) (o : Option (List ℕ)) (event : Event) → IsMeant event → Kept o → Kept (configuration_next settings g before o event)
   next before o (took (FromEditor e body) m) meant h = said before o e body m meant h

@@ -7,13 +7,14 @@ use Rattle.mux_history.specs.declared.cause.Cause.TheVariants.{FromServer}
 use Rattle.mux_history.specs.declared.out.Out.{Out}
 use Rattle.mux_history.specs.declared.out.Out.TheVariants.{ToEditor, ToServer, Spawn, CloseEditor, EndServer}
 use Rattle.rpc_message.specs.Message.{Message, request, notification, result, error, not_json, not_message, message_of}
+use Rattle.rpc_message.specs.Texts.{initialized_text}
 use Rattle.event_model.specs.declared.phase.Phase.{Phase}
 use Rattle.event_model.specs.declared.phase.Phase.TheVariants.{Absent, New, Waiting, Answered, Running, Down, Closed, Gone}
 use Rattle.event_model.specs.declared.stage.Stage.{Stage}
 use Rattle.event_model.specs.declared.stage.Stage.TheVariants.{Initializing}
 use Rattle.event_model.specs.Event.{Event, behind, heard, said, with_cause}
 use Rattle.event_model.specs.Phases.{Desk, desk_of, editors_of, is_begun, is_waiting, phase_closed, phase_told}
-use Rattle.event_model.specs.Row.{choose, each, nothing, outs}
+use Rattle.event_model.specs.Row.{choose, each, nothing, outs, send, ◌⨾◌}
 use Rattle.event_model.specs.Settings.{Settings}
 use Rattle.event_model.specs.Spawns.{group_of}
 use Rattle.event_model.specs.Stages.{is_first_result, is_initializing, life_of}
@@ -26,8 +27,8 @@ use Rattle.mux_facts.proofs.Words.{number_same, same_number}
 use Rattle.group_words.specs.Houses.{home_of, is_first_error, is_home}
 use Rattle.group_words.proofs.Frames.{home_stays}
 use Rattle.group_rows.specs.Asks.{members_in}
-use Rattle.group_rows.specs.Earlier.{differs, given_of, part_row, shown_in, was_shown}
-use Rattle.group_rows.specs.Rows.{close_all, outs_of, refused_in, refusal, result_in, waiting_in}
+use Rattle.group_rows.specs.Earlier.{configure, differs, given_of, part_row, shown_in, was_shown}
+use Rattle.group_rows.specs.Rows.{close_all, outs_of, refused_in, refusal, replay, result_in, waiting_in, welcome_all}
 use Rattle.group_rows.specs.StopRows.{close_each}
 use Rattle.group_facts.specs.Facts.{is_in, is_other, is_parted, is_put_out, is_refused, is_refusing, turned_away}
 use Rattle.group_facts.specs.Lively.{is_unplaced}
@@ -268,6 +269,9 @@ module _ (settings : Settings) (before : List Event) (s : ℕ) (body : List ℕ)
     abbrev partings : List Out
     partings = outs (part_row settings before body g) now
 
+    abbrev others : List Out
+    others = outs (send (ToServer s initialized_text) ⨾ (configure settings before s g ⨾ (replay settings s g ⨾ welcome_all settings body g))) (behind now partings)
+
     module _ (other : differs (given_of g before) body ≡ true) (absent : Editors before) (e : ℕ) (at_home : home_of settings e before ≡ Some g) (shown : was_shown (desk_of e before).phase ≡ true) where
       all_parted : partings ≡ outs (close_each (shown_in settings g before)) now
       all_parted = ap (λ b. outs (choose b (close_each (shown_in settings g before)) nothing) now) other
@@ -283,8 +287,8 @@ module _ (settings : Settings) (before : List Event) (s : ℕ) (body : List ℕ)
 
       parts_begun : (b : Bool) → is_begun (desk_of e later).phase ≡ b → b ≡ false
       parts_begun false h = refl
-      parts_begun true h = absurd (none_parted (begun_outs e (behind now partings) _
-          (subst (λ z. is_begun (desk_of e z).phase ≡ true) (behind_both now partings _) (subst (λ xs. is_begun (desk_of e (behind now xs)).phase ≡ true) result_sends h))))
+      parts_begun true h = absurd (none_parted (begun_outs e (behind now partings) others
+          (subst (λ z. is_begun (desk_of e z).phase ≡ true) (behind_both now partings others) (subst (λ xs. is_begun (desk_of e (behind now xs)).phase ≡ true) result_sends h))))
 
   pub parted_ends : Editors before → (e : ℕ) → is_parted settings before s body e ≡ true → is_begun (desk_of e later).phase ≡ false
   parted_ends absent e out =
