@@ -35,15 +35,17 @@ use Rattle.group_words.proofs.Frames.{groups_more, home_more}
 use Rattle.group_rows.specs.ExitRows.{begins_again}
 use Rattle.group_rows.specs.Rows.{outs_of}
 use Rattle.group_facts.specs.SlowRows.{is_slow}
-use Rattle.group_facts.specs.Facts.{ends_with, is_parted, is_put_out, is_refused, is_refusing, is_up}
+use Rattle.group_facts.specs.Facts.{ends_with, is_exit, is_parted, is_put_out, is_refused, is_refusing, is_up}
 use Rattle.group_facts.specs.Lively.{IsDying, Lively, is_busy_at, is_unplaced, lives_at}
 use Rattle.group_facts.specs.Settled.{is_answered}
 use Rattle.group_facts.specs.Why.{Why, WhyEnd, WhyToServer, begins, greets, conveys, forwarded, notes, tells, shuts, cancels, exits, refused, starting, stopped, responds, resolves, cancels_work, quitting}
 use Rattle.group_facts.proofs.Begun.{Begun, start_more}
-use Rattle.group_facts.proofs.Exits.{end_live, ends_live, groups_lost, left_over, lost_is, lost_lived, lost_over}
+use Rattle.group_facts.proofs.Downs.{lives_outs}
+use Rattle.group_facts.proofs.Exits.{end_live, ends_live, left_over, lose_lived, lost_is, renewed_busy, renews_parts}
 use Rattle.group_facts.proofs.Facts.{Facts}
 use Rattle.group_facts.proofs.Housed.{group_more}
 use Rattle.group_facts.proofs.Known.{Here, here_did, here_slow, here_took}
+use Rattle.group_facts.proofs.LastStarts.{AllLast, over_last}
 use Rattle.group_facts.proofs.LiveGroups.{IsFair, busy_apart, busy_emptied, busy_ended, busy_own, busy_placed, lives_busy, lives_changed, lives_emptied, lives_ended, lives_placed, placed_fair}
 use Rattle.group_facts.proofs.Numbered.{no_shutdown}
 use Rattle.group_facts.proofs.PutOut.{begun_closed, begun_told, or_first, unplaced_closed, unplaced_told}
@@ -468,12 +470,12 @@ module _ (settings : Settings) (out over : ℕ → Bool) (events : List Event) (
 
   ends : (n : ℕ) → WhyEnd settings events n → Mostly settings out over (events ++ said (EndServer n) ∷ [])
   ends n why = most_words settings out over events (said (EndServer n)) h.unplaced h.busy h.last
-      (λ g s rest live at. by_start (nat_eq n s) (record { stage = stage_ending (life_of s events).stage; started = (life_of s events).started }) (life_of s events) (λ same. absurd (over why g s live at (number_same n s same))) (λ other. h.up g s rest live at))
+      (λ g s rest live at. by_start (nat_eq n s) (record { stage = stage_ending (life_of s events).stage; started = (life_of s events).started }) (life_of s events) (λ same. absurd (ends_none why g s rest live at (number_same n s same))) (λ other. h.up g s rest live at))
     where
-      over : WhyEnd settings events n → (g s : ℕ) → lives_at g (groups_of settings events) ≡ true → start_of g events ≡ Some s → n ≡ s → ⊥
-      over (starting early dying) g s live at same = dies n g dying live (at ∙ ap (λ k. Some k) (sym same))
-      over (refused early left) g s live at same = never (sym live ∙ left_over settings events n left g (ap (λ k. group_of k events) same ∙ (h.last g s at).0))
-      over (stopped stopping) g s live at same = never (sym (h.up g s rest live at) ∙ (ap (λ k. is_up (life_of k events).stage) (sym same) ∙ ap is_up stopping))
+      ends_none : WhyEnd settings events n → (g s : ℕ) → over s ≡ false → lives_at g (groups_of settings events) ≡ true → start_of g events ≡ Some s → n ≡ s → ⊥
+      ends_none (starting early dying) g s rest live at same = dies n g dying live (at ∙ ap (λ k. Some k) (sym same))
+      ends_none (refused early left) g s rest live at same = never (sym live ∙ left_over settings events n left g (ap (λ k. group_of k events) same ∙ (h.last g s at).0))
+      ends_none (stopped stopping) g s rest live at same = never (sym (h.up g s rest live at) ∙ (ap (λ k. is_up (life_of k events).stage) (sym same) ∙ ap is_up stopping))
 
   sends : (n : ℕ) (body : List ℕ) → ((g s : ℕ) → n ≡ s → lives_at g (groups_of settings events) ≡ true → start_of g events ≡ Some s → requests (codes "shutdown") (message_of body) ≡ false) → Mostly settings out over (events ++ said (ToServer n body) ∷ [])
   sends n body other = most_words settings out over events (said (ToServer n body)) h.unplaced h.busy h.last
