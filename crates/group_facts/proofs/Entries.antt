@@ -1,10 +1,11 @@
 -- What is open at every editor, behind each sort of entry.
-use Rattle.std.proofs.Common.{◌≡◌, ℕ, ◌+◌, ◌<◌, ◌≤◌, ◌^◌, Bool, true, false, ◌&&◌, List, [], ◌∷◌, ◌++◌, find, nat_eq, if◌then◌else◌, Some, None, ◌⊎◌, inl, inr, refl, sym, ◌∙◌, ap, ap₂, subst, subst₂, arith, append-nil, not, ◌||◌, codes}
+use Rattle.std.proofs.Common.{◌≡◌, ℕ, ◌+◌, ◌<◌, ◌≤◌, ◌^◌, Bool, true, false, ◌&&◌, List, [], ◌∷◌, ◌++◌, find, nat_eq, if◌then◌else◌, Option, Some, None, ◌⊎◌, inl, inr, refl, sym, ◌∙◌, ap, ap₂, subst, subst₂, arith, append-nil, not, ◌||◌, codes}
 use Rattle.std.specs.List.{list_any}
 use Rattle.std.specs.Option.{option_map_or}
 use Rattle.mux_history.specs.declared.cause.Cause.{Cause}
 use Rattle.mux_history.specs.declared.cause.Cause.TheVariants.{Joined, FromEditor, EditorGone, Started, StartFailed, FromServer, ServerGone, Drained, Tick}
 use Rattle.mux_history.specs.declared.cause.Why as link
+use Rattle.mux_history.specs.declared.out.Out.{Out}
 use Rattle.mux_history.specs.declared.out.Out.TheVariants.{ToEditor}
 use Rattle.rpc_message.specs.Message.{Message, result, error, Id, message_of}
 use Rattle.event_model.specs.declared.phase.Phase.{Phase}
@@ -47,7 +48,7 @@ use Rattle.group_facts.proofs.LastStarts.{AllLast}
 use Rattle.group_facts.proofs.Lively.{begun_answered, lives_of, up_of}
 use Rattle.group_facts.proofs.OwnEntry.{Nobody, message_rests, placed_open, turned_rests}
 use Rattle.group_facts.proofs.Sent.{Found, IsOf, OneOf, Passed, Rising, SentAt, found_one, none_sent, rising_of, sent_answered, sent_drained, sent_gone, sent_heard, sent_joined, sent_started, sent_ticked}
-use Rattle.group_facts.proofs.Lost.{Closed, closed_outs, sent_closed}
+use Rattle.group_facts.proofs.Lost.{NotOpen, closed_outs, sent_closed}
 use Rattle.group_facts.proofs.PutOut.{named_in, turned_ends, turned_placed}
 use Rattle.group_facts.proofs.Quits.{not_stopped}
 use Rattle.group_facts.proofs.OpenByPhase.{OpenDesk, OpenIf, answered_closed, if_other}
@@ -206,8 +207,8 @@ module _ (settings : Settings) (range : InRange settings) (before : List Event) 
   over_by T Gone initialize ids unbegun placed = tt
 
   module _ (s : ℕ) (cause : Cause) (fits : fits_behind before cause ≡ true) (exit : Exit settings before cause s) (e : ℕ) where
-    abbrev now : List Event
-    now = with_cause before cause
+    abbrev exit_now : List Event
+    exit_now = with_cause before cause
 
     -- it was sent to the start that ends
     record IsLost (id : Id) : Type 0 where
@@ -215,11 +216,11 @@ module _ (settings : Settings) (range : InRange settings) (before : List Event) 
       sent : SentAt settings before e id
       here : nat_eq s sent.start ≡ true
 
-    lost_now : OpenAt settings e IsLost now
-    lost_now = subst₂ (OpenDesk (S settings e IsLost now)) (sym (exit.desk e)) (sym (exit.opens e))
-        (if_other (S settings e Nobody before) (S settings e IsLost now) (desk_of e before).phase (desk_of e before).initialize (open_of e before) (λ served id is. moved served id) (h e))
+    lost_now : OpenAt settings e IsLost exit_now
+    lost_now = subst₂ (OpenDesk (S settings e IsLost exit_now)) (sym (exit.desk e)) (sym (exit.opens e))
+        (if_other (S settings e Nobody before) (S settings e IsLost exit_now) (desk_of e before).phase (desk_of e before).initialize (open_of e before) (λ served id is. moved served id) (h e))
       where
-        stays : (id : Id) (k : SentAt settings before e id) → nat_eq s k.start ≡ false → SentAt settings now e id
+        stays : (id : Id) (k : SentAt settings before e id) → nat_eq s k.start ≡ false → SentAt settings exit_now e id
         stays id k other = record {
           group = k.group;
           start = k.start;
@@ -228,11 +229,11 @@ module _ (settings : Settings) (range : InRange settings) (before : List Event) 
           among = subst (OneOf (IsOf e id)) (sym (exit.forwards k.start ∙ ap (λ b. if b then [] else (forwarding_of k.start before).open_requests) other)) k.among;
         }
 
-        moved : is_answered (desk_of e before).phase ≡ true → (id : Id) → SentAt settings before e id ⊎ ⊥ → SentAt settings now e id ⊎ IsLost id
+        moved : is_answered (desk_of e before).phase ≡ true → (id : Id) → SentAt settings before e id ⊎ ⊥ → SentAt settings exit_now e id ⊎ IsLost id
         moved served id (inr k) = absurd k
         moved served id (inl k) = go (nat_eq s k.start) refl
           where
-            go : (b : Bool) → nat_eq s k.start ≡ b → SentAt settings now e id ⊎ IsLost id
+            go : (b : Bool) → nat_eq s k.start ≡ b → SentAt settings exit_now e id ⊎ IsLost id
             go true same = inr (record { served = served; sent = k; here = same })
             go false other = inl (stays id k other)
 
@@ -260,21 +261,21 @@ module _ (settings : Settings) (range : InRange settings) (before : List Event) 
       not_out : StaysIn → not (begins_again settings before s) ≡ true → ⊥
       not_out rest ends = never (sym (ap₂ (λ a b. a && b) (ap₂ (λ a b. a && b) (ends_live settings before s ends k.group home (lives_of settings before lively e k.group lost.served k.home)) member) begun_here) ∙ rest)
 
-      refused_there : RenewsGroup settings before s → Closed e id (later cause)
-      refused_there r = subst (λ z. Closed e id (behind now z)) (sym (exit.row ∙ goes_on)) (subst (Closed e id) (sym (behind_both now first rest)) (closed_outs e id (behind now first) rest
-          (sent_closed e id before askers s (members_in settings r.group before) named (subst (λ n. OneOf (IsOf e id) (forwarding_of n before).open_requests) (sym (number_same s k.start lost.here)) k.among) now)))
+      refused_there : RenewsGroup settings before s → NotOpen e id (later cause)
+      refused_there r = subst (λ z. NotOpen e id (behind exit_now z)) (sym (exit.row ∙ goes_on)) (subst (NotOpen e id) (sym (behind_both exit_now first rest)) (closed_outs e id (behind exit_now first) rest
+          (sent_closed e id before askers s (members_in settings r.group before) named (subst (λ n. OneOf (IsOf e id) (forwarding_of n before).open_requests) (sym (number_same s k.start lost.here)) k.among) exit_now)))
         where
           same : k.group ≡ r.group
           same = let both : ◌≡◌ {A = Option ℕ} (Some k.group) (Some r.group) = sym home ∙ r.home in cc
 
           first : List Out
-          first = outs (each (lose_sent before s) (members_in settings r.group before)) now
+          first = outs (each (lose_sent before s) (members_in settings r.group before)) exit_now
 
           rest : List Out
           rest = outs (choose (is_ready (life_of s before).stage) (each (lose_start settings before s) (running_in settings r.group before)) nothing
-              ⨾ choose (starts_again settings before r.group r.kept) (spawn r.group) (each turn_out (members_in settings r.group before))) (behind now first)
+              ⨾ choose (starts_again settings before r.group r.kept) (spawn r.group) (each turn_out (members_in settings r.group before))) (behind exit_now first)
 
-          goes_on : outs (lost_row settings before s) now ≡ first ++ rest
+          goes_on : outs (lost_row settings before s) exit_now ≡ first ++ rest
           goes_on = rw (r.home, r.found, r.live) refl
 
           joined : e < 0 + editors_of before
@@ -284,10 +285,10 @@ module _ (settings : Settings) (range : InRange settings) (before : List Event) 
           named = named_in (λ n. is_begun (desk_of n before).phase && is_home r.group (home_of settings n before)) 0 (editors_of before) e (omega arith) joined
               (ap (λ b. b && is_home r.group (home_of settings e before)) begun_here ∙ (ap (is_home r.group) (k.home ∙ ap (λ g. Some g) same) ∙ same_number r.group))
 
-      none_left : StaysIn → Closed e id (later cause)
+      none_left : StaysIn → NotOpen e id (later cause)
       none_left rest = go (begins_again settings before s) refl
         where
-          go : (b : Bool) → begins_again settings before s ≡ b → Closed e id (later cause)
+          go : (b : Bool) → begins_again settings before s ≡ b → NotOpen e id (later cause)
           go true again = refused_there (renews_parts settings before s again)
           go false last = absurd (not_out rest (ap not last))
 

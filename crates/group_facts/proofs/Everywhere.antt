@@ -68,7 +68,7 @@ module _ (settings : Settings) (range : InRange settings) where
   reasons_from before [] legal h = tt
   reasons_from before (entry ∷ rest) legal h = (
     subst (HasParts settings (events_of before) entry.cause) (sym legal.1) (entry_parts (events_of before) entry.cause legal.0 h),
-    reasons_from (before ++ entry ∷ []) rest legal.2 (one_entry settings range before entry legal.0 h),
+    reasons_from (before ++ entry ∷ []) rest legal.2 (one_entry settings range before entry legal.0 legal.1 h),
   )
 
   pub reasons_hold : (history : List Entry) → Legal settings history → HasReasons settings history

@@ -192,7 +192,7 @@ module _ (settings : Settings) (before : List Event) (n : ℕ) where
       let a : next_number n end ≡ next_number n now + 1 = (number_sent now n (initialize_of x) m k.says) in
       let f : (forwarding_of n end).next ≡ (forwarding_of n now).next = ap (λ (z : Forwarding). z.next) (forwarding_sent now n (initialize_of x) m k.says) in
       subst (λ z. TiedAt z (next_number n end) (forwarding_of n end).next) (sym stage)
-      (a ∙ ap (λ z. z + 1) (number_heard n before (Started n) ∙ none.0), f ∙ forwarding_heard settings n before (Started n) refl refl ∙ none.1)
+      (a ∙ ap (λ z. z + 1) (number_heard n before (Started n) ∙ none.0), f ∙ forwarding_heard settings n before (Started n) refl ∙ none.1)
 
   -- a start that is spawned has a group
   spawned : Starts before → (life_of n before).stage ≡ Spawning → n < starts_of before

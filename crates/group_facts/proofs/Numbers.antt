@@ -229,7 +229,7 @@ module _ (settings : Settings) where
         let here : events ≡ with_cause before (Started n) = b.place ∙ ap (with_cause before) b.from in
         let none : NoRequest n before = (facts.steady).unbegun n (rw b.stage refl) in
         let asked : next_number n events ≡ 1 = ap (λ z. next_number n z) here ∙ number_heard n before (Started n) ∙ none.0 in
-        let sent_on : (forwarding_of n events).next ≡ 2 = ap (λ z. (forwarding_of n z).next) here ∙ forwarding_heard settings n before (Started n) refl refl ∙ none.1 in
+        let sent_on : (forwarding_of n events).next ≡ 2 = ap (λ z. (forwarding_of n z).next) here ∙ forwarding_heard settings n before (Started n) refl ∙ none.1 in
         let a : next_number n sent ≡ next_number n events + 1 = (number_sent events n body m b.says) in
         let f : (forwarding_of n sent).next ≡ (forwarding_of n events).next = ap (λ (x : Forwarding). x.next) (forwarding_sent events n body m b.says) in
         (omega (arith, a, f, asked, sent_on), omega (arith, f, sent_on))
