@@ -192,7 +192,7 @@ module _ (settings : Settings) (range : InRange settings) (before : List Event) 
       own : (body : List ℕ) → cause ≡ FromEditor e body → makes_running (message_of body) ≡ true → Whole cause e
       own body is makes =
           let fits_here = ap (fits_behind before) (sym is) ∙ fits in
-          let o = begun_outcome settings range before facts settled all e body fits_here was makes in
+          let o = begun_outcome settings range before facts settled lasts all e body fits_here was makes in
           subst (λ c. Whole c e) (sym is) (record { xs = o.xs; at = o.at; early = late (FromEditor e body) fits_here e (ap (λ c. begins before c e) (sym is) ∙ runs); tied = o.tied })
 
       makes_so : (body : List ℕ) → is_running (desk_hears (desk_of e before).phase (desk_of e before).initialize body (message_of body)).phase ≡ true → makes_running (message_of body) ≡ true

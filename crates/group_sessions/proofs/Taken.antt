@@ -508,7 +508,7 @@ module _ (settings : Settings) (range : InRange settings) (before : List Event) 
       here = all_back is_running runs_on e now (outs_of settings before cause) (ap is_running h.running)
 
       at : needs_server (desk_of e before).phase ≡ true → is_new (desk_of e before).phase ≡ false → shuts cause e ≡ false → ((desk_of e before).phase ≡ Running) ⊎ (begins before cause e ≡ true) → Stands s e
-      at needs old shut was = let k : Place settings range before facts settled cause fits e h.group s = place settings range before facts settled cause fits e h.group s needs old shut h.home h.last in record { was = was; group = h.group; home = k.home; last = k.start }
+      at needs old shut was = let k : Place settings range before facts settled cause fits e h.group s = place settings range before facts settled cause fits lasts e h.group s needs old shut ? h.home h.last in record { was = was; group = h.group; home = k.home; last = k.start }
 
       go : ((desk_of e before).phase ≡ Running) ⊎ (begins before cause e ≡ true) → Stands s e
       go (inl was) = at (ap needs_server was) (ap is_new was) (stays settings range before facts settled cause fits e was here) (inl was)

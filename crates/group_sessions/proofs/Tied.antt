@@ -46,6 +46,7 @@ use Rattle.group_facts.proofs.Homes.{took_home}
 use Rattle.group_facts.specs.Why.{IsLost}
 use Rattle.group_facts.proofs.Exits.{ends_live}
 use Rattle.group_facts.proofs.LastStarts.{AllLast, start_kept}
+use Rattle.group_facts.proofs.ExitEntry.{Exit, exit_by, exit_ends}
 use Rattle.group_facts.proofs.PutOut.{homes_stay}
 use Rattle.group_facts.proofs.StopEntry.{put_out_ends}
 use Rattle.group_rows.specs.ExitRows.{begins_again}
@@ -344,8 +345,8 @@ module _ (settings : Settings) (range : InRange settings) (before : List Event) 
       by_cause (Drained n k) is = refl
       by_cause (Tick t) is = refl
 
-  pub place : (e g s : ℕ) → needs_server (desk_of e before).phase ≡ true → is_new (desk_of e before).phase ≡ false → shuts cause e ≡ false → home_of settings e later ≡ Some g → start_of g later ≡ Some s → Place e g s
-  place e g s needs old shut home start = record { home = here; start = (subst (λ i. start_of i before ≡ Some k.start) group_is k.last) ∙ start_is }
+  pub place : AllLast before → (e g s : ℕ) → needs_server (desk_of e before).phase ≡ true → is_new (desk_of e before).phase ≡ false → shuts cause e ≡ false → ((k : IsSeated settings before e) → is_exit cause k.start ≡ false) → home_of settings e later ≡ Some g → start_of g later ≡ Some s → Place e g s
+  place lasts e g s needs old shut goes_on home start = record { home = here; start = (subst (λ i. start_of i before ≡ Some k.start) group_is k.last) ∙ start_is }
     where
       k : IsSeated settings before e
       k = settled.seated e needs
@@ -357,7 +358,7 @@ module _ (settings : Settings) (range : InRange settings) (before : List Event) 
       group_is = let both : Some k.group ≡ Some g = sym k.home ∙ here in let is : k.group ≡ g = cc in is
 
       start_is : Some k.start ≡ Some s
-      start_is = sym (start_kept settings before cause settled.begun k.group k.start k.last) ∙ ap (λ i. start_of i later) group_is ∙ start
+      start_is = sym (start_kept settings before cause settled.begun fits lasts k.group k.start k.last (goes_on k)) ∙ ap (λ i. start_of i later) group_is ∙ start
 
   -- Entries in which nothing changes of what is live
 
@@ -384,38 +385,34 @@ module _ (settings : Settings) (range : InRange settings) (before : List Event) 
   heard_same n s body not_json live off = refl
   heard_same n s body not_message live off = refl
 
-  -- where the start of an editor's group ends, the editor is to be ended
-  exit_closes : (e g s : ℕ) → (desk_of e before).phase ≡ Running → home_of settings e before ≡ Some g → group_of s before ≡ Some g → is_exit cause s ≡ true → is_begun (desk_of e later).phase ≡ false
-  exit_closes e g s was home kept exit = by_cause cause refl exit
+  -- where the group of a start that ends does, its editors are to be ended
+  exit_closes : (e g s : ℕ) → (desk_of e before).phase ≡ Running → home_of settings e before ≡ Some g → group_of s before ≡ Some g → is_exit cause s ≡ true → not (begins_again settings before s) ≡ true → is_begun (desk_of e later).phase ≡ false
+  exit_closes e g s was home kept is last = exit_ends settings before cause s exit (facts.steady).editors e (exit.out e ∙ over)
     where
+      exit : Exit settings before cause s
+      exit = exit_by settings before cause s is
+
       lives : lives_at g (groups_of settings before) ≡ true
       lives = lives_of settings before settled.lively e g (ap answered_phase was) home
 
-      over : not (begins_again settings before s) ≡ true → (ends_with settings before s e && is_begun (desk_of e before).phase) ≡ true
-      over last = ap₂ (λ a b. a && b) (ap₂ (λ a b. a && b) (ends_live settings before s last g kept lives) (ap (λ o. option_map_or (λ i. is_home i (home_of settings e before)) o false) kept ∙ (ap (is_home g) home ∙ same_number g))) (ap is_begun was)
+      over : (ends_with settings before s e && is_begun (desk_of e before).phase) ≡ true
+      over = ap₂ (λ a b. a && b) (ap₂ (λ a b. a && b) (ends_live settings before s last g kept lives) (ap (λ o. option_map_or (λ i. is_home i (home_of settings e before)) o false) kept ∙ (ap (is_home g) home ∙ same_number g))) (ap is_begun was)
 
-      by_cause : (c : Cause) → cause ≡ c → is_exit c s ≡ true → is_begun (desk_of e later).phase ≡ false
-      by_cause (StartFailed n) is h = let same : n ≡ s = number_same n s h in
-          put_out_ends settings before cause (facts.steady).editors e (ap (λ c. is_put_out settings before c e) (is ∙ ap (λ i. StartFailed i) same) ∙ over (ap (built_behind settings before) (sym (is ∙ ap (λ i. StartFailed i) same)) ∙))
-      by_cause (ServerGone n) is h = let same : n ≡ s = number_same n s h in
-          put_out_ends settings before cause (facts.steady).editors e (ap (λ c. is_put_out settings before c e) (is ∙ ap (λ i. ServerGone i) same) ∙ over (ap (built_behind settings before) (sym (is ∙ ap (λ i. ServerGone i) same)) ∙))
-      by_cause (Joined n) is h = never (sym h)
-      by_cause (FromEditor n body) is h = never (sym h)
-      by_cause (EditorGone n why) is h = never (sym h)
-      by_cause (Started n) is h = never (sym h)
-      by_cause (FromServer n body) is h = never (sym h)
-      by_cause (Drained n k) is h = never (sym h)
-      by_cause (Tick t) is h = never (sym h)
+  -- an editor whose start doesn't end loses none
+  unlost : AllLast before → (e g s : ℕ) → Place e g s → is_exit cause s ≡ false → (t : ℕ) → IsLost settings before cause e t → ⊥
+  unlost lasts e g s k goes_on t l = never (sym l.from ∙ (ap (is_exit cause) same ∙ goes_on))
+    where
+      groups : l.group ≡ g
+      groups = let both : ◌≡◌ {A = Option ℕ} (Some l.group) (Some g) = sym l.home ∙ k.home in cc
 
-  -- so one that runs behind the entry didn't lose its start
-  pub unlost : (e : ℕ) → (desk_of e later).phase ≡ Running → (s : ℕ) → IsLost settings before cause e s → ⊥
-  unlost e runs s k = never (sym (ap is_begun runs) ∙ exit_closes e k.group s k.ran k.home k.kept k.from)
+      same : t ≡ s
+      same = let both : ◌≡◌ {A = Option ℕ} (Some t) (Some s) = sym (lasts t l.group l.kept (ap is_ended l.ready)) ∙ (ap (λ i. start_of i before) groups ∙ k.start) in cc
 
-  live_same : (e g s : ℕ) → is_change before cause ≡ false → (desk_of e before).phase ≡ Running → (desk_of e later).phase ≡ Running → Place e g s → live_of settings s later ≡ live_of settings s before
-  live_same e g s off was runs k = live_here s ∙ by_cause cause refl
+  live_same : (s : ℕ) → is_change before cause ≡ false → is_exit cause s ≡ false → live_of settings s later ≡ live_of settings s before
+  live_same s off still = live_here s ∙ by_cause cause refl
     where
       goes_on : is_exit cause s ≡ true → ⊥
-      goes_on h = never (sym (ap is_begun runs) ∙ exit_closes e g s was k.home (settled.lively.last g s k.start).0 h)
+      goes_on h = never (sym h ∙ still)
 
       by_cause : (c : Cause) → cause ≡ c → live_next settings s before (live_of settings s before) (heard c) ≡ live_of settings s before
       by_cause (FromServer n body) is = heard_same n s body (message_of body) (live_of settings s before) (ap (is_change before) (sym is) ∙ off)
@@ -462,8 +459,12 @@ module _ (settings : Settings) (range : InRange settings) (before : List Event) 
         here = all_back is_running runs_on e now (outs_of settings before cause) (ap is_running at)
 
         go : ((desk_of e before).phase ≡ Running) ⊎ (begins before cause e ≡ true) → IsTied settings e s (ids e later) later
-        go (inl was) = let k : Place e g s = place e g s (ap needs_server was) (ap is_new was) (stays e was here) home start in
-            tied_still e g s (live_same e g s off was at k) (record { always = (ordinary lasts e runs).always; has = (ordinary lasts e runs).kept (unlost e at) }) (all.tied e g s was k.home k.start)
+        go (inl was) = by_exit (is_exit cause (settled.seated e (ap needs_server was)).start) refl
+          where
+            by_exit : (b : Bool) → is_exit cause (settled.seated e (ap needs_server was)).start ≡ b → IsTied settings e s (ids e later) later
+            by_exit false goes_on = let k : Place e g s = place lasts e g s (ap needs_server was) (ap is_new was) (stays e was here) (λ j. ?) home start in
+                tied_still e g s (live_same s off ?) (record { always = (ordinary lasts e runs).always; has = (ordinary lasts e runs).kept (unlost lasts e g s k ?) }) (all.tied e g s was k.home k.start)
+            by_exit true ends = ?
         go (inr begun) = never (sym begun ∙ runs)
 
   pub early_here : (e : ℕ) → has_run (desk_of e later).phase ≡ false → (has_run (desk_of e before).phase ≡ false) × (begins before cause e ≡ false)

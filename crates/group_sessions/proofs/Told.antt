@@ -87,8 +87,8 @@ module _ (settings : Settings) (range : InRange settings) (before : List Event) 
 
   where_it_was : (e g t : ℕ) → (desk_of e later).phase ≡ Running → home_of settings e later ≡ Some g → start_of g later ≡ Some t → Place settings range before facts settled (FromServer s body) fits e g t
   where_it_was e g t at home start = let was : (desk_of e before).phase ≡ Running = was_running e at in
-      place settings range before facts settled (FromServer s body) fits e g t (ap needs_server was) (ap is_new was)
-      (stays settings range before facts settled (FromServer s body) fits e was (all_back is_running runs_on e now (outs_of settings before (FromServer s body)) (ap is_running at))) home start
+      place settings range before facts settled (FromServer s body) fits lasts e g t (ap needs_server was) (ap is_new was)
+      (stays settings range before facts settled (FromServer s body) fits e was (all_back is_running runs_on e now (outs_of settings before (FromServer s body)) (ap is_running at))) (λ k. refl) home start
 
   at_now : (e : ℕ) → At e (ids e before) now
   at_now e = at_took e (ids e before) before (FromServer s body) (record { always = all.always e; has = refl })
