@@ -1,5 +1,5 @@
 -- What is registered at an editor that runs is what is live at its group's start, and at one that doesn't run yet nothing is.
-use Rattle.std.proofs.Common.{◌≡◌, ℕ, ◌+◌, ◌^◌, ◌<◌, Bool, true, false, not, ◌&&◌, List, [], ◌∷◌, ◌++◌, append-nil, append_assoc, map, codes, nat_eq, nat_lt, ltb-true, if◌then◌else◌, Some, None, ◌⊎◌, inl, inr, refl, sym, ◌∙◌, ap, ap₂, subst, subst₂, arith}
+use Rattle.std.proofs.Common.{◌≡◌, ℕ, ◌+◌, ◌^◌, ◌<◌, Bool, true, false, not, ◌&&◌, List, [], ◌∷◌, ◌++◌, append-nil, append_assoc, map, codes, nat_eq, nat_lt, ltb-true, if◌then◌else◌, Option, Some, None, ◌⊎◌, inl, inr, refl, sym, ◌∙◌, ap, ap₂, subst, subst₂, arith}
 use Rattle.std.proofs.lemmas.Bool.{ltb-false}
 use Rattle.std.proofs.lemmas.List.Sums.{fold-append}
 use Rattle.mux_history.specs.declared.cause.Cause.{Cause}
@@ -461,9 +461,14 @@ module _ (settings : Settings) (range : InRange settings) (before : List Event) 
         go : ((desk_of e before).phase ≡ Running) ⊎ (begins before cause e ≡ true) → IsTied settings e s (ids e later) later
         go (inl was) = by_exit (is_exit cause (settled.seated e (ap needs_server was)).start) refl
           where
+            same_seat : (i j : IsSeated settings before e) → i.start ≡ j.start
+            same_seat i j = let homes : ◌≡◌ {A = Option ℕ} (Some i.group) (Some j.group) = sym i.home ∙ j.home in let groups : i.group ≡ j.group = cc in
+                let both : ◌≡◌ {A = Option ℕ} (Some i.start) (Some j.start) = sym i.last ∙ (ap (λ n. start_of n before) groups ∙ j.last) in cc
+
             by_exit : (b : Bool) → is_exit cause (settled.seated e (ap needs_server was)).start ≡ b → IsTied settings e s (ids e later) later
-            by_exit false goes_on = let k : Place e g s = place lasts e g s (ap needs_server was) (ap is_new was) (stays e was here) (λ j. ?) home start in
-                tied_still e g s (live_same s off ?) (record { always = (ordinary lasts e runs).always; has = (ordinary lasts e runs).kept (unlost lasts e g s k ?) }) (all.tied e g s was k.home k.start)
+            by_exit false goes_on = let k : Place e g s = place lasts e g s (ap needs_server was) (ap is_new was) (stays e was here) (λ j. ap (is_exit cause) (same_seat j (settled.seated e (ap needs_server was))) ∙ goes_on) home start in
+                let still : is_exit cause s ≡ false = ap (is_exit cause) (same_seat (record { group = g; start = s; home = k.home; last = k.start }) (settled.seated e (ap needs_server was))) ∙ goes_on in
+                tied_still e g s (live_same s off still) (record { always = (ordinary lasts e runs).always; has = (ordinary lasts e runs).kept (unlost lasts e g s k still) }) (all.tied e g s was k.home k.start)
             by_exit true ends = ?
         go (inr begun) = never (sym begun ∙ runs)
 
