@@ -39,7 +39,7 @@ use Rattle.std.specs.Option.{option_map_or}
 use Rattle.group_facts.specs.Lively.{lives_at}
 use Rattle.group_facts.specs.Settled.{is_answered as answered_phase}
 use Rattle.group_facts.proofs.Lively.{lives_of}
-use Rattle.group_facts.specs.Facts.{ends_with, is_exit, is_put_out, is_unready, shuts}
+use Rattle.group_facts.specs.Facts.{ends_with, is_exit, is_unready, shuts}
 use Rattle.group_facts.specs.Settled.{IsSeated, Settled}
 use Rattle.group_facts.proofs.Facts.{Facts}
 use Rattle.group_facts.proofs.Homes.{took_home}
@@ -48,7 +48,6 @@ use Rattle.group_facts.proofs.Exits.{ends_live}
 use Rattle.group_facts.proofs.LastStarts.{AllLast, start_kept}
 use Rattle.group_facts.proofs.ExitEntry.{Exit, exit_by, exit_ends}
 use Rattle.group_facts.proofs.PutOut.{homes_stay}
-use Rattle.group_facts.proofs.StopEntry.{put_out_ends}
 use Rattle.group_rows.specs.ExitRows.{begins_again}
 use Rattle.group_sessions.proofs.Enrolled.{Same, is_about}
 use Rattle.group_facts.proofs.AskingRows.{running_is}
