@@ -21,7 +21,7 @@ use Rattle.mux_facts.proofs.Words.{same_number}
 use Rattle.group_rows.specs.Forwarded.{Forwarded, Forwarding, answered_by, forwarding_behind, forwarding_of, names, no_forwarding, numbered}
 use Rattle.group_facts.specs.Built.{built_behind}
 use Rattle.group_facts.specs.Facts.{AllForwarded, Apart, IsAlone, IsForwarded, OneRequest, is_early}
-use Rattle.group_facts.specs.Why.{IsForward, WhyToServer, begins, greets, forwarded, notes, tells, shuts, cancels, responds, exits, resolves, cancels_work}
+use Rattle.group_facts.specs.Why.{IsForward, WhyToServer, begins, greets, conveys, forwarded, notes, tells, shuts, cancels, responds, exits, resolves, cancels_work}
 use Rattle.group_facts.proofs.Forwards.{Fewer, fewer_notified, forwarding_more, more_requests, zip_all}
 use Rattle.group_facts.proofs.Levels.{each_start}
 use Rattle.group_facts.proofs.Numbers.{forwarding_other, forwarding_sent, response_forwards}
@@ -142,6 +142,7 @@ module _ (settings : Settings) (before : List Event) (cause : Cause) (events : L
   pub apart_sent : WhyToServer settings before cause events n body → Apart events → Apart sent
   apart_sent (begins k) h = apart_fewer events sent (own_fewer (integer (codes "1")) (codes "initialize") k.params k.says refl) h
   apart_sent (greets k) h = apart_fewer events sent (fewer_notified n events body (codes "initialized") k.params k.says) h
+  apart_sent (conveys k) h = apart_fewer events sent (fewer_notified n events body (codes "workspace/didChangeConfiguration") k.params k.says) h
   apart_sent (forwarded k) h = forwarded_apart k h
   apart_sent (notes k) h = apart_fewer events sent (fewer_notified n events body k.method k.params k.says) h
   apart_sent (tells k) h = let m : Spoken (message_of body) = spoken (message_of body) k.spoken in apart_fewer events sent (fewer_notified n events body m.method m.params m.is) h

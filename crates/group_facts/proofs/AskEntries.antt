@@ -13,7 +13,7 @@ use Rattle.event_model.specs.declared.stage.Stage.TheVariants.{Unspawned, Spawni
 use Rattle.event_model.specs.Event.{Event, behind, heard, requests, said, with_cause}
 use Rattle.event_model.specs.Phases.{Desk, desk_hears, desk_of, editors_of, is_new, phase_closed}
 use Rattle.event_model.specs.Settings.{Settings}
-use Rattle.event_model.specs.Stages.{Life, life_of}
+use Rattle.event_model.specs.Stages.{Life, is_ended, life_of}
 use Rattle.event_model.proofs.Frames.{never}
 use Rattle.mux_model.specs.Fits.{fits_behind}
 use Rattle.mux_facts.specs.Ranges.{InRange}
@@ -37,7 +37,7 @@ use Rattle.group_facts.proofs.Facts.{Facts}
 use Rattle.group_facts.proofs.Known.{Here, here_did, here_slow, here_took}
 use Rattle.group_facts.proofs.Levels.{Fresh, falls_back, unready_falls}
 use Rattle.group_facts.proofs.Numbers.{spawn_fresh}
-use Rattle.group_facts.proofs.OneStart.{OneStart}
+use Rattle.group_facts.proofs.LastStarts.{AllLast}
 use Rattle.group_facts.proofs.SlowRow.{parting, parting_why, quit_built}
 use Rattle.group_facts.proofs.Table.{reasons}
 
@@ -148,7 +148,7 @@ pub onward_slow : (settings : Settings) (range : InRange settings) (place : List
 onward_slow settings range place facts e slow = (reasons_keep (Why settings place (quitting e)) (Onward settings range place facts (quitting e) (quit_built settings place e)) (onward_did settings range place facts (quitting e) (quit_built settings place e))
     place (parting settings place e) (parting_why settings range place facts e slow) (record { here = here_slow settings range place e facts; begun = λ s h. h })).begun
 
-module _ (settings : Settings) (range : InRange settings) (before : List Event) (facts : Facts settings before) (one : OneStart before) (seats : AllSeats settings before) (cause : Cause) (built : built_behind settings before cause ≡ true) where
+module _ (settings : Settings) (range : InRange settings) (before : List Event) (facts : Facts settings before) (lasts : AllLast before) (seats : AllSeats settings before) (cause : Cause) (built : built_behind settings before cause ≡ true) where
   abbrev Seat : ℕ → Ask → Type 0
   Seat s a = MidSeat settings before cause s a
 
@@ -175,7 +175,7 @@ module _ (settings : Settings) (range : InRange settings) (before : List Event) 
     old = ap is_new k.ran;
     group = k.group;
     home = k.home;
-    last = one k.start k.group k.kept;
+    last = lasts k.start k.group k.kept (ap is_ended (k.source).ready);
     ready = (k.source).ready;
   }
 

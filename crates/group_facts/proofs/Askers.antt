@@ -33,7 +33,7 @@ use Rattle.group_facts.specs.Facts.{AllForwarded, IsAlone, IsAsker, IsForwarded}
 use Rattle.group_facts.proofs.Forwards.{forwarding_more, more_requests, notified_all, zip_all}
 use Rattle.group_facts.proofs.Levels.{each_start}
 use Rattle.group_facts.proofs.Numbers.{forwarding_other, forwarding_sent, response_forwards}
-use Rattle.group_facts.specs.Why.{IsForward, WhyToEditor, WhyToServer, begins, greets, forwarded, notes, tells, shuts, cancels, calls, rejects, resumes, refuses, answers, turns_away, welcomes, passes, responds, exits, asks, loses, winds_up, recalls, resolves, spreads, cancels_work, progresses, shows}
+use Rattle.group_facts.specs.Why.{IsForward, WhyToEditor, WhyToServer, begins, greets, conveys, forwarded, notes, tells, shuts, cancels, calls, rejects, resumes, refuses, answers, turns_away, welcomes, passes, responds, exits, asks, loses, winds_up, recalls, resolves, spreads, cancels_work, progresses, shows}
 
 -- An editor that got its result stays one that did
 
@@ -150,6 +150,7 @@ module _ (settings : Settings) (before : List Event) (cause : Cause) (events : L
   one_asked : WhyToServer settings before cause events n body → Later n
   one_asked (begins k) h = own_request (integer (codes "1")) (codes "initialize") k.params k.says refl h
   one_asked (greets k) h = notified (codes "initialized") k.params k.says h
+  one_asked (conveys k) h = notified (codes "workspace/didChangeConfiguration") k.params k.says h
   one_asked (forwarded k) h = asked_on k h
   one_asked (notes k) h = notified k.method k.params k.says h
   one_asked (tells k) h = let m : Spoken (message_of body) = spoken (message_of body) k.spoken in notified m.method m.params m.is h

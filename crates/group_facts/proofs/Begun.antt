@@ -13,7 +13,7 @@ use Rattle.mux_history.specs.declared.out.Out.TheVariants.{ToEditor, ToServer, S
 use Rattle.document_model.specs.Sayings.{Saying, changes, closes, misshapen, opens, saying_by}
 use Rattle.document_model.specs.Sayings as saying
 use Rattle.rpc_message.specs.Message.{Message, request, notification, result, error, not_json, not_message, id_bytes, message_of}
-use Rattle.rpc_message.specs.Texts.{error_text, initialized_text, ok_text, request_failed, with_id_text}
+use Rattle.rpc_message.specs.Texts.{error_text, ok_text, request_failed, with_id_text}
 use Rattle.json_text.specs.Json.{Json}
 use Rattle.lsp_method.specs.Class.{class_of}
 use Rattle.lsp_method.specs.declared.variants.Class.{Class}
@@ -62,8 +62,9 @@ use Rattle.group_rows.specs.Answers.{answer_row, hand_on}
 use Rattle.group_rows.specs.Created.{Token, created_of, created_text}
 use Rattle.group_rows.specs.CreatedRows.{create_text, created_row, created_work, offer, takers, taking_row, tell, tell_takers, work_at, work_row}
 use Rattle.group_rows.specs.Tokens.{marked_text, tell_progress}
+use Rattle.group_rows.specs.Earlier.{shown_in}
 use Rattle.group_rows.specs.ExitRows.{begins_again, lost_row}
-use Rattle.group_rows.specs.Rows.{answer_error, begin_in, begun_row, closing_row, document_at, document_bodies, document_row, down_row, early_row, exit_row, first_result, from_server, gone_row, lspmux_row, message_row, named_row, notice_at, notice_row, open_row, outs_of, ready_row, replay_bodies, request_at, request_row, result_in, row_of, served_request, served_row, started, sync_bodies, taken_row, waiting_in, welcome, hasty_row, close_all, refusal, refused_row}
+use Rattle.group_rows.specs.Rows.{answer_error, begin_in, begun_row, closing_row, document_at, document_bodies, document_row, down_row, early_row, exit_row, first_result, from_server, gone_row, lspmux_row, message_row, named_row, notice_at, notice_row, open_row, outs_of, ready_row, request_at, request_row, result_in, row_of, served_request, served_row, started, sync_bodies, taken_row, waiting_in, welcome, hasty_row, close_all, refusal, refused_row}
 use Rattle.group_rows.specs.Texts.{encoding_of, texts_of}
 use Rattle.group_rows.specs.Ticks.{due_of, overdue_of, tick_row}
 use Rattle.group_facts.specs.Built.{built_behind}
@@ -417,7 +418,8 @@ module _ (settings : Settings) (before : List Event) where
   quiet_waiting body g events = by_look (quiet_welcomes body (waiting_in settings g events) events)
 
   quiet_result : (s : ℕ) (body : List ℕ) (g : ℕ) (events : List Event) → Quiet events (result_in settings before s body g)
-  quiet_result s body g events = by_then (by_send tt) (by_then (quiet_bodies s (replay_bodies [] (texts_of settings g before).opens (texts_of settings g before).opens) (behind events (ToServer s initialized_text ∷ []))) (quiet_waiting body g _))
+  quiet_result s body g events = by_then (by_choose (λ other. quiet_links (shown_in settings g before) events) (λ same. by_nothing)) (by_then (by_send tt) (by_then (by_on (λ none. by_nothing) (λ kept found. by_send tt))
+      (by_then (by_look (quiet_bodies s _ _)) (quiet_waiting body g _))))
 
   quiet_first : (s : ℕ) (body : List ℕ) (events : List Event) → Quiet events (first_result settings before s body)
   quiet_first s body events = by_on (λ none. by_nothing) (λ g home. quiet_result s body g events)

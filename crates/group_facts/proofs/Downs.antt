@@ -16,8 +16,9 @@ use Rattle.event_model.specs.Requests.{next_number}
 use Rattle.event_model.specs.Row.{each, outs, send}
 use Rattle.event_model.specs.Settings.{Settings}
 use Rattle.event_model.specs.Spawns.{group_of, start_of, starts_of}
-use Rattle.event_model.specs.Stages.{Life, is_ready, life_of}
+use Rattle.event_model.specs.Stages.{Life, is_ended, is_initializing, is_ready, life_of}
 use Rattle.event_model.proofs.Frames.{never}
+use Rattle.mux_model.specs.Fits.{fits_behind}
 use Rattle.mux_facts.proofs.Folds.{life_more, number_more, starts_more}
 use Rattle.mux_facts.proofs.Keeps.{behind_both}
 use Rattle.mux_facts.proofs.Starts.{Starts}
@@ -25,7 +26,7 @@ use Rattle.mux_facts.proofs.Words.{number_same, same_number}
 use Rattle.group_words.specs.declared.kept.Kept.{Kept}
 use Rattle.group_words.specs.declared.placed.Placed.{Placed}
 use Rattle.group_words.specs.declared.placed.Placed.TheVariants.{Joins, New as Founds, Evicts, TooMany}
-use Rattle.group_words.specs.Houses.{at_group, declared_for, exit_of, groups_of, has_editor, home_of, house_of, key_for, placed_for, places, stops, time_of}
+use Rattle.group_words.specs.Houses.{at_group, declared_for, exit_of, groups_of, has_editor, home_of, house_of, is_first_error, key_for, placed_for, places, stops, time_of}
 use Rattle.group_words.specs.Keys.{Common}
 use Rattle.group_words.specs.Placing.{busy, changed, end_where, ended, founded, is_due, is_live, with_editor}
 use Rattle.group_words.specs.Rows.{end_group, placed_row}
@@ -42,7 +43,7 @@ use Rattle.group_facts.proofs.Begun.{Begun, NoSpawn, all_outs, founding_of, plac
 use Rattle.group_facts.proofs.Ceased.{IsOff, Low, Spawned, group_off, group_quiet, groups_off, is_spawned, off_ended, off_outs, off_spawn, off_took}
 use Rattle.group_facts.proofs.Exits.{end_live, exit_over, failed_groups, gone_groups, groups_lost}
 use Rattle.group_facts.proofs.LiveGroups.{all_at, changed_lives, emptied_lives, lives_apart, lives_changed, lives_ended, lives_left}
-use Rattle.group_facts.proofs.OneStart.{N, OneStart, by_founding, group_last, kept_below, start_last, start_quiet}
+use Rattle.group_facts.proofs.LastStarts.{N, AllLast, alive_exit, alive_initializing, by_founding, group_last, kept_below, start_last, start_quiet}
 use Rattle.group_facts.proofs.PutOut.{refused_outs}
 use Rattle.group_facts.proofs.StopDown.{stop_off}
 use Rattle.group_facts.proofs.StopEntry.{stop_outs, stopped_outs}
@@ -89,7 +90,7 @@ quiet_programs (s ∷ ss) events = (tt, quiet_programs ss (behind events (EndSer
 the_same : {v w : ℕ} → ◌≡◌ {A = Option ℕ} (Some v) (Some w) → v ≡ w
 the_same e = cc
 
-module _ (settings : Settings) (before : List Event) (low : Low before) (spawned : Spawned before) (lively : Lively settings before) (one : OneStart before) where
+module _ (settings : Settings) (before : List Event) (low : Low before) (spawned : Spawned before) (lively : Lively settings before) (lasts : AllLast before) where
   abbrev groups : List Kept
   groups = groups_of settings before
 
@@ -202,7 +203,7 @@ module _ (settings : Settings) (before : List Event) (low : Low before) (spawned
         closes = outs (close_all (members_in settings g mid)) mid
 
     refused_off : is_refusing before n (message_of body) ≡ true → (g s : ℕ) → group_of n before ≡ Some g → start_of g before ≡ Some s → IsOff s (behind (with_cause before (FromServer n body)) (outs_of settings before (FromServer n body)))
-    refused_off refuses g s home at = subst (λ k. IsOff k (behind (with_cause before (FromServer n body)) (outs_of settings before (FromServer n body)))) (the_same (sym (one n g home) ∙ at)) (refused_last refuses g home)
+    refused_off refuses g s home at = subst (λ k. IsOff k (behind (with_cause before (FromServer n body)) (outs_of settings before (FromServer n body)))) (the_same (sym (lasts n g home (alive_initializing (life_of n before).stage (and_parts (is_first_error (message_of body)) (is_initializing (life_of n before).stage) refuses).1)) ∙ at)) (refused_last refuses g home)
 
     said_ends : (b : Bool) (o : Option ℕ) → is_refusing before n (message_of body) ≡ b → group_of n before ≡ o → Ends (FromServer n body)
     said_ends false o off home = none_ends (FromServer n body) (said_by false off)
@@ -217,27 +218,27 @@ module _ (settings : Settings) (before : List Event) (low : Low before) (spawned
   off_there : (n : ℕ) (cause : Cause) → life_of n (with_cause before cause) ≡ (if nat_eq n n then record { stage = Ended; started = (life_of n before).started } else life_of n before) → IsOff n (with_cause before cause)
   off_there n cause life = ap (λ (l : Life). is_up l.stage) (life ∙ ap (λ b. if b then record { stage = Ended; started = (life_of n before).started } else life_of n before) (same_number n))
 
-  lost_ends : (n : ℕ) (cause : Cause) → groups_of settings (with_cause before cause) ≡ groups_lost settings before n → IsOff n (with_cause before cause) → AllByRecursion NoSpawn (outs_of settings before cause) → Ends cause
-  lost_ends n cause same off calm g s live over at = go (group_of n before) refl
+  lost_ends : (n : ℕ) (cause : Cause) → is_ended (life_of n before).stage ≡ false → groups_of settings (with_cause before cause) ≡ groups_lost settings before n → IsOff n (with_cause before cause) → AllByRecursion NoSpawn (outs_of settings before cause) → Ends cause
+  lost_ends n cause alive same off calm g s live over at = go (group_of n before) refl
     where
       apart : (i : ℕ) → group_of n before ≡ Some i → (b : Bool) → nat_eq i g ≡ b → IsOff s (behind (with_cause before cause) (outs_of settings before cause))
-      apart i home true is = subst (λ k. IsOff k (behind (with_cause before cause) (outs_of settings before cause))) (the_same (sym (one n g (home ∙ ap (λ k. Some k) (number_same i g is))) ∙ at)) (off_outs n (with_cause before cause) (outs_of settings before cause) calm off)
+      apart i home true is = subst (λ k. IsOff k (behind (with_cause before cause) (outs_of settings before cause))) (the_same (sym (lasts n g (home ∙ ap (λ k. Some k) (number_same i g is)) alive) ∙ at)) (off_outs n (with_cause before cause) (outs_of settings before cause) calm off)
       apart i home false other = never (sym (ap (lives_at g) (same ∙ ap (λ o. at_group o (λ k. end_live) groups) home) ∙ (lives_apart i g end_live groups (λ is. never (sym (ap (nat_eq i) is ∙ same_number i) ∙ other)) ∙ live)) ∙ over)
 
       go : (o : Option ℕ) → group_of n before ≡ o → IsOff s (behind (with_cause before cause) (outs_of settings before cause))
       go None none = never (sym (ap (lives_at g) (same ∙ ap (λ o. at_group o (λ k. end_live) groups) none) ∙ live) ∙ over)
       go (Some i) home = apart i home (nat_eq i g) refl
 
-  cause_ends : (cause : Cause) → built_behind settings before cause ≡ true → Ends cause
-  cause_ends (Joined n) built = none_ends (Joined n) (groups_more settings before (heard (Joined n)))
-  cause_ends (Drained n k) built = none_ends (Drained n k) (groups_more settings before (heard (Drained n k)))
-  cause_ends (Started n) built = none_ends (Started n) (groups_more settings before (heard (Started n)))
-  cause_ends (StartFailed n) built = lost_ends n (StartFailed n) (failed_groups settings before n built) (off_there n (StartFailed n) (life_more n before (heard (StartFailed n)))) (all_outs NoSpawn _ _ (quiet_loss settings before n built (with_cause before (StartFailed n))).why)
-  cause_ends (ServerGone n) built = lost_ends n (ServerGone n) (gone_groups settings before n built) (off_there n (ServerGone n) (life_more n before (heard (ServerGone n)))) (all_outs NoSpawn _ _ (quiet_loss settings before n built (with_cause before (ServerGone n))).why)
-  cause_ends (EditorGone n why) built = λ g s live over at. never (sym live ∙ (sym (ap (lives_at g) (groups_more settings before (heard (EditorGone n why))) ∙ emptied_lives (home_of settings n before) _ _ _ g groups) ∙ over))
-  cause_ends (Tick t) built = tick_ends t
-  cause_ends (FromEditor e body) built = heard_ends e body (places (desk_of e before).phase (message_of body)) (stops before e (message_of body)) refl refl
-  cause_ends (FromServer n body) built = said_ends n body (is_refusing before n (message_of body)) (group_of n before) refl refl
+  cause_ends : (cause : Cause) → fits_behind before cause ≡ true → built_behind settings before cause ≡ true → Ends cause
+  cause_ends (Joined n) fits built = none_ends (Joined n) (groups_more settings before (heard (Joined n)))
+  cause_ends (Drained n k) fits built = none_ends (Drained n k) (groups_more settings before (heard (Drained n k)))
+  cause_ends (Started n) fits built = none_ends (Started n) (groups_more settings before (heard (Started n)))
+  cause_ends (StartFailed n) fits built = lost_ends n (StartFailed n) (alive_exit before (StartFailed n) n (same_number n) fits) (failed_groups settings before n built) (off_there n (StartFailed n) (life_more n before (heard (StartFailed n)))) (all_outs NoSpawn _ _ (quiet_loss settings before n built (with_cause before (StartFailed n))).why)
+  cause_ends (ServerGone n) fits built = lost_ends n (ServerGone n) (alive_exit before (ServerGone n) n (same_number n) fits) (gone_groups settings before n built) (off_there n (ServerGone n) (life_more n before (heard (ServerGone n)))) (all_outs NoSpawn _ _ (quiet_loss settings before n built (with_cause before (ServerGone n))).why)
+  cause_ends (EditorGone n why) fits built = λ g s live over at. never (sym live ∙ (sym (ap (lives_at g) (groups_more settings before (heard (EditorGone n why))) ∙ emptied_lives (home_of settings n before) _ _ _ g groups) ∙ over))
+  cause_ends (Tick t) fits built = tick_ends t
+  cause_ends (FromEditor e body) fits built = heard_ends e body (places (desk_of e before).phase (message_of body)) (stops before e (message_of body)) refl refl
+  cause_ends (FromServer n body) fits built = said_ends n body (is_refusing before n (message_of body)) (group_of n before) refl refl
 
 -- A whole entry
 
@@ -272,9 +273,9 @@ module _ (settings : Settings) (before : List Event) (cause : Cause) (begun : Be
           fresh true same k = absurd (let its : N settings before cause begun ≡ g = the_same k in let below : g < N settings before cause begun = kept_below settings before cause begun g s at in omega (arith, its, below))
           fresh false other k = refl
 
-pub down_rests : (settings : Settings) (before : List Event) → Low before → Spawned before → Lively settings before → OneStart before → AllDown settings before → (cause : Cause) → Begun settings before → built_behind settings before cause ≡ true
+pub down_rests : (settings : Settings) (before : List Event) → Low before → Spawned before → Lively settings before → AllLast before → AllDown settings before → (cause : Cause) → fits_behind before cause ≡ true → Begun settings before → built_behind settings before cause ≡ true
     → Lively settings (behind (with_cause before cause) (outs_of settings before cause)) → AllDown settings (behind (with_cause before cause) (outs_of settings before cause))
-down_rests settings before low spawned lively one down cause begun built later g s over at = go (lives_at g (groups_of settings before)) refl
+down_rests settings before low spawned lively lasts down cause fits begun built later g s over at = go (lives_at g (groups_of settings before)) refl
   where
     over_now : lives_at g (groups_of settings (with_cause before cause)) ≡ false
     over_now = sym (lives_outs settings g (with_cause before cause) (outs_of settings before cause)) ∙ over
@@ -283,15 +284,15 @@ down_rests settings before low spawned lively one down cause begun built later g
     was = start_back settings before cause begun built g s over_now at
 
     go : (b : Bool) → lives_at g (groups_of settings before) ≡ b → IsOff s (behind (with_cause before cause) (outs_of settings before cause))
-    go true live = cause_ends settings before low spawned lively one cause built g s live over_now was
+    go true live = cause_ends settings before low spawned lively lasts cause fits built g s live over_now was
     go false dead = off_kept settings before cause begun built g s was (later.last g s at).0 (down g s dead was)
 
 pub down_none : (settings : Settings) → AllDown settings []
 down_none settings g s over at = absurd (cc)
 
 -- so a start that is ready is the last one of a group that lives
-pub serving : (settings : Settings) (events : List Event) → Starts events → Housed settings events → OneStart events → AllDown settings events → (s : ℕ) → (life_of s events).stage ≡ Ready → IsServing settings events s
-serving settings events starts housed one down s ready = record { group = home.group; home = home.is; last = last; live = live (lives_at home.group (groups_of settings events)) refl }
+pub serving : (settings : Settings) (events : List Event) → Starts events → Housed settings events → AllLast events → AllDown settings events → (s : ℕ) → (life_of s events).stage ≡ Ready → IsServing settings events s
+serving settings events starts housed lasts down s ready = record { group = home.group; home = home.is; last = last; live = live (lives_at home.group (groups_of settings events)) refl }
   where
     spawned : starts_of events ≤ s → ⊥
     spawned le = never (sym (ap is_ready ready) ∙ ap (λ (l : Life). is_ready l.stage) (starts s le))
@@ -303,7 +304,7 @@ serving settings events starts housed one down s ready = record { group = home.g
     home = housed s (below spawned)
 
     last : start_of home.group events ≡ Some s
-    last = one s home.group home.is
+    last = lasts s home.group home.is (ap is_ended ready)
 
     live : (b : Bool) → lives_at home.group (groups_of settings events) ≡ b → b ≡ true
     live true is = refl

@@ -68,7 +68,8 @@ pub mod Moved
 pub mod Homes
 pub mod Resuming
 pub mod Spreads
-pub mod OneStart
+pub mod Configured
+pub mod LastStarts
 pub mod AskSeats
 pub mod AskRest
 pub mod AskEntries

@@ -36,10 +36,10 @@ use Rattle.group_rows.specs.ExitRows.{begins_again}
 use Rattle.group_rows.specs.Rows.{outs_of}
 use Rattle.group_facts.specs.SlowRows.{is_slow}
 use Rattle.group_facts.specs.Built.{built_behind}
-use Rattle.group_facts.specs.Facts.{ends_with, is_put_out, is_refusing, is_up}
+use Rattle.group_facts.specs.Facts.{ends_with, is_parted, is_put_out, is_refused, is_refusing, is_up}
 use Rattle.group_facts.specs.Lively.{IsDying, Lively, is_busy_at, is_unplaced, lives_at}
 use Rattle.group_facts.specs.Settled.{is_answered}
-use Rattle.group_facts.specs.Why.{Why, WhyEnd, WhyToServer, begins, greets, forwarded, notes, tells, shuts, cancels, exits, refused, starting, stopped, responds, resolves, cancels_work, quitting}
+use Rattle.group_facts.specs.Why.{Why, WhyEnd, WhyToServer, begins, greets, conveys, forwarded, notes, tells, shuts, cancels, exits, refused, starting, stopped, responds, resolves, cancels_work, quitting}
 use Rattle.group_facts.proofs.Begun.{Begun, start_more}
 use Rattle.group_facts.proofs.Exits.{end_live, ends_live, groups_lost, left_over, lost_is, lost_lived, lost_over}
 use Rattle.group_facts.proofs.Facts.{Facts}
@@ -47,7 +47,7 @@ use Rattle.group_facts.proofs.Housed.{group_more}
 use Rattle.group_facts.proofs.Known.{Here, here_did, here_slow, here_took}
 use Rattle.group_facts.proofs.LiveGroups.{IsFair, busy_apart, busy_emptied, busy_ended, busy_own, busy_placed, lives_busy, lives_changed, lives_emptied, lives_ended, lives_placed, placed_fair}
 use Rattle.group_facts.proofs.Numbered.{no_shutdown}
-use Rattle.group_facts.proofs.PutOut.{begun_closed, begun_told, unplaced_closed, unplaced_told}
+use Rattle.group_facts.proofs.PutOut.{begun_closed, begun_told, or_first, unplaced_closed, unplaced_told}
 use Rattle.group_facts.proofs.RequestRow.{either_desk}
 use Rattle.group_facts.proofs.SlowRow.{parting, parting_why, quit_built}
 use Rattle.group_facts.proofs.StopEnds.{over_all}
@@ -321,8 +321,8 @@ module _ (settings : Settings) (before : List Event) (h : Lively settings before
         go (Some i) home = busy_apart i g ended groups (λ same. never (sym (out same) ∙ rest)) (h.busy e g begun at)
           where
             out : g ≡ i → put_out e ≡ true
-            out same = ap₂ (λ a b. a && b) refuses (ap₂ (λ a b. a && b) begun
-                (ap (λ o. option_map_or (λ k. is_home k (home_of settings e before)) o false) home ∙ (ap (is_home i) (at ∙ ap (λ k. Some k) same) ∙ same_number i)))
+            out same = or_first (is_refused settings before n body e) (is_parted settings before n body e) (ap₂ (λ a b. a && b) refuses (ap₂ (λ a b. a && b) begun
+                (ap (λ o. option_map_or (λ k. is_home k (home_of settings e before)) o false) home ∙ (ap (is_home i) (at ∙ ap (λ k. Some k) same) ∙ same_number i))))
 
     lived : (g : ℕ) (home : Option ℕ) → lives_at g (at_group home (λ k. ended) groups) ≡ true → lives_at g groups ≡ true
     lived g None live = live
@@ -478,6 +478,7 @@ module _ (settings : Settings) (out : ℕ → Bool) (events : List Event) (h : M
   sent : (before : List Event) (cause : Cause) (n : ℕ) (body : List ℕ) → WhyToServer settings before cause events n body → Mostly settings out (events ++ said (ToServer n body) ∷ [])
   sent before cause n body (begins k) = sends n body (λ g s same live at. ap (requests (codes "shutdown")) k.says)
   sent before cause n body (greets k) = sends n body (λ g s same live at. ap (requests (codes "shutdown")) k.says)
+  sent before cause n body (conveys k) = sends n body (λ g s same live at. ap (requests (codes "shutdown")) k.says)
   sent before cause n body (forwarded k) = sends n body (λ g s same live at. ap (requests (codes "shutdown")) k.says ∙ no_shutdown k.method k.other)
   sent before cause n body (notes k) = sends n body (λ g s same live at. ap (requests (codes "shutdown")) k.says)
   sent before cause n body (tells k) = sends n body (λ g s same live at. let x : Spoken (message_of body) = spoken (message_of body) k.spoken in ap (requests (codes "shutdown")) x.is)

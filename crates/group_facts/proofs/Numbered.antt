@@ -32,7 +32,7 @@ use Rattle.mux_facts.specs.Allowed.{is_response}
 use Rattle.group_rows.specs.Rows.{outs_of, started}
 use Rattle.group_facts.specs.Built.{built_behind}
 use Rattle.group_facts.specs.Facts.{Housed, IsHoused, IsWritten, Unbegun, Written}
-use Rattle.group_facts.specs.Why.{IsForward, WhyToServer, begins, greets, forwarded, notes, tells, shuts, cancels, responds, IsShutting, exits, resolves, cancels_work}
+use Rattle.group_facts.specs.Why.{IsForward, WhyToServer, begins, greets, conveys, forwarded, notes, tells, shuts, cancels, responds, IsShutting, exits, resolves, cancels_work}
 use Rattle.group_facts.proofs.Forwards.{get_all}
 use Rattle.group_facts.proofs.Facts.{AllTied, OthersTied, Tied, TiedAt, begins_now}
 use Rattle.group_facts.proofs.Forwards.{notified_next}
@@ -134,6 +134,7 @@ module _ (settings : Settings) (cause : Cause) (events : List Event) (n : ℕ) (
     one_tied : WhyToServer settings before cause events n body → Later n
     one_tied (begins k) rest h = never (sym (ap (λ c. begins_now c n) k.from ∙ same_number n) ∙ rest)
     one_tied (greets k) rest h = notified (codes "initialized") k.params Ready k.says k.ready refl rest h
+    one_tied (conveys k) rest h = notified (codes "workspace/didChangeConfiguration") k.params Ready k.says k.ready refl rest h
     one_tied (forwarded k) rest h = goes k h
     one_tied (notes k) rest h = notified k.method k.params Ready k.says k.ready refl rest h
     one_tied (tells k) rest h = let m : Spoken (message_of body) = spoken (message_of body) k.spoken in notified m.method m.params Ready m.is k.ready refl rest h

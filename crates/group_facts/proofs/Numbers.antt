@@ -29,7 +29,7 @@ use Rattle.group_facts.specs.Facts.{Bounded, Unbegun, Untold, is_unready, is_up}
 use Rattle.group_facts.proofs.Facts.{Facts}
 use Rattle.group_facts.proofs.Forwards.{forwarding_more, notified_next}
 use Rattle.group_facts.proofs.Levels.{Fresh, Step, each_start, level_more, unbegun_falls, unready_falls, up_falls}
-use Rattle.group_facts.specs.Why.{IsBeginning, IsForward, WhyToServer, begins, greets, forwarded, notes, tells, shuts, cancels, IsReply, responds, exits, resolves, cancels_work}
+use Rattle.group_facts.specs.Why.{IsBeginning, IsForward, WhyToServer, begins, greets, conveys, forwarded, notes, tells, shuts, cancels, IsReply, responds, exits, resolves, cancels_work}
 use Rattle.mux_facts.specs.Allowed.{is_response}
 
 -- A cause leaves the numbers and the documents alone
@@ -152,6 +152,7 @@ ready_or : (settings : Settings) (before : List Event) (cause : Cause) (events :
     → (IsReply before cause events s body → P) → ((life_of s events).stage ≡ Ready → P) → ((life_of s events).stage ≡ Stopping → P) → P
 ready_or settings before cause events s body P (begins k) f r g h = f k
 ready_or settings before cause events s body P (greets k) f r g h = g k.ready
+ready_or settings before cause events s body P (conveys k) f r g h = g k.ready
 ready_or settings before cause events s body P (forwarded k) f r g h = g k.ready
 ready_or settings before cause events s body P (notes k) f r g h = g k.ready
 ready_or settings before cause events s body P (tells k) f r g h = g k.ready
@@ -249,6 +250,7 @@ module _ (settings : Settings) where
     one_bounded : WhyToServer settings before cause events n body → Step is_up up_falls InBounds events (said (ToServer n body)) n
     one_bounded (begins b) was after k = opened b
     one_bounded (greets b) was after k = notified (codes "initialized") b.params b.says k
+    one_bounded (conveys b) was after k = notified (codes "workspace/didChangeConfiguration") b.params b.says k
     one_bounded (forwarded b) was after k = asked_on b k
     one_bounded (notes b) was after k = notified b.method b.params b.says k
     one_bounded (tells b) was after k = let m : Spoken (message_of body) = spoken (message_of body) b.spoken in notified m.method m.params m.is k

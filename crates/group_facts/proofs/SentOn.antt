@@ -27,7 +27,7 @@ use Rattle.group_rows.specs.Texts.{texts_of, worker_behind, worker_of}
 use Rattle.group_rows.proofs.Moments.{asks, moment_other, moment_apart, moment_quiet, moment_sent}
 use Rattle.group_facts.specs.Legal.{Legal}
 use Rattle.group_facts.specs.OwnVersions.{IsSentOn}
-use Rattle.group_facts.specs.Why.{IsForward, WhyToServer, begins, cancels, exits, forwarded, greets, notes, responds, shuts, tells, resolves, cancels_work}
+use Rattle.group_facts.specs.Why.{IsForward, WhyToServer, begins, cancels, exits, forwarded, greets, conveys, notes, responds, shuts, tells, resolves, cancels_work}
 use Rattle.group_facts.proofs.Apart.{fewer_said, fewer_took, new, grow, own_fewer, response_fewer}
 use Rattle.group_facts.proofs.Forwards.{Fewer, fewer_notified, forwarding_more, notified_sender, zip_all}
 use Rattle.group_facts.proofs.RestLaws.{Law, law_holds}
@@ -233,6 +233,7 @@ module _ (settings : Settings) (before : List Event) (cause : Cause) (events : L
   one_sent : WhyToServer settings before cause events n body → AllSentOn events → AllSentOn sent
   one_sent (begins k) h = own (integer (codes "1")) (codes "initialize") k.params k.says refl h
   one_sent (greets k) h = notified (codes "initialized") k.params k.says h
+  one_sent (conveys k) h = notified (codes "workspace/didChangeConfiguration") k.params k.says h
   one_sent (forwarded k) h = asked_now k h
   one_sent (notes k) h = notified k.method k.params k.says h
   one_sent (tells k) h = let m : Spoken (message_of body) = spoken (message_of body) k.spoken in notified m.method m.params m.is h

@@ -26,7 +26,7 @@ use Rattle.group_facts.specs.Settled.{AreUtf8, IsOnly, IsSent, Settled, is_answe
 use Rattle.group_facts.proofs.Entries.{OpenAll, open_rests}
 use Rattle.group_facts.proofs.AskEntries.{AllSeats}
 use Rattle.group_facts.proofs.AskLeft.{no_seats, seats_rest}
-use Rattle.group_facts.proofs.OneStart.{OneStart, one_none, one_rests}
+use Rattle.group_facts.proofs.LastStarts.{AllLast, last_none, last_rests}
 use Rattle.group_facts.proofs.Begun.{Begun, begun_rests}
 use Rattle.group_facts.proofs.Ceased.{Spawned, spawned_behind, spawned_none, spawned_took}
 use Rattle.group_facts.proofs.Downs.{AllDown, Over, down_none, down_rests, over_none, over_rests, serving}
@@ -42,7 +42,7 @@ use Rattle.group_facts.proofs.OpenByPhase.{IsOne, OpenIf, if_answered}
 use Rattle.group_facts.proofs.OpenByOut.{S}
 use Rattle.group_rows.specs.StopRows.{stopped}
 use Rattle.group_facts.proofs.StopDown.{bounded_low}
-use Rattle.group_facts.proofs.SlowRest.{slow_begun, slow_down, slow_one, slow_opens, slow_over, slow_placed, slow_seats, slow_taken}
+use Rattle.group_facts.proofs.SlowRest.{slow_begun, slow_down, slow_lasts, slow_opens, slow_over, slow_placed, slow_seats, slow_taken}
 use Rattle.group_facts.proofs.SlowRow.{parting, whole_entry}
 use Rattle.group_facts.proofs.StopEntry.{before_on, stopped_outs}
 
@@ -67,7 +67,7 @@ module _ (settings : Settings) (range : InRange settings) where
     lively : Lively settings events
     opens : OpenAll settings events
     placed : AllPlaced settings events
-    pub one : OneStart events
+    pub lasts : AllLast events
     seats : stopped events ≡ false → AllSeats settings events
     uncreated : Uncreated settings events
     taken : AllTaken settings events
@@ -88,12 +88,12 @@ module _ (settings : Settings) (range : InRange settings) where
     lively = lively_rests settings range before h.facts h.begun h.lively cause fits built;
     opens = open_rests settings range before h.facts h.begun h.lively h.opens cause fits built;
     placed = placed_rests settings before h.placed cause built ((h.facts).steady).editors;
-    one = one_rests settings before cause h.begun built h.one;
-    seats = λ on. seats_rest settings range before h.facts h.one (h.seats (before_on before cause (outs_of settings before cause) on)) h.begun cause built fits on (lively_rests settings range before h.facts h.begun h.lively cause fits built);
-    uncreated = uncreated_rests settings range before h.facts h.one h.begun cause built fits h.uncreated h.taken;
-    taken = taken_rests settings range before h.facts h.one h.begun cause built fits h.uncreated h.taken (lively_rests settings range before h.facts h.begun h.lively cause fits built);
+    lasts = last_rests settings before cause h.begun built h.lasts;
+    seats = λ on. seats_rest settings range before h.facts h.lasts (h.seats (before_on before cause (outs_of settings before cause) on)) h.begun cause built fits on (lively_rests settings range before h.facts h.begun h.lively cause fits built);
+    uncreated = uncreated_rests settings range before h.facts h.lasts h.begun cause built fits h.uncreated h.taken;
+    taken = taken_rests settings range before h.facts h.lasts h.begun cause built fits h.uncreated h.taken (lively_rests settings range before h.facts h.begun h.lively cause fits built);
     spawned = spawned_behind (with_cause before cause) (outs_of settings before cause) (spawned_took before cause h.spawned);
-    down = down_rests settings before (bounded_low settings range before ((h.facts).steady).bounded) h.spawned h.lively h.one h.down cause h.begun built (lively_rests settings range before h.facts h.begun h.lively cause fits built);
+    down = down_rests settings before (bounded_low settings range before ((h.facts).steady).bounded) h.spawned h.lively h.lasts h.down cause fits h.begun built (lively_rests settings range before h.facts h.begun h.lively cause fits built);
     over = over_rests settings before (h.facts).quit h.over cause;
   }
 
@@ -108,8 +108,8 @@ module _ (settings : Settings) (range : InRange settings) where
         lively = lively;
         opens = slow_opens settings range place h.facts e slow h.opens;
         placed = slow_placed settings range place h.facts e slow h.placed;
-        one = slow_one settings range place h.facts e slow h.one;
-        seats = λ on. slow_seats settings range place h.facts e slow lively h.one (h.seats (sym (stopped_outs place (parting settings place e)) ∙ on));
+        lasts = slow_lasts settings range place h.facts e slow h.lasts;
+        seats = λ on. slow_seats settings range place h.facts e slow lively h.lasts (h.seats (sym (stopped_outs place (parting settings place e)) ∙ on));
         uncreated = entry_all (Uncreated settings) (uncreated_did settings) place (parting settings place e) h.uncreated;
         taken = slow_taken settings range place h.facts e slow lively h.taken;
         spawned = spawned_behind place (parting settings place e) h.spawned;
@@ -128,7 +128,7 @@ module _ (settings : Settings) (range : InRange settings) where
     lively = no_lively settings;
     opens = λ e. refl;
     placed = λ e needs. absurd (cc);
-    one = one_none;
+    lasts = last_none;
     seats = λ on. no_seats settings;
     uncreated = none_uncreated settings;
     taken = none_taken settings;
@@ -161,7 +161,7 @@ module _ (settings : Settings) (range : InRange settings) where
     spelt = h.spelt;
     begun = h.begun;
     lively = h.lively;
-    serving = serving settings events ((h.facts).steady).starts ((h.facts).steady).housed h.one h.down;
+    serving = serving settings events ((h.facts).steady).starts ((h.facts).steady).housed h.lasts h.down;
     down = h.down;
     over = h.over;
     unasked = λ e at. subst (λ p. OpenIf (S settings e Nobody events) p (desk_of e events).initialize (open_of e events)) at (h.opens e);

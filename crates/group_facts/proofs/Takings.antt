@@ -16,7 +16,7 @@ use Rattle.event_model.specs.Phases.{Desk, desk_of, is_new}
 use Rattle.event_model.specs.Requests.{answered_id}
 use Rattle.event_model.specs.Settings.{Settings}
 use Rattle.event_model.specs.Spawns.{group_of, start_of, starts_behind, starts_of}
-use Rattle.event_model.specs.Stages.{Life, is_ready, life_of, no_life}
+use Rattle.event_model.specs.Stages.{Life, is_ended, is_ready, life_of, no_life}
 use Rattle.event_model.proofs.Frames.{never}
 use Rattle.mux_model.specs.Fits.{fits_behind}
 use Rattle.mux_facts.specs.Ranges.{InRange}
@@ -49,7 +49,7 @@ use Rattle.group_facts.proofs.Facts.{Facts}
 use Rattle.group_facts.proofs.Homes.{heard_home, took_home}
 use Rattle.group_facts.proofs.Lively.{up_of}
 use Rattle.group_facts.proofs.Marks.{mark_start, marked_same}
-use Rattle.group_facts.proofs.OneStart.{OneStart, start_kept}
+use Rattle.group_facts.proofs.LastStarts.{AllLast, start_kept}
 use Rattle.group_facts.proofs.PutOut.{homes_stay}
 use Rattle.group_facts.proofs.Table.{reasons}
 
@@ -291,7 +291,7 @@ module _ (settings : Settings) (before : List Event) (cause : Cause) where
       (took_takings (RunsAt settings before s) (Taker now s) settings s before (created_of settings s before) cause (λ e stays k. taker_now facts fits s e stays k) (h (fewer_starts before (heard cause) (2 ^ 64) few) s))
 
   -- outs
-  module _ (one : OneStart before) (starts : Starts before) (events : List Event) (none : Uncreated settings events) (h : Takers events) where
+  module _ (lasts : AllLast before) (starts : Starts before) (events : List Event) (none : Uncreated settings events) (h : Takers events) where
     still : (out : Out) → ((e : ℕ) → (desk_of e events).phase ≡ Running → (desk_of e (events ++ said out ∷ [])).phase ≡ Running) → starts_of (events ++ said out ∷ []) ≤ 2 ^ 64 → (s : ℕ) → AllAt (Taker (events ++ said out ∷ []) s) (created_of settings s events)
     still out runs few s = all_so (Taker events s) (Taker (events ++ said out ∷ []) s) (created_of settings s events) (λ e k. moved events (events ++ said out ∷ []) s e (runs e k.running) k) (h (fewer_starts events (said out) (2 ^ 64) few) s)
 
@@ -363,7 +363,7 @@ module _ (settings : Settings) (before : List Event) (cause : Cause) where
         running = still_runs events e body e k.running;
         group = c.group;
         home = subst (λ z. home_of settings e (with_cause before z) ≡ Some c.group) (sym c.from) (home_stays settings e before (heard (FromServer k.start asked)) refl ∙ c.home);
-        last = one k.start c.group c.kept;
+        last = lasts k.start c.group c.kept (ap is_ended k.ready);
         ready = k.ready;
       })
       called_takers spawned k (revives token earlier rest r order is) = made_takers k.start token.number (next_ask e events) (ltb-true (next_ask e events) (2 ^ 64) k.room) is k.ready spawned (record {
@@ -404,11 +404,11 @@ module _ (settings : Settings) (before : List Event) (cause : Cause) where
     none : Uncreated settings events
     takers : Takers events
 
-  place_did : OneStart before → Starts before → (events : List Event) (out : Out) → Why settings before cause events out → Place events → Place (events ++ said out ∷ [])
-  place_did one starts events out why h = record {
+  place_did : AllLast before → Starts before → (events : List Event) (out : Out) → Why settings before cause events out → Place events → Place (events ++ said out ∷ [])
+  place_did lasts starts events out why h = record {
     spawned = let old : starts_of before ≤ starts_of events = h.spawned in let m = starts_more events (said out) in let g = spawns_more (starts_of events) (said out) in omega (arith, old, m, g);
     none = uncreated_did settings events out h.none;
-    takers = did_takers one starts events h.none h.takers h.spawned out why;
+    takers = did_takers lasts starts events h.none h.takers h.spawned out why;
   }
 
 -- Behind it
@@ -416,7 +416,7 @@ module _ (settings : Settings) (before : List Event) (cause : Cause) where
 abbrev pub AllTaken : Settings → List Event → Type 0
 AllTaken settings events = starts_of events ≤ 2 ^ 64 → (s : ℕ) → AllByRecursion (HasTaken settings events s) (created_of settings s events).takings
 
-module _ (settings : Settings) (range : InRange settings) (before : List Event) (facts : Facts settings before) (one : OneStart before) (begun : Begun settings before) (cause : Cause) (built : built_behind settings before cause ≡ true) (fits : fits_behind before cause ≡ true)
+module _ (settings : Settings) (range : InRange settings) (before : List Event) (facts : Facts settings before) (lasts : AllLast before) (begun : Begun settings before) (cause : Cause) (built : built_behind settings before cause ≡ true) (fits : fits_behind before cause ≡ true)
     (none : Uncreated settings before) (taken : AllTaken settings before) where
   abbrev there : List Event
   there = behind (with_cause before cause) (outs_of settings before cause)
@@ -429,7 +429,7 @@ module _ (settings : Settings) (range : InRange settings) (before : List Event) 
   }
 
   place_rests : Place settings before cause there
-  place_rests = reasons_keep (λ events out. Why settings before cause events out) (Place settings before cause) (place_did settings before cause one (facts.steady).starts) (with_cause before cause) (outs_of settings before cause) (reasons settings range before facts cause built).why place_took
+  place_rests = reasons_keep (λ events out. Why settings before cause events out) (Place settings before cause) (place_did settings before cause lasts (facts.steady).starts) (with_cause before cause) (outs_of settings before cause) (reasons settings range before facts cause built).why place_took
 
   pub uncreated_rests : Uncreated settings there
   uncreated_rests = place_rests.none

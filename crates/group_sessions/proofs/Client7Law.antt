@@ -41,7 +41,7 @@ use Rattle.group_facts.proofs.Facts.{Facts}
 use Rattle.group_facts.proofs.Known.{Here, here_did, here_took}
 use Rattle.group_facts.proofs.Levels.{Fresh, falls_back, unready_falls}
 use Rattle.group_facts.proofs.Numbers.{spawn_fresh}
-use Rattle.group_facts.proofs.OneStart.{OneStart}
+use Rattle.group_facts.proofs.LastStarts.{AllLast}
 use Rattle.group_facts.proofs.Reached.{facts_at, reached, rests_at, settled_at}
 use Rattle.group_facts.proofs.SlowRow.{parting, parting_calm, parting_keeps}
 use Rattle.group_facts.proofs.Table.{reasons}
@@ -135,7 +135,7 @@ answered_is Down h = never (sym h)
 answered_is Closed h = never (sym h)
 answered_is Gone h = never (sym h)
 
-module _ (settings : Settings) (range : InRange settings) (before : List Event) (facts : Facts settings before) (settled : Settled settings before) (one : OneStart before) (all : All settings before) where
+module _ (settings : Settings) (range : InRange settings) (before : List Event) (facts : Facts settings before) (settled : Settled settings before) (lasts : AllLast before) (all : All settings before) where
   abbrev later : Cause → List Event
   later cause = behind (with_cause before cause) (outs_of settings before cause)
 
@@ -149,11 +149,11 @@ module _ (settings : Settings) (range : InRange settings) (before : List Event) 
   module _ (cause : Cause) (fits : fits_behind before cause ≡ true) (built : built_behind settings before cause ≡ true) where
     plain : is_change before cause ≡ false → (e : ℕ) → begins before cause e ≡ false → Whole cause e
     plain off e runs =
-        let g = ordinary settings range before facts settled cause fits built all off one e runs in record {
+        let g = ordinary settings range before facts settled cause fits built all off lasts e runs in record {
           xs = ids e (later cause);
           at = record { always = g.always; has = refl };
           early = λ h. let k = early_here settings range before facts settled cause fits built e h in g.kept (λ s lost. never (sym (ap has_run lost.ran) ∙ k.0)) ∙ all.early e k.0;
-          tied = λ g t. ordinary_tied settings range before facts settled cause fits built all off one e g t runs;
+          tied = λ g t. ordinary_tied settings range before facts settled cause fits built all off lasts e g t runs;
         }
 
     late : (e : ℕ) → begins before cause e ≡ true → has_run (desk_of e (later cause)).phase ≡ false → ids e (later cause) ≡ []
@@ -231,7 +231,7 @@ module _ (settings : Settings) (range : InRange settings) (before : List Event) 
   -- S6 and S7
   changing : (s : ℕ) (body : List ℕ) → fits_behind before (FromServer s body) ≡ true → built_behind settings before (FromServer s body) ≡ true → is_ready (life_of s before).stage ≡ true → (m : Message) → message_of body ≡ m → is_about m ≡ true → (e : ℕ) → Whole (FromServer s body) e
   changing s body fits built ready (request id method params) says about e =
-      let o = change_outcome settings range before facts settled one all s body fits built (ready_is (life_of s before).stage ready) id method params says about e in record {
+      let o = change_outcome settings range before facts settled lasts all s body fits built (ready_is (life_of s before).stage ready) id method params says about e in record {
         xs = o.xs;
         at = o.at;
         early = λ h. (o.still (unrunning (desk_of e before).phase (early_here settings range before facts settled (FromServer s body) fits built e h).0)).has ∙ all.early e (early_here settings range before facts settled (FromServer s body) fits built e h).0;
@@ -310,7 +310,7 @@ module _ (settings : Settings) (range : InRange settings) (place : List Event) (
 
 module _ (settings : Settings) (range : InRange settings) where
   entry : Keeps settings (All settings)
-  entry before at cause fits built h = entry_all settings range before (facts_at settings range before at) (settled_at settings range before at) (rests_at settings range before at).one h cause fits built
+  entry before at cause fits built h = entry_all settings range before (facts_at settings range before at) (settled_at settings range before at) (rests_at settings range before at).lasts h cause fits built
 
   slow : KeepsSlow settings (All settings)
   slow place at e is h = all_slow settings range place (facts_at settings range place at) e is h

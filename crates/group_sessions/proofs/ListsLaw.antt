@@ -43,7 +43,7 @@ use Rattle.group_facts.proofs.Begun.{leave_by}
 use Rattle.group_facts.proofs.Facts.{Facts}
 use Rattle.group_facts.proofs.Reached.{Reached, facts_at, reached, settled_at}
 use Rattle.group_facts.proofs.SlowRow.{slow_all}
-use Rattle.group_facts.proofs.OneStart.{OneStart}
+use Rattle.group_facts.proofs.LastStarts.{AllLast}
 use Rattle.group_facts.proofs.Resuming.{run_questions, stays_there}
 use Rattle.group_facts.proofs.Same.{IsBody}
 use Rattle.group_facts.proofs.Shown.{meant_behind}
@@ -53,7 +53,7 @@ use Rattle.group_sessions.proofs.DueOnce.{well_formed}
 use Rattle.group_sessions.proofs.ListsNone.{Listless, Off, all_off, lists_join, lists_none, off_lists, unrun_more, unrun_off}
 use Rattle.group_sessions.proofs.ListsServed.{Opens, OpensNone, at_join, at_none, at_same, full, none_due, opened_row, opens_lists, opens_or, run_lists, served_off}
 use Rattle.group_sessions.proofs.ListsShown.{comes_exactly}
-use Rattle.group_sessions.proofs.TellingPlaces.{one_start}
+use Rattle.group_sessions.proofs.TellingPlaces.{last_starts}
 use Rattle.group_sessions.proofs.Tied.{runs_on}
 use Rattle.group_sessions.specs.LastLists.{KeepsLists, at_start, due_beginning, due_coming, due_opening, due_own, gives_list, lists_due, lists_to, shown}
 use Rattle.group_facts.specs.SlowRows.{slow_row}
@@ -87,7 +87,7 @@ talks (FromEditor n body) = true
 talks (FromServer s body) = true
 talks other = false
 
-module _ (settings : Settings) (range : InRange settings) (before : List Event) (facts : Facts settings before) (settled : Settled settings before) (one : OneStart before) (e : ℕ) where
+module _ (settings : Settings) (range : InRange settings) (before : List Event) (facts : Facts settings before) (settled : Settled settings before) (lasts : AllLast before) (e : ℕ) where
   -- by e's own message
   module _ (body : List ℕ) (built : built_behind settings before (FromEditor e body) ≡ true) where
     abbrev m : Message
@@ -332,7 +332,7 @@ module _ (settings : Settings) (range : InRange settings) (before : List Event) 
     start_lists = go (message_of body) refl
       where
         published_by : (method : List ℕ) (params : Option Json) → message_of body ≡ notification method params → is_publishing method ≡ true → (b : Bool) → is_ready (life_of s before).stage ≡ b → lists_to e (outs_of settings before (FromServer s body)) ≡ due_coming settings s e before body
-        published_by method params says class true ready = comes_exactly settings before facts settled one e s body method params says class (ready_is (life_of s before).stage ready)
+        published_by method params says class true ready = comes_exactly settings before facts settled lasts e s body method params says class (ready_is (life_of s before).stage ready)
         published_by method params says class false off = unpublished (λ gives ready. never (sym ready ∙ off))
             ∙ sym (ap (λ b. if b && (is_running (desk_of e before).phase && serves settings before s e) then option_map_or (shown settings s e before) (published (sayings_of s before) body) [] else []) off)
 
@@ -373,8 +373,8 @@ module _ (settings : Settings) (range : InRange settings) (before : List Event) 
   entry_lists (Joined n) built = silent (Joined n) refl (λ z is. never (sym is)) built
   entry_lists (EditorGone n why) built = silent (EditorGone n why) refl (λ z is. never (sym is)) built
   entry_lists (Started s) built = silent (Started s) refl (λ z is. never (sym is)) built
-  entry_lists (StartFailed s) built = ending_lists settings range before facts settled one e (StartFailed s) s (failed_exit settings before s) built
-  entry_lists (ServerGone s) built = ending_lists settings range before facts settled one e (ServerGone s) s (gone_exit settings before s) built
+  entry_lists (StartFailed s) built = ending_lists settings range before facts settled lasts e (StartFailed s) s (failed_exit settings before s) built
+  entry_lists (ServerGone s) built = ending_lists settings range before facts settled lasts e (ServerGone s) s (gone_exit settings before s) built
   entry_lists (Drained n k) built = silent (Drained n k) refl (λ z is. never (sym is)) built
   entry_lists (Tick t) built = silent (Tick t) refl (λ z is. never (sym is)) built
 
@@ -393,7 +393,7 @@ module _ (settings : Settings) (range : InRange settings) where
       let row : List Out = outs_of settings (events_of before) entry.cause in
       let slow : List Out = outs (slow_row settings) (behind (with_cause (events_of before) entry.cause) row) in
       ap (lists_to e) legal.2 ∙ (lists_join e row slow ∙ (ap (λ z. lists_to e row ++ z) (lists_none e slow (slow_all settings (Listless e) (λ n. refl) (λ s body. refl) (behind (with_cause (events_of before) entry.cause) row)))
-      ∙ (append-nil (lists_to e row) ∙ entry_lists settings range (events_of before) (facts_at settings range (events_of before) at) (settled_at settings range (events_of before) at) (one_start settings range (events_of before) at) e entry.cause legal.1)))
+      ∙ (append-nil (lists_to e row) ∙ entry_lists settings range (events_of before) (facts_at settings range (events_of before) at) (settled_at settings range (events_of before) at) (last_starts settings range (events_of before) at) e entry.cause legal.1)))
 
   pub lists_law : (history : List Entry) → Legal settings history → KeepsLists settings history
   lists_law history legal before later entry is e =

@@ -44,7 +44,7 @@ use Rattle.group_rows.specs.Tokens.{is_token_of, is_worked, mark, mark_text, mar
 use Rattle.group_rows.proofs.TokenTexts.{mark_is}
 use Rattle.group_facts.specs.Built.{built_behind}
 use Rattle.group_facts.specs.Legal.{Legal}
-use Rattle.group_facts.specs.Why.{IsWorkCancel, Why, WhyToServer, WorkMeant, begins, cancels, cancels_work, exits, forwarded, greets, notes, of_request, of_token, resolves, responds, shuts, tells}
+use Rattle.group_facts.specs.Why.{IsWorkCancel, Why, WhyToServer, WorkMeant, begins, cancels, cancels_work, exits, forwarded, greets, conveys, notes, of_request, of_token, resolves, responds, shuts, tells}
 use Rattle.group_facts.proofs.Facts.{Facts}
 use Rattle.group_facts.proofs.Known.{Here, here_did, here_took}
 use Rattle.group_facts.proofs.Reached.{Reached, facts_at, reached}
@@ -121,6 +121,7 @@ module _ (settings : Settings) (range : InRange settings) (before : List Event) 
     may_by : (IsWorkCancel settings before cause events s body → May (message_of body)) → WhyToServer settings before cause events s body → May (message_of body)
     may_by works (begins k) = subst May (sym k.says) refl
     may_by works (greets k) = subst May (sym k.says) refl
+    may_by works (conveys k) = subst May (sym k.says) refl
     may_by works (forwarded k) = subst May (sym k.says) refl
     may_by works (notes k) = subst May (sym k.says) (notice_free tokens k.method k.params (not_work k.method k.going))
     may_by works (tells k) = spoken_free tokens (message_of body) k.spoken

@@ -17,7 +17,7 @@ use Rattle.event_model.specs.Phases.{Desk, desk_hears, desk_of, is_new, is_runni
 use Rattle.event_model.specs.Requests.{answered_id, is_open, without}
 use Rattle.event_model.specs.Settings.{Settings}
 use Rattle.event_model.specs.Spawns.{start_of}
-use Rattle.event_model.specs.Stages.{life_of, is_ready}
+use Rattle.event_model.specs.Stages.{is_ended, life_of, is_ready}
 use Rattle.event_model.proofs.Frames.{never}
 use Rattle.mux_model.specs.Fits.{fits_behind}
 use Rattle.mux_facts.specs.Allowed.{is_response}
@@ -41,7 +41,7 @@ use Rattle.group_facts.specs.Why.{IsNotified, IsTaken, Telling, Why, WhyToEditor
 use Rattle.group_facts.proofs.Facts.{Facts}
 use Rattle.group_facts.proofs.Known.{Here, here_did, here_took}
 use Rattle.group_facts.proofs.Reached.{Reached, facts_at, settled_at}
-use Rattle.group_facts.proofs.OneStart.{OneStart}
+use Rattle.group_facts.proofs.LastStarts.{AllLast}
 use Rattle.group_facts.proofs.Table.{reasons}
 use Rattle.group_sessions.proofs.Accepted.{NamesToken, accepted}
 use Rattle.group_sessions.proofs.Client6Law.{created_id, list_no_progress, not_progress, own_is}
@@ -51,7 +51,7 @@ use Rattle.group_sessions.proofs.HeldFold.{Fair, IsAlive, IsFair, NameTokens, No
 use Rattle.group_sessions.proofs.Marked.{Marked, ends as is_last, is_ending, marked}
 use Rattle.group_sessions.proofs.Registered.{begins, is_answered as is_answered_desk}
 use Rattle.group_sessions.proofs.TakingTies.{IsTied, Spares, Tied, TiedIf, aside_all, is_aside, left_all, mark_of, tied_aside, tied_heard, tied_notified, tied_request, tied_response}
-use Rattle.group_sessions.proofs.TellingPlaces.{Known, KnownOut, Knows, RunsIn, all_known, one_start}
+use Rattle.group_sessions.proofs.TellingPlaces.{Known, KnownOut, Knows, RunsIn, all_known, last_starts}
 use Rattle.group_sessions.proofs.Tied.{Place, all_back, has_run, not_run, place, ran, runs_on, stays, unrun}
 use Rattle.group_sessions.proofs.Unreserved.{IsFreeText, IsUnreserved, Unreserved, all_unreserved}
 use Rattle.group_sessions.proofs.Walk.{walk}
@@ -206,7 +206,7 @@ desk p i = record { phase = p; initialize = i }
 
 -- One entry
 
-module _ (settings : Settings) (range : InRange settings) (before : List Event) (facts : Facts settings before) (settled : Settled settings before) (free : Unreserved before) (single : OneStart before) (cause : Cause) (fits : fits_behind before cause ≡ true) (built : built_behind settings before cause ≡ true) where
+module _ (settings : Settings) (range : InRange settings) (before : List Event) (facts : Facts settings before) (settled : Settled settings before) (free : Unreserved before) (lasts : AllLast before) (cause : Cause) (fits : fits_behind before cause ≡ true) (built : built_behind settings before cause ≡ true) where
   abbrev now : List Event
   now = with_cause before cause
 
@@ -392,7 +392,7 @@ module _ (settings : Settings) (range : InRange settings) (before : List Event) 
       where
         over : (token : Token) (front back : List Token) → (created_of settings k.start before).tokens ≡ front ++ token ∷ back → Ended events n k.start token.number
         over token front back order = record {
-          at = record { running = (k.lost).ran; group = (k.lost).group; home = (k.lost).home; last = single k.start (k.lost).group (k.lost).kept };
+          at = record { running = (k.lost).ran; group = (k.lost).group; home = (k.lost).home; last = lasts k.start (k.lost).group (k.lost).kept (ap is_ended (k.lost).ready) };
           small = let low : token.number < x.next = ((all_at (IsLive x.next) front token back (subst (AllByRecursion (IsLive x.next)) order (created_orderly settings k.start before).live)).1).below in let top : x.next ≤ 2 ^ 64 = (fair_before k.start).small in omega (arith, low, top);
           gone = ap (list_any (is_numbered token.number)) (tokens_at events i k.start ∙ exit_tokens k.start cause (k.lost).from);
         }
@@ -520,7 +520,7 @@ module _ (settings : Settings) (range : InRange settings) (before : List Event) 
   entry_rests h = record { tied = λ s. all_of (TiedIf Stands s later) (TiedIf (RunsIn settings later) s later) (λ c tied at. tied (stood s c.editor at)) (created_of settings s later).takings (last.tied s); ran = last.ran }
     where
       last : At later
-      last = reasons_keep Both At step now (outs_of settings before cause) (both now (outs_of settings before cause) (reasons settings range before facts cause built).why (all_known settings before single cause)) (first h)
+      last = reasons_keep Both At step now (outs_of settings before cause) (both now (outs_of settings before cause) (reasons settings range before facts cause built).why (all_known settings before lasts cause)) (first h)
 
 -- An editor that is slow leaves
 
@@ -552,6 +552,6 @@ module _ (settings : Settings) (place : List Event) (e : ℕ) where
 
 pub all_rests : (settings : Settings) → InRange settings → (before : List Event) → Reached settings before → Rests settings before
 all_rests settings range before legal = walk settings (Rests settings)
-    (λ earlier so_far cause fits built h. entry_rests settings range earlier (facts_at settings range earlier so_far) (settled_at settings range earlier so_far) (all_unreserved settings range earlier so_far) (one_start settings range earlier so_far) cause fits built h)
+    (λ earlier so_far cause fits built h. entry_rests settings range earlier (facts_at settings range earlier so_far) (settled_at settings range earlier so_far) (all_unreserved settings range earlier so_far) (last_starts settings range earlier so_far) cause fits built h)
     (λ place at e is h. rests_slow settings place e h)
     (record { tied = λ s. tt; ran = λ s. tt }) before legal

@@ -19,7 +19,7 @@ use Rattle.event_model.specs.Parts.{editor_part}
 use Rattle.event_model.specs.Phases.{Desk, desk_hears, desk_of, editors_of, has_id, is_begun, is_new, is_running, needs_server, phase_closed, phase_told}
 use Rattle.event_model.specs.Settings.{Settings}
 use Rattle.event_model.specs.Spawns.{group_of, start_of}
-use Rattle.event_model.specs.Stages.{life_of, is_ready}
+use Rattle.event_model.specs.Stages.{is_ended, life_of, is_ready}
 use Rattle.event_model.proofs.Frames.{never}
 use Rattle.mux_model.specs.Fits.{fits_behind}
 use Rattle.mux_facts.specs.Ranges.{InRange}
@@ -46,7 +46,7 @@ use Rattle.group_facts.proofs.Facts.{Facts}
 use Rattle.group_facts.proofs.Homes.{took_home}
 use Rattle.group_facts.specs.Why.{IsLost}
 use Rattle.group_facts.proofs.Exits.{ends_live}
-use Rattle.group_facts.proofs.OneStart.{OneStart, start_kept}
+use Rattle.group_facts.proofs.LastStarts.{AllLast, start_kept}
 use Rattle.group_facts.proofs.PutOut.{homes_stay}
 use Rattle.group_facts.proofs.StopEntry.{put_out_ends}
 use Rattle.group_rows.specs.ExitRows.{begins_again}
@@ -446,25 +446,25 @@ module _ (settings : Settings) (range : InRange settings) (before : List Event) 
   tied_still e g s same at (inr h) = inr (no_number e h)
 
   module _ (all : All settings before) (off : is_change before cause ≡ false) where
-    pub tied_by : OneStart before → (e s : ℕ) → IsLost settings before cause e s → has_number e before ≡ true → Same (ids e before) (live_of settings s before)
-    tied_by one e s k room = go (all.tied e k.group s k.ran k.home (one s k.group k.kept))
+    pub tied_by : AllLast before → (e s : ℕ) → IsLost settings before cause e s → has_number e before ≡ true → Same (ids e before) (live_of settings s before)
+    tied_by lasts e s k room = go (all.tied e k.group s k.ran k.home (lasts s k.group k.kept (ap is_ended k.ready)))
       where
         go : IsTied settings e s (ids e before) before → Same (ids e before) (live_of settings s before)
         go (inl same) = same
         go (inr none) = never (sym room ∙ none)
 
-    pub ordinary : (one : OneStart before) (e : ℕ) (runs : begins before cause e ≡ false) → Going settings before cause off e runs (tied_by one e) later
-    ordinary one e runs = entry_goes settings before cause off e runs (tied_by one e) range facts built (all.always e)
+    pub ordinary : (lasts : AllLast before) (e : ℕ) (runs : begins before cause e ≡ false) → Going settings before cause off e runs (tied_by lasts e) later
+    ordinary lasts e runs = entry_goes settings before cause off e runs (tied_by lasts e) range facts built (all.always e)
 
-    pub ordinary_tied : OneStart before → (e g s : ℕ) → begins before cause e ≡ false → (desk_of e later).phase ≡ Running → home_of settings e later ≡ Some g → start_of g later ≡ Some s → IsTied settings e s (ids e later) later
-    ordinary_tied one e g s runs at home start = go (ran e here)
+    pub ordinary_tied : AllLast before → (e g s : ℕ) → begins before cause e ≡ false → (desk_of e later).phase ≡ Running → home_of settings e later ≡ Some g → start_of g later ≡ Some s → IsTied settings e s (ids e later) later
+    ordinary_tied lasts e g s runs at home start = go (ran e here)
       where
         here : is_running (desk_of e now).phase ≡ true
         here = all_back is_running runs_on e now (outs_of settings before cause) (ap is_running at)
 
         go : ((desk_of e before).phase ≡ Running) ⊎ (begins before cause e ≡ true) → IsTied settings e s (ids e later) later
         go (inl was) = let k : Place e g s = place e g s (ap needs_server was) (ap is_new was) (stays e was here) home start in
-            tied_still e g s (live_same e g s off was at k) (record { always = (ordinary one e runs).always; has = (ordinary one e runs).kept (unlost e at) }) (all.tied e g s was k.home k.start)
+            tied_still e g s (live_same e g s off was at k) (record { always = (ordinary lasts e runs).always; has = (ordinary lasts e runs).kept (unlost e at) }) (all.tied e g s was k.home k.start)
         go (inr begun) = never (sym begun ∙ runs)
 
   pub early_here : (e : ℕ) → has_run (desk_of e later).phase ≡ false → (has_run (desk_of e before).phase ≡ false) × (begins before cause e ≡ false)

@@ -18,7 +18,7 @@ use Rattle.event_model.specs.Phases.{Desk, desk_of, editors_of, is_new, is_runni
 use Rattle.event_model.specs.Row.{choose, each, nothing, on, outs, ◌⨾◌}
 use Rattle.event_model.specs.Settings.{Settings}
 use Rattle.event_model.specs.Spawns.{group_of, start_of}
-use Rattle.event_model.specs.Stages.{life_of, is_ready}
+use Rattle.event_model.specs.Stages.{is_ended, life_of, is_ready}
 use Rattle.event_model.proofs.Frames.{never}
 use Rattle.mux_model.specs.Fits.{fits_behind}
 use Rattle.mux_facts.specs.Ranges.{InRange}
@@ -38,7 +38,7 @@ use Rattle.group_rows.proofs.LiveTexts.{live_written, registered_written}
 use Rattle.group_facts.specs.Built.{built_behind}
 use Rattle.group_facts.specs.Settled.{Settled}
 use Rattle.group_facts.proofs.Facts.{Facts}
-use Rattle.group_facts.proofs.OneStart.{OneStart}
+use Rattle.group_facts.proofs.LastStarts.{AllLast}
 use Rattle.group_sessions.proofs.Changes.{Holds, Some_hold, registers_all, registers_none, takes_all, takes_none}
 use Rattle.group_sessions.proofs.Enrolled.{Same}
 use Rattle.group_sessions.proofs.Registered.{At, at_free, at_took, begins, ids}
@@ -46,7 +46,7 @@ use Rattle.group_sessions.proofs.Tied.{All, IsTied, Place, all_back, live_here, 
 
 -- A request of a ready start about registrations
 
-module _ (settings : Settings) (range : InRange settings) (before : List Event) (facts : Facts settings before) (settled : Settled settings before) (one : OneStart before) (all : All settings before)
+module _ (settings : Settings) (range : InRange settings) (before : List Event) (facts : Facts settings before) (settled : Settled settings before) (lasts : AllLast before) (all : All settings before)
     (s : ℕ) (body : List ℕ) (fits : fits_behind before (FromServer s body) ≡ true) (built : built_behind settings before (FromServer s body) ≡ true) (ready : (life_of s before).stage ≡ Ready)
     (id : Id) (method : List ℕ) (params : Option Json) (says : message_of body ≡ request id method params) where
   abbrev now : List Event
@@ -148,7 +148,7 @@ module _ (settings : Settings) (range : InRange settings) (before : List Event) 
             let k = where_it_was e h t runs home start in
             let houses : Some h ≡ Some g = sym k.home ∙ in_group (home_of settings e before) both.1 in
             let same : h ≡ g = cc in
-            let starts : Some t ≡ Some s = sym k.start ∙ ap (λ n. start_of n before) same ∙ one s g kept in
+            let starts : Some t ≡ Some s = sym k.start ∙ ap (λ n. start_of n before) same ∙ lasts s g kept (ap is_ended ready) in
             let is : t ≡ s = cc in
             subst (λ n. IsTied settings e n (ids e later) later) (sym is) (go (done.holds).same)
           where
@@ -158,7 +158,7 @@ module _ (settings : Settings) (range : InRange settings) (before : List Event) 
 
     -- what holds of it behind the answer
     holds_sent : (e : ℕ) → p e ≡ true → (text : List ℕ) → Holds e live (live_written settings s before) (ids e before) live (behind now (ToServer s text ∷ []))
-    holds_sent e on text = record { at = at_sent e text; same = go (all.tied e g s (running_is settings before (desk_of e before).phase both.0) (in_group (home_of settings e before) both.1) (one s g kept)) }
+    holds_sent e on text = record { at = at_sent e text; same = go (all.tied e g s (running_is settings before (desk_of e before).phase both.0) (in_group (home_of settings e before) both.1) (lasts s g kept (ap is_ended ready))) }
       where
         both : (is_running (desk_of e before).phase ≡ true) × (is_home g (home_of settings e before) ≡ true)
         both = and_parts (is_running (desk_of e before).phase) (is_home g (home_of settings e before)) on

@@ -25,7 +25,7 @@ use Rattle.group_rows.specs.Rows.{outs_of, sync_bodies}
 use Rattle.group_rows.specs.Texts.{texts_of}
 use Rattle.group_rows.specs.Tokens.{is_reserved}
 use Rattle.group_facts.specs.Built.{built_behind}
-use Rattle.group_facts.specs.Why.{IsForward, Why, WhyToServer, begins, cancels, cancels_work, exits, forwarded, greets, notes, resolves, responds, shuts, tells}
+use Rattle.group_facts.specs.Why.{IsForward, Why, WhyToServer, begins, cancels, cancels_work, exits, forwarded, greets, conveys, notes, resolves, responds, shuts, tells}
 use Rattle.group_facts.proofs.Apart.{grow, new}
 use Rattle.group_facts.proofs.Forwards.{forwarding_more}
 use Rattle.group_facts.proofs.Reached.{Reached, facts_at}
@@ -151,6 +151,7 @@ module _ (settings : Settings) (before : List Event) (cause : Cause) (events : L
   unreserved_sent : WhyToServer settings before cause events n body → Unreserved events → Unreserved sent
   unreserved_sent (begins k) h = plain (request (integer (codes "1")) (codes "initialize") k.params) k.says refl h
   unreserved_sent (greets k) h = plain (notification (codes "initialized") k.params) k.says tt h
+  unreserved_sent (conveys k) h = plain (notification (codes "workspace/didChangeConfiguration") k.params) k.says tt h
   unreserved_sent (forwarded k) h = λ s. grow settings before cause events n body k s IsUnreserved (h s) (λ same. new_unreserved k)
   unreserved_sent (notes k) h = plain (notification k.method k.params) k.says tt h
   unreserved_sent (tells k) h = let m : Spoken (message_of body) = spoken (message_of body) k.spoken in plain (notification m.method m.params) m.is tt h

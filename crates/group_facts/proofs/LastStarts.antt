@@ -1,24 +1,32 @@
--- Each group has one start so far, and no entry changes those that are there.
-use Rattle.std.proofs.Common.{◌≡◌, ℕ, ◌<◌, ◌≤◌, Bool, true, false, List, [], ◌∷◌, ◌++◌, map, length, nat_eq, if◌then◌else◌, Option, None, Some, refl, sym, ◌∙◌, ap, subst, arith, append-nil, append_assoc}
+-- A start that didn't end is the last one of its group, and no entry changes the last start of a group so far.
+use Rattle.std.proofs.Common.{◌≡◌, ℕ, ◌<◌, ◌≤◌, Bool, true, false, not, List, [], ◌∷◌, ◌++◌, map, length, nat_eq, if◌then◌else◌, Option, None, Some, refl, sym, ◌∙◌, ap, subst, arith, append-nil, append_assoc}
 use Rattle.std.specs.List.{AllByRecursion}
+use Rattle.std.proofs.lemmas.Bool.{and_parts}
 use Rattle.mux_history.specs.declared.cause.Cause.{Cause}
-use Rattle.mux_history.specs.declared.cause.Cause.TheVariants.{Joined}
+use Rattle.mux_history.specs.declared.cause.Cause.TheVariants.{Joined, FromEditor, EditorGone, Started, StartFailed, FromServer, ServerGone, Drained, Tick}
 use Rattle.mux_history.specs.declared.out.Out.{Out}
 use Rattle.mux_history.specs.declared.out.Out.TheVariants.{ToEditor, ToServer, Spawn, CloseEditor, EndServer}
+use Rattle.event_model.specs.declared.stage.Stage.{Stage}
+use Rattle.event_model.specs.declared.stage.Stage.TheVariants.{Unspawned, Spawning, Initializing, Ready, Stopping, Ending, Ended}
 use Rattle.event_model.specs.Event.{Event, behind, heard, said, with_cause}
 use Rattle.event_model.specs.Settings.{Settings}
 use Rattle.event_model.specs.Spawns.{group_of, start_of}
+use Rattle.event_model.specs.Stages.{is_ended, is_initializing, life_of, may_begin}
+use Rattle.event_model.proofs.Frames.{never}
+use Rattle.mux_model.specs.Fits.{fits_behind}
 use Rattle.mux_facts.proofs.Keeps.{behind_both}
 use Rattle.mux_facts.proofs.Words.{number_same, same_number}
 use Rattle.group_words.specs.Houses.{groups_of}
 use Rattle.group_rows.specs.Rows.{outs_of}
 use Rattle.group_facts.specs.Built.{built_behind}
+use Rattle.group_facts.specs.Facts.{is_exit}
 use Rattle.group_facts.specs.Lively.{lives_at}
 use Rattle.group_facts.proofs.Begun.{Begun, Founding, NoSpawn, founding_of, founds, quiet, start_more, start_took, starts_stay}
+use Rattle.group_facts.proofs.Ceased.{unended_outs, unended_spawn, unended_took}
 use Rattle.group_facts.proofs.Housed.{group_more}
 
-abbrev pub OneStart : List Event → Type 0
-OneStart events = (s g : ℕ) → group_of s events ≡ Some g → start_of g events ≡ Some s
+abbrev pub AllLast : List Event → Type 0
+AllLast events = (s g : ℕ) → group_of s events ≡ Some g → is_ended (life_of s events).stage ≡ false → start_of g events ≡ Some s
 
 group_took : (s : ℕ) (events : List Event) (cause : Cause) → group_of s (with_cause events cause) ≡ group_of s events
 group_took s events (Joined e) = group_more s events (heard (Joined e))
@@ -82,15 +90,58 @@ module _ (settings : Settings) (before : List Event) (cause : Cause) (begun : Be
     start_kept g s at = by_founding (λ xs. start_of g (behind now xs) ≡ Some s) (λ xs all. start_quiet g xs all ∙ at)
         (λ xs n all live. start_last g n xs all ∙ ap (λ b. if b then Some n else start_of g before) (apart g (kept_below g s at)) ∙ at) (founding_of settings before cause built)
 
-    pub one_rests : OneStart before → OneStart (behind now (outs_of settings before cause))
-    one_rests h s g = by_founding (λ xs. group_of s (behind now xs) ≡ Some g → start_of g (behind now xs) ≡ Some s) (λ xs all at. start_quiet g xs all ∙ h s g (sym (group_quiet s xs all) ∙ at)) last (founding_of settings before cause built)
+    pub last_rests : AllLast before → AllLast (behind now (outs_of settings before cause))
+    last_rests h s g = by_founding (λ xs. group_of s (behind now xs) ≡ Some g → is_ended (life_of s (behind now xs)).stage ≡ false → start_of g (behind now xs) ≡ Some s)
+        (λ xs all at alive. start_quiet g xs all ∙ h s g (sym (group_quiet s xs all) ∙ at) (alive_before xs all alive)) last (founding_of settings before cause built)
       where
-        last : (xs : List Out) (n : ℕ) → AllByRecursion NoSpawn xs → lives_at N (groups_of settings now) ≡ true → group_of s (behind now (xs ++ Spawn n N ∷ [])) ≡ Some g → start_of g (behind now (xs ++ Spawn n N ∷ [])) ≡ Some s
-        last xs n all live at = start_last g n xs all ∙ go (nat_eq n s) refl (sym (group_last s n xs all) ∙ at)
+        alive_before : (xs : List Out) → AllByRecursion NoSpawn xs → is_ended (life_of s (behind now xs)).stage ≡ false → is_ended (life_of s before).stage ≡ false
+        alive_before xs all alive = unended_took s before cause (unended_outs s now xs all alive)
+
+        last : (xs : List Out) (n : ℕ) → AllByRecursion NoSpawn xs → lives_at N (groups_of settings now) ≡ true → group_of s (behind now (xs ++ Spawn n N ∷ [])) ≡ Some g → is_ended (life_of s (behind now (xs ++ Spawn n N ∷ []))).stage ≡ false
+            → start_of g (behind now (xs ++ Spawn n N ∷ [])) ≡ Some s
+        last xs n all live at alive = start_last g n xs all ∙ go (nat_eq n s) refl (sym (group_last s n xs all) ∙ at)
           where
+            was : nat_eq n s ≡ false → is_ended (life_of s before).stage ≡ false
+            was other = alive_before xs all (unended_spawn s n N (behind now xs) other (subst (λ z. is_ended (life_of s z).stage ≡ false) (behind_both now xs (Spawn n N ∷ [])) alive))
+
             go : (b : Bool) → nat_eq n s ≡ b → (if b then Some N else group_of s before) ≡ Some g → (if nat_eq N g then Some n else start_of g before) ≡ Some s
             go true same k = let is : N ≡ g = cc in ap (λ b. if b then Some n else start_of g before) (subst (λ z. nat_eq N z ≡ true) is (same_number N)) ∙ ap (λ z. Some z) (number_same n s same)
-            go false other k = ap (λ b. if b then Some n else start_of g before) (apart g (kept_below g s (h s g k))) ∙ h s g k
+            go false other k = let kept : start_of g before ≡ Some s = h s g k (was other) in ap (λ b. if b then Some n else start_of g before) (apart g (kept_below g s kept)) ∙ kept
 
-pub one_none : OneStart []
-one_none s g at = absurd (cc)
+pub last_none : AllLast []
+last_none s g at alive = absurd (cc)
+
+-- A start that ends by a cause that fits hadn't ended
+
+alive_starting : (stage : Stage) → may_begin stage ≡ true → is_ended stage ≡ false
+alive_starting Spawning h = refl
+alive_starting Ending h = refl
+alive_starting Unspawned h = refl
+alive_starting Initializing h = refl
+alive_starting Ready h = refl
+alive_starting Stopping h = refl
+alive_starting Ended h = never (sym h)
+
+pub alive_initializing : (stage : Stage) → is_initializing stage ≡ true → is_ended stage ≡ false
+alive_initializing Initializing h = refl
+alive_initializing Unspawned h = refl
+alive_initializing Spawning h = refl
+alive_initializing Ready h = refl
+alive_initializing Stopping h = refl
+alive_initializing Ending h = refl
+alive_initializing Ended h = never (sym h)
+
+turned_off : (b : Bool) → not b ≡ true → b ≡ false
+turned_off true h = never (sym h)
+turned_off false h = refl
+
+pub alive_exit : (before : List Event) (cause : Cause) (s : ℕ) → is_exit cause s ≡ true → fits_behind before cause ≡ true → is_ended (life_of s before).stage ≡ false
+alive_exit before (StartFailed n) s is fits = subst (λ k. is_ended (life_of k before).stage ≡ false) (number_same n s is) (alive_starting (life_of n before).stage (and_parts (may_begin (life_of n before).stage) (not (life_of n before).started) fits).0)
+alive_exit before (ServerGone n) s is fits = subst (λ k. is_ended (life_of k before).stage ≡ false) (number_same n s is) (turned_off (is_ended (life_of n before).stage) (and_parts (life_of n before).started (not (is_ended (life_of n before).stage)) fits).1)
+alive_exit before (Joined n) s is fits = never (sym is)
+alive_exit before (FromEditor n body) s is fits = never (sym is)
+alive_exit before (EditorGone n why) s is fits = never (sym is)
+alive_exit before (Started n) s is fits = never (sym is)
+alive_exit before (FromServer n body) s is fits = never (sym is)
+alive_exit before (Drained n k) s is fits = never (sym is)
+alive_exit before (Tick t) s is fits = never (sym is)
