@@ -1,10 +1,10 @@
 -- S2, of a start that isn't its group's first: what the starts before it gave, and the configuration of the group, which E16 keeps (LSP 3.17, Initialize Request and DidChangeConfiguration Notification).
-use Rattle.std.specs.Prelude.{ℕ, Bool, true, false, not, ◌&&◌, List, [], codes, bytes_eq, if◌then◌else◌}
+use Rattle.std.specs.Prelude.{ℕ, Bool, true, false, not, ◌&&◌, List, [], codes, if◌then◌else◌}
 use Rattle.std.specs.Prelude.{Option, Some, None}
 use Rattle.json_text.specs.Json.{Json}
 use Rattle.json_text.specs.Tree.{tree_of}
 use Rattle.response_route.specs.json_nodes.specs.Same.{same}
-use Rattle.rpc_message.specs.Message.{Message, notification, result_bytes}
+use Rattle.rpc_message.specs.Message.{Message, result_bytes}
 use Rattle.mux_history.specs.declared.cause.Cause.TheVariants.{FromEditor, FromServer}
 use Rattle.mux_history.specs.declared.out.Out.TheVariants.{ToServer}
 use Rattle.event_model.specs.declared.phase.Phase.{Phase}
