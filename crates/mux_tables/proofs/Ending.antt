@@ -1,5 +1,5 @@
 -- What ends with the program of a group's last start, as it is kept.
-use Rattle.std.proofs.Common.{◌≡◌, ℕ, ◌+◌, ◌<◌, Bool, true, false, cond, List, [], ◌∷◌, ◌++◌, filter, flat_map, map, length, get_or, refl, ap, ◌∙◌, nat_eq}
+use Rattle.std.proofs.Common.{◌≡◌, ℕ, ◌<◌, Bool, true, false, cond, List, [], ◌∷◌, ◌++◌, filter, flat_map, map, length, get_or, refl, ap, ◌∙◌, nat_eq}
 use Rattle.std.specs.Prelude.{Some, slice_get}
 use Rattle.ask_route.specs.declared.ask.Ask as route
 use Rattle.ask_route.specs.Tables as asks
@@ -9,7 +9,7 @@ use Rattle.event_model.specs.Settings.{Settings}
 use Rattle.group_laws.specs.group_rows.specs.Asks.{Ask, asks_of, is_with}
 use Rattle.mux_tables.specs.declared.tables.Start.{Start}
 use Rattle.mux_tables.specs.declared.tables.Tables.{Tables}
-use Rattle.mux_tables.specs.Exits.{open_asks}
+use Rattle.mux_tables.specs.Losses.{open_asks}
 use Rattle.mux_tables.specs.Stands.{AsksStand, Stands, kept_ask, of_asks}
 use Rattle.mux_tables.proofs.Refusing.{ready_asks}
 use Rattle.mux_tables.proofs.Starts.{read_same}

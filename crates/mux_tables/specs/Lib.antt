@@ -1,5 +1,5 @@
 pub mod Documents
-pub mod Exits
+pub mod Losses
 pub mod Halts
 pub mod Stands
 pub mod Cancels

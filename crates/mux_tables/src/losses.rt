@@ -1,4 +1,4 @@
-// What the end of its program takes from the editors of a start (X2).
+// What editors lose with a start (X2).
 ghost use Rattle.std.specs.Prelude.{◌≡◌, ◌<◌, List, Some, length, IfOk, slice_get};
 ghost use Rattle.event_model.specs.declared.stage.Stage.TheVariants.{Ready};
 ghost use Rattle.event_model.specs.Event.{Event};
@@ -7,7 +7,7 @@ ghost use Rattle.group_laws.specs.group_rows.specs.Asks.{asks_of};
 ghost use Rattle.group_laws.specs.group_rows.specs.Created.{created_of};
 ghost use Rattle.mux_tokens.specs.Ends.{begun_tokens, unanswered_takes};
 ghost use Rattle.mux_tables.specs.declared.tables.Start.{Start};
-ghost use Rattle.mux_tables.specs.Exits.{open_asks};
+ghost use Rattle.mux_tables.specs.Losses.{open_asks};
 ghost use Rattle.mux_tables.specs.Stands.{Stands};
 
 use crate::tables::Tables;
