@@ -9,7 +9,7 @@ ghost use Rattle.event_model.specs.Settings.{Settings};
 ghost use Rattle.focus_switch.specs.Documents.{Documents};
 ghost use Rattle.focus_switch.specs.Rows.{unready_row};
 ghost use Rattle.event_model.specs.Stages.{is_first_result, is_initializing};
-ghost use Rattle.group_words.specs.Houses.{is_first_error};
+ghost use Rattle.group_words.specs.Houses.{has_editor, home_of, is_first_error};
 ghost use Rattle.group_words.specs.Rows.{shown_of};
 ghost use Rattle.mux_history.specs.declared.cause.Cause.TheVariants.{FromServer, ServerGone, StartFailed, Started};
 ghost use Rattle.rpc_message.specs.Message.{message_of, result_bytes};
@@ -129,9 +129,11 @@ impl Tables {
         forget(&mut last.ids, n);
     }
 
-    // An editor of the group needs a server.
-    fn needs_server(&self, g: u64) -> Result<bool, Memory>
-        ensures { IfOk result (λ b. b ≡ any_in needs_server self.now.editors g) }
+    /// X3: an editor of the group needs a server: it waits for a result, or is served.
+    pub fn needs_server(&self, g: u64) -> Result<bool, Memory>
+        ensures kept { IfOk result (λ b. b ≡ any_in needs_server self.now.editors g) }
+        ensures needed { (settings : Settings) (events : List Event) → Stands settings self.now events
+            → IfOk result (λ b. b ≡ has_editor needs_server g (λ e. home_of settings e events) events) }
     {
         let needing = self.editors.needing(g)?;
         Ok(is_any(&needing))
