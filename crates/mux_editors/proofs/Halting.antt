@@ -6,9 +6,8 @@ use Rattle.std.proofs.lemmas.Bool.{and_parts}
 use Rattle.mux_history.specs.declared.cause.Cause.TheVariants.{FromEditor}
 use Rattle.mux_history.specs.declared.out.Out.{Out}
 use Rattle.mux_history.specs.declared.out.Out.TheVariants.{CloseEditor, ToEditor}
-use Rattle.rpc_message.specs.Message.{Message, id_bytes, message_of}
+use Rattle.rpc_message.specs.Message.{id_bytes, message_of}
 use Rattle.rpc_message.specs.Texts.{error_text, ok_text, request_failed}
-use Rattle.event_model.specs.declared.phase.Phase.{Phase}
 use Rattle.event_model.specs.declared.phase.Phase.TheVariants.{Waiting}
 use Rattle.event_model.specs.Does.{Does, Done}
 use Rattle.event_model.specs.Event.{Event, behind, heard, requests, said}
@@ -38,7 +37,7 @@ use Rattle.mux_turns.specs.group_facts.specs.Settled.{IsSeated}
 use Rattle.mux_turns.specs.mux_facts.proofs.Words.{number_same}
 use Rattle.mux_editors.proofs.Lspmux.{desk_stays, own_placed, own_stays, stop_asks}
 use Rattle.mux_turns.specs.Initials.{IsNamed, refuse_id}
-use Rattle.mux_turns.proofs.Initials.{named_all, own_rows}
+use Rattle.mux_turns.proofs.Initials.{named_all, own_rows, told_waits}
 use Rattle.mux_editors.specs.Halting.{Halts, Refusing, Stays, lose_from}
 
 -- the tables stand, whatever is owed
@@ -126,10 +125,6 @@ first_told e events = go (is_waiting (desk_of e events).phase)
 
 open_told : (settings : Settings) (before : List Event) (e : ℕ) (events : List Event) → AllByRecursion IsTold (outs (refuse_open settings before e) events)
 open_told settings before e events = all_join (outs (refuse_initialize e) events) _ (first_told e events) (lose_told settings before e (behind events (outs (refuse_initialize e) events)))
-
-told_waits : (p : Phase) (i : List ℕ) (m : Message) → phase_told p i m ≡ Waiting → p ≡ Waiting
-told_waits Waiting i m h = refl
-told_waits other i m h = h
 
 module _ (settings : Settings) (before now : List Event) (k : ℕ) (body : List ℕ) (r : Refusing settings before now) where
   abbrev ev : Event

@@ -19,7 +19,7 @@ use Rattle.group_rows.specs.LiveRows.{unregister_any}
 use Rattle.group_rows.specs.registrations.specs.declared.registration.Registration.{Registration}
 use Rattle.mux_exits.specs.declared.losses.Loss.{Loss}
 use Rattle.mux_exits.specs.declared.losses.Loss.TheVariants.{Told, Unregistered}
-use Rattle.mux_tables.specs.Exits.{open_asks}
+use Rattle.mux_tables.specs.Losses.{open_asks}
 use Rattle.mux_tables.specs.Halts.{ids_at}
 use Rattle.mux_tables.specs.mux_tokens.specs.Ends.{begun_tokens, unanswered_takes}
 

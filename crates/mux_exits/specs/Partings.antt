@@ -11,7 +11,6 @@ use Rattle.group_rows.specs.Live.{unregister_text}
 use Rattle.group_words.specs.Houses.{home_of}
 use Rattle.mux_exits.specs.declared.partings.Parting.{Parting}
 use Rattle.mux_exits.specs.Losses.{CanLose, live_at, loss_row, lost_at}
-use Rattle.mux_starts.specs.Refusing.{IsUnready}
 use Rattle.mux_tables.specs.declared.tables.Start.{Start}
 use Rattle.mux_turns.specs.Calls.{IsCall}
 use Rattle.mux_turns.specs.Initials.{AllHoused}

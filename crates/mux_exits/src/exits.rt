@@ -81,8 +81,8 @@ fn part(
     Ok(())
 }
 
-// X1 to X3: the program of the last start of the group in this place, which lives, ended.
-fn exit_at(
+// X1 to X3: the group in this place lives, and ends as the program of its last start ended.
+fn exit_group(
     tables: &mut Tables,
     alloc: Global,
     restarts: u64,
@@ -114,7 +114,7 @@ fn exit_at(
 }
 
 // The same where it couldn't be run.
-fn failure_at(
+fn fail_group(
     tables: &mut Tables,
     alloc: Global,
     restarts: u64,
@@ -145,6 +145,62 @@ fn failure_at(
     Ok(())
 }
 
+// The program of the last start of the group in this place ended.
+fn exit_at(
+    tables: &mut Tables,
+    alloc: Global,
+    restarts: u64,
+    outs: &mut Outs,
+    s: u64,
+    g: usize,
+) -> Result<(), Memory>
+    requires limit { 2 ≤ tables.old.requests }
+    requires group { g < length tables.old.lasts.items }
+    ensures requests { tables.new.requests ≡ tables.old.requests }
+    ensures versions { tables.new.versions ≡ tables.old.versions }
+    ensures exit { (settings : Settings) (before : List Event) → slice_get (map number_in tables.old.lasts.items) g ≡ Some s
+        → settings.limits.restarts ≡ restarts → outs.old ≡ [] → Known settings before → Settled settings before
+        → fits_behind before (ServerGone s) ≡ true → built_behind settings before (ServerGone s) ≡ true
+        → Stands settings tables.old before → DocumentsStand settings nothing_owed tables.old before
+        → OnOk result (Done (λ k events. AllStand settings k events) (row_of settings before (ServerGone s))
+        (with_cause before (ServerGone s)) [] (tables.new, nothing_owed) outs.new) }
+{
+    if !lives(tables, tables.group_number(g)) {
+        take_left(tables, alloc, s);
+        return Ok(());
+    }
+    exit_group(tables, alloc, restarts, outs, g)?;
+    Ok(())
+}
+
+// The same where it couldn't be run.
+fn failure_at(
+    tables: &mut Tables,
+    alloc: Global,
+    restarts: u64,
+    outs: &mut Outs,
+    s: u64,
+    g: usize,
+) -> Result<(), Memory>
+    requires limit { 2 ≤ tables.old.requests }
+    requires group { g < length tables.old.lasts.items }
+    ensures requests { tables.new.requests ≡ tables.old.requests }
+    ensures versions { tables.new.versions ≡ tables.old.versions }
+    ensures failure { (settings : Settings) (before : List Event) → slice_get (map number_in tables.old.lasts.items) g ≡ Some s
+        → settings.limits.restarts ≡ restarts → outs.old ≡ [] → Known settings before → Settled settings before
+        → fits_behind before (StartFailed s) ≡ true → built_behind settings before (StartFailed s) ≡ true
+        → Stands settings tables.old before → DocumentsStand settings nothing_owed tables.old before
+        → OnOk result (Done (λ k events. AllStand settings k events) (row_of settings before (StartFailed s))
+        (with_cause before (StartFailed s)) [] (tables.new, nothing_owed) outs.new) }
+{
+    if !lives(tables, tables.group_number(g)) {
+        take_left(tables, alloc, s);
+        return Ok(());
+    }
+    fail_group(tables, alloc, restarts, outs, g)?;
+    Ok(())
+}
+
 /// X1 to X3: the program of a start ended. Where its group lives, and doesn't go on with a new start, each editor of it is told that its
 /// requests fail; each that runs, where the start is ready, what ends with it; and each is turned out. Else nothing is sent.
 pub fn take_exit(
@@ -164,15 +220,13 @@ pub fn take_exit(
         → OnOk result (Done (λ k events. AllStand settings k events) (row_of settings before (ServerGone s))
         (with_cause before (ServerGone s)) [] (tables.new, nothing_owed) outs.new) }
 {
-    let Some(g) = tables.last(s) else {
-        return Ok(());
-    };
-    if !lives(tables, tables.group_number(g)) {
-        take_left(tables, alloc, s);
-        return Ok(());
+    match tables.last(s) {
+        None => Ok(()),
+        Some(g) => {
+            exit_at(tables, alloc, restarts, outs, s, g)?;
+            Ok(())
+        }
     }
-    exit_at(tables, alloc, restarts, outs, g)?;
-    Ok(())
 }
 
 /// X1 to X3: the same of a start whose program couldn't be run.
@@ -193,13 +247,11 @@ pub fn take_failure(
         → OnOk result (Done (λ k events. AllStand settings k events) (row_of settings before (StartFailed s))
         (with_cause before (StartFailed s)) [] (tables.new, nothing_owed) outs.new) }
 {
-    let Some(g) = tables.last(s) else {
-        return Ok(());
-    };
-    if !lives(tables, tables.group_number(g)) {
-        take_left(tables, alloc, s);
-        return Ok(());
+    match tables.last(s) {
+        None => Ok(()),
+        Some(g) => {
+            failure_at(tables, alloc, restarts, outs, s, g)?;
+            Ok(())
+        }
     }
-    failure_at(tables, alloc, restarts, outs, g)?;
-    Ok(())
 }

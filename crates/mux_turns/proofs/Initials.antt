@@ -1,20 +1,22 @@
 -- What is open at an editor fails: its `initialize`, and its requests.
-use Rattle.std.proofs.Common.{◌≡◌, ℕ, zero, suc, ◌<◌, Bool, true, false, List, [], ◌∷◌, ◌++◌, filter, map, length, get_or, nat_eq, if◌then◌else◌, refl, ap, ap₂, sym, subst, ◌∙◌, arith}
+use Rattle.std.proofs.Common.{◌≡◌, ℕ, zero, suc, ◌<◌, Bool, true, false, List, [], ◌∷◌, ◌++◌, filter, map, length, get_or, nat_eq, if◌then◌else◌, refl, ap, ap₂, sym, subst, ◌∙◌, append-nil, arith}
 use Rattle.std.specs.List.{AllByRecursion}
 use Rattle.std.specs.Prelude.{Option, None, Some, slice_get}
 use Rattle.mux_history.specs.declared.out.Out.{Out}
-use Rattle.mux_history.specs.declared.out.Out.TheVariants.{ToEditor}
-use Rattle.rpc_message.specs.Message.{id_bytes}
+use Rattle.mux_history.specs.declared.out.Out.TheVariants.{ToEditor, ToServer, Spawn, CloseEditor, EndServer}
+use Rattle.rpc_message.specs.Message.{Message, id_bytes, message_of}
 use Rattle.rpc_message.specs.ValueTexts.{IsIdText}
 use Rattle.rpc_message.specs.Texts.{error_text, request_failed}
 use Rattle.rpc_message.proofs.Ids.{request_id_bytes}
-use Rattle.event_model.specs.declared.phase.Phase.TheVariants.{Waiting}
+use Rattle.event_model.specs.declared.phase.Phase.{Phase}
+use Rattle.event_model.specs.declared.phase.Phase.TheVariants.{Gone, Waiting}
 use Rattle.event_model.specs.Does.{Alike, Does}
 use Rattle.event_model.specs.Event.{Event, behind, said}
-use Rattle.event_model.specs.Phases.{desk_of, is_waiting}
+use Rattle.event_model.specs.Phases.{Desk, desk_behind, desk_of, is_waiting, phase_closed, phase_told}
 use Rattle.event_model.specs.Row.{choose, each, nothing, outs, send}
 use Rattle.event_model.specs.Settings.{Settings}
-use Rattle.event_model.proofs.Turns.{alike, does_false, does_knowing, does_look, does_nothing, does_true}
+use Rattle.event_model.proofs.Frames.{never, one_more}
+use Rattle.event_model.proofs.Turns.{alike, behind_more, does_false, does_knowing, does_look, does_nothing, does_true}
 use Rattle.group_facts.specs.Facts.{IsForwarded}
 use Rattle.group_facts.specs.group_rows.specs.Forwarded.{Forwarded, is_of}
 use Rattle.group_facts.specs.group_rows.specs.StopRows.{lose_request, refuse_initialize}
@@ -92,3 +94,34 @@ named_all events e (f ∷ fs) h = go (named_all events e fs h.1) (nat_eq f.edito
     go : AllByRecursion IsNamed (ids_at e fs) → (b : Bool) → AllByRecursion IsNamed (map (λ (f : Forwarded). f.id) (if b then f ∷ filter (is_of e) fs else filter (is_of e) fs))
     go rest true = (((h.0).id, (h.0).text), rest)
     go rest false = rest
+
+-- Nothing that is said makes an editor wait, or changes what it asked, or its group
+
+pub told_waits : (p : Phase) (i : List ℕ) (m : Message) → phase_told p i m ≡ Waiting → p ≡ Waiting
+told_waits Waiting i m h = refl
+told_waits other i m h = h
+
+closed_waits : (p : Phase) → phase_closed p ≡ Waiting → p ≡ Waiting
+closed_waits p h = never (sym (ap is_waiting h) ∙ unwaiting p)
+  where
+    unwaiting : (p : Phase) → is_waiting (phase_closed p) ≡ false
+    unwaiting Gone = refl
+    unwaiting other = refl
+
+waits_before : (e : ℕ) (events : List Event) (x : Out) → (desk_of e (events ++ said x ∷ [])).phase ≡ Waiting → (desk_of e events).phase ≡ Waiting
+waits_before e events x h = go x (sym (ap (λ (d : Desk). d.phase) (one_more (desk_behind e) _ _ events (said x) refl)) ∙ h)
+  where
+    by_test : (b : Bool) (p : Phase) (i : List ℕ) → (p ≡ Waiting → (desk_of e events).phase ≡ Waiting) → (if b then record { phase = p; initialize = i } else desk_of e events).phase ≡ Waiting → (desk_of e events).phase ≡ Waiting
+    by_test true p i from h = from h
+    by_test false p i from h = h
+
+    go : (x : Out) → (desk_behind e (desk_of e events) (said x)).phase ≡ Waiting → (desk_of e events).phase ≡ Waiting
+    go (ToEditor n body) h = by_test (nat_eq n e) _ _ (told_waits (desk_of e events).phase (desk_of e events).initialize (message_of body)) h
+    go (CloseEditor n) h = by_test (nat_eq n e) _ _ (closed_waits (desk_of e events).phase) h
+    go (ToServer s body) h = h
+    go (Spawn s g) h = h
+    go (EndServer s) h = h
+
+pub waits_back : (e : ℕ) (events : List Event) (xs : List Out) → (desk_of e (behind events xs)).phase ≡ Waiting → (desk_of e events).phase ≡ Waiting
+waits_back e events [] h = subst (λ es. (desk_of e es).phase ≡ Waiting) (append-nil events) h
+waits_back e events (x ∷ xs) h = waits_before e events x (waits_back e (events ++ said x ∷ []) xs (subst (λ es. (desk_of e es).phase ≡ Waiting) (behind_more events (x ∷ []) xs) h))
