@@ -37,7 +37,7 @@ use Rattle.mux_turns.specs.group_facts.specs.Settled.{IsSeated}
 use Rattle.mux_turns.specs.mux_facts.proofs.Words.{number_same}
 use Rattle.mux_editors.proofs.Lspmux.{desk_stays, own_placed, own_stays, stop_asks}
 use Rattle.mux_turns.specs.Initials.{IsNamed, refuse_id}
-use Rattle.mux_turns.proofs.Initials.{named_all, own_rows, told_waits}
+use Rattle.mux_turns.proofs.Failing.{named_all, own_rows, told_waits}
 use Rattle.mux_editors.specs.Halting.{Halts, Refusing, Stays, lose_from}
 
 -- the tables stand, whatever is owed

@@ -59,7 +59,7 @@ use Rattle.mux_turns.specs.Initials.{AllHoused, IsNamed}
 use Rattle.mux_turns.specs.Welcomes.{AllAsking}
 use Rattle.mux_turns.proofs.Called.{unregister_call}
 use Rattle.mux_turns.proofs.Departing.{behind_first}
-use Rattle.mux_turns.proofs.Initials.{named_all}
+use Rattle.mux_turns.proofs.Failing.{named_all}
 use Rattle.mux_turns.proofs.Matched.{whole_entry}
 
 -- The last start in this place, as it is kept behind the end of its program

@@ -26,7 +26,7 @@ use Rattle.mux_exits.specs.Partings.{IsParting, parting_row}
 use Rattle.mux_tables.specs.Halts.{ids_at}
 use Rattle.mux_tables.specs.Losses.{open_asks}
 use Rattle.mux_tables.specs.mux_tokens.specs.Ends.{begun_tokens, unanswered_takes}
-use Rattle.mux_turns.proofs.Initials.{own_rows}
+use Rattle.mux_turns.proofs.Failing.{own_rows}
 
 -- Rows that are alike
 

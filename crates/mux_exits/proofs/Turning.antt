@@ -21,7 +21,7 @@ use Rattle.mux_tables.specs.Stands.{Stands}
 use Rattle.mux_tables.proofs.DocumentOwed.{all_does}
 use Rattle.mux_turns.specs.Initials.{AllHoused}
 use Rattle.mux_turns.specs.Welcomes.{AllAsking}
-use Rattle.mux_turns.proofs.Initials.{waits_back}
+use Rattle.mux_turns.proofs.Failing.{waits_back}
 
 -- what a row says
 pub adds_row : {K : Type 0} {Holds : K → List Event → Type 0} {row : Row} {base : List Event} {t u : K} {xs ys : List Out} → Does Holds row base t xs u ys → Holds t (behind base xs) → Adds xs ys

@@ -19,7 +19,7 @@ ghost use Rattle.mux_tables.specs.declared.tables.Start.{Start};
 ghost use Rattle.mux_tables.specs.Documents.{AllStand, DocumentsStand, nothing_owed};
 ghost use Rattle.mux_tables.specs.Stands.{Stands, number_in};
 
-use crate::partings::{Parting, parting};
+use crate::partings::{Parting, gather};
 use crate::told::tell_losses;
 use crate::turned::turn_out_all;
 use message_body::Memory;
@@ -107,7 +107,7 @@ fn exit_group(
     if !is_counted(tables, tables.group_number(g)) {
         return Err(Memory);
     }
-    let parting = parting(tables, alloc, g)?;
+    let parting = gather(tables, alloc, g)?;
     tables.hear_exit(alloc, restarts, g)?;
     part(tables, alloc, outs, g, parting)?;
     Ok(())
@@ -139,7 +139,7 @@ fn fail_group(
     if !is_counted(tables, tables.group_number(g)) {
         return Err(Memory);
     }
-    let parting = parting(tables, alloc, g)?;
+    let parting = gather(tables, alloc, g)?;
     tables.hear_failure(alloc, restarts, g)?;
     part(tables, alloc, outs, g, parting)?;
     Ok(())

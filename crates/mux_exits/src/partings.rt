@@ -28,7 +28,7 @@ pub struct Parting {
 }
 
 /// X1 to X3: what is said as the group in this place ends. It takes time in what is open at its last start, for each of its editors.
-pub fn parting(tables: &Tables, alloc: Global, g: usize) -> Result<Parting, Memory>
+pub fn gather(tables: &Tables, alloc: Global, g: usize) -> Result<Parting, Memory>
     requires { g < length tables.now.lasts.items }
     ensures members { IfOk result (λ p. All (λ e. e < length tables.now.editors) p.members.items) }
     ensures inside { IfOk result (λ p. AllByRecursion (IsInside (length tables.now.editors)) p.losses.items) }

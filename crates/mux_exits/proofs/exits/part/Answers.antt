@@ -1,5 +1,5 @@
 -- What was gathered is said.
-use Rattle.std.proofs.Common.{◌<◌, length, ap, sym, subst, ◌∙◌}
+use Rattle.std.proofs.Common.{◌<◌, length, sym, subst, ◌∙◌}
 use Rattle.std.specs.List.{All}
 use Rattle.event_model.specs.Event.{behind}
 use Rattle.event_model.proofs.Places.{item_at}

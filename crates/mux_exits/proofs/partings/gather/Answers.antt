@@ -7,7 +7,7 @@ use Rattle.mux_exits.proofs.Rows.{live_ready, live_unready, parts_ready, parts_u
 use Rattle.mux_starts.specs.mux_facts.proofs.DocumentRow.{ready_is}
 use Rattle.mux_starts.proofs.Stopped.{last_life}
 use Rattle.mux_tables.proofs.DocumentOwed.{number_there}
-use Rattle.mux_exits.proofs.partings.parting.Goals as goal
+use Rattle.mux_exits.proofs.partings.gather.Goals as goal
 
 pub returns-then-not-is_ready-clause-parts : goal.returns-then-not-is_ready-clause-parts
 returns-then-not-is_ready-clause-parts c = λ settings before x here st.
