@@ -89,7 +89,7 @@ part_does settings t u v w base h xs ys zs p live members lives those can tells 
     let homes : AreHome settings (behind base ys) h p.members.items = λ i less. same_home base xs ys said settings _ ∙ can.home i less in
     let first = subst (λ l. Does (λ k events. AllStand settings k events) (each (loss_row l) p.losses.items) base (t, nothing_owed) xs (u, nothing_owed) ys) lives tells in
     let second = subst (λ ms. Does (λ k events. AllStand settings k events) (each turn_out ms) base (u, nothing_owed) ys (v, nothing_owed) zs) those
-        (turns (asking_on base xs ys said can.asking) (housed_on base xs ys said settings can.housed) (subst (AreHome settings (behind base ys) h) (sym those) homes)) in
+    (turns (asking_on base xs ys said can.asking) (housed_on base xs ys said settings can.housed) (subst (AreHome settings (behind base ys) h) (sym those) homes)) in
     let both = does_then first second in
     record { done = λ s. let one = both.done s in record { outs = one.outs; stands = (forgets one.stands.0, docs one.stands.1) } })
 

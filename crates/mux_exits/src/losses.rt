@@ -38,12 +38,7 @@ fn end_token(alloc: Global, s: u64, k: u64) -> Result<Body, Memory>
 }
 
 // X1: the requests of these ids fail.
-fn refuse_each(
-    alloc: Global,
-    losses: &mut Vec<Loss>,
-    e: u64,
-    ids: &[Body],
-) -> Result<(), Memory>
+fn refuse_each(alloc: Global, losses: &mut Vec<Loss>, e: u64, ids: &[Body]) -> Result<(), Memory>
     ensures { OnOk result (losses.new.items ≡ losses.old.items ++ refused e ids.now) }
 {
     for id in ids {

@@ -43,7 +43,12 @@ fn is_waiting(phase: Phase) -> bool
 }
 
 /// Its `initialize` does, where it waits.
-pub fn refuse_initialize(tables: &Tables, alloc: Global, outs: &mut Outs, e: u64) -> Result<(), Memory>
+pub fn refuse_initialize(
+    tables: &Tables,
+    alloc: Global,
+    outs: &mut Outs,
+    e: u64,
+) -> Result<(), Memory>
     requires { e < length tables.now.editors }
     ensures does { (settings : Settings) (base : List Event) → AllAsking (behind base outs.old) → AllHoused settings (behind base outs.old)
         → OnOk result (Does (λ t events. Stands settings t events) (refuse_initialize e) base tables.now outs.old tables.now outs.new) }

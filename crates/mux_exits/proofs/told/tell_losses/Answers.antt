@@ -46,7 +46,7 @@ loop-loss-preserved c =
           let cans = subst (AllByRecursion (CanLose now)) (sym whole) can in
           does_knowing (λ k.
           let quiet = quiet_behind settings (each (loss_row live) at.yielded) base c.args.outs.now at.outs (before.done k).outs
-              (losses_quiet settings live call at.yielded now (milds settings now at.yielded (front (CanLose now) at.yielded (x ∷ rest) cans))) in
+          (losses_quiet settings live call at.yielded now (milds settings now at.yielded (front (CanLose now) at.yielded (x ∷ rest) cans))) in
           does_more (loss_row live) at.yielded x before
           (c.in_ok-tell_loss.ensures.does settings base call (can_on settings now mid quiet x (middle (CanLose now) at.yielded x rest cans)) (rests_on settings now mid quiet idle)));
     }
