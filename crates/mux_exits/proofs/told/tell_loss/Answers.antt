@@ -10,8 +10,8 @@ returns-in_ok-tell-in-Told-clause-does c = λ settings base call can idle.
     tells_text settings c.args.tables.now c.args.tables.now base c.args.outs.now c.tell.new.outs c.args.live.now c.args.loss can c.in-Told.e c.in-Told.text c.in-Told.is
     (λ keeps. c.in_ok-tell-in-Told.ensures.does settings base keeps) (λ ds. c.in_ok-tell-in-Told.ensures.documents settings nothing_owed base ds)
 
-pub call_unregistered_any-in-Unregistered-requires : goal.call_unregistered_any-in-Unregistered-requires
-call_unregistered_any-in-Unregistered-requires c = subst (IsInside (length c.args.tables.now.editors)) c.in-Unregistered.is c.requires
+pub call_unregistered_any-requires : goal.call_unregistered_any-requires
+call_unregistered_any-requires c = subst (IsInside (length c.args.tables.now.editors)) c.in-Unregistered.is c.requires
 
 pub returns-in_ok-call_unregistered_any-in-Unregistered-clause-does : goal.returns-in_ok-call_unregistered_any-in-Unregistered-clause-does
 returns-in_ok-call_unregistered_any-in-Unregistered-clause-does c = λ settings base call can idle.
