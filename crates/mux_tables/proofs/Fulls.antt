@@ -42,7 +42,7 @@ apart_full e k u full body (notification method params) h = ap (λ b. if b && is
 apart_full e k u full body rest h = refl
 
 pub full_same : (kept : Option Session) (f g : List ℕ → Bool) → ((u : List ℕ) → g u ≡ f u) → FullStands kept f → FullStands kept g
-full_same kept f g same s there u = s there u ∙ ap noted_for (sym (same u))
+full_same kept f g alike s there u = s there u ∙ ap noted_for (sym (alike u))
 
 -- a session that is set: where it isn't gone it wasn't before, and the same was noted of it
 pub full_set : (t : List Session) (e : ℕ) (x y : Session) → slice_get t e ≡ Some x → (is_gone y.phase ≡ false → (is_gone x.phase ≡ false) × (y.full ≡ x.full)) → (j : ℕ) (f g : List ℕ → Bool) → ((u : List ℕ) → g u ≡ f u) → FullStands (slice_get t j) f → FullStands (slice_get (slice_set t e y) j) g

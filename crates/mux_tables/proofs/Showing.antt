@@ -1,12 +1,12 @@
 -- An editor is sent a list of diagnostics, and which of its documents have one that isn't empty, as the code has it.
-use Rattle.std.proofs.Common.{◌≡◌, ℕ, ◌<◌, Bool, true, false, not, ◌&&◌, List, [], ◌∷◌, ◌++◌, length, refl, ap, sym, subst, ◌∙◌, nat_eq, if◌then◌else◌}
-use Rattle.std.specs.Prelude.{Option, Some, None, bytes_eq, is_some, slice_get, slice_set}
+use Rattle.std.proofs.Common.{◌≡◌, ℕ, ◌<◌, Bool, true, false, not, ◌&&◌, List, [], ◌∷◌, ◌++◌, length, refl, ap, sym, subst, ◌∙◌, if◌then◌else◌}
+use Rattle.std.specs.Prelude.{Option, Some, bytes_eq, is_some, slice_get, slice_set}
 use Rattle.std.proofs.lemmas.Bool.{ne_eqb}
 use Rattle.std.proofs.lemmas.Option.{slice_get-get_or}
 use Rattle.std.proofs.lemmas.Slice.Eq.{bytes_eq-Decides}
 use Rattle.mux_history.specs.declared.out.Out.{Out}
 use Rattle.mux_history.specs.declared.out.Out.TheVariants.{ToEditor}
-use Rattle.rpc_message.specs.Message.{Message, message_of, notification}
+use Rattle.rpc_message.specs.Message.{message_of, notification}
 use Rattle.event_model.specs.declared.phase.Phase.{Phase}
 use Rattle.event_model.specs.declared.phase.Phase.TheVariants.{Waiting}
 use Rattle.event_model.specs.Does.{Does}
@@ -14,12 +14,10 @@ use Rattle.event_model.specs.Event.{Event, behind, did, said}
 use Rattle.event_model.specs.Phases.{Desk, desk_behind, desk_of, is_running, phase_told}
 use Rattle.event_model.specs.Row.{send}
 use Rattle.event_model.specs.Settings.{Settings}
-use Rattle.event_model.proofs.Frames.{never, one_more}
+use Rattle.event_model.proofs.Frames.{one_more}
 use Rattle.event_model.proofs.Places.{Same, same, other, compare, get_set_same, get_set_other}
-use Rattle.diagnostics_route.specs.declared.last_list.LastList.{LastList}
 use Rattle.diagnostics_route.specs.Published.{published}
 use Rattle.editor_session.specs.declared.session.Session.{Session}
-use Rattle.editor_session.specs.number_index.specs.Numbers.{numbers_under}
 use Rattle.editor_session.specs.Sessions as sessions
 use Rattle.editor_session.specs.Sessions.{IsShown, absent, is_gone, noted_by, session_of}
 use Rattle.group_words.proofs.Frames.{itself}
@@ -28,7 +26,7 @@ use Rattle.group_laws.specs.group_rows.specs.Created.{created_of}
 use Rattle.group_laws.specs.group_rows.specs.ExitRows.{full_behind, full_by, is_full}
 use Rattle.group_laws.specs.group_rows.specs.Lists.{is_publishing}
 use Rattle.mux_tables.specs.declared.tables.Tables.{Tables}
-use Rattle.mux_tables.specs.Stands.{CountStands, EditorsStand, FullStands, IsListOf, Stands, is_request, meant_in, noted_for, phase_in}
+use Rattle.mux_tables.specs.Stands.{EditorsStand, FullStands, IsListOf, Stands, is_request, meant_in, noted_for, phase_in}
 use Rattle.mux_tables.proofs.Counted.{asked_quiet, counted_set, next_more}
 use Rattle.mux_tables.proofs.Frames.{asks_stay}
 use Rattle.mux_tables.proofs.Fulls.{apart_full, full_more, full_same}
@@ -47,7 +45,7 @@ bytes_back a b = go (bytes_eq a b) (bytes_eq b a) refl refl
     go false true h k = sym h ∙ (bytes_eq-Decides a b).1 (sym ((bytes_eq-Decides b a).0 k))
 
 -- what is noted of a document
-noted_more : (same full empty : Bool) → (if same then noted_by empty (noted_for full) else noted_for full) ≡ noted_for (if same then not empty else full)
+noted_more : (hit full empty : Bool) → (if hit then noted_by empty (noted_for full) else noted_for full) ≡ noted_for (if hit then not empty else full)
 noted_more true true true = refl
 noted_more true true false = refl
 noted_more true false true = refl

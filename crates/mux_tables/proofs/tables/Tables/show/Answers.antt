@@ -1,6 +1,6 @@
 -- An editor is sent a list.
 use Rattle.std.proofs.Common.{refl, ap, ◌∙◌, length, List}
-use Rattle.std.specs.Prelude.{Some, slice_get}
+use Rattle.std.specs.Prelude.{slice_get}
 use Rattle.std.proofs.lemmas.List.{length-set}
 use Rattle.editor_session.specs.declared.session.Session.{Session}
 use Rattle.mux_tables.specs.Names.{id_in}
