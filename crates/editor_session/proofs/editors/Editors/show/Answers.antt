@@ -4,7 +4,7 @@ use Rattle.event_model.specs.Phases.{is_linked}
 use Rattle.number_index.specs.Numbers.{Changes}
 use Rattle.number_table.specs.Numbers.{IsAt, held}
 use Rattle.editor_session.specs.declared.session.Session.{Session}
-use Rattle.editor_session.specs.Sessions.{gone, is_gone, noted_by, session_of, with_session}
+use Rattle.editor_session.specs.Sessions.{is_gone, noted_by, session_of, with_session}
 use Rattle.editor_session.proofs.Places.{kept_linked, kept_order, kept_put, kept_session, lost, lost_left}
 use Rattle.editor_session.proofs.editors.Editors.show.Goals as goal
 
