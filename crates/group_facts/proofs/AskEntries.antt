@@ -29,7 +29,7 @@ use Rattle.group_facts.specs.SlowRows.{is_slow}
 use Rattle.group_facts.specs.Built.{built_behind}
 use Rattle.group_facts.specs.Facts.{ends_link, is_unready, is_up, leaves, shuts}
 use Rattle.group_facts.specs.Settled.{HasSeat}
-use Rattle.group_facts.specs.Why.{IsAsk, IsResumed, Why, WhyToEditor, answers, asks, passes, recalls, refuses, calls, rejects, resumes, spreads, turns_away, welcomes, progresses, shows, loses, quitting}
+use Rattle.group_facts.specs.Why.{IsAsk, IsResumed, Why, WhyToEditor, answers, asks, passes, recalls, refuses, calls, rejects, resumes, spreads, turns_away, welcomes, progresses, shows, loses, winds_up, quitting}
 use Rattle.group_facts.proofs.Asks.{registering_made, is_question, listed, response_asks_none, resumed_here, resumed_off, taken}
 use Rattle.group_facts.proofs.AskSeats.{MidSeat, asks_more, did_all, took_all}
 use Rattle.group_facts.proofs.AskingRows.{still_runs}
@@ -222,6 +222,7 @@ module _ (settings : Settings) (range : InRange settings) (before : List Event) 
   told_seated events e body (spreads k) s h = did_all settings (Seat s) s events (ToEditor e body) (ap is_question k.says) h
   told_seated events e body (recalls k) s h = did_all settings (Seat s) s events (ToEditor e body) (ap is_question k.says) h
   told_seated events e body (progresses k) s h = did_all settings (Seat s) s events (ToEditor e body) (ap is_question k.says) h
+  told_seated events e body (winds_up k) s h = did_all settings (Seat s) s events (ToEditor e body) (ap is_question k.says) h
   told_seated events e body (loses k) s h = did_all settings (Seat s) s events (ToEditor e body) (ap is_question k.says) h
   told_seated events e body (shows k) s h = did_all settings (Seat s) s events (ToEditor e body) (ap is_question k.says) h
 

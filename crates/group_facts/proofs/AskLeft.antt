@@ -8,9 +8,9 @@ use Rattle.json_text.specs.Json.{Json}
 use Rattle.lsp_method.specs.Class.{editor_request, goes_nowhere, own_notification, own_request}
 use Rattle.mux_history.specs.declared.cause.Cause.{Cause}
 use Rattle.mux_history.specs.declared.cause.Why as link
-use Rattle.mux_history.specs.declared.cause.Cause.TheVariants.{Joined, FromEditor, EditorGone, FromServer}
+use Rattle.mux_history.specs.declared.cause.Cause.TheVariants.{Joined, FromEditor, EditorGone, StartFailed, FromServer, ServerGone}
 use Rattle.mux_history.specs.declared.out.Out.{Out}
-use Rattle.mux_history.specs.declared.out.Out.TheVariants.{ToEditor, CloseEditor}
+use Rattle.mux_history.specs.declared.out.Out.TheVariants.{ToEditor, ToServer, Spawn, CloseEditor, EndServer}
 use Rattle.rpc_message.specs.Message.{Message, request, notification, result, error, not_json, not_message, Id, id_bytes, message_of}
 use Rattle.rpc_message.specs.Texts.{ok_text}
 use Rattle.event_model.specs.declared.phase.Phase.TheVariants.{Running}
@@ -25,21 +25,25 @@ use Rattle.event_model.proofs.Frames.{never}
 use Rattle.mux_model.specs.Fits.{fits_behind}
 use Rattle.mux_facts.specs.Ranges.{InRange}
 use Rattle.mux_facts.proofs.Lists.{all_of}
+use Rattle.mux_facts.proofs.Reasons.{reasons_keep}
 use Rattle.mux_facts.proofs.Words.{number_same, same_number}
 use Rattle.group_words.specs.Houses.{groups_of, home_of, is_doubled, is_first_error, is_home, placed_for, places, stops}
-use Rattle.group_rows.specs.Asks.{Ask, asks_of, is_with}
+use Rattle.group_rows.specs.Asks.{Ask, Asking, asks_of, is_with}
+use Rattle.group_rows.specs.ExitRows.{ends_group}
 use Rattle.group_rows.specs.Leaves.{leave_row}
 use Rattle.group_rows.specs.Rows.{closing_row, from_editor, gone_row, outs_of, shutdown_row}
 use Rattle.group_facts.specs.Built.{built_behind}
-use Rattle.group_facts.specs.Facts.{is_in, is_parting, is_refusing, is_too_many, is_unready, ends_link, leaves, shuts, turned_away, is_crowded, is_put_out}
+use Rattle.group_facts.specs.Facts.{ends_with, is_exit, is_in, is_parting, is_refusing, is_too_many, is_unready, ends_link, leaves, shuts, turned_away, is_crowded, is_put_out}
 use Rattle.group_facts.specs.Lively.{Lively}
 use Rattle.group_facts.specs.Settled.{HasSeat, is_answered}
-use Rattle.group_facts.proofs.Asks.{is_question}
+use Rattle.group_facts.specs.Why.{Why, WhyToEditor, answers, asks, calls, loses, winds_up, passes, progresses, recalls, refuses, rejects, resumes, shows, spreads, turns_away, welcomes}
+use Rattle.group_facts.proofs.Asks.{is_question, registering_made, response_asks_none}
 use Rattle.group_facts.proofs.AskEntries.{AllSeats, Inner, inner_rests, off_both, on_either, seat_now, up_ready}
 use Rattle.group_facts.proofs.AskRest.{all_pending, leave_clean, none_with, seat_home}
-use Rattle.group_facts.proofs.AskSeats.{Away, MidSeat, Pending, Unsaid, did_all, took_all}
+use Rattle.group_facts.proofs.AskSeats.{Away, MidSeat, Pending, Unsaid, asks_more, did_all, took_all}
 use Rattle.group_facts.proofs.AskingRows.{running_is}
 use Rattle.group_facts.proofs.Begun.{Begun}
+use Rattle.group_facts.proofs.ExitEntry.{Exit, failed_exit, gone_exit}
 use Rattle.group_facts.proofs.Facts.{Facts}
 use Rattle.group_facts.proofs.Forwards.{zip_all}
 use Rattle.group_facts.proofs.Homes.{took_home}
@@ -47,6 +51,7 @@ use Rattle.group_facts.proofs.Lively.{up_of}
 use Rattle.group_facts.proofs.Nulls.{null_said}
 use Rattle.group_facts.proofs.OneStart.{OneStart, start_kept}
 use Rattle.group_facts.proofs.PutOut.{homes_stay}
+use Rattle.group_facts.proofs.Table.{reasons}
 use Rattle.group_rows.specs.StopRows.{stopped}
 use Rattle.group_facts.proofs.Quits.{one_of}
 use Rattle.group_facts.proofs.StopEntry.{before_on, unstopped}
@@ -199,6 +204,50 @@ module _ (settings : Settings) (range : InRange settings) (before : List Event) 
           never (sym r.1 ∙ (ap (λ i. is_initializing (life_of i before).stage) (sym is) ∙ ap is_initializing k.ready))
       go (inr off) = never (sym off)
 
+  abbrev None_at : Ask → Type 0
+  None_at a = ⊥
+
+  -- X3: an editor of the group of a start that ends was asked by that start alone, whose asks are over
+  module _ (cause : Cause) (t : ℕ) (exit : Exit settings before cause t) where
+    the_start : (e s : ℕ) (a : Ask) → is_put_out settings before cause e ≡ true → MidSeat settings before cause s a → a.editor ≡ e → s ≡ t
+    the_start e s a out k same =
+        let p = and_parts (ends_with settings before t e) (is_begun (desk_of e before).phase) (sym (exit.out e) ∙ out) in
+        let q = and_parts (ends_group settings before t) (is_in settings before t e) p.0 in
+        the (sym k.last ∙ one t k.group (in_group (group_of t before) refl q.1))
+      where
+        in_group : (o : Option ℕ) → group_of t before ≡ o → option_map_or (λ g. is_home g (home_of settings e before)) o false ≡ true → group_of t before ≡ Some k.group
+        in_group None none is = never (sym is)
+        in_group (Some g) at is = at ∙ ap (λ i. Some i) (sym (number_same k.group g (sym (ap (is_home g) (seat_home settings before cause s a k e same)) ∙ is)))
+
+    -- that start asks nothing more
+    none_told : (events : List Event) (e : ℕ) (body : List ℕ) → WhyToEditor settings before cause events e body → AllByRecursion None_at (asks_of settings t events) → AllByRecursion None_at (asks_of settings t (events ++ said (ToEditor e body) ∷ []))
+    none_told events e body (asks k) h = never (sym (ap (λ c. is_exit c t) (sym (k.source).from) ∙ exit.is))
+    none_told events e body (resumes k) h = never (sym (ap (λ c. is_exit c t) (sym k.from) ∙ exit.is))
+    none_told events e body (calls k) h = asks_more settings None_at t events (said (ToEditor e body)) _ (ap (λ (x : Asking). x.asks) (registering_made settings events e body before cause k t)) h
+    none_told events e body (rejects k) h = did_all settings None_at t events (ToEditor e body) (ap is_question k.says) h
+    none_told events e body (refuses k) h = did_all settings None_at t events (ToEditor e body) (ap is_question k.says) h
+    none_told events e body (answers k) h = did_all settings None_at t events (ToEditor e body) (ap is_question k.says) h
+    none_told events e body (turns_away k) h = did_all settings None_at t events (ToEditor e body) (ap is_question k.says) h
+    none_told events e body (welcomes k) h = did_all settings None_at t events (ToEditor e body) (ap is_question k.says) h
+    none_told events e body (passes k) h = did_all settings None_at t events (ToEditor e body) (response_asks_none (message_of body) k.response) h
+    none_told events e body (spreads k) h = did_all settings None_at t events (ToEditor e body) (ap is_question k.says) h
+    none_told events e body (recalls k) h = did_all settings None_at t events (ToEditor e body) (ap is_question k.says) h
+    none_told events e body (progresses k) h = did_all settings None_at t events (ToEditor e body) (ap is_question k.says) h
+    none_told events e body (shows k) h = did_all settings None_at t events (ToEditor e body) (ap is_question k.says) h
+    none_told events e body (loses k) h = did_all settings None_at t events (ToEditor e body) (ap is_question k.says) h
+    none_told events e body (winds_up k) h = did_all settings None_at t events (ToEditor e body) (ap is_question k.says) h
+
+    none_did : (events : List Event) (out : Out) → Why settings before cause events out → AllByRecursion None_at (asks_of settings t events) → AllByRecursion None_at (asks_of settings t (events ++ said out ∷ []))
+    none_did events (ToEditor e body) why h = none_told events e body why h
+    none_did events (ToServer n body) why h = did_all settings None_at t events (ToServer n body) tt h
+    none_did events (Spawn n g) why h = did_all settings None_at t events (Spawn n g) tt h
+    none_did events (CloseEditor n) why h = did_all settings None_at t events (CloseEditor n) tt h
+    none_did events (EndServer n) why h = did_all settings None_at t events (EndServer n) tt h
+
+    none_later : built_behind settings before cause ≡ true → AllByRecursion None_at (asks_of settings t (later cause))
+    none_later built = reasons_keep (λ events out. Why settings before cause events out) (λ events. AllByRecursion None_at (asks_of settings t events)) none_did (with_cause before cause) (outs_of settings before cause) (reasons settings range before facts cause built).why
+        (subst (AllByRecursion None_at) (sym exit.unasked) tt)
+
   module _ (begun : Begun settings before) (cause : Cause) (built : built_behind settings before cause ≡ true) (fits : fits_behind before cause ≡ true) (goes_on : stopped (later cause) ≡ false) where
     inside : Inner settings range before facts one seats cause built (later cause)
     inside = inner_rests settings range before facts one seats cause built fits
@@ -213,6 +262,17 @@ module _ (settings : Settings) (range : InRange settings) (before : List Event) 
         go (inl k) = k
         go (inr k) = never (sym k)
 
+    put_out_by : (b : Bool) → (b || false) ≡ true → b ≡ true
+    put_out_by true h = refl
+    put_out_by false h = h
+
+    exit_away : (t : ℕ) → Exit settings before cause t → (e : ℕ) → is_put_out settings before cause e ≡ true → AllAway e
+    exit_away t exit e out s = go (nat_eq t s) refl
+      where
+        go : (b : Bool) → nat_eq t s ≡ b → AllByRecursion (Away e) (asks_of settings s (later cause))
+        go true same = subst (λ k. AllByRecursion (Away e) (asks_of settings k (later cause))) (number_same t s same) (all_of None_at (Away e) (λ a k. absurd k) (asks_of settings t (later cause)) (none_later cause t exit built))
+        go false other = none_with settings before cause e s (asks_of settings s (later cause)) (inside.seated s) (λ a k same. never (sym (ap (nat_eq t) (the_start cause t exit e s a out k same) ∙ same_number t) ∙ other))
+
     by_cause : (c : Cause) → cause ≡ c → (e : ℕ) → leaves settings before c e ≡ true → is_running (desk_of e before).phase ≡ true → AllAway e
     by_cause (FromEditor n body) is e h runs = subst (λ c. (s : ℕ) → AllByRecursion (Away e) (asks_of settings s (later c))) (sym is)
         (let on : stops before n (message_of body) ≡ false = unstopped before n body (outs_of settings before (FromEditor n body)) (ap (λ c. stopped (later c)) (sym is) ∙ goes_on) in
@@ -223,6 +283,8 @@ module _ (settings : Settings) (range : InRange settings) (before : List Event) 
         (gone_away n why (ap (fits_behind before) (sym is) ∙ fits) (running_is settings before (desk_of n before).phase (ap (λ k. is_running (desk_of k before).phase) same ∙ runs))))
     by_cause (FromServer t body) is e h runs = λ s. none_with settings before (FromServer t body) e s (asks_of settings s (later cause)) (subst (λ c. AllByRecursion (MidSeat settings before c s) (asks_of settings s (later cause))) is (inside.seated s)) (refused_none t body e h s)
     by_cause (Joined n) is e h runs = never (sym (and_parts (nat_eq n e) (stopped before) (joined_leaves n e h)).1 ∙ before_on before cause (outs_of settings before cause) goes_on)
+    by_cause (StartFailed t) is e h runs = exit_away t (subst (λ c. Exit settings before c t) (sym is) (failed_exit settings before t)) e (subst (λ c. is_put_out settings before c e ≡ true) (sym is) (put_out_by (is_put_out settings before (StartFailed t) e) h))
+    by_cause (ServerGone t) is e h runs = exit_away t (subst (λ c. Exit settings before c t) (sym is) (gone_exit settings before t)) e (subst (λ c. is_put_out settings before c e ≡ true) (sym is) (put_out_by (is_put_out settings before (ServerGone t) e) h))
     by_cause other is e h runs = never (sym h)
 
     left_away : (e : ℕ) → leaves settings before cause e ≡ true → AllAway e

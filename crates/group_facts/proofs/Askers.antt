@@ -33,7 +33,7 @@ use Rattle.group_facts.specs.Facts.{AllForwarded, IsAlone, IsAsker, IsForwarded}
 use Rattle.group_facts.proofs.Forwards.{forwarding_more, more_requests, notified_all, zip_all}
 use Rattle.group_facts.proofs.Levels.{each_start}
 use Rattle.group_facts.proofs.Numbers.{forwarding_other, forwarding_sent, response_forwards}
-use Rattle.group_facts.specs.Why.{IsForward, WhyToEditor, WhyToServer, begins, greets, forwarded, notes, tells, shuts, cancels, calls, rejects, resumes, refuses, answers, turns_away, welcomes, passes, responds, exits, asks, loses, recalls, resolves, spreads, cancels_work, progresses, shows}
+use Rattle.group_facts.specs.Why.{IsForward, WhyToEditor, WhyToServer, begins, greets, forwarded, notes, tells, shuts, cancels, calls, rejects, resumes, refuses, answers, turns_away, welcomes, passes, responds, exits, asks, loses, winds_up, recalls, resolves, spreads, cancels_work, progresses, shows}
 
 -- An editor that got its result stays one that did
 
@@ -217,4 +217,5 @@ module _ (settings : Settings) (before : List Event) (cause : Cause) (events : L
   asked_told (recalls k) on h = unanswered (notification (codes "$/cancelRequest") (Some k.params)) k.says refl h
   asked_told (progresses k) on h = unanswered (notification k.method k.params) k.says refl h
   asked_told (shows k) on h = unanswered (notification k.method k.params) k.says refl h
+  asked_told (winds_up k) on h = unanswered (notification k.method (Some k.params)) k.says refl h
   asked_told (loses k) on h = never (sym k.over ∙ on)

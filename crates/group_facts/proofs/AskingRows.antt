@@ -55,6 +55,7 @@ use Rattle.group_rows.specs.diagnostics_route.specs.Published.{published}
 use Rattle.group_rows.specs.diagnostics_route.specs.Shown.{shown_text}
 use Rattle.group_rows.specs.ListRows.{list_row, show}
 use Rattle.group_rows.specs.Lists.{names_list, sayings_of, version_at}
+use Rattle.group_rows.proofs.ExitTexts.{published_spelt}
 use Rattle.group_rows.proofs.ListsKept.{IsList, published_body}
 use Rattle.group_rows.specs.Tokens.{is_mark, is_told, listens, marked_text, own_token, partial_mark, work_mark}
 use Rattle.group_rows.proofs.TokenTexts.{HasTokens, IsTokenText, marked_says, tokens_kept}
@@ -410,7 +411,7 @@ module _ (settings : Settings) (before : List Event) (s : ℕ) (body : List ℕ)
 
   list_why : AllMeant before → (method : List ℕ) (params : Option Json) → message_of body ≡ notification method params → class_of method Server true ≡ Diagnostics → Because R now (list_row settings s before body)
   list_why meant method params says class = by_on (λ none. by_nothing) (λ l came. by_on (λ none. by_nothing) (λ g home. lists_why meant method params says class l
-      (record { method = method; params = params; says = ap message_of (published_body (sayings_of s before) body l came) ∙ says; class = ap names_list class }) came (running_in settings g before) now (run_now g)))
+      (record { method = method; params = params; says = ap message_of (published_body (sayings_of s before) body l came) ∙ says; class = ap names_list class; spelt = published_spelt (sayings_of s before) body l came }) came (running_in settings g before) now (run_now g)))
 
   -- S13
   module _ (method : List ℕ) (params : Option Json) (says : message_of body ≡ notification method params) (class : class_of method Server true ≡ Progress) where

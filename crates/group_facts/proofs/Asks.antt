@@ -31,7 +31,7 @@ use Rattle.lsp_method.specs.declared.variants.Class.TheVariants.{Create, Registe
 use Rattle.lsp_method.specs.declared.variants.Origin.TheVariants.{Server}
 use Rattle.group_facts.specs.Facts.{AllApart, AllDiffer, AreAsks, Asks, IsAsked, IsParked, asked_by, asked_of, editor_behind, server_behind}
 use Rattle.group_rows.specs.Created.{names_create}
-use Rattle.group_facts.specs.Why.{IsAsk, IsCall, is_call, IsResumed, WhyToEditor, answers, asks, passes, recalls, refuses, calls, rejects, resumes, spreads, turns_away, welcomes, progresses, shows, loses}
+use Rattle.group_facts.specs.Why.{IsAsk, IsCall, is_call, IsResumed, WhyToEditor, answers, asks, passes, recalls, refuses, calls, rejects, resumes, spreads, turns_away, welcomes, progresses, shows, loses, winds_up}
 
 -- One event more
 
@@ -117,7 +117,7 @@ apart_asked xs (p ∷ ps) a free h =
 
 -- What stays open
 
-unnamed_open : (o : Option Id) (n : ℕ) (ids : List Id) → names o n ≡ false → is_open (integer (decimal n)) ids ≡ true → is_open (integer (decimal n)) (without o ids) ≡ true
+pub unnamed_open : (o : Option Id) (n : ℕ) (ids : List Id) → names o n ≡ false → is_open (integer (decimal n)) ids ≡ true → is_open (integer (decimal n)) (without o ids) ≡ true
 unnamed_open None n ids h k = k
 unnamed_open (Some (integer ds)) n ids h k = still_open (integer ds) (integer (decimal n)) ids k h
 unnamed_open (Some (text cs)) n ids h k = still_open (text cs) (integer (decimal n)) ids k refl
@@ -559,6 +559,7 @@ module _ (settings : Settings) (events : List Event) (e : ℕ) (body : List ℕ)
   asks_told before cause (recalls k) h = no_question (notification (codes "$/cancelRequest") (Some k.params)) k.says refl h
   asks_told before cause (progresses k) h = no_question (notification k.method k.params) k.says refl h
   asks_told before cause (shows k) h = no_question (notification k.method k.params) k.says refl h
+  asks_told before cause (winds_up k) h = no_question (notification k.method (Some k.params)) k.says refl h
 
 pub no_asks : (settings : Settings) → Asks settings []
 no_asks settings s = record { asked = tt; differ = tt; parked = tt; apart = tt }

@@ -62,12 +62,14 @@ use Rattle.group_rows.specs.Answers.{answer_row, hand_on}
 use Rattle.group_rows.specs.Created.{Token, created_of, created_text}
 use Rattle.group_rows.specs.CreatedRows.{create_text, created_row, created_work, offer, takers, taking_row, tell, tell_takers, work_at, work_row}
 use Rattle.group_rows.specs.Tokens.{marked_text, tell_progress}
+use Rattle.group_rows.specs.ExitRows.{begins_again, lost_row}
 use Rattle.group_rows.specs.Rows.{answer_error, begin_in, begun_row, closing_row, document_at, document_bodies, document_row, down_row, early_row, exit_row, first_result, from_server, gone_row, lspmux_row, message_row, named_row, notice_at, notice_row, open_row, outs_of, ready_row, replay_bodies, request_at, request_row, result_in, row_of, served_request, served_row, started, sync_bodies, taken_row, waiting_in, welcome, hasty_row, close_all, refusal, refused_row}
 use Rattle.group_rows.specs.Texts.{encoding_of, texts_of}
 use Rattle.group_rows.specs.Ticks.{due_of, overdue_of, tick_row}
 use Rattle.group_facts.specs.Built.{built_behind}
 use Rattle.group_facts.specs.Lively.{lives_at}
-use Rattle.group_facts.proofs.Exits.{failed_groups, gone_groups}
+use Rattle.group_facts.proofs.ExitOuts.{lost_by}
+use Rattle.group_facts.proofs.Exits.{failed_groups, gone_groups, lost_length}
 use Rattle.group_facts.proofs.Housed.{ended_length}
 use Rattle.group_facts.proofs.LiveGroups.{lives_past}
 use Rattle.group_facts.proofs.PlacingRow.{IsNext, placed_next}
@@ -511,6 +513,10 @@ module _ (settings : Settings) (before : List Event) where
   quiet_tick : (t : ℕ) (events : List Event) → Quiet events (tick_row settings before t)
   quiet_tick t events = by_then (quiet_ends (due_of settings before t) events) (quiet_programs (overdue_of settings before t) (behind events (outs (each end_group (due_of settings before t)) events)))
 
+-- X1 to X3, of a group that gets no new start
+pub quiet_loss : (settings : Settings) (before : List Event) (s : ℕ) → not (begins_again settings before s) ≡ true → (events : List Event) → Quiet events (lost_row settings before s)
+quiet_loss settings before s built events = lost_by (λ places out. NoSpawn out) (λ e places body. tt) (λ places e. tt) settings before s built events
+
 -- How many groups there are
 
 at_same : (home : Option ℕ) (b : Bool) (groups : List Kept) → length (if b then at_group home (λ g. ended) groups else groups) ≡ length groups
@@ -605,8 +611,8 @@ module _ (settings : Settings) where
       (ap length (groups_more settings before (heard (Tick t))) ∙ ended_length (is_due settings.limits.idle (max (time_of before) t)) (groups_of settings before))
   founding_of before (EditorGone e why) built = quiet (all_outs NoSpawn _ _ (quiet_gone settings before e (desk_of e before).phase (with_cause before (EditorGone e why))).why)
       (ap length (groups_more settings before (heard (EditorGone e why))) ∙ emptied_same ((house_of settings before).home e) _ _ _ (groups_of settings before))
-  founding_of before (StartFailed s) built = quiet tt (ap length (failed_groups settings before s built))
-  founding_of before (ServerGone s) built = quiet tt (ap length (gone_groups settings before s built))
+  founding_of before (StartFailed s) built = quiet (all_outs NoSpawn _ _ (quiet_loss settings before s built (with_cause before (StartFailed s))).why) (ap length (failed_groups settings before s built) ∙ lost_length settings before s)
+  founding_of before (ServerGone s) built = quiet (all_outs NoSpawn _ _ (quiet_loss settings before s built (with_cause before (ServerGone s))).why) (ap length (gone_groups settings before s built) ∙ lost_length settings before s)
 
   -- Each group has a start
 

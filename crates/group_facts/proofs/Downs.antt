@@ -9,7 +9,7 @@ use Rattle.mux_history.specs.declared.out.Out.TheVariants.{ToEditor, ToServer, S
 use Rattle.rpc_message.specs.Message.{message_of}
 use Rattle.event_model.specs.declared.phase.Phase.{Phase}
 use Rattle.event_model.specs.declared.phase.Phase.TheVariants.{Absent, New, Waiting, Answered, Running, Down, Closed, Gone}
-use Rattle.event_model.specs.declared.stage.Stage.TheVariants.{Ready}
+use Rattle.event_model.specs.declared.stage.Stage.TheVariants.{Ended, Ready}
 use Rattle.event_model.specs.Event.{Event, behind, heard, requests, said, with_cause}
 use Rattle.event_model.specs.Phases.{desk_of, is_new, is_there, needs_server}
 use Rattle.event_model.specs.Requests.{next_number}
@@ -30,16 +30,17 @@ use Rattle.group_words.specs.Keys.{Common}
 use Rattle.group_words.specs.Placing.{busy, changed, end_where, ended, founded, is_due, is_live, with_editor}
 use Rattle.group_words.specs.Rows.{end_group, placed_row}
 use Rattle.group_words.proofs.Frames.{groups_more, groups_stay}
-use Rattle.group_rows.specs.Rows.{close_all, members_in, outs_of, refusal, waiting_in}
+use Rattle.group_rows.specs.Asks.{members_in}
+use Rattle.group_rows.specs.Rows.{close_all, outs_of, refusal, waiting_in}
 use Rattle.group_rows.specs.StopRows.{stopped, stopped_next}
 use Rattle.group_rows.specs.Ticks.{due_of, overdue_of}
 use Rattle.group_facts.specs.Built.{built_behind}
 use Rattle.group_facts.specs.Facts.{Housed, IsHoused, Quit, is_refusing, is_up}
 use Rattle.group_facts.specs.Lively.{Lively, lives_at}
 use Rattle.group_facts.specs.Settled.{IsServing}
-use Rattle.group_facts.proofs.Begun.{Begun, NoSpawn, founding_of, placed_outs, start_took}
+use Rattle.group_facts.proofs.Begun.{Begun, NoSpawn, all_outs, founding_of, placed_outs, quiet_loss, start_took}
 use Rattle.group_facts.proofs.Ceased.{IsOff, Low, Spawned, group_off, group_quiet, groups_off, is_spawned, off_ended, off_outs, off_spawn, off_took}
-use Rattle.group_facts.proofs.Exits.{exit_over, failed_groups, gone_groups}
+use Rattle.group_facts.proofs.Exits.{end_live, exit_over, failed_groups, gone_groups, groups_lost}
 use Rattle.group_facts.proofs.LiveGroups.{all_at, changed_lives, emptied_lives, lives_apart, lives_changed, lives_ended, lives_left}
 use Rattle.group_facts.proofs.OneStart.{N, OneStart, by_founding, group_last, kept_below, start_last, start_quiet}
 use Rattle.group_facts.proofs.PutOut.{refused_outs}
@@ -212,12 +213,27 @@ module _ (settings : Settings) (before : List Event) (low : Low before) (spawned
         go g s live over at true is = refused_off refuses g s (home ∙ ap (λ k. Some k) (number_same i g is)) at
         go g s live over at false other = never (sym (ap (lives_at g) (said_by true refuses ∙ ap (λ o. at_group o (λ k. ended) groups) home) ∙ (lives_apart i g ended groups (λ is. never (sym (ap (nat_eq i) is ∙ same_number i) ∙ other)) ∙ live)) ∙ over)
 
+  -- X1 to X3: the start of a group that ends did
+  off_there : (n : ℕ) (cause : Cause) → life_of n (with_cause before cause) ≡ (if nat_eq n n then record { stage = Ended; started = (life_of n before).started } else life_of n before) → IsOff n (with_cause before cause)
+  off_there n cause life = ap (λ (l : Life). is_up l.stage) (life ∙ ap (λ b. if b then record { stage = Ended; started = (life_of n before).started } else life_of n before) (same_number n))
+
+  lost_ends : (n : ℕ) (cause : Cause) → groups_of settings (with_cause before cause) ≡ groups_lost settings before n → IsOff n (with_cause before cause) → AllByRecursion NoSpawn (outs_of settings before cause) → Ends cause
+  lost_ends n cause same off calm g s live over at = go (group_of n before) refl
+    where
+      apart : (i : ℕ) → group_of n before ≡ Some i → (b : Bool) → nat_eq i g ≡ b → IsOff s (behind (with_cause before cause) (outs_of settings before cause))
+      apart i home true is = subst (λ k. IsOff k (behind (with_cause before cause) (outs_of settings before cause))) (the_same (sym (one n g (home ∙ ap (λ k. Some k) (number_same i g is))) ∙ at)) (off_outs n (with_cause before cause) (outs_of settings before cause) calm off)
+      apart i home false other = never (sym (ap (lives_at g) (same ∙ ap (λ o. at_group o (λ k. end_live) groups) home) ∙ (lives_apart i g end_live groups (λ is. never (sym (ap (nat_eq i) is ∙ same_number i) ∙ other)) ∙ live)) ∙ over)
+
+      go : (o : Option ℕ) → group_of n before ≡ o → IsOff s (behind (with_cause before cause) (outs_of settings before cause))
+      go None none = never (sym (ap (lives_at g) (same ∙ ap (λ o. at_group o (λ k. end_live) groups) none) ∙ live) ∙ over)
+      go (Some i) home = apart i home (nat_eq i g) refl
+
   cause_ends : (cause : Cause) → built_behind settings before cause ≡ true → Ends cause
   cause_ends (Joined n) built = none_ends (Joined n) (groups_more settings before (heard (Joined n)))
   cause_ends (Drained n k) built = none_ends (Drained n k) (groups_more settings before (heard (Drained n k)))
   cause_ends (Started n) built = none_ends (Started n) (groups_more settings before (heard (Started n)))
-  cause_ends (StartFailed n) built = none_ends (StartFailed n) (failed_groups settings before n built)
-  cause_ends (ServerGone n) built = none_ends (ServerGone n) (gone_groups settings before n built)
+  cause_ends (StartFailed n) built = lost_ends n (StartFailed n) (failed_groups settings before n built) (off_there n (StartFailed n) (life_more n before (heard (StartFailed n)))) (all_outs NoSpawn _ _ (quiet_loss settings before n built (with_cause before (StartFailed n))).why)
+  cause_ends (ServerGone n) built = lost_ends n (ServerGone n) (gone_groups settings before n built) (off_there n (ServerGone n) (life_more n before (heard (ServerGone n)))) (all_outs NoSpawn _ _ (quiet_loss settings before n built (with_cause before (ServerGone n))).why)
   cause_ends (EditorGone n why) built = λ g s live over at. never (sym live ∙ (sym (ap (lives_at g) (groups_more settings before (heard (EditorGone n why))) ∙ emptied_lives (home_of settings n before) _ _ _ g groups) ∙ over))
   cause_ends (Tick t) built = tick_ends t
   cause_ends (FromEditor e body) built = heard_ends e body (places (desk_of e before).phase (message_of body)) (stops before e (message_of body)) refl refl

@@ -1,5 +1,6 @@
 -- What is open at every editor, behind each sort of entry.
 use Rattle.std.proofs.Common.{◌≡◌, ℕ, ◌+◌, ◌<◌, ◌≤◌, ◌^◌, Bool, true, false, ◌&&◌, List, [], ◌∷◌, ◌++◌, find, nat_eq, if◌then◌else◌, Some, None, ◌⊎◌, inl, inr, refl, sym, ◌∙◌, ap, ap₂, subst, arith, append-nil, not, ◌||◌, codes}
+use Rattle.std.specs.Option.{option_map_or}
 use Rattle.mux_history.specs.declared.cause.Cause.{Cause}
 use Rattle.mux_history.specs.declared.cause.Cause.TheVariants.{Joined, FromEditor, EditorGone, Started, StartFailed, FromServer, ServerGone, Drained, Tick}
 use Rattle.mux_history.specs.declared.cause.Why as link
@@ -23,21 +24,23 @@ use Rattle.mux_facts.specs.Allowed.{is_response}
 use Rattle.mux_facts.specs.Ranges.{InRange}
 use Rattle.mux_facts.proofs.Folds.{desk_more, opens_more}
 use Rattle.mux_facts.proofs.Words.{number_same, same_number}
-use Rattle.group_words.specs.Houses.{groups_of, placed_for, places, is_doubled, stops}
+use Rattle.group_words.specs.Houses.{groups_of, home_of, is_home, placed_for, places, is_doubled, stops}
 use Rattle.group_rows.specs.Forwarded.{Forwarded, answered_by, forwarding_of}
 use Rattle.group_rows.specs.Answers.{answer_row, hand_on, own_version}
+use Rattle.group_rows.specs.ExitRows.{begins_again}
 use Rattle.group_rows.specs.Rows.{from_server, outs_of, ready_row}
 use Rattle.group_rows.proofs.Versions.{own_flat}
-use Rattle.group_facts.specs.Built.{built_behind, is_left}
-use Rattle.group_facts.specs.Facts.{is_too_many, is_unbegun, is_up, turned_away, is_crowded}
+use Rattle.group_facts.specs.Built.{built_behind}
+use Rattle.group_facts.specs.Facts.{ends_with, is_too_many, is_unbegun, is_up, turned_away, is_crowded}
 use Rattle.group_facts.specs.Lively.{Lively, is_unplaced}
 use Rattle.group_facts.specs.Settled.{is_answered}
 use Rattle.group_facts.proofs.AnswerRows.{answers_only, response_is}
 use Rattle.group_facts.proofs.Answered.{answer_says}
 use Rattle.group_facts.proofs.Begun.{Begun}
 use Rattle.group_facts.proofs.Facts.{Facts, TiedAt}
-use Rattle.group_facts.proofs.Exits.{left_over}
-use Rattle.group_facts.proofs.Lively.{lives_of, up_of}
+use Rattle.group_facts.proofs.ExitEntry.{Exit, exit_ends, exit_placed, failed_exit, gone_exit}
+use Rattle.group_facts.proofs.Exits.{ends_live}
+use Rattle.group_facts.proofs.Lively.{begun_answered, lives_of, up_of}
 use Rattle.group_facts.proofs.OwnEntry.{Nobody, message_rests, placed_open, turned_rests}
 use Rattle.group_facts.proofs.Sent.{Found, IsOf, OneOf, Passed, Rising, SentAt, found_one, none_sent, rising_of, sent_answered, sent_drained, sent_gone, sent_heard, sent_joined, sent_started, sent_ended, sent_failed, sent_ticked}
 use Rattle.group_facts.proofs.PutOut.{turned_ends, turned_placed}
@@ -45,7 +48,7 @@ use Rattle.group_facts.proofs.OpenByPhase.{OpenDesk, OpenIf, answered_closed, if
 use Rattle.group_facts.proofs.OpenByOut.{OpenAt, S, open_at, open_entry}
 use Rattle.std.proofs.lemmas.Bool.{and_parts}
 use Rattle.group_facts.proofs.StopEntry.{is_absent, none_absent, none_there}
-use Rattle.mux_facts.proofs.Table.{there_taken}
+use Rattle.mux_facts.proofs.Table.{there_taken, waiting_is}
 
 abbrev pub OpenAll : Settings → List Event → Type 0
 OpenAll settings events = (e : ℕ) → OpenAt settings e Nobody events
@@ -183,27 +186,77 @@ module _ (settings : Settings) (range : InRange settings) (before : List Event) 
       sent id (inl k) = inl (sent_started settings e id before s k)
       sent id (inr k) = inr k
 
-  -- a program that ends, or can't be run, of a group that lives no more: it is that of no editor that got its result
-  apart_from : (s : ℕ) → is_left settings before s ≡ true → (e : ℕ) (id : Id) (k : SentAt settings before e id) → is_answered (desk_of e before).phase ≡ true → nat_eq s k.start ≡ false
-  apart_from s left e id k served = go (nat_eq s k.start) refl
-    where
-      go : (b : Bool) → nat_eq s k.start ≡ b → b ≡ false
-      go true same = never (sym (lives_of settings before lively e k.group served k.home) ∙ left_over settings before s left k.group (ap (λ n. group_of n before) (number_same s k.start same) ∙ (lively.last k.group k.start k.last).0))
-      go false other = refl
+  -- X1 to X3: a program ends, or can't be run, and its group gets no new start
 
-  failed_now : (s e : ℕ) → is_left settings before s ≡ true → OpenAt settings e Nobody (with_cause before (StartFailed s))
-  failed_now s e left = open_at settings e Nobody before (heard (StartFailed s)) (if_other (S settings e Nobody before) (S settings e Nobody (with_cause before (StartFailed s))) (desk_of e before).phase (desk_of e before).initialize (open_of e before) (λ served id is. sent served id) (h e))
-    where
-      sent : is_answered (desk_of e before).phase ≡ true → (id : Id) → SentAt settings before e id ⊎ ⊥ → SentAt settings (with_cause before (StartFailed s)) e id ⊎ ⊥
-      sent served id (inl k) = inl (sent_failed settings e id before s k (apart_from s left e id k served))
-      sent served id (inr k) = inr k
+  -- an editor that is in its group no more, and whose `initialize` came
+  over_by : (T : Id → Type 0) (phase : Phase) (initialize : List ℕ) (ids : List Id) → is_begun phase ≡ false → (is_unplaced phase ≡ true → ⊥) → OpenIf T phase initialize ids
+  over_by T Absent initialize ids unbegun placed = absurd (placed refl)
+  over_by T New initialize ids unbegun placed = absurd (placed refl)
+  over_by T Waiting initialize ids unbegun placed = never unbegun
+  over_by T Answered initialize ids unbegun placed = never unbegun
+  over_by T Running initialize ids unbegun placed = never unbegun
+  over_by T Down initialize ids unbegun placed = never unbegun
+  over_by T Closed initialize ids unbegun placed = tt
+  over_by T Gone initialize ids unbegun placed = tt
 
-  ended_now : (s e : ℕ) → is_left settings before s ≡ true → OpenAt settings e Nobody (with_cause before (ServerGone s))
-  ended_now s e left = open_at settings e Nobody before (heard (ServerGone s)) (if_other (S settings e Nobody before) (S settings e Nobody (with_cause before (ServerGone s))) (desk_of e before).phase (desk_of e before).initialize (open_of e before) (λ served id is. sent served id) (h e))
-    where
-      sent : is_answered (desk_of e before).phase ≡ true → (id : Id) → SentAt settings before e id ⊎ ⊥ → SentAt settings (with_cause before (ServerGone s)) e id ⊎ ⊥
-      sent served id (inl k) = inl (sent_ended settings e id before s k (apart_from s left e id k served))
-      sent served id (inr k) = inr k
+  module _ (s : ℕ) (built : not (begins_again settings before s) ≡ true) (e : ℕ) where
+    abbrev StaysIn : Type 0
+    StaysIn = (ends_with settings before s e && is_begun (desk_of e before).phase) ≡ false
+
+    -- the start is that of no other editor that got its result
+    apart_from : StaysIn → (id : Id) (k : SentAt settings before e id) → is_answered (desk_of e before).phase ≡ true → nat_eq s k.start ≡ false
+    apart_from rest id k served = go (nat_eq s k.start) refl
+      where
+        go : (b : Bool) → nat_eq s k.start ≡ b → b ≡ false
+        go true same =
+            let home : group_of s before ≡ Some k.group = ap (λ n. group_of n before) (number_same s k.start same) ∙ (lively.last k.group k.start k.last).0 in
+            never (sym (ap₂ (λ a b. a && b) (ap₂ (λ a b. a && b) (ends_live settings before s built k.group home (lives_of settings before lively e k.group served k.home))
+            (ap (λ o. option_map_or (λ i. is_home i (home_of settings e before)) o false) home ∙ (ap (is_home k.group) k.home ∙ same_number k.group))) (begun_answered (desk_of e before).phase served)) ∙ rest)
+        go false other = refl
+
+    stays_waiting : StaysIn → (ends_with settings before s e && is_waiting (desk_of e before).phase) ≡ false
+    stays_waiting rest = go (ends_with settings before s e) (is_waiting (desk_of e before).phase) refl rest
+      where
+        waits_begun : is_waiting (desk_of e before).phase ≡ true → is_begun (desk_of e before).phase ≡ true
+        waits_begun waits = ap is_begun (waiting_is (desk_of e before).phase waits)
+
+        go : (a b : Bool) → is_waiting (desk_of e before).phase ≡ b → (a && is_begun (desk_of e before).phase) ≡ false → (a && b) ≡ false
+        go true true waits off = never (sym (waits_begun waits) ∙ off)
+        go true false waits off = refl
+        go false b waits off = refl
+
+    failed_now : StaysIn → OpenAt settings e Nobody (with_cause before (StartFailed s))
+    failed_now rest = open_at settings e Nobody before (heard (StartFailed s)) (if_other (S settings e Nobody before) (S settings e Nobody (with_cause before (StartFailed s))) (desk_of e before).phase (desk_of e before).initialize (open_of e before) (λ served id is. sent served id) (h e))
+      where
+        sent : is_answered (desk_of e before).phase ≡ true → (id : Id) → SentAt settings before e id ⊎ ⊥ → SentAt settings (with_cause before (StartFailed s)) e id ⊎ ⊥
+        sent served id (inl k) = inl (sent_failed settings e id before s k (apart_from rest id k served))
+        sent served id (inr k) = inr k
+
+    ended_now : StaysIn → OpenAt settings e Nobody (with_cause before (ServerGone s))
+    ended_now rest = open_at settings e Nobody before (heard (ServerGone s)) (if_other (S settings e Nobody before) (S settings e Nobody (with_cause before (ServerGone s))) (desk_of e before).phase (desk_of e before).initialize (open_of e before) (λ served id is. sent served id) (h e))
+      where
+        sent : is_answered (desk_of e before).phase ≡ true → (id : Id) → SentAt settings before e id ⊎ ⊥ → SentAt settings (with_cause before (ServerGone s)) e id ⊎ ⊥
+        sent served id (inl k) = inl (sent_ended settings e id before s k (apart_from rest id k served))
+        sent served id (inr k) = inr k
+
+    -- one that is in the group is closed
+    put_out_over : (cause : Cause) → Exit settings before cause s → (ends_with settings before s e && is_begun (desk_of e before).phase) ≡ true → OpenAt settings e Nobody (later cause)
+    put_out_over cause exit out = over_by (S settings e Nobody (later cause)) (desk_of e (later cause)).phase (desk_of e (later cause)).initialize (open_of e (later cause))
+        (exit_ends settings before cause s exit (facts.steady).editors e (exit.out e ∙ out)) (exit_placed settings before cause s exit e (and_parts (ends_with settings before s e) (is_begun (desk_of e before).phase) out).1)
+
+    failed_at : OpenAt settings e Nobody (later (StartFailed s))
+    failed_at = go (ends_with settings before s e && is_begun (desk_of e before).phase) refl
+      where
+        go : (b : Bool) → (ends_with settings before s e && is_begun (desk_of e before).phase) ≡ b → OpenAt settings e Nobody (later (StartFailed s))
+        go true out = put_out_over (StartFailed s) (failed_exit settings before s) out
+        go false rest = open_entry settings e Nobody before (StartFailed s) (stays_waiting rest) range facts begun built (failed_now rest)
+
+    ended_at : OpenAt settings e Nobody (later (ServerGone s))
+    ended_at = go (ends_with settings before s e && is_begun (desk_of e before).phase) refl
+      where
+        go : (b : Bool) → (ends_with settings before s e && is_begun (desk_of e before).phase) ≡ b → OpenAt settings e Nobody (later (ServerGone s))
+        go true out = put_out_over (ServerGone s) (gone_exit settings before s) out
+        go false rest = open_entry settings e Nobody before (ServerGone s) (stays_waiting rest) range facts begun built (ended_now rest)
 
   -- Entries of starts
 
@@ -328,22 +381,12 @@ module _ (settings : Settings) (range : InRange settings) (before : List Event) 
           go id served still (inr k) = inr (passed_not id k served still)
 
       -- one that waited for a start that refuses its `initialize` is closed
-      over_at : (phase : Phase) (initialize : List ℕ) (ids : List Id) → is_begun phase ≡ false → (is_unplaced phase ≡ true → ⊥) → OpenIf (S settings e Nobody (later (FromServer s body))) phase initialize ids
-      over_at Absent initialize ids unbegun placed = absurd (placed refl)
-      over_at New initialize ids unbegun placed = absurd (placed refl)
-      over_at Waiting initialize ids unbegun placed = never unbegun
-      over_at Answered initialize ids unbegun placed = never unbegun
-      over_at Running initialize ids unbegun placed = never unbegun
-      over_at Down initialize ids unbegun placed = never unbegun
-      over_at Closed initialize ids unbegun placed = tt
-      over_at Gone initialize ids unbegun placed = tt
-
       server_at : OpenAt settings e Nobody (later (FromServer s body))
       server_at = go (turned_away settings before (FromServer s body) e) refl
         where
           go : (b : Bool) → turned_away settings before (FromServer s body) e ≡ b → OpenAt settings e Nobody (later (FromServer s body))
           go false stays = stays_at stays
-          go true turned = over_at (desk_of e (later (FromServer s body))).phase (desk_of e (later (FromServer s body))).initialize (open_of e (later (FromServer s body)))
+          go true turned = over_by (S settings e Nobody (later (FromServer s body))) (desk_of e (later (FromServer s body))).phase (desk_of e (later (FromServer s body))).initialize (open_of e (later (FromServer s body)))
               (turned_ends settings before s body (facts.steady).editors e turned) (turned_placed settings before s body e turned)
 
   pub open_rests : (cause : Cause) → fits_behind before cause ≡ true → built_behind settings before cause ≡ true → OpenAll settings (later cause)
@@ -353,6 +396,6 @@ module _ (settings : Settings) (range : InRange settings) (before : List Event) 
   open_rests (Started s) fits built = λ e. open_entry settings e Nobody before (Started s) refl range facts begun built (started_now s e)
   open_rests (Drained n k) fits built = λ e. open_entry settings e Nobody before (Drained n k) refl range facts begun built (drained_now n k e)
   open_rests (EditorGone n why) fits built = λ e. open_entry settings e Nobody before (EditorGone n why) refl range facts begun built (gone_now n why e)
-  open_rests (StartFailed s) fits built = λ e. open_entry settings e Nobody before (StartFailed s) refl range facts begun built (failed_now s e built)
-  open_rests (ServerGone s) fits built = λ e. open_entry settings e Nobody before (ServerGone s) refl range facts begun built (ended_now s e built)
+  open_rests (StartFailed s) fits built = λ e. failed_at s built e
+  open_rests (ServerGone s) fits built = λ e. ended_at s built e
   open_rests (Tick t) fits built = λ e. open_entry settings e Nobody before (Tick t) refl range facts begun built (ticked_now t e)

@@ -1,26 +1,84 @@
--- The end of a start whose group lives no more leaves all groups as they are.
-use Rattle.std.proofs.Common.{◌≡◌, ℕ, zero, suc, ◌+◌, Bool, true, false, not, ◌&&◌, List, [], ◌∷◌, nat_le, if◌then◌else◌, Option, Some, None, refl, sym, ◌∙◌, ap}
+-- The end of a start that gives its group no new one: the group ends, where it lives, and all others stay as they are.
+use Rattle.std.proofs.Common.{◌≡◌, ℕ, zero, suc, ◌+◌, Bool, true, false, not, ◌&&◌, List, [], ◌∷◌, length, nat_le, if◌then◌else◌, Option, Some, None, refl, sym, ◌∙◌, ap, ap₂}
+use Rattle.std.specs.Prelude.{slice_get}
 use Rattle.std.specs.Option.{option_map_or}
+use Rattle.std.proofs.lemmas.Bool.{and_parts}
 use Rattle.mux_history.specs.declared.cause.Cause.TheVariants.{StartFailed, ServerGone}
 use Rattle.event_model.specs.Event.{Event, heard, with_cause}
 use Rattle.event_model.specs.Phases.{needs_server}
+use Rattle.event_model.specs.Row.{choose, each, nothing, on, outs, ◌⨾◌}
 use Rattle.event_model.specs.Settings.{Settings}
 use Rattle.event_model.specs.Spawns.{group_of}
+use Rattle.event_model.specs.Stages.{is_ready, life_of}
 use Rattle.event_model.proofs.Frames.{never}
 use Rattle.group_words.specs.declared.kept.Kept.{Kept}
 use Rattle.group_words.specs.Houses.{at_group, exit_of, groups_lose, groups_of, has_editor, house_of}
 use Rattle.group_words.specs.Placing.{changed, ended, exited}
-use Rattle.group_words.proofs.Frames.{groups_more}
+use Rattle.group_words.specs.Rows.{spawn}
+use Rattle.group_words.proofs.Frames.{changed_length, groups_more}
+use Rattle.group_rows.specs.Asks.{members_in, running_in}
+use Rattle.group_rows.specs.ExitRows.{begins_again, comes_again, comes_to_end, ends_group, exit_in, lose_sent, lose_start, lost_row, starts_again, turn_out}
 use Rattle.group_facts.specs.Built.{is_left}
-use Rattle.group_facts.specs.Lively.{lives_at}
+use Rattle.group_facts.specs.Lively.{lives, lives_at}
+use Rattle.group_facts.proofs.LiveGroups.{lives_changed}
 
-changed_over : (f : Kept → Kept) → ((x : Kept) → x.live ≡ false → f x ≡ x) → (i : ℕ) (xs : List Kept) → lives_at i xs ≡ false → changed i f xs ≡ xs
-changed_over f same i [] h = refl
-changed_over f same zero (x ∷ xs) h = ap (λ y. y ∷ xs) (same x h)
-changed_over f same (suc i) (x ∷ xs) h = ap (λ ys. x ∷ ys) (changed_over f same i xs h)
+changed_by : (f h : Kept → Kept) (g : ℕ) (xs : List Kept) → ((x : Kept) → slice_get xs g ≡ Some x → f x ≡ h x) → changed g f xs ≡ changed g h xs
+changed_by f h g [] same = refl
+changed_by f h zero (x ∷ xs) same = ap (λ y. y ∷ xs) (same x refl)
+changed_by f h (suc g) (x ∷ xs) same = ap (λ ys. x ∷ ys) (changed_by f h g xs same)
 
 pub exit_over : (restarts : ℕ) (wanted : Bool) (x : Kept) → x.live ≡ false → exit_of restarts wanted x ≡ x
 exit_over restarts wanted x h = ap (λ b. if b then (if wanted && nat_le (x.exits + 1) restarts then exited x else ended (exited x)) else x) h
+
+-- one that lives ends
+abbrev pub end_live : Kept → Kept
+end_live x = if x.live then ended x else x
+
+exit_ended : (restarts : ℕ) (wanted : Bool) (x : Kept) → (x.live && (wanted && nat_le (x.exits + 1) restarts)) ≡ false → exit_of restarts wanted x ≡ end_live x
+exit_ended restarts wanted x h = go x.live (wanted && nat_le (x.exits + 1) restarts) h
+  where
+    go : (a b : Bool) → (a && b) ≡ false → (if a then (if b then exited x else ended (exited x)) else x) ≡ (if a then ended x else x)
+    go true true h = never h
+    go true false h = refl
+    go false b h = refl
+
+live_before : (x : Kept) → (end_live x).live ≡ true → x.live ≡ true
+live_before x h = go x.live refl h
+  where
+    go : (b : Bool) → x.live ≡ b → (if b then ended x else x).live ≡ true → x.live ≡ true
+    go true is h = is
+    go false is h = h
+
+over_behind : (g : ℕ) (xs : List Kept) → lives_at g (changed g end_live xs) ≡ false
+over_behind g [] = refl
+over_behind zero (x ∷ xs) = go x.live refl
+  where
+    go : (b : Bool) → x.live ≡ b → (if b then ended x else x).live ≡ false
+    go true is = refl
+    go false is = is
+over_behind (suc g) (x ∷ xs) = over_behind g xs
+
+-- the group of a start ends, where it lives
+abbrev pub groups_lost : Settings → List Event → ℕ → List Kept
+groups_lost settings before s = at_group (group_of s before) (λ g. end_live) (groups_of settings before)
+
+pub lost_length : (settings : Settings) (before : List Event) (s : ℕ) → length (groups_lost settings before s) ≡ length (groups_of settings before)
+lost_length settings before s = go (group_of s before)
+  where
+    go : (o : Option ℕ) → length (at_group o (λ g. end_live) (groups_of settings before)) ≡ length (groups_of settings before)
+    go None = refl
+    go (Some g) = changed_length g end_live (groups_of settings before)
+
+-- none lives that didn't, and its own lives no more
+pub lost_lived : (settings : Settings) (before : List Event) (s g : ℕ) → lives_at g (groups_lost settings before s) ≡ true → lives_at g (groups_of settings before) ≡ true
+lost_lived settings before s g h = go (group_of s before) h
+  where
+    go : (o : Option ℕ) → lives_at g (at_group o (λ i. end_live) (groups_of settings before)) ≡ true → lives_at g (groups_of settings before) ≡ true
+    go None k = k
+    go (Some i) k = lives_changed end_live live_before i g (groups_of settings before) k
+
+pub lost_over : (settings : Settings) (before : List Event) (s g : ℕ) → group_of s before ≡ Some g → lives_at g (groups_lost settings before s) ≡ false
+lost_over settings before s g home = ap (λ o. lives_at g (at_group o (λ i. end_live) (groups_of settings before))) home ∙ over_behind g (groups_of settings before)
 
 over_of : (home : Option ℕ) (groups : List Kept) → not (option_map_or (λ g. lives_at g groups) home false) ≡ true → (g : ℕ) → home ≡ Some g → lives_at g groups ≡ false
 over_of None groups h g at = absurd (cc)
@@ -30,20 +88,84 @@ over_of (Some i) groups h g at = let same : i ≡ g = cc in ap (λ n. lives_at n
     off true h = never (sym h)
     off false h = refl
 
-at_over : (home : Option ℕ) (f : ℕ → Kept → Kept) → ((g : ℕ) (x : Kept) → x.live ≡ false → f g x ≡ x) → (groups : List Kept) → ((g : ℕ) → home ≡ Some g → lives_at g groups ≡ false) → at_group home f groups ≡ groups
-at_over None f same groups h = refl
-at_over (Some g) f same groups h = changed_over (f g) (same g) g groups (h g refl)
+-- a start that is left has no group that lives
+pub left_over : (settings : Settings) (before : List Event) (s : ℕ) → is_left settings before s ≡ true → (g : ℕ) → group_of s before ≡ Some g → lives_at g (groups_of settings before) ≡ false
+left_over settings before s left g at = over_of (group_of s before) (groups_of settings before) left g at
 
-module _ (settings : Settings) (before : List Event) (s : ℕ) (left : is_left settings before s ≡ true) where
-  -- its group doesn't live
-  pub left_over : (g : ℕ) → group_of s before ≡ Some g → lives_at g (groups_of settings before) ≡ false
-  left_over g at = over_of (group_of s before) (groups_of settings before) left g at
+-- the group of the start lives, and ends with it
+pub record EndsGroup (settings : Settings) (before : List Event) (s : ℕ) : Type 0 where
+  pub group : ℕ
+  pub home : group_of s before ≡ Some group
+  pub kept : Kept
+  pub found : slice_get (groups_of settings before) group ≡ Some kept
+  pub live : kept.live ≡ true
+  pub last : starts_again settings before group kept ≡ false
 
-  pub left_groups : groups_lose settings before s (house_of settings before) ≡ groups_of settings before
-  left_groups = at_over (group_of s before) (λ g. exit_of settings.limits.restarts (has_editor needs_server g (house_of settings before).home before)) (λ g x h. exit_over settings.limits.restarts _ x h) (groups_of settings before) left_over
+pub ends_parts : (settings : Settings) (before : List Event) (s : ℕ) → ends_group settings before s ≡ true → EndsGroup settings before s
+ends_parts settings before s h = go (group_of s before) refl h
+  where
+    last_of : (b : Bool) → not b ≡ true → b ≡ false
+    last_of true h = never (sym h)
+    last_of false h = refl
 
-  pub gone_groups : groups_of settings (with_cause before (ServerGone s)) ≡ groups_of settings before
-  gone_groups = groups_more settings before (heard (ServerGone s)) ∙ left_groups
+    at_kept : (g : ℕ) → group_of s before ≡ Some g → (o : Option Kept) → slice_get (groups_of settings before) g ≡ o → option_map_or (comes_to_end settings before g) o false ≡ true → EndsGroup settings before s
+    at_kept g home None found h = never (sym h)
+    at_kept g home (Some x) found h = let p = and_parts x.live (not (starts_again settings before g x)) h in record { group = g; home = home; kept = x; found = found; live = p.0; last = last_of (starts_again settings before g x) p.1 }
 
-  pub failed_groups : groups_of settings (with_cause before (StartFailed s)) ≡ groups_of settings before
-  failed_groups = groups_more settings before (heard (StartFailed s)) ∙ left_groups
+    go : (o : Option ℕ) → group_of s before ≡ o → option_map_or (λ g. option_map_or (comes_to_end settings before g) (slice_get (groups_of settings before) g) false) o false ≡ true → EndsGroup settings before s
+    go None none h = never (sym h)
+    go (Some g) home h = at_kept g home (slice_get (groups_of settings before) g) refl h
+
+module _ (settings : Settings) (before : List Event) (s : ℕ) (built : not (begins_again settings before s) ≡ true) where
+  again_off : begins_again settings before s ≡ false
+  again_off = off (begins_again settings before s) built
+    where
+      off : (b : Bool) → not b ≡ true → b ≡ false
+      off true h = never (sym h)
+      off false h = refl
+
+  pub none_again : (g : ℕ) (x : Kept) → group_of s before ≡ Some g → slice_get (groups_of settings before) g ≡ Some x → comes_again settings before g x ≡ false
+  none_again g x home found = sym (ap (λ o. option_map_or (λ i. option_map_or (comes_again settings before i) (slice_get (groups_of settings before) i) false) o false) home ∙ ap (λ o. option_map_or (comes_again settings before g) o false) found) ∙ again_off
+
+  pub lost_is : groups_lose settings before s (house_of settings before) ≡ groups_lost settings before s
+  lost_is = go (group_of s before) refl
+    where
+      go : (o : Option ℕ) → group_of s before ≡ o → at_group o (λ g. exit_of settings.limits.restarts (has_editor needs_server g (house_of settings before).home before)) (groups_of settings before) ≡ at_group o (λ g. end_live) (groups_of settings before)
+      go None none = refl
+      go (Some g) home = changed_by (exit_of settings.limits.restarts (has_editor needs_server g (house_of settings before).home before)) end_live g (groups_of settings before)
+          (λ x found. exit_ended settings.limits.restarts (has_editor needs_server g (house_of settings before).home before) x (none_again g x home found))
+
+  pub gone_groups : groups_of settings (with_cause before (ServerGone s)) ≡ groups_lost settings before s
+  gone_groups = groups_more settings before (heard (ServerGone s)) ∙ lost_is
+
+  pub failed_groups : groups_of settings (with_cause before (StartFailed s)) ≡ groups_lost settings before s
+  failed_groups = groups_more settings before (heard (StartFailed s)) ∙ lost_is
+
+  -- a group that lives ends with its start
+  pub ends_live : (g : ℕ) → group_of s before ≡ Some g → lives_at g (groups_of settings before) ≡ true → ends_group settings before s ≡ true
+  ends_live g home live = go (slice_get (groups_of settings before) g) refl live
+    where
+      last_off : (a b : Bool) → a ≡ true → (a && b) ≡ false → b ≡ false
+      last_off true b is h = h
+      last_off false b is h = never (sym is)
+
+      go : (o : Option Kept) → slice_get (groups_of settings before) g ≡ o → lives o ≡ true → ends_group settings before s ≡ true
+      go None none h = never (sym h)
+      go (Some x) found h = ap (λ o. option_map_or (λ i. option_map_or (comes_to_end settings before i) (slice_get (groups_of settings before) i) false) o false) home ∙ ap (λ o. option_map_or (comes_to_end settings before g) o false) found
+          ∙ ap₂ (λ a b. a && not b) h (last_off x.live (starts_again settings before g x) h (none_again g x home found))
+
+-- What is sent
+
+module _ (settings : Settings) (before : List Event) (s : ℕ) (now : List Event) where
+  -- of a group that ends
+  pub lost_outs : (k : EndsGroup settings before s) → outs (lost_row settings before s) now
+      ≡ outs (each (lose_sent before s) (members_in settings k.group before)
+      ⨾ (choose (is_ready (life_of s before).stage) (each (lose_start settings before s) (running_in settings k.group before)) nothing ⨾ each turn_out (members_in settings k.group before))) now
+  lost_outs k = ap (λ o. outs (on o nothing (λ g. on (slice_get (groups_of settings before) g) nothing (exit_in settings before s g))) now) k.home
+      ∙ ap (λ o. outs (on o nothing (exit_in settings before s k.group)) now) k.found
+      ∙ ap (λ b. outs (choose b (each (lose_sent before s) (members_in settings k.group before)
+      ⨾ (choose (is_ready (life_of s before).stage) (each (lose_start settings before s) (running_in settings k.group before)) nothing
+      ⨾ choose (starts_again settings before k.group k.kept) (spawn k.group) (each turn_out (members_in settings k.group before)))) nothing) now) k.live
+      ∙ ap (λ b. outs (each (lose_sent before s) (members_in settings k.group before)
+      ⨾ (choose (is_ready (life_of s before).stage) (each (lose_start settings before s) (running_in settings k.group before)) nothing
+      ⨾ choose b (spawn k.group) (each turn_out (members_in settings k.group before)))) now) k.last

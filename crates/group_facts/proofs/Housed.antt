@@ -24,7 +24,7 @@ use Rattle.group_words.specs.Placing.{busy, changed, end_where, ended, founded, 
 use Rattle.group_words.proofs.Frames.{changed_length, groups_more, groups_stay, touches_groups}
 use Rattle.group_facts.specs.Built.{built_behind}
 use Rattle.group_facts.specs.Facts.{Housed, IsHoused}
-use Rattle.group_facts.proofs.Exits.{failed_groups, gone_groups}
+use Rattle.group_facts.proofs.Exits.{failed_groups, gone_groups, lost_length}
 
 -- No group is forgotten
 
@@ -80,8 +80,8 @@ module _ (settings : Settings) where
   longer_took events (Drained e k) built = still_long events (heard (Drained e k)) refl
   longer_took events (Tick t) built = subst (λ z. length (groups_of settings events) ≤ length z) (sym (groups_more settings events (heard (Tick t)))) (omega (arith, ended_length (is_due settings.limits.idle (max (time_of events) t)) (groups_of settings events)))
   longer_took events (EditorGone e why) built = subst (λ z. length (groups_of settings events) ≤ length z) (sym (groups_more settings events (heard (EditorGone e why)))) (emptied_length ((house_of settings events).home e) _ _ _ (groups_of settings events))
-  longer_took events (StartFailed s) built = subst (λ z. length (groups_of settings events) ≤ length z) (sym (failed_groups settings events s built)) (omega arith)
-  longer_took events (ServerGone s) built = subst (λ z. length (groups_of settings events) ≤ length z) (sym (gone_groups settings events s built)) (omega arith)
+  longer_took events (StartFailed s) built = subst (λ z. length (groups_of settings events) ≤ length z) (sym (failed_groups settings events s built)) (omega (arith, lost_length settings events s))
+  longer_took events (ServerGone s) built = subst (λ z. length (groups_of settings events) ≤ length z) (sym (gone_groups settings events s built)) (omega (arith, lost_length settings events s))
 
   pub longer_did : (events : List Event) (out : Out) → Longer events (events ++ said out ∷ [])
   longer_did events (CloseEditor e) = subst (λ z. length (groups_of settings events) ≤ length z) (sym (groups_more settings events (said (CloseEditor e)))) (emptied_length ((house_of settings events).home e) _ _ _ (groups_of settings events))

@@ -21,7 +21,7 @@ use Rattle.group_words.specs.Keys.{Common}
 use Rattle.group_words.specs.Placing.{busy, changed, end_where, ended, founded, idle_from, is_due, is_live, with_editor}
 use Rattle.group_words.proofs.Frames.{groups_more, groups_stay, touches_groups}
 use Rattle.group_facts.specs.Built.{built_behind}
-use Rattle.group_facts.proofs.Exits.{failed_groups, gone_groups}
+use Rattle.group_facts.proofs.Exits.{end_live, failed_groups, gone_groups}
 
 -- it is kept
 pub record Keeps (P : Kept → Type 0) : Type 0 where
@@ -55,6 +55,13 @@ module _ (P : Kept → Type 0) (keeps : Keeps P) where
   all_at None groups h = h
   all_at (Some g) groups h = all_changed ended keeps.ends g groups h
 
+  live_ended : (x : Kept) → P x → P (end_live x)
+  live_ended x h = either_way P x.live (ended x) x (keeps.ends x h) h
+
+  all_lost : (home : Option ℕ) (groups : List Kept) → All groups → All (at_group home (λ g. end_live) groups)
+  all_lost None groups h = h
+  all_lost (Some g) groups h = all_changed end_live live_ended g groups h
+
   all_emptied : (home : Option ℕ) (was : Bool) (stays : ℕ → Bool) (now : ℕ) (groups : List Kept) → All groups → All (emptied home was stays now groups)
   all_emptied None was stays now groups h = h
   all_emptied (Some g) was stays now groups h = either_way All (was && not (stays g)) (changed g (idle_if_live now) groups) groups (all_changed (idle_if_live now) (idle_live now) g groups h) h
@@ -87,8 +94,8 @@ module _ (P : Kept → Type 0) (keeps : Keeps P) where
     all_took events (Drained e k) built f h = stay events (heard (Drained e k)) refl h
     all_took events (Tick t) built f h = subst All (sym (groups_more settings events (heard (Tick t)))) (all_ended (is_due settings.limits.idle (max (time_of events) t)) (groups_of settings events) h)
     all_took events (EditorGone e why) built f h = subst All (sym (groups_more settings events (heard (EditorGone e why)))) (all_emptied ((house_of settings events).home e) _ _ _ (groups_of settings events) h)
-    all_took events (StartFailed s) built f h = subst All (sym (failed_groups settings events s built)) h
-    all_took events (ServerGone s) built f h = subst All (sym (gone_groups settings events s built)) h
+    all_took events (StartFailed s) built f h = subst All (sym (failed_groups settings events s built)) (all_lost (group_of s events) (groups_of settings events) h)
+    all_took events (ServerGone s) built f h = subst All (sym (gone_groups settings events s built)) (all_lost (group_of s events) (groups_of settings events) h)
 
     pub all_did : (events : List Event) (out : Out) → All (groups_of settings events) → All (groups_of settings (events ++ said out ∷ []))
     all_did events (CloseEditor e) h = subst All (sym (groups_more settings events (said (CloseEditor e)))) (all_emptied ((house_of settings events).home e) _ _ _ (groups_of settings events) h)

@@ -50,6 +50,7 @@ use Rattle.group_facts.proofs.Results.{results_did, results_none, results_took}
 use Rattle.group_facts.proofs.SlowRow.{parting, parting_why, quit_built, quit_turns_none, slow_there, whole_entry}
 use Rattle.group_facts.proofs.StopEntry.{quit_rests, stopped_outs}
 use Rattle.group_facts.proofs.Table.{reasons}
+use Rattle.group_facts.proofs.Takes.{no_takes, takes_closed, takes_ended, takes_sent, takes_spawned, takes_told, takes_took}
 use Rattle.group_facts.proofs.Waiting.{waiting_closed, waiting_rests, waiting_said, waiting_told, waiting_took}
 use Rattle.group_facts.specs.Why.{Why, WhyEnd, WhyToEditor, is_starting, quitting, refused, starting, stopped}
 use Rattle.group_facts.proofs.Written.{written_did, written_took}
@@ -81,6 +82,7 @@ module _ (settings : Settings) where
     asked = λ on. asked_took settings events cause built fits h.editors (h.asked (stopped_back events (heard cause) on));
     apart = apart_fewer events (with_cause events cause) (fewer_took settings events cause built) h.apart;
     asks = asks_took settings events cause h.asks;
+    takes = takes_took settings events h.takes cause;
     housed = housed_took settings events cause built h.housed;
   }
     where
@@ -109,6 +111,7 @@ module _ (settings : Settings) where
       asked = λ on. let off : is_stopped events ≡ false = stopped_back events (said (ToEditor n body)) on in asked_told settings before cause events n body why off (h.asked off);
       apart = apart_said events (ToEditor n body) (λ s. refl) h.apart;
       asks = asks_told settings events n body before cause why h.asks;
+      takes = takes_told settings events h.takes n body before cause why;
       housed = housed_did settings events (ToEditor n body) refl (λ s. refl) h.housed;
     }
       where
@@ -131,6 +134,7 @@ module _ (settings : Settings) where
       asked = λ on. asked_said events (Spawn (starts_of events) g) (λ s. refl) (λ e. refl) (h.asked (stopped_back events (said (Spawn (starts_of events) g)) on));
       apart = apart_said events (Spawn (starts_of events) g) (λ s. refl) h.apart;
       asks = asks_spawned settings events (starts_of events) g h.asks;
+      takes = takes_spawned settings events h.takes (starts_of events) g;
       housed = housed_spawn settings events g inside h.housed;
     }
       where
@@ -154,6 +158,7 @@ module _ (settings : Settings) where
       asked = λ on. asked_said events (CloseEditor n) (λ s. refl) (λ e. refl) (h.asked (stopped_back events (said (CloseEditor n)) on));
       apart = apart_said events (CloseEditor n) (λ s. refl) h.apart;
       asks = asks_closed settings events n h.asks;
+      takes = takes_closed settings events h.takes n;
       housed = housed_did settings events (CloseEditor n) refl (λ s. refl) h.housed;
     }
       where
@@ -177,6 +182,7 @@ module _ (settings : Settings) where
       asked = λ on. asked_said events (EndServer n) (λ s. refl) (λ e. refl) (h.asked (stopped_back events (said (EndServer n)) on));
       apart = apart_said events (EndServer n) (λ s. refl) h.apart;
       asks = asks_ended settings events n h.asks;
+      takes = takes_ended settings events h.takes n;
       housed = housed_did settings events (EndServer n) refl (λ s. refl) h.housed;
     }
       where
@@ -213,6 +219,7 @@ module _ (settings : Settings) where
         asked = λ on. asked_sent settings before cause events n body why ((h.steady).asked (stopped_back events (said (ToServer n body)) on));
         apart = apart_sent settings before cause events n body why (h.steady).apart;
         asks = asks_sent settings events n body (h.steady).asks;
+        takes = takes_sent settings events (h.steady).takes n body;
         housed = housed_did settings events (ToServer n body) refl (λ s. refl) (h.steady).housed;
       };
       tied = tied_sent settings cause events n body before why h.tied;
@@ -263,7 +270,7 @@ module _ (settings : Settings) where
     pub no_facts : Facts settings []
     no_facts = record {
       base = record { opened = opened_none settings; results = results_none; written = tt; meant = tt };
-      steady = record { starts = λ s le. refl; unbegun = λ s un. (refl, refl); untold = λ s un u. refl; bounded = λ s up. (omega arith, omega arith); editors = λ e le. refl; asked = λ on s. tt; apart = λ s. tt; asks = no_asks settings; housed = λ s below. absurd (omega (arith, below)) };
+      steady = record { starts = λ s le. refl; unbegun = λ s un. (refl, refl); untold = λ s un u. refl; bounded = λ s up. (omega arith, omega arith); editors = λ e le. refl; asked = λ on s. tt; apart = λ s. tt; asks = no_asks settings; takes = no_takes settings; housed = λ s below. absurd (omega (arith, below)) };
       tied = λ s. tt;
       waiting = λ e. tt;
       quit = λ over. absurd (cc);

@@ -7,7 +7,12 @@ pub mod Begun
 pub mod DocumentRow
 pub mod Entries
 pub mod Everywhere
+pub mod ExitEntry
+pub mod ExitOuts
+pub mod ExitRow
 pub mod Exits
+pub mod Losses
+pub mod Takes
 pub mod Facts
 pub mod Forwards
 pub mod GroupEnds

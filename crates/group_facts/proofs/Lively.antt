@@ -1,5 +1,5 @@
 -- The groups that live, their editors and their last starts, one event further, and so behind every legal history.
-use Rattle.std.proofs.Common.{◌≡◌, ℕ, max, zero, suc, ◌+◌, ◌<◌, ◌≤◌, Bool, true, false, ◌&&◌, cond, List, [], ◌∷◌, ◌++◌, filter, length, nat_eq, nat_lt, codes, if◌then◌else◌, Option, Some, None, ◌⊎◌, inl, inr, refl, sym, ◌∙◌, ap, ap₂, subst, arith}
+use Rattle.std.proofs.Common.{◌≡◌, ℕ, max, zero, suc, ◌+◌, ◌<◌, ◌≤◌, Bool, true, false, not, ◌&&◌, cond, List, [], ◌∷◌, ◌++◌, filter, length, nat_eq, nat_lt, codes, if◌then◌else◌, Option, Some, None, ◌⊎◌, inl, inr, refl, sym, ◌∙◌, ap, ap₂, subst, arith}
 use Rattle.std.specs.List.{range_with_len}
 use Rattle.std.specs.Option.{option_map_or}
 use Rattle.std.proofs.lemmas.Bool.{and_parts}
@@ -32,15 +32,16 @@ use Rattle.group_words.specs.declared.placed.Placed.{Placed}
 use Rattle.group_words.specs.Houses.{at_group, declared_for, groups_lose, groups_next, groups_of, has_editor, home_next, home_of, house_of, is_first_error, is_home, key_for, placed_for, places, stops, time_of}
 use Rattle.group_words.specs.Placing.{end_where, ended, home_by, is_due, is_live, with_editor}
 use Rattle.group_words.proofs.Frames.{groups_more, home_more}
+use Rattle.group_rows.specs.ExitRows.{begins_again}
 use Rattle.group_rows.specs.Rows.{outs_of}
 use Rattle.group_facts.specs.SlowRows.{is_slow}
-use Rattle.group_facts.specs.Built.{built_behind, is_left}
-use Rattle.group_facts.specs.Facts.{is_put_out, is_refusing, is_up}
+use Rattle.group_facts.specs.Built.{built_behind}
+use Rattle.group_facts.specs.Facts.{ends_with, is_put_out, is_refusing, is_up}
 use Rattle.group_facts.specs.Lively.{IsDying, Lively, is_busy_at, is_unplaced, lives_at}
 use Rattle.group_facts.specs.Settled.{is_answered}
 use Rattle.group_facts.specs.Why.{Why, WhyEnd, WhyToServer, begins, greets, forwarded, notes, tells, shuts, cancels, exits, refused, starting, stopped, responds, resolves, cancels_work, quitting}
 use Rattle.group_facts.proofs.Begun.{Begun, start_more}
-use Rattle.group_facts.proofs.Exits.{left_groups, left_over}
+use Rattle.group_facts.proofs.Exits.{end_live, ends_live, groups_lost, left_over, lost_is, lost_lived, lost_over}
 use Rattle.group_facts.proofs.Facts.{Facts}
 use Rattle.group_facts.proofs.Housed.{group_more}
 use Rattle.group_facts.proofs.Known.{Here, here_did, here_slow, here_took}
@@ -55,7 +56,7 @@ use Rattle.group_facts.proofs.Table.{reasons}
 use Rattle.group_facts.proofs.Waiting.{new_is}
 use Rattle.group_facts.proofs.Numbers.{response_asks}
 
-begun_answered : (phase : Phase) → is_answered phase ≡ true → is_begun phase ≡ true
+pub begun_answered : (phase : Phase) → is_answered phase ≡ true → is_begun phase ≡ true
 begun_answered Answered h = refl
 begun_answered Running h = refl
 begun_answered Down h = refl
@@ -355,19 +356,31 @@ module _ (settings : Settings) (before : List Event) (h : Lively settings before
           (still_has (house_of settings before).home (with_cause before (EditorGone n why)) e g absent (ap (λ (d : Desk). is_begun d.phase) (desk_more e before (heard (EditorGone n why)))
           ∙ (ap (λ b. is_begun (if b then record { phase = Gone; initialize = (desk_of e before).initialize } else desk_of e before).phase) other ∙ k)) at) (h.busy e g k at)
 
-  -- the end of a start whose group lives no more
-  ended_up : (n : ℕ) → is_left settings before n ≡ true → (g s : ℕ) → lives_at g (groups_lose settings before n (house_of settings before)) ≡ true → start_of g before ≡ Some s → is_up (if nat_eq n s then record { stage = Ended; started = (life_of s before).started } else life_of s before).stage ≡ true
-  ended_up n left g s live at = by_start (nat_eq n s) (record { stage = Ended; started = (life_of s before).started }) (life_of s before)
-      (λ same. never (sym lives ∙ left_over settings before n left g (ap (λ k. group_of k before) (number_same n s same) ∙ (h.last g s at).0))) (λ other. h.up g s lives at)
-    where
-      lives : lives_at g groups ≡ true
-      lives = ap (lives_at g) (sym (left_groups settings before n left)) ∙ live
+  -- a start ends that gives its group no new one: the group ends
+  module _ (n : ℕ) (built : not (begins_again settings before n) ≡ true) where
+    lost_busy : (e g : ℕ) → (ends_with settings before n e && is_begun (desk_of e before).phase) ≡ false → is_begun (desk_of e before).phase ≡ true → home_of settings e before ≡ Some g → is_busy_at g (groups_lose settings before n (house_of settings before)) ≡ true
+    lost_busy e g rest begun at = ap (is_busy_at g) (lost_is settings before n built) ∙ go (group_of n before) refl
+      where
+        go : (o : Option ℕ) → group_of n before ≡ o → is_busy_at g (at_group o (λ k. end_live) groups) ≡ true
+        go None none = h.busy e g begun at
+        go (Some i) home = busy_apart i g end_live groups (λ same. never (sym (out same) ∙ rest)) (h.busy e g begun at)
+          where
+            out : g ≡ i → (ends_with settings before n e && is_begun (desk_of e before).phase) ≡ true
+            out same = ap₂ (λ a b. a && b) (ap₂ (λ a b. a && b) (ends_live settings before n built i home (ap (λ k. lives_at k groups) (sym same) ∙ lives_busy g groups (h.busy e g begun at)))
+                (ap (λ o. option_map_or (λ k. is_home k (home_of settings e before)) o false) home ∙ (ap (is_home i) (at ∙ ap (λ k. Some k) same) ∙ same_number i))) begun
 
-  failed : (n : ℕ) → is_left settings before n ≡ true → Lively settings (with_cause before (StartFailed n))
-  failed n left = by_words settings before (heard (StartFailed n)) h.unplaced (λ e g begun at. ap (is_busy_at g) (left_groups settings before n left) ∙ h.busy e g begun at) h.last (ended_up n left)
+    lost_up : (g s : ℕ) → lives_at g (groups_lose settings before n (house_of settings before)) ≡ true → start_of g before ≡ Some s → is_up (if nat_eq n s then record { stage = Ended; started = (life_of s before).started } else life_of s before).stage ≡ true
+    lost_up g s live at = by_start (nat_eq n s) (record { stage = Ended; started = (life_of s before).started }) (life_of s before)
+        (λ same. never (sym kept ∙ lost_over settings before n g (ap (λ k. group_of k before) (number_same n s same) ∙ (h.last g s at).0))) (λ other. h.up g s (lost_lived settings before n g kept) at)
+      where
+        kept : lives_at g (groups_lost settings before n) ≡ true
+        kept = ap (lives_at g) (sym (lost_is settings before n built)) ∙ live
 
-  exited : (n : ℕ) → is_left settings before n ≡ true → Lively settings (with_cause before (ServerGone n))
-  exited n left = by_words settings before (heard (ServerGone n)) h.unplaced (λ e g begun at. ap (is_busy_at g) (left_groups settings before n left) ∙ h.busy e g begun at) h.last (ended_up n left)
+    failed : Mostly settings (is_put_out settings before (StartFailed n)) (with_cause before (StartFailed n))
+    failed = most_words settings (is_put_out settings before (StartFailed n)) before (heard (StartFailed n)) h.unplaced lost_busy h.last lost_up
+
+    exited : Mostly settings (is_put_out settings before (ServerGone n)) (with_cause before (ServerGone n))
+    exited = most_words settings (is_put_out settings before (ServerGone n)) before (heard (ServerGone n)) h.unplaced lost_busy h.last lost_up
 
 took : (settings : Settings) (before : List Event) (cause : Cause) → fits_behind before cause ≡ true → built_behind settings before cause ≡ true → Editors before → Editors (with_cause before cause) → Begun settings before → Lively settings before
     → Mostly settings (is_put_out settings before cause) (with_cause before cause)
@@ -382,8 +395,8 @@ took settings before (FromEditor n body) fits built absent after begun h = go (p
     go true c here stop = mostly settings _ _ (placing settings before h n body begun here)
     go false true off stop = stopped_by settings before h n body off stop
     go false false off on = mostly settings _ _ (heard_on settings before h n body off on)
-took settings before (StartFailed n) fits built absent after begun h = mostly settings _ _ (failed settings before h n built)
-took settings before (ServerGone n) fits built absent after begun h = mostly settings _ _ (exited settings before h n built)
+took settings before (StartFailed n) fits built absent after begun h = failed settings before h n built
+took settings before (ServerGone n) fits built absent after begun h = exited settings before h n built
 took settings before (Tick t) fits built absent after begun h = mostly settings _ _ (ticked settings before h t)
 
 -- Outs

@@ -33,7 +33,7 @@ use Rattle.group_facts.specs.Facts.{IsAlone, IsWaiting, is_early}
 use Rattle.group_facts.specs.Lively.{lives_at}
 use Rattle.group_rows.specs.Tokens.{forwarded_text}
 use Rattle.group_facts.proofs.Quits.{running_stops}
-use Rattle.group_facts.specs.Why.{IsBehindSync, IsBeside, IsQuestion, Showing, Telling, Turn, Why, WhyToEditor, WhyToServer, answers, asks, asks_something, begins, cancels, exits, forwarded, greeted, greets, is_uncancelled, notes, of_held, of_request, of_token, passes, recalls, refuses, calls, rejects, resolves, responds, resumes, shuts, spreads, stays, tells, turns_away, versions_at, welcomes, cancels_work, progresses, begins_by, comes, opened_by, shows, loses}
+use Rattle.group_facts.specs.Why.{IsBehindSync, IsBeside, IsQuestion, Showing, Telling, Turn, Why, WhyToEditor, WhyToServer, answers, asks, asks_something, begins, cancels, exits, forwarded, greeted, greets, is_uncancelled, notes, of_held, of_request, of_token, passes, recalls, refuses, calls, rejects, resolves, responds, resumes, shuts, spreads, stays, tells, turns_away, versions_at, welcomes, cancels_work, progresses, begins_by, comes, opened_by, shows, loses, winds_up}
 use Rattle.group_rows.proofs.Versions.{AllMeant, meant_heard, meant_more}
 use Rattle.group_facts.proofs.Same.{IsBody, Same, same_agreement, same_behind, same_held, same_questions, same_version}
 use Rattle.group_facts.proofs.Shown.{meant_behind}
@@ -247,6 +247,7 @@ module _ (settings : Settings) (before : List Event) (e : ℕ) (body : List ℕ)
         by_told (of_request s text given f token told found own editor bytes) = none_from s text told.from
         by_told (of_token s text given token told found accepted bytes) = none_from s text told.from
         by_told (of_held s taking earlier held later taken order place bytes) = never (sym (ap is_running (ap (λ i. (desk_of i before).phase) (same_editor taken.answer taken.from) ∙ taken.ran)) ∙ idle)
+    editor_moved n b goes (winds_up k) = never (sym (k.lost).from)
     editor_moved n b goes (loses k) = never (sym (the_stop k.editor k.asked k.from k.stop) ∙ running_stops (message_of body) runs)
       where
         the_stop : (n : ℕ) (text : List ℕ) → cause ≡ FromEditor n text → stops before n (message_of text) ≡ true → requests (codes "lspmux/stop") (message_of body) ≡ true

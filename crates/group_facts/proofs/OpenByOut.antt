@@ -22,7 +22,7 @@ use Rattle.group_rows.specs.Rows.{outs_of}
 use Rattle.group_facts.specs.Built.{built_behind}
 use Rattle.group_facts.specs.Facts.{turned_away}
 use Rattle.group_facts.proofs.Listens.{listens_late}
-use Rattle.group_facts.specs.Why.{Why, WhyToEditor, calls, rejects, resumes, refuses, answers, turns_away, welcomes, passes, asks, recalls, spreads, progresses, shows, loses}
+use Rattle.group_facts.specs.Why.{Why, WhyToEditor, calls, rejects, resumes, refuses, answers, turns_away, welcomes, passes, asks, recalls, spreads, progresses, shows, loses, winds_up}
 use Rattle.group_facts.proofs.Begun.{Begun, Founding, NoSpawn, founding_of, founds, quiet, starts_stay, start_took}
 use Rattle.group_facts.proofs.Facts.{Facts}
 use Rattle.group_facts.proofs.Same.{Same}
@@ -107,6 +107,7 @@ module _ (settings : Settings) (e : ℕ) (E : Id → Type 0) where
     told_by T events body (spreads k) h = if_passed T (desk_of e events).phase (desk_of e events).initialize (open_of e events) (message_of body) (ap is_early (k.source).running) h
     told_by T events body (shows k) h = if_passed T (desk_of e events).phase (desk_of e events).initialize (open_of e events) (message_of body) (ap is_early k.running) h
     told_by T events body (recalls k) h = if_passed T (desk_of e events).phase (desk_of e events).initialize (open_of e events) (message_of body) (ap is_early (k.source).running) h
+    told_by T events body (winds_up k) h = if_passed T (desk_of e events).phase (desk_of e events).initialize (open_of e events) (message_of body) (ap is_early k.running) h
     told_by T events body (loses k) h = if_passed T (desk_of e events).phase (desk_of e events).initialize (open_of e events) (message_of body) k.late h
     told_by T events body (progresses k) h = if_passed T (desk_of e events).phase (desk_of e events).initialize (open_of e events) (message_of body) (listens_late (desk_of e events).phase k.hears) h
 

@@ -25,7 +25,8 @@ use Rattle.mux_facts.proofs.Table.{waiting_is}
 use Rattle.mux_facts.proofs.Words.{number_same, same_number}
 use Rattle.group_words.specs.Houses.{home_of, is_first_error, is_home}
 use Rattle.group_words.proofs.Frames.{home_stays}
-use Rattle.group_rows.specs.Rows.{close_all, members_in, outs_of, refused_in, refusal, waiting_in}
+use Rattle.group_rows.specs.Asks.{members_in}
+use Rattle.group_rows.specs.Rows.{close_all, outs_of, refused_in, refusal, waiting_in}
 use Rattle.group_facts.specs.Facts.{is_in, is_put_out, is_refusing, turned_away}
 use Rattle.group_facts.specs.Lively.{is_unplaced}
 

@@ -31,7 +31,8 @@ use Rattle.group_words.specs.declared.kept.Kept.{Kept}
 use Rattle.group_words.specs.Houses.{at_group, emptied, groups_of, home_of, is_first_error, is_home}
 use Rattle.group_words.specs.Placing.{changed, ended}
 use Rattle.group_words.proofs.Frames.{groups_more, groups_stay, home_stays}
-use Rattle.group_rows.specs.Rows.{close_all, members_in, refused_in, refused_row, refusal, waiting_in}
+use Rattle.group_rows.specs.Asks.{members_in}
+use Rattle.group_rows.specs.Rows.{close_all, refused_in, refused_row, refusal, waiting_in}
 use Rattle.group_facts.specs.Built.{is_left}
 use Rattle.group_facts.specs.Facts.{IsWaiting, is_in, is_put_out, is_refusing, turned_away}
 use Rattle.group_facts.specs.Lively.{lives_at}

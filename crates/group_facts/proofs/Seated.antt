@@ -34,6 +34,7 @@ use Rattle.group_facts.specs.Settled.{IsSeated}
 use Rattle.group_facts.proofs.Begun.{Begun}
 use Rattle.group_facts.proofs.Housed.{longer_did, longer_took}
 use Rattle.group_facts.proofs.PlacingRow.{IsNext, placed_next}
+use Rattle.group_facts.proofs.ExitEntry.{exit_turns, failed_exit, gone_exit}
 use Rattle.group_facts.proofs.PutOut.{home_did, turned_ends}
 use Rattle.group_facts.proofs.RequestRow.{either_desk}
 use Rattle.group_facts.proofs.Waiting.{turned_outs}
@@ -279,6 +280,8 @@ module _ (settings : Settings) where
         go (inl many) = λ needs. never (sym needs ∙ turned_none n body e many)
         go (inr stop) = λ needs. never (sym (needs_begun _ needs) ∙ unthere_unbegun _ (none_there settings before n body (and_parts (stops before n (message_of body)) (is_waiting (desk_of e before).phase) stop).0 absent e))
     turned_placed (FromServer s body) absent e turned = λ needs. never (sym (needs_begun _ needs) ∙ turned_ends settings before s body absent e turned)
+    turned_placed (StartFailed s) absent e turned = λ needs. never (sym (needs_begun _ needs) ∙ exit_turns settings before (StartFailed s) s (failed_exit settings before s) absent e turned)
+    turned_placed (ServerGone s) absent e turned = λ needs. never (sym (needs_begun _ needs) ∙ exit_turns settings before (ServerGone s) s (gone_exit settings before s) absent e turned)
     turned_placed cause absent e turned = never (sym turned)
 
     pub placed_rests : (cause : Cause) → built_behind settings before cause ≡ true → Editors before → AllPlaced settings (behind (with_cause before cause) (outs_of settings before cause))

@@ -26,6 +26,7 @@ use Rattle.group_words.specs.Rows.{end_group}
 use Rattle.group_rows.specs.Rows.{closing_row, from_editor, lspmux_row, outs_of, taken_row, told_row}
 use Rattle.group_rows.specs.StopRows.{close_each, refuse_open, stop_row, stopped, stopped_next, there_in}
 use Rattle.group_facts.specs.Facts.{Quit, is_put_out}
+use Rattle.group_facts.proofs.ExitEntry.{exit_ends, failed_exit, gone_exit}
 use Rattle.group_facts.proofs.PutOut.{named_in, outs_tested, refused_ends}
 use Rattle.group_facts.proofs.Quits.{stopped_back, stopped_did, stopped_more, stopped_now}
 
@@ -313,4 +314,6 @@ put_out_ends settings before (FromServer s body) absent e out = refused_ends set
 put_out_ends settings before (FromEditor n body) absent e out = unthere_unbegun _ (none_there settings before n body (and_parts (stops before n (message_of body)) (is_there (desk_of e before).phase) out).0 absent e)
 put_out_ends settings before (Joined n) absent e out =
     let p = and_parts (nat_eq n e) (stopped before) out in unthere_unbegun _ (joined_gone settings before n p.1 e (λ other. never (sym p.0 ∙ other)))
+put_out_ends settings before (StartFailed s) absent e out = exit_ends settings before (StartFailed s) s (failed_exit settings before s) absent e out
+put_out_ends settings before (ServerGone s) absent e out = exit_ends settings before (ServerGone s) s (gone_exit settings before s) absent e out
 put_out_ends settings before cause absent e out = never (sym out)

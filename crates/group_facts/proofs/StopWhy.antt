@@ -46,7 +46,8 @@ use Rattle.group_facts.proofs.Quits.{stopped_now, stopped_on}
 use Rattle.group_facts.proofs.RequestRow.{beside, null_why, waited}
 use Rattle.group_facts.proofs.Sent.{rising_filtered, rising_of}
 use Rattle.group_facts.proofs.StopEnds.{AllOver, IsOnLink, all_end, over_all, over_linked}
-use Rattle.group_facts.proofs.StopRow.{Differ, IsClosing, IsRefusing, IsTurned, all_closed, all_refused, differ_of}
+use Rattle.group_facts.proofs.Losses.{Differ, differ_of}
+use Rattle.group_facts.proofs.StopRow.{IsClosing, IsRefusing, IsTurned, all_closed, all_refused}
 
 -- Phases
 
@@ -70,7 +71,7 @@ told_keeps Absent initialize m h = h
 told_keeps Closed initialize m h = h
 told_keeps Gone initialize m h = h
 
-there_told : (e k : ℕ) (events : List Event) (text : List ℕ) → is_there (desk_of e events).phase ≡ true → is_there (desk_of e (events ++ said (ToEditor k text) ∷ [])).phase ≡ true
+pub there_told : (e k : ℕ) (events : List Event) (text : List ℕ) → is_there (desk_of e events).phase ≡ true → is_there (desk_of e (events ++ said (ToEditor k text) ∷ [])).phase ≡ true
 there_told e k events text h = ap (λ (d : Desk). is_there d.phase) (desk_more e events (said (ToEditor k text))) ∙ go (nat_eq k e)
   where
     go : (b : Bool) → is_there (if b then record { phase = phase_told (desk_of e events).phase (desk_of e events).initialize (message_of text); initialize = (desk_of e events).initialize } else desk_of e events).phase ≡ true

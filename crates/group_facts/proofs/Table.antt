@@ -4,7 +4,7 @@ use Rattle.std.proofs.lemmas.Bool.{and_parts}
 use Rattle.std.proofs.lemmas.Slice.Eq.{bytes_eq-Decides}
 use Rattle.json_text.specs.Json.{Json}
 use Rattle.mux_history.specs.declared.cause.Cause.{Cause}
-use Rattle.mux_history.specs.declared.cause.Cause.TheVariants.{Joined, FromEditor, EditorGone, Started, FromServer, Tick}
+use Rattle.mux_history.specs.declared.cause.Cause.TheVariants.{Joined, FromEditor, EditorGone, Started, StartFailed, FromServer, ServerGone, Tick}
 use Rattle.rpc_message.specs.Message.{Message, request, notification, result, error, not_json, not_message, Id, message_of}
 use Rattle.rpc_message.specs.Texts.{error_tree, invalid_request}
 use Rattle.event_model.specs.declared.phase.Phase.{Phase}
@@ -34,6 +34,8 @@ use Rattle.group_facts.proofs.AnswerRows.{server_why, start_why}
 use Rattle.group_facts.proofs.Apart.{alone_by, alone_early}
 use Rattle.group_facts.proofs.CancelRow.{cancelling_why}
 use Rattle.group_facts.proofs.DocumentRow.{document_why}
+use Rattle.group_facts.proofs.ExitEntry.{failed_exit, gone_exit}
+use Rattle.group_facts.proofs.ExitRow.{lost_why}
 use Rattle.group_facts.proofs.Facts.{Facts}
 use Rattle.group_facts.proofs.Multiplexer.{lspmux_apart}
 use Rattle.group_rows.proofs.CreatedKept.{held_told}
@@ -226,4 +228,6 @@ module _ (settings : Settings) (range : InRange settings) (before : List Event) 
   reasons (Joined e) built = joined_why settings before e
   reasons (Started s) built = start_why settings before s (facts.base).written (life_of s before).stage refl
   reasons (Tick t) built = tick_why settings range.requests before (facts.steady).bounded t
+  reasons (StartFailed s) built = lost_why settings before facts (StartFailed s) s (failed_exit settings before s) built
+  reasons (ServerGone s) built = lost_why settings before facts (ServerGone s) s (gone_exit settings before s) built
   reasons cause built = by_nothing

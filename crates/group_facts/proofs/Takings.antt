@@ -40,7 +40,7 @@ use Rattle.group_facts.specs.Facts.{is_unready, shuts}
 use Rattle.group_facts.specs.Lively.{Lively}
 use Rattle.group_facts.specs.Settled as settled_facts
 use Rattle.group_facts.specs.Settled.{HasTaken, RunsAt}
-use Rattle.group_facts.specs.Why.{Calling, IsCall, Why, WhyToEditor, answers, asks, calls, creates, displaces, enrols, passes, progresses, recalls, refuses, rejects, releases, restores, resumes, revives, shows, spreads, turns_away, welcomes, loses}
+use Rattle.group_facts.specs.Why.{Calling, IsCall, Why, WhyToEditor, answers, asks, calls, creates, displaces, enrols, forgets, passes, progresses, recalls, refuses, rejects, releases, restores, resumes, revives, shows, spreads, turns_away, welcomes, loses, winds_up}
 use Rattle.group_facts.proofs.AskEntries.{close_runs, onward_rests, took_runs, up_ready}
 use Rattle.group_facts.proofs.AskingRows.{still_runs}
 use Rattle.group_facts.proofs.Asks.{call_hurried, is_question, response_asks_none, unless_not}
@@ -357,6 +357,7 @@ module _ (settings : Settings) (before : List Event) (cause : Cause) where
       called_takers spawned k (displaces asked items c found is) = plain_takers (ap makes (ap message_of is ∙ (unregister_says (again items (live_of settings k.start before)) (again_written items (live_of settings k.start before) (live_written settings k.start before)) (next_ask e events) (call_small k)).1) ∙ unregister_plain)
       called_takers spawned k (enrols asked items c found is) = plain_takers (ap makes (ap message_of is ∙ (register_says items (registered_written asked items found) (next_ask e events) (call_small k)).1) ∙ register_plain)
       called_takers spawned k (releases asked items c found is) = plain_takers (ap makes (ap message_of is ∙ (unregister_says (again items (live_of settings k.start before)) (again_written items (live_of settings k.start before) (live_written settings k.start before)) (next_ask e events) (call_small k)).1) ∙ unregister_plain)
+      called_takers spawned k (forgets r first is) = plain_takers (ap makes (ap message_of is ∙ (unregister_says (live_of settings k.start before) (live_written settings k.start before) (next_ask e events) (call_small k)).1) ∙ unregister_plain)
       called_takers spawned k (restores r is) = plain_takers (ap makes (ap message_of is ∙ (register_says (live_of settings k.start before) (live_written settings k.start before) (next_ask e events) (call_small k)).1) ∙ register_plain)
       called_takers spawned k (creates asked token c found is) = made_takers k.start token.number (next_ask e events) (ltb-true (next_ask e events) (2 ^ 64) k.room) is k.ready spawned (record {
         running = still_runs events e body e k.running;
@@ -388,6 +389,7 @@ module _ (settings : Settings) (before : List Event) (cause : Cause) where
       told_takers spawned (progresses k) = plain_takers (ap makes k.says)
       told_takers spawned (shows k) = plain_takers (ap makes k.says)
       told_takers spawned (loses k) = plain_takers (ap makes k.says)
+      told_takers spawned (winds_up k) = plain_takers (ap makes k.says)
 
     did_takers : starts_of before ≤ starts_of events → (out : Out) → Why settings before cause events out → Takers (events ++ said out ∷ [])
     did_takers spawned (ToEditor e body) why = told_takers e body spawned why

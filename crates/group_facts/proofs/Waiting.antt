@@ -4,7 +4,7 @@ use Rattle.std.proofs.lemmas.Bool.{and_parts}
 use Rattle.std.proofs.lemmas.Slice.Eq.{bytes_eq-Decides}
 use Rattle.json_text.specs.Json.{Json}
 use Rattle.mux_history.specs.declared.cause.Cause.{Cause}
-use Rattle.mux_history.specs.declared.cause.Cause.TheVariants.{FromEditor, FromServer}
+use Rattle.mux_history.specs.declared.cause.Cause.TheVariants.{FromEditor, FromServer, StartFailed, ServerGone}
 use Rattle.mux_history.specs.declared.out.Out.{Out}
 use Rattle.mux_history.specs.declared.out.Out.TheVariants.{ToEditor, CloseEditor}
 use Rattle.rpc_message.specs.Message.{Message, request, notification, result, error, not_json, not_message, Id, message_of, id_bytes}
@@ -28,11 +28,12 @@ use Rattle.mux_facts.proofs.Why.{is_early}
 use Rattle.group_rows.specs.Rows.{asks_lspmux, names_lspmux, outs_of}
 use Rattle.group_facts.specs.Facts.{is_crowded, is_too_many, turned_away}
 use Rattle.group_facts.proofs.Facts.{OthersWait}
+use Rattle.group_facts.proofs.ExitEntry.{Exit, exit_turns, failed_exit, gone_exit}
 use Rattle.group_facts.proofs.PutOut.{turned_ends}
 use Rattle.group_facts.proofs.Quits.{one_of}
 use Rattle.group_facts.proofs.StopEntry.{none_there, unthere_unbegun}
 use Rattle.group_facts.proofs.Listens.{listens_late}
-use Rattle.group_facts.specs.Why.{IsRefusal, WhyToEditor, calls, rejects, resumes, refuses, answers, turns_away, welcomes, passes, asks, loses, recalls, spreads, progresses, shows}
+use Rattle.group_facts.specs.Why.{IsRefusal, WhyToEditor, calls, rejects, resumes, refuses, answers, turns_away, welcomes, passes, asks, loses, winds_up, recalls, spreads, progresses, shows}
 
 -- one event more
 wait_more : (e : ℕ) (events : List Event) (event : Event) → WaitsAt (desk_behind e (desk_of e events) event) (open_behind e (open_of e events) event) → WaitsAt (desk_of e (events ++ event ∷ [])) (open_of e (events ++ event ∷ []))
@@ -93,6 +94,7 @@ module _ (settings : Settings) (before : List Event) (cause : Cause) (events : L
   waiting_told (shows k) h e rest = running_told k.running e (h e rest)
   waiting_told (recalls k) h e rest = running_told (k.source).running e (h e rest)
   waiting_told (progresses k) h e rest = result_told (λ at. absurd (late_not (desk_of n events).phase (listens_late (desk_of n events).phase k.hears) at)) e (h e rest)
+  waiting_told (winds_up k) h e rest = running_told k.running e (h e rest)
   waiting_told (loses k) h e rest = result_told (λ at. absurd (late_not (desk_of n events).phase k.late at)) e (h e rest)
   waiting_told (passes k) h e rest = result_told (λ at. absurd (late_not (desk_of n events).phase k.late at)) e (h e rest)
 
@@ -201,7 +203,20 @@ module _ (settings : Settings) (before : List Event) (s : ℕ) (body : List ℕ)
       go false rest = h e rest
       go true turned = unbegun_waits (desk_of e later).phase (desk_of e later).initialize (open_of e later) (turned_ends settings before s body absent e turned)
 
+module _ (settings : Settings) (before : List Event) (cause : Cause) (s : ℕ) (exit : Exit settings before cause s) (absent : Editors before) where
+  abbrev ended : List Event
+  ended = behind (with_cause before cause) (outs_of settings before cause)
+
+  exit_waits : OthersWait settings before cause ended → AllWaiting ended
+  exit_waits h e = go (turned_away settings before cause e) refl
+    where
+      go : (b : Bool) → turned_away settings before cause e ≡ b → WaitsAt (desk_of e ended) (open_of e ended)
+      go false rest = h e rest
+      go true turned = unbegun_waits (desk_of e ended).phase (desk_of e ended).initialize (open_of e ended) (exit_turns settings before cause s exit absent e turned)
+
 pub waiting_rests : (settings : Settings) (before : List Event) (cause : Cause) → Editors before → OthersWait settings before cause (behind (with_cause before cause) (outs_of settings before cause)) → AllWaiting (behind (with_cause before cause) (outs_of settings before cause))
 waiting_rests settings before (FromEditor n body) absent h = all_wait settings before n body absent h
 waiting_rests settings before (FromServer s body) absent h = none_wait settings before s body absent h
+waiting_rests settings before (StartFailed s) absent h = exit_waits settings before (StartFailed s) s (failed_exit settings before s) absent h
+waiting_rests settings before (ServerGone s) absent h = exit_waits settings before (ServerGone s) s (gone_exit settings before s) absent h
 waiting_rests settings before cause absent h = λ e. h e refl

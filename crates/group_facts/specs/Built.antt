@@ -1,4 +1,4 @@
--- Which causes meet only rows of the table over several editors and groups that are built, until all are: all but the end of a program whose group lives.
+-- Which causes meet only rows of the table over several editors and groups that are built, until all are: all but the end of a program whose group goes on with a new start.
 use Rattle.std.specs.Prelude.{ℕ, Bool, true, false, not, ◌&&◌, List}
 use Rattle.std.specs.Option.{option_map_or}
 use Rattle.mux_history.specs.declared.cause.Cause.{Cause}
@@ -14,6 +14,7 @@ use Rattle.event_model.specs.Requests.{is_open}
 use Rattle.event_model.specs.Settings.{Settings}
 use Rattle.event_model.specs.Spawns.{group_of}
 use Rattle.group_words.specs.Houses.{groups_of}
+use Rattle.group_rows.specs.ExitRows.{begins_again}
 use Rattle.group_facts.specs.Lively.{lives_at}
 
 -- a method of the standard, not of the multiplexer
@@ -28,13 +29,13 @@ is_standard _ = false
 abbrev pub doubles : Phase → Id → List Id → Bool
 doubles phase id ids = is_begun phase && is_open id ids
 
--- X1 to X3 of a start whose group lives no more
+-- the start's group lives no more
 abbrev pub is_left : Settings → List Event → ℕ → Bool
 is_left settings before s = not (option_map_or (λ g. lives_at g (groups_of settings before)) (group_of s before) false)
 
 abbrev pub built_behind : Settings → List Event → Cause → Bool
-built_behind settings before (StartFailed s) = is_left settings before s
-built_behind settings before (ServerGone s) = is_left settings before s
+built_behind settings before (StartFailed s) = not (begins_again settings before s)
+built_behind settings before (ServerGone s) = not (begins_again settings before s)
 built_behind settings before other = true
 
 abbrev pub built : Settings → List Entry → Cause → Bool

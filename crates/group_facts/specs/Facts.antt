@@ -7,7 +7,7 @@ use Rattle.json_text.specs.Json.{Json}
 use Rattle.document_model.specs.Orderly.{AllSpelt, Orderly}
 use Rattle.document_model.specs.Texts.{Texts}
 use Rattle.mux_history.specs.declared.cause.Cause.{Cause}
-use Rattle.mux_history.specs.declared.cause.Cause.TheVariants.{EditorGone, FromEditor, FromServer, Joined}
+use Rattle.mux_history.specs.declared.cause.Cause.TheVariants.{EditorGone, FromEditor, FromServer, Joined, ServerGone, StartFailed}
 use Rattle.mux_history.specs.declared.out.Out.TheVariants.{ToEditor, ToServer}
 use Rattle.rpc_message.specs.Message.{Id, Message, integer, request, message_of, same_id}
 use Rattle.rpc_message.specs.ValueTexts.{IsIdText, IsShallowText}
@@ -28,6 +28,8 @@ use Rattle.group_words.specs.declared.placed.Placed.TheVariants.{TooMany}
 use Rattle.group_words.specs.Houses.{groups_of, home_of, is_doubled, is_first_error, is_home, places, placed_for, stops}
 use Rattle.group_words.specs.Rows.{folders_text, initialize_of, result_of}
 use Rattle.group_rows.specs.Asks.{Ask, Parked, asks_of, is_patient, is_under, parked_of, waits_under}
+use Rattle.group_rows.specs.Created.{Taking, created_of}
+use Rattle.group_rows.specs.ExitRows.{ends_group}
 use Rattle.group_rows.specs.Forwarded.{Forwarded, forwarding_of}
 use Rattle.group_rows.specs.StopRows.{stopped}
 use Rattle.group_rows.specs.Texts.{texts_of}
@@ -211,6 +213,14 @@ pub record AreAsks (settings : Settings) (s : ℕ) (events : List Event) : Type 
 abbrev pub Asks : Settings → List Event → Type 0
 Asks settings events = (s : ℕ) → AreAsks settings s events
 
+-- an editor was asked to take a token: under a number that is small, and as long as it doesn't answer its request is open
+pub record IsTake (events : List Event) (c : Taking) : Type 0 where
+  pub small : c.number < 2 ^ 64
+  pub waits : c.accepted ≡ false → is_open (integer (decimal c.number)) (asked_of c.editor events) ≡ true
+
+abbrev pub Takes : Settings → List Event → Type 0
+Takes settings events = (s : ℕ) → AllByRecursion (IsTake events) (created_of settings s events).takings
+
 -- Editors that wait
 
 -- the `initialize` of an editor that waits, and is open
@@ -243,18 +253,32 @@ is_too_many other = false
 abbrev pub is_crowded : Settings → List Event → ℕ → List ℕ → ℕ → Bool
 is_crowded settings before n body e = nat_eq n e && (places (desk_of n before).phase (message_of body) && is_too_many (placed_for settings before n body (groups_of settings before)))
 
--- an editor that waits and that this cause turns away: the daemon has too many groups (E7), the start for which it waits refuses its `initialize` (S3), or all is stopped (E6)
+-- X3: the group of the start ends with it, and the editor is in that
+abbrev pub ends_with : Settings → List Event → ℕ → ℕ → Bool
+ends_with settings before s e = ends_group settings before s && is_in settings before s e
+
+-- an editor that waits and that this cause turns away: the daemon has too many groups (E7), the start for which it waits refuses its `initialize` (S3), or its group ends with that start (X3), or all is stopped (E6)
 abbrev pub turned_away : Settings → List Event → Cause → ℕ → Bool
 turned_away settings before (FromEditor n body) e = is_crowded settings before n body e || (stops before n (message_of body) && is_waiting (desk_of e before).phase)
 turned_away settings before (FromServer s body) e = is_refusing before s (message_of body) && (is_waiting (desk_of e before).phase && is_in settings before s e)
+turned_away settings before (StartFailed s) e = ends_with settings before s e && is_waiting (desk_of e before).phase
+turned_away settings before (ServerGone s) e = ends_with settings before s e && is_waiting (desk_of e before).phase
 turned_away settings before other e = false
 
--- an editor whose link another one's doing ends: of a group whose start refuses its `initialize` (S3); each that is there, where one stops all (E6); and one that joins behind that (J1)
+-- an editor whose link another one's doing ends: of a group whose start refuses its `initialize` (S3), or with whose start it ends (X3); each that is there, where one stops all (E6); and one that joins behind that (J1)
 abbrev pub is_put_out : Settings → List Event → Cause → ℕ → Bool
 is_put_out settings before (FromServer s body) e = is_refusing before s (message_of body) && (is_begun (desk_of e before).phase && is_in settings before s e)
 is_put_out settings before (FromEditor n body) e = stops before n (message_of body) && is_there (desk_of e before).phase
 is_put_out settings before (Joined n) e = nat_eq n e && stopped before
+is_put_out settings before (StartFailed s) e = ends_with settings before s e && is_begun (desk_of e before).phase
+is_put_out settings before (ServerGone s) e = ends_with settings before s e && is_begun (desk_of e before).phase
 is_put_out settings before other e = false
+
+-- the program of the start ends by this cause, or couldn't be run
+abbrev pub is_exit : Cause → ℕ → Bool
+is_exit (StartFailed n) s = nat_eq n s
+is_exit (ServerGone n) s = nat_eq n s
+is_exit other s = false
 
 -- the message that is at work ends the link of its editor: `exit` (E9), or a request under an id that is open (E3)
 abbrev pub is_parting : List Event → ℕ → Message → Bool
@@ -286,6 +310,7 @@ pub record Known (settings : Settings) (events : List Event) : Type 0 where
   pub quit : Quit events
   pub apart : Apart events
   pub asks : Asks settings events
+  pub takes : Takes settings events
   pub housed : Housed settings events
   pub numbered : Numbered events
   pub stopped : Stopped events

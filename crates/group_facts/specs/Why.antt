@@ -1,5 +1,5 @@
 -- Why each out of the routing table over several editors and groups is sent, with what is known at its place: `before` are the events before the entry, `events` those before the out.
-use Rattle.std.specs.Prelude.{◌≡◌, ℕ, ◌<◌, Bool, true, false, not, ◌&&◌, ◌||◌, List, [], ◌∷◌, ◌++◌, find, flat_map, if◌then◌else◌, length, map, nat_eq, nat_lt, codes, decimal}
+use Rattle.std.specs.Prelude.{◌≡◌, ℕ, ◌<◌, Bool, true, false, not, ◌&&◌, ◌||◌, List, [], ◌∷◌, ◌++◌, find, flat_map, if◌then◌else◌, length, map, nat_eq, nat_lt, codes, decimal, filter, ◌^◌, IsUtf8}
 use Rattle.std.specs.Prelude.{Option, Some, None, slice_get}
 use Rattle.std.specs.List.{AllByRecursion, list_any}
 use Rattle.std.specs.Option.{option_and_then, option_map}
@@ -45,11 +45,12 @@ use Rattle.group_words.specs.Houses.{groups_of, home_of, stops}
 use Rattle.group_words.specs.Rows.{folders_text}
 use Rattle.group_rows.specs.Answers.{own_version}
 use Rattle.group_rows.specs.AskRows.{current_version, is_edit}
-use Rattle.group_rows.specs.Asks.{Ask, Parked, asker_of, asking_of, asks_of, has_number, has_running, is_patient, is_seated, is_single, is_taken, is_under, next_ask, parked_of, serves}
+use Rattle.group_rows.specs.Asks.{Ask, Parked, asker_of, asking_of, asks_of, has_number, has_running, is_patient, is_seated, is_single, is_taken, is_under, is_with, next_ask, parked_of, serves}
 use Rattle.group_rows.specs.Cancelling.{number_named, numbered_text}
 use Rattle.group_rows.specs.Created.{Taking, Token, accepts, created_of, created_text, created_token, has_accepted, is_answered, is_creating, named_token, token_called, token_marked}
 use Rattle.group_rows.specs.CreatedRows.{create_text}
 use Rattle.group_rows.specs.Ends.{answers_shutdown, exit_text}
+use Rattle.group_rows.specs.ExitRows.{empty_text, end_text, has_begun, is_full, unanswered_at}
 use Rattle.group_rows.specs.Forwarded.{Forwarded, Sender, answered_by, forwarding_of}
 use Rattle.group_rows.specs.Leaves.{cancel_text}
 use Rattle.group_rows.specs.Lists.{agreement_at, lists_of, sayings_of, version_at}
@@ -60,7 +61,7 @@ use Rattle.group_rows.specs.StopRows.{stopped as is_stopped}
 use Rattle.group_rows.specs.Texts.{texts_of}
 use Rattle.group_rows.specs.Tokens.{forwarded_text, is_told, is_worked, listens, mark_text, marked_text, own_token, reserves, work_mark}
 use Rattle.group_facts.specs.Built.{is_left}
-use Rattle.group_facts.specs.Facts.{IsAlone, IsWaiting, asked_by, asked_of, ends_link, is_early, leaves, turned_away}
+use Rattle.group_facts.specs.Facts.{IsAlone, IsWaiting, asked_by, asked_of, ends_link, is_early, is_exit, leaves, turned_away}
 use Rattle.group_facts.specs.Lively.{IsDying}
 
 -- Bodies to a start
@@ -330,7 +331,7 @@ pub record IsAnswer (events : List Event) (e : ℕ) (body : List ℕ) : Type 0 w
   pub alone : IsAlone events e id
   pub says : message_of body ≡ result (Some id) r
 
--- an error for the `initialize` of an editor that waits: the daemon has too many groups, the start for which it waits refuses its own, or all is stopped
+-- an error for the `initialize` of an editor that waits: the daemon has too many groups, the start for which it waits refuses its own, the group ends with its start, or all is stopped
 pub record IsTurning (settings : Settings) (before : List Event) (cause : Cause) (events : List Event) (e : ℕ) (body : List ℕ) : Type 0 where
   pub id : Id
   pub x : Json
@@ -462,11 +463,21 @@ pub record IsRestoring (settings : Settings) (before : List Event) (cause : Caus
   pub home : home_of settings e before ≡ Some group
   pub last : start_of group before ≡ Some s
 
--- what is taken back since its ids come again, and what is registered (S6), what is taken back (S7), and all that is live (L2); a token that the start creates (S8), and each that lives, in the order of creation (L2)
+-- a start that was ready ended, and e ran in its group (X2)
+pub record IsLost (settings : Settings) (before : List Event) (cause : Cause) (e s : ℕ) : Type 0 where
+  pub from : is_exit cause s ≡ true
+  pub ready : (life_of s before).stage ≡ Ready
+  pub ran : (desk_of e before).phase ≡ Running
+  pub group : ℕ
+  pub kept : group_of s before ≡ Some group
+  pub home : home_of settings e before ≡ Some group
+
+-- what is taken back since its ids come again, and what is registered (S6), what is taken back (S7), all that is live (L2), and that this is taken back as the start ends, by the first request to the editor then (X2); a token that the start creates (S8), and each that lives, in the order of creation (L2)
 pub data Calling (settings : Settings) (before : List Event) (cause : Cause) (e s n : ℕ) (body : List ℕ) : Type 0 where
   displaces : (asked : List ℕ) (items : List Registration) → IsChange settings before cause e s asked Register → registered asked ≡ Some items → body ≡ unregister_text (again items (live_of settings s before)) n → Calling settings before cause e s n body
   enrols : (asked : List ℕ) (items : List Registration) → IsChange settings before cause e s asked Register → registered asked ≡ Some items → body ≡ register_text items n → Calling settings before cause e s n body
   releases : (asked : List ℕ) (items : List Registration) → IsChange settings before cause e s asked Unregister → taken_back asked (live_of settings s before) ≡ Some items → body ≡ unregister_text (again items (live_of settings s before)) n → Calling settings before cause e s n body
+  forgets : IsLost settings before cause e s → n ≡ next_ask e before → body ≡ unregister_text (live_of settings s before) n → Calling settings before cause e s n body
   restores : IsRestoring settings before cause e s → body ≡ register_text (live_of settings s before) n → Calling settings before cause e s n body
   creates : (asked : List ℕ) (token : Token) → IsChange settings before cause e s asked Create → created_token asked (created_of settings s before) ≡ Some token → body ≡ create_text s token.number n → Calling settings before cause e s n body
   revives : (token : Token) (earlier later : List Token) → IsRestoring settings before cause e s → (created_of settings s before).tokens ≡ earlier ++ token ∷ later → body ≡ create_text s token.number n → Calling settings before cause e s n body
@@ -576,6 +587,27 @@ pub record IsShown (settings : Settings) (before : List Event) (cause : Cause) (
   pub class : class_of method Server true ≡ Diagnostics
   pub says : message_of body ≡ notification method params
 
+-- what an editor that runs was asked and didn't answer as the start ended: whether it takes a token, or a request of the start
+pub data Unanswered (settings : Settings) (before : List Event) (e s number : ℕ) : Type 0 where
+  of_taking : (taking : Taking) (earlier later : List Taking) → filter (unanswered_at e) (created_of settings s before).takings ≡ earlier ++ taking ∷ later → taking.number ≡ number → Unanswered settings before e s number
+  of_ask : (ask : Ask) (earlier later : List Ask) → filter (is_with e) (asks_of settings s before) ≡ earlier ++ ask ∷ later → ask.number ≡ number → Unanswered settings before e s number
+
+-- what else it is told then (X2): that a token ends which has begun there; that what it was asked is cancelled; and an empty list for each document of which the last list that it was sent isn't empty
+pub data Losing (settings : Settings) (before : List Event) (events : List Event) (e s : ℕ) (body : List ℕ) : Type 0 where
+  ends : (token : Token) (earlier later : List Token) → (created_of settings s before).tokens ≡ earlier ++ token ∷ later → has_begun e token.number (created_of settings s before) ≡ true → body ≡ end_text (created_text s token.number) → Losing settings before events e s body
+  frees : (number : ℕ) → Unanswered settings before e s number → number < 2 ^ 64 → is_open (integer (decimal number)) (asked_of e events) ≡ true → body ≡ cancel_text number → Losing settings before events e s body
+  empties : (list : LastList) (earlier later : List LastList) → lists_of s before ≡ earlier ++ list ∷ later → is_full e list.uri before ≡ true → IsUtf8 list.uri → body ≡ empty_text list.uri → Losing settings before events e s body
+
+-- to an editor that runs
+pub record IsLosing (settings : Settings) (before : List Event) (cause : Cause) (events : List Event) (e : ℕ) (body : List ℕ) : Type 0 where
+  pub start : ℕ
+  pub lost : IsLost settings before cause e start
+  pub told : Losing settings before events e start body
+  pub running : (desk_of e events).phase ≡ Running
+  pub method : List ℕ
+  pub params : Json
+  pub says : message_of body ≡ notification method (Some params)
+
 pub data WhyToEditor (settings : Settings) (before : List Event) (cause : Cause) (events : List Event) (e : ℕ) (body : List ℕ) : Type 0 where
   rejects : IsRejection before cause events e body → WhyToEditor settings before cause events e body
   refuses : IsRefusal events e body → WhyToEditor settings before cause events e body
@@ -591,6 +623,7 @@ pub data WhyToEditor (settings : Settings) (before : List Event) (cause : Cause)
   progresses : IsProgress settings before cause events e body → WhyToEditor settings before cause events e body
   shows : IsShown settings before cause events e body → WhyToEditor settings before cause events e body
   loses : IsLoss before cause events e body → WhyToEditor settings before cause events e body
+  winds_up : IsLosing settings before cause events e body → WhyToEditor settings before cause events e body
 
 -- its program is to begin, or gave no result yet
 abbrev pub is_starting : Stage → Bool

@@ -45,11 +45,11 @@ both_simple (x ∷ xs) ys h k = let parts = and_parts (is_plain x && nat_lt x 12
 mark_simple : (s k : ℕ) → all_simple (created_mark s k) ≡ true
 mark_simple s k = both_simple (codes "lspmux:" ++ decimal s ++ codes ":") (decimal k) (both_simple (codes "lspmux:" ++ decimal s) (codes ":") (digits_simple s) refl) (digits_simple k)
 
-text_says : (s k : ℕ) → says (string nowhere (created_mark s k)) (created_text s k)
-text_says s k = simple_string nowhere (created_mark s k) (mark_simple s k)
+pub mark_says : (s k : ℕ) → says (string nowhere (created_mark s k)) (created_text s k)
+mark_says s k = simple_string nowhere (created_mark s k) (mark_simple s k)
 
 pub created_is : (s k : ℕ) → IsValueText (string nowhere (created_mark s k)) (created_text s k)
-created_is s k = let p = placed (string nowhere (created_mark s k)) 0 (created_text s k) (text_says s k) in record { tree = p.tree; stands = p.stands; same = p.same }
+created_is s k = let p = placed (string nowhere (created_mark s k)) 0 (created_text s k) (mark_says s k) in record { tree = p.tree; stands = p.stands; same = p.same }
 
 pub created_token_text : (s k : ℕ) → IsTokenText (created_text s k)
 created_token_text s k = record { tree = string nowhere (created_mark s k); text = created_is s k; flat = refl; token = refl }
@@ -60,7 +60,7 @@ create_tree s k = object nowhere (member nowhere (codes "token") (string nowhere
 
 params_written : (s k : ℕ) → IsValueText (create_tree s k) (create_params s k)
 params_written s k =
-    let p = placed (create_tree s k) 0 (create_params s k) (compact_object nowhere nowhere (codes "token") (string nowhere (created_mark s k)) no_members (created_text s k) (codes "}") refl (text_says s k) closing_none) in
+    let p = placed (create_tree s k) 0 (create_params s k) (compact_object nowhere nowhere (codes "token") (string nowhere (created_mark s k)) no_members (created_text s k) (codes "}") refl (mark_says s k) closing_none) in
     record { tree = p.tree; stands = p.stands; same = p.same }
 
 pub create_says : (s k n : ℕ) → n < 2 ^ 128 → message_of (create_text s k n) ≡ request (integer (decimal n)) (codes "window/workDoneProgress/create") (Some (create_tree s k))

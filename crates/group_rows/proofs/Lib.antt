@@ -21,5 +21,7 @@ pub mod CreatedTexts
 pub mod CreatedKept
 pub mod WorkedLists
 pub mod WorkedStop
+pub mod WorkedExits
+pub mod ExitTexts
 pub mod ListTexts
 pub mod ListsKept

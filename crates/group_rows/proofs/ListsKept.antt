@@ -1,5 +1,5 @@
 -- What is kept of lists was published by the start: a notification of that class.
-use Rattle.std.proofs.Common.{◌≡◌, ℕ, Bool, true, false, ◌&&◌, List, [], ◌∷◌, ◌++◌, codes, nat_eq, if◌then◌else◌, Option, Some, None, refl, sym, ◌∙◌, ap, subst}
+use Rattle.std.proofs.Common.{◌≡◌, ℕ, Bool, true, false, ◌&&◌, List, [], ◌∷◌, ◌++◌, codes, nat_eq, IsUtf8, if◌then◌else◌, Option, Some, None, refl, sym, ◌∙◌, ap}
 use Rattle.std.specs.List.{AllByRecursion}
 use Rattle.std.specs.Option.{option_map}
 use Rattle.json_text.specs.Json.{Json}
@@ -15,6 +15,7 @@ use Rattle.diagnostics_route.specs.Published.{list_of, published}
 use Rattle.diagnostics_route.specs.Rows.{is_of, with_list}
 use Rattle.group_words.specs.Past.{past}
 use Rattle.group_rows.specs.Lists.{is_publishing, lists_next, lists_of, sayings_of, with_published}
+use Rattle.group_rows.proofs.ExitTexts.{published_spelt}
 use Rattle.group_rows.proofs.Versions.{AllMeant, IsMeant}
 
 pub record IsList (l : LastList) : Type 0 where
@@ -22,6 +23,7 @@ pub record IsList (l : LastList) : Type 0 where
   pub params : Option Json
   pub says : message_of l.body ≡ notification method params
   pub class : is_publishing method ≡ true
+  pub spelt : IsUtf8 l.uri
 
 -- it is the body that came
 pub published_body : (place : ℕ) (body : List ℕ) (l : LastList) → published place body ≡ Some l → l.body ≡ body
@@ -42,7 +44,7 @@ put_kept l (x ∷ lists) h k = go (is_of l.uri x) (put_kept l lists h k.1)
 
 published_kept : (place : ℕ) (body method : List ℕ) (params : Option Json) → message_of body ≡ notification method params → is_publishing method ≡ true → (lists : List LastList) → AllByRecursion IsList lists
     → (o : Option LastList) → published place body ≡ o → AllByRecursion IsList (with_published o lists)
-published_kept place body method params says class lists k (Some l) at = put_kept l lists (record { method = method; params = params; says = ap message_of (published_body place body l at) ∙ says; class = class }) k
+published_kept place body method params says class lists k (Some l) at = put_kept l lists (record { method = method; params = params; says = ap message_of (published_body place body l at) ∙ says; class = class; spelt = published_spelt place body l at }) k
 published_kept place body method params says class lists k None at = k
 
 if_kept : (b : Bool) (x y : List LastList) → AllByRecursion IsList x → AllByRecursion IsList y → AllByRecursion IsList (if b then x else y)

@@ -73,7 +73,7 @@ spelt_utf8 name = go (is_utf8 name) refl
 abbrev name_tree : List ℕ → Json
 name_tree name = string nowhere (chars (spelt name))
 
-quoted_says : (text : List ℕ) → IsUtf8 text → says (string nowhere (chars text)) (quoted text)
+pub quoted_says : (text : List ℕ) → IsUtf8 text → says (string nowhere (chars text)) (quoted text)
 quoted_says text u = (34 ∷ [], escape text ++ 34 ∷ [], refl, refl, (escape text, 34 ∷ [], refl, spells_text text u, refl))
 
 name_says : (name : List ℕ) → says (name_tree name) (name_text name)

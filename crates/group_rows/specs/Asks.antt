@@ -11,7 +11,7 @@ use Rattle.lsp_method.specs.declared.variants.Class.TheVariants.{Focused, Lowest
 use Rattle.lsp_method.specs.declared.variants.Origin.TheVariants.{Server}
 use Rattle.rpc_message.specs.Message.{Message, request, Id, id_bytes, same_id}
 use Rattle.event_model.specs.Event.{Event, took, did}
-use Rattle.event_model.specs.Phases.{is_running}
+use Rattle.event_model.specs.Phases.{is_begun, is_running}
 use Rattle.event_model.specs.Requests.{answered_id}
 use Rattle.event_model.specs.Settings.{Settings}
 use Rattle.event_model.specs.Spawns.{group_of, start_of}
@@ -20,7 +20,11 @@ use Rattle.group_words.specs.Houses.{editors_in, home_of}
 use Rattle.group_words.specs.Past.{past}
 use Rattle.group_rows.specs.Forwarded.{names}
 
--- the editors of a group that run, rising
+-- the editors of a group, rising
+abbrev pub members_in : Settings → ℕ → List Event → List ℕ
+members_in settings g events = editors_in is_begun g (λ e. home_of settings e events) events
+
+-- those that run
 abbrev pub running_in : Settings → ℕ → List Event → List ℕ
 running_in settings g events = editors_in is_running g (λ e. home_of settings e events) events
 

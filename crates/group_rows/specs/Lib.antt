@@ -4,6 +4,8 @@ pub mod Cancelling
 pub mod CancellingExample
 pub mod Ends
 pub mod Example
+pub mod ExitExample
+pub mod ExitRows
 pub mod Forwarded
 pub mod Rows
 pub mod StopExample

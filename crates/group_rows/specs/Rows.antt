@@ -1,10 +1,10 @@
--- The routing table over several editors and groups, in part: J1, J2, E2 to E10, E11, E12 to E17, E19, S1, S2 with X4, S3, S4, S5 with V1 and V2, S6 to S12 with V3, S13 to S15, L2, X1 to X3 of groups that live no more, and X5 to X7.
+-- The routing table over several editors and groups, in part: J1, J2, E2 to E10, E11, E12 to E17, E19, S1, S2 with X4, S3, S4, S5 with V1 and V2, S6 to S12 with V3, S13 to S15, L2, X1 to X3, and X5 to X7.
 use Rattle.std.specs.Prelude.{ℕ, Bool, true, false, ◌&&◌, ◌||◌, List, [], ◌∷◌, ◌++◌, filter, flat_map, codes, nat_eq, nat_lt, bytes_eq, if◌then◌else◌}
 use Rattle.std.specs.Prelude.{Option, Some, None, slice_get}
 use Rattle.std.specs.List.{list_any}
 use Rattle.std.specs.Option.{option_map_or}
 use Rattle.mux_history.specs.declared.cause.Cause.{Cause}
-use Rattle.mux_history.specs.declared.cause.Cause.TheVariants.{Joined, FromEditor, EditorGone, Started, FromServer, Tick}
+use Rattle.mux_history.specs.declared.cause.Cause.TheVariants.{Joined, FromEditor, EditorGone, Started, StartFailed, FromServer, ServerGone, Tick}
 use Rattle.mux_history.specs.declared.out.Out.{Out}
 use Rattle.mux_history.specs.declared.out.Out.TheVariants.{ToEditor, ToServer, CloseEditor, EndServer}
 use Rattle.json_text.specs.Json.{Json}
@@ -37,10 +37,12 @@ use Rattle.registrations.specs.mux_model.specs.Rows.{malformed_row, to_start}
 use Rattle.group_words.specs.Houses.{editors_in, groups_of, home_of, is_doubled, is_first_error, is_first_open, server_asked}
 use Rattle.group_words.specs.Rows.{initialize_of, initialize_row, shown_of}
 use Rattle.group_rows.specs.Answers.{answer_row}
+use Rattle.group_rows.specs.Asks.{members_in}
 use Rattle.group_rows.specs.AskRows.{notified_row, question_row, response_row, run_row}
 use Rattle.group_rows.specs.Cancelling.{cancelling_row}
 use Rattle.group_rows.specs.CreatedRows.{work_row}
 use Rattle.group_rows.specs.Ends.{answers_shutdown, exit_server}
+use Rattle.group_rows.specs.ExitRows.{lost_row}
 use Rattle.group_rows.specs.Forwarded.{forwarding_of}
 use Rattle.group_rows.specs.Leaves.{leave_row}
 use Rattle.group_rows.specs.ListRows.{show_opened}
@@ -230,10 +232,6 @@ first_result settings before s body = on (group_of s before) nothing (result_in 
 abbrev pub refusal : List ℕ → ℕ → Row
 refusal body e = look (λ events. send (ToEditor e (with_id_text body (id_bytes (desk_of e events).initialize)))) ⨾ send (CloseEditor e)
 
--- the editors of a group
-abbrev pub members_in : Settings → ℕ → List Event → List ℕ
-members_in settings g events = editors_in is_begun g (λ e. home_of settings e events) events
-
 abbrev pub close_all : List ℕ → Row
 close_all es = each (λ e. send (CloseEditor e)) es
 
@@ -287,6 +285,8 @@ row_of settings before (FromEditor e body) = from_editor settings before e body 
 row_of settings before (EditorGone e why) = gone_row settings before e (desk_of e before).phase
 row_of settings before (FromServer s body) = from_server settings s before body (message_of body) (life_of s before).stage
 row_of settings before (Started s) = started settings s before (life_of s before).stage
+row_of settings before (StartFailed s) = lost_row settings before s
+row_of settings before (ServerGone s) = lost_row settings before s
 row_of settings before (Tick t) = tick_row settings before t
 row_of settings before other = nothing
 

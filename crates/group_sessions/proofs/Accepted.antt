@@ -13,11 +13,11 @@ use Rattle.event_model.specs.Settings.{Settings}
 use Rattle.mux_model.specs.Fits.{fits_behind}
 use Rattle.mux_facts.proofs.Reasons.{Reasons}
 use Rattle.session_laws.specs.ClientRules.{accepted_of}
-use Rattle.session_laws.specs.Progress.{Creates}
+use Rattle.session_laws.specs.Progress.{Creates, is_one, token_at}
 use Rattle.group_rows.specs.Created.{created_mark}
 use Rattle.group_rows.specs.Rows.{outs_of}
 use Rattle.group_facts.specs.Built.{built_behind}
-use Rattle.group_facts.specs.Why.{Telling, of_held, of_request, of_token}
+use Rattle.group_facts.specs.Why.{Telling, of_held, of_request, of_token, IsLosing}
 use Rattle.group_facts.proofs.Reached.{Reached}
 
 abbrev pub accepted : ℕ → List Event → Creates
@@ -44,9 +44,14 @@ pub record IsHeard (settings : Settings) (before : List Event) (cause : Cause) (
   pub told : Telling settings before cause events e body
   pub hears : Hears settings before cause events e body told
 
+-- the end of a token at the exit of its start is of one that the editor accepted, and that hasn't ended
+abbrev pub Closes : Settings → List Event → Cause → List Event → Out → Type 0
+Closes settings before cause events (ToEditor e body) = IsLosing settings before cause events e body → (params : Option Json) → message_of body ≡ notification (codes "$/progress") params → is_one (token_at (codes "token") params) (accepted e events).created ≡ true
+Closes settings before cause events other = Unit {0}
+
 -- where a body is progress
 abbrev pub Heard : Settings → List Event → Cause → List Event → Out → Type 0
-Heard settings before cause events (ToEditor e body) = Telling settings before cause events e body → IsHeard settings before cause events e body
+Heard settings before cause events (ToEditor e body) = (Telling settings before cause events e body → IsHeard settings before cause events e body) × Closes settings before cause events (ToEditor e body)
 Heard settings before cause events other = Unit {0}
 
 -- Each out of every entry is so: the part of rule 6 that is about created tokens.

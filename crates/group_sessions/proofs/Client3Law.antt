@@ -29,7 +29,7 @@ use Rattle.group_rows.specs.Rows.{outs_of}
 use Rattle.group_rows.specs.Tokens.{listens}
 use Rattle.group_facts.specs.Facts.{Asks}
 use Rattle.group_facts.specs.Legal.{Legal}
-use Rattle.group_facts.specs.Why.{IsBeside, WhyToEditor, calls, rejects, resumes, refuses, answers, turns_away, welcomes, passes, asks, recalls, shows, spreads, progresses, loses}
+use Rattle.group_facts.specs.Why.{IsBeside, WhyToEditor, calls, rejects, resumes, refuses, answers, turns_away, welcomes, passes, asks, recalls, shows, spreads, progresses, loses, winds_up}
 use Rattle.group_facts.proofs.RestLaws.{RestLaw, rest_holds}
 use Rattle.group_rows.proofs.Versions.{AllMeant}
 use Rattle.group_sessions.proofs.Again.{again_rests}
@@ -321,6 +321,7 @@ module _ (events : List Event) (n : ℕ) (body : List ℕ) where
   heard_it settings before cause (recalls k) h = asked_told (notification (codes "$/cancelRequest") (Some k.params)) (k.source).running k.says refl h
   heard_it settings before cause (progresses k) h = progress_told (notification k.method k.params) k.hears k.says refl h
   heard_it settings before cause (shows k) h = asked_told (notification k.method k.params) k.running k.says refl h
+  heard_it settings before cause (winds_up k) h = asked_told (notification k.method (Some k.params)) k.running k.says refl h
   heard_it settings before cause (passes k) h = answer_told k.id k.there k.late (response_to k.id (message_of body) k.response k.answers) h
 
 -- Other outs

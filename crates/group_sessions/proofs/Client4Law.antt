@@ -15,7 +15,7 @@ use Rattle.session_laws.proofs.Client4Law.{free_4, next_counted}
 use Rattle.session_laws.proofs.PartLaws.{either_same, part_tied, same_if}
 use Rattle.group_rows.specs.Asks.{asked_behind, next_ask}
 use Rattle.group_facts.specs.Legal.{Legal}
-use Rattle.group_facts.specs.Why.{WhyToEditor, answers, asks, passes, recalls, refuses, calls, rejects, resumes, shows, spreads, turns_away, welcomes, progresses, loses}
+use Rattle.group_facts.specs.Why.{WhyToEditor, answers, asks, passes, recalls, refuses, calls, rejects, resumes, shows, spreads, turns_away, welcomes, progresses, loses, winds_up}
 use Rattle.group_sessions.proofs.PartLaws.{EditorRule, editor_history}
 use Rattle.group_sessions.proofs.Server3Law.{response_numbered}
 
@@ -54,6 +54,7 @@ module _ (settings : Settings) (before : List Event) (cause : Cause) (events : L
   numbered (recalls k) = subst Numbered (sym k.says) tt
   numbered (progresses k) = subst Numbered (sym k.says) tt
   numbered (shows k) = subst Numbered (sym k.says) tt
+  numbered (winds_up k) = subst Numbered (sym k.says) tt
 
 rule : (settings : Settings) → EditorRule settings ClientRule4
 rule settings = record { free = free_4; told = λ before cause events e body why. numbered settings before cause events e body why }

@@ -1,10 +1,10 @@
 -- A cancel to an editor names a request that it didn't answer.
-use Rattle.std.proofs.Common.{◌≡◌, ℕ, not, cond, List, [], ◌||◌, decimal, nat_eq, IsTrue, refl, sym, ◌∙◌, ap, subst}
+use Rattle.std.proofs.Common.{◌≡◌, ℕ, not, cond, List, [], ◌||◌, decimal, nat_eq, IsTrue, refl, sym, ◌∙◌, ap, subst, arith}
 use Rattle.mux_history.specs.declared.cause.Cause.{Cause}
 use Rattle.mux_history.specs.declared.cause.Cause.TheVariants.{FromEditor, EditorGone}
 use Rattle.mux_history.specs.declared.entry.Entry.{Entry}
 use Rattle.mux_history.specs.declared.out.Out.TheVariants.{CloseEditor, ToEditor}
-use Rattle.rpc_message.specs.Message.{Id, Message, integer, message_of}
+use Rattle.rpc_message.specs.Message.{Id, Message, integer, message_of, integer_if}
 use Rattle.event_model.specs.Event.{Event, did, took}
 use Rattle.event_model.specs.Parts.{editor_part, is_of_editor}
 use Rattle.event_model.specs.Requests.{answered_id, is_open, with_request, without}
@@ -16,10 +16,14 @@ use Rattle.session_laws.proofs.Client4Law.{free_5}
 use Rattle.session_laws.proofs.PartLaws.{either_same, part_tied, same_if}
 use Rattle.group_facts.specs.Facts.{asked_of, editor_behind}
 use Rattle.group_facts.specs.Legal.{Legal}
-use Rattle.group_facts.specs.Why.{WhyToEditor, answers, asks, passes, recalls, refuses, calls, rejects, resumes, shows, spreads, turns_away, welcomes, progresses, loses}
+use Rattle.group_facts.specs.Why.{WhyToEditor, answers, asks, passes, recalls, refuses, calls, rejects, resumes, shows, spreads, turns_away, welcomes, progresses, loses, winds_up, Losing, ends, frees, empties}
 use Rattle.group_facts.proofs.Spreads.{list_no_cancel, not_cancel, progress_no_cancel}
 use Rattle.group_sessions.proofs.PartLaws.{EditorRule, editor_history}
 use Rattle.session_laws.proofs.Server6Law.{response_free}
+use Rattle.group_rows.proofs.Cancels.{cancel_says}
+use Rattle.group_rows.proofs.ExitTexts.{empty_says, end_says}
+use Rattle.group_facts.proofs.Tellings.{cancel_names}
+use Rattle.rpc_message.proofs.Decimals.{decimal_integer}
 
 one_open : (e : ℕ) (ids : List Id) (event : Event) → editor_behind e ids event ≡ cond (is_of_editor e event) (unanswered_behind ids event) ids
 one_open e ids (did (ToEditor k body) m) = same_if (nat_eq k e) (with_request m ids) ids
@@ -53,6 +57,13 @@ module _ (settings : Settings) (before : List Event) (cause : Cause) (events : L
   may_go (recalls k) = subst May (sym k.says) (ap (λ j. is_among (id_at j) ids) k.named ∙ ap (λ i. is_among i ids) k.id ∙ ap (is_open (integer (decimal (k.ask).number))) (sym (open_by_part e events)) ∙ k.open_there)
   may_go (progresses k) = subst May (sym k.says) (ap (λ b. not b || is_among (cancelled_id k.params) ids) (progress_no_cancel k.method k.class))
   may_go (shows k) = subst May (sym k.says) (ap (λ b. not b || is_among (cancelled_id k.params) ids) (list_no_cancel k.method k.class))
+  may_go (winds_up k) = wound k.start k.told
+    where
+      wound : (s : ℕ) → Losing settings before events e s body → May (message_of body)
+      wound s (ends token earlier later order begun is) = subst May (sym (ap message_of is ∙ end_says s token.number)) refl
+      wound s (frees number unanswered small waits is) = subst May (sym (ap message_of is ∙ cancel_says number small))
+          (ap (λ j. is_among (id_at j) ids) (cancel_names number) ∙ ap (λ i. is_among i ids) (ap (λ b. integer_if b (decimal number)) (decimal_integer number (omega (arith, small)))) ∙ ap (is_open (integer (decimal number))) (sym (open_by_part e events)) ∙ waits)
+      wound s (empties list earlier later order full spelt is) = subst May (sym (ap message_of is ∙ empty_says list.uri spelt)) refl
 
 rule : (settings : Settings) → EditorRule settings ClientRule5
 rule settings = record { free = free_5; told = λ before cause events e body why. may_go settings before cause events e body why }

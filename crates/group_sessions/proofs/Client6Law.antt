@@ -38,7 +38,7 @@ use Rattle.group_rows.specs.Tokens.{is_mark, is_told, marked_text, own_token, pa
 use Rattle.group_rows.proofs.CreatedTexts.{created_is}
 use Rattle.group_facts.specs.Built.{built_behind}
 use Rattle.group_facts.specs.Legal.{Legal}
-use Rattle.group_facts.specs.Why.{IsNotified, Telling, Why, WhyToEditor, answers, asks, calls, of_held, of_request, of_token, passes, progresses, recalls, refuses, rejects, resumes, shows, spreads, turns_away, welcomes, loses, quitting}
+use Rattle.group_facts.specs.Why.{IsNotified, Telling, Why, WhyToEditor, answers, asks, calls, of_held, of_request, of_token, passes, progresses, recalls, refuses, rejects, resumes, shows, spreads, turns_away, welcomes, loses, quitting, winds_up}
 use Rattle.group_facts.proofs.Facts.{Facts}
 use Rattle.group_facts.proofs.Forwards.{forwarding_more}
 use Rattle.group_facts.proofs.Known.{Here, here_did, here_took}
@@ -58,6 +58,7 @@ use Rattle.group_facts.proofs.Listens.{listens_there}
 use Rattle.event_model.specs.Phases.{desk_of, is_there}
 use Rattle.std.proofs.lemmas.Bool.{and_parts}
 use Rattle.group_facts.proofs.SlowRow.{parting_walk, quit_built}
+use Rattle.event_model.proofs.Frames.{never}
 
 -- What is told
 
@@ -168,8 +169,17 @@ module _ (settings : Settings) (range : InRange settings) (before : List Event) 
     may_go (resumes k) h = subst May (sym k.says) refl
     may_go (calls k) h = subst May (sym k.says) refl
     may_go (spreads k) h = subst May (sym k.says) (ap (λ b. not b || is_one (token_at (codes "token") k.params) tokens) (not_progress k.method k.class))
+    may_go (winds_up k) h = subst May (sym k.says) (go (bytes_eq k.method (codes "$/progress")) refl)
+      where
+        named : (o : Option Id) → is_one o (accepted n events).created ≡ true → is_one o tokens ≡ true
+        named (Some token) there = open_behind token (tokens_in (tokened n events)) (accepted n events).created there
+        named None there = never (sym there)
+
+        go : (b : Bool) → bytes_eq k.method (codes "$/progress") ≡ b → (not b || is_one (token_at (codes "token") (Some k.params)) tokens) ≡ true
+        go false other = refl
+        go true same = named (token_at (codes "token") (Some k.params)) (h.1 k (Some k.params) (k.says ∙ ap (λ z. notification z (Some k.params)) ((bytes_eq-Decides k.method (codes "$/progress")).0 same)))
     may_go (recalls k) h = subst May (sym k.says) refl
-    may_go (progresses k) h = let heard : IsHeard settings before cause events n body = h k.told in telling heard.told heard.hears
+    may_go (progresses k) h = let heard : IsHeard settings before cause events n body = h.0 k.told in telling heard.told heard.hears
     may_go (shows k) h = subst May (sym k.says) (ap (λ b. not b || is_one (token_at (codes "token") k.params) tokens) (list_no_progress k.method k.class))
 
   abbrev Both : List Event → Out → Type 0

@@ -149,11 +149,11 @@ module _ (settings : Settings) (range : InRange settings) (before : List Event) 
   module _ (cause : Cause) (fits : fits_behind before cause ≡ true) (built : built_behind settings before cause ≡ true) where
     plain : is_change before cause ≡ false → (e : ℕ) → begins before cause e ≡ false → Whole cause e
     plain off e runs =
-        let at : At e (ids e before) (later cause) = ordinary settings range before facts settled cause fits built all off e runs in record {
-          xs = ids e before;
-          at = at;
-          early = λ h. at.has ∙ all.early e (early_here settings range before facts settled cause fits built e h).0;
-          tied = λ g t. ordinary_tied settings range before facts settled cause fits built all off e g t runs;
+        let g = ordinary settings range before facts settled cause fits built all off one e runs in record {
+          xs = ids e (later cause);
+          at = record { always = g.always; has = refl };
+          early = λ h. let k = early_here settings range before facts settled cause fits built e h in g.kept (λ s lost. never (sym (ap has_run lost.ran) ∙ k.0)) ∙ all.early e k.0;
+          tied = λ g t. ordinary_tied settings range before facts settled cause fits built all off one e g t runs;
         }
 
     late : (e : ℕ) → begins before cause e ≡ true → has_run (desk_of e (later cause)).phase ≡ false → ids e (later cause) ≡ []

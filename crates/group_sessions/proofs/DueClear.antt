@@ -31,7 +31,7 @@ use Rattle.group_rows.specs.Forwarded.{names}
 use Rattle.group_rows.specs.Live.{is_registering}
 use Rattle.group_rows.specs.Rows.{outs_of}
 use Rattle.group_facts.specs.Built.{built_behind}
-use Rattle.group_facts.specs.Why.{Why, WhyToEditor, answers, asks, asks_something, calls, passes, progresses, recalls, refuses, rejects, resumes, shows, spreads, turns_away, welcomes, loses}
+use Rattle.group_facts.specs.Why.{Why, WhyToEditor, answers, asks, asks_something, calls, passes, progresses, recalls, refuses, rejects, resumes, shows, spreads, turns_away, welcomes, loses, winds_up}
 use Rattle.group_facts.proofs.AskSeats.{asks_more, did_all, took_all}
 use Rattle.group_facts.proofs.Asks.{call_hurried, is_question, listed, registering_made, response_asks_none, resumed_here, resumed_off, taken}
 use Rattle.group_facts.proofs.Reached.{Reached, facts_at}
@@ -264,6 +264,7 @@ module _ (settings : Settings) (before : List Event) (cause : Cause) where
     told_plain (recalls k) s h = did_all settings (IsPlain later) s events (ToEditor n body) (ap is_question k.says) (still_plain s h)
     told_plain (progresses k) s h = did_all settings (IsPlain later) s events (ToEditor n body) (ap is_question k.says) (still_plain s h)
     told_plain (shows k) s h = did_all settings (IsPlain later) s events (ToEditor n body) (ap is_question k.says) (still_plain s h)
+    told_plain (winds_up k) s h = did_all settings (IsPlain later) s events (ToEditor n body) (ap is_question k.says) (still_plain s h)
 
     -- a request goes under a number that there is
     response_asks : (m : Message) → is_response m ≡ true → asks_something m ≡ false
@@ -289,6 +290,7 @@ module _ (settings : Settings) (before : List Event) (cause : Cause) where
     room (recalls k) is = never (sym is ∙ ap asks_something k.says)
     room (progresses k) is = never (sym is ∙ ap asks_something k.says)
     room (shows k) is = never (sym is ∙ ap asks_something k.says)
+    room (winds_up k) is = never (sym is ∙ ap asks_something k.says)
 
     told_small : WhyToEditor settings before cause events n body → AllSmall events → AllSmall later
     told_small why h e = let m : next_ask e later ≡ asked_behind e (next_ask e events) (said (ToEditor n body)) = next_more e events (said (ToEditor n body)) in subst (λ z. z ≤ 2 ^ 64) (sym m) (by (message_of body) refl)

@@ -1,5 +1,5 @@
 -- In every legal history each editor was sent of each token what it is due.
-use Rattle.std.proofs.Common.{◌≡◌, ℕ, ◌^◌, ◌<◌, ◌≤◌, true, List, [], ◌∷◌, ◌++◌, ap, append-nil, map, refl, sym, ◌∙◌}
+use Rattle.std.proofs.Common.{◌≡◌, ℕ, ◌^◌, ◌<◌, ◌≤◌, true, List, [], ◌∷◌, ◌++◌, ap, append-nil, map, refl, sym, ◌∙◌, ◌||◌, ap₂, nat_eq, Bool, false, ◌&&◌}
 use Rattle.std.specs.List.{list_any}
 use Rattle.mux_history.specs.declared.cause.Cause.{Cause}
 use Rattle.mux_history.specs.declared.entry.Entry.{Entry}
@@ -13,7 +13,7 @@ use Rattle.event_model.proofs.Frames.{never}
 use Rattle.mux_model.specs.Fits.{fits_behind}
 use Rattle.mux_facts.specs.Ranges.{InRange}
 use Rattle.mux_facts.proofs.Reasons.{Reasons, reasons_keep}
-use Rattle.group_rows.specs.Created.{created_text}
+use Rattle.group_rows.specs.Created.{created_text, created_of}
 use Rattle.group_rows.specs.Rows.{outs_of}
 use Rattle.group_rows.specs.Tokens.{marked_text}
 use Rattle.group_facts.specs.Built.{built_behind}
@@ -28,18 +28,20 @@ use Rattle.group_facts.specs.Why.{Why, quitting}
 use Rattle.group_sessions.proofs.Tied.{has_run}
 use Rattle.group_sessions.proofs.Unreserved.{Unreserved, all_unreserved}
 use Rattle.group_sessions.proofs.Walk.{KeepsSlow, walk}
-use Rattle.group_sessions.specs.Due.{KeepsDue, due, is_asks, progress_sent, words}
+use Rattle.group_sessions.specs.Due.{KeepsDue, due, is_asks, progress_sent, words, closing, is_closing, progress_due, word}
 use Rattle.group_sessions.proofs.DueClear.{all_clear}
-use Rattle.group_sessions.proofs.DueEvents.{Moves, Tie, gain, moved_did, tied_first}
+use Rattle.group_sessions.proofs.DueEvents.{Moves, Tie, gain, moved_did, tied_first, left_whole}
 use Rattle.group_sessions.proofs.DueLaw.{AskedOnce, entry_due, entry_tied, fewer}
 use Rattle.group_sessions.proofs.DueOnce.{asked_once, closed_off, ran_did, ran_entry}
 use Rattle.group_sessions.proofs.DueSent.{sent_behind, sent_outs}
+use Rattle.group_sessions.proofs.DueStates.{broke}
+use Rattle.group_rows.specs.ExitRows.{has_begun}
 
 -- of token k of start s and editor e
 record Rests (settings : Settings) (events : List Event) (s k e : ℕ) : Type 0 where
   tie : Tie settings s k e events
   ran : list_any is_asks (words settings s k e events) ≡ true → has_run (desk_of e events).phase ≡ true
-  same : progress_sent s k e events ≡ map (marked_text (created_text s k)) (due (words settings s k e events))
+  same : progress_sent s k e events ≡ progress_due settings s k e events
 
 abbrev AllRest : Settings → List Event → Type 0
 AllRest settings events = starts_of events ≤ 2 ^ 64 → (s k e : ℕ) → s < 2 ^ 64 → k < 2 ^ 64 → Rests settings events s k e
@@ -47,7 +49,7 @@ AllRest settings events = starts_of events ≤ 2 ^ 64 → (s k e : ℕ) → s < 
 -- at a place where an editor that is slow leaves: what was sent is what is due
 module _ (settings : Settings) (s k e : ℕ) where
   abbrev IsDue : List Event → Type 0
-  IsDue events = progress_sent s k e events ≡ map (marked_text (created_text s k)) (due (words settings s k e events))
+  IsDue events = progress_sent s k e events ≡ progress_due settings s k e events
 
   record AtSlow (place : List Event) (n : ℕ) (events : List Event) : Type 0 where
     here : Here settings place (quitting n) events
@@ -55,9 +57,14 @@ module _ (settings : Settings) (s k e : ℕ) where
     same : IsDue events
 
   -- an out that tells it nothing
-  one_silent : (events : List Event) (out : Out) → sent_outs s k e (out ∷ []) ≡ [] → gain settings s k e events (said out) ≡ [] → Moves settings s k e events (said out) → IsDue events → IsDue (events ++ said out ∷ [])
-  one_silent events out silent none moves same = sent_behind s k e events (out ∷ []) ∙ (ap (λ z. progress_sent s k e events ++ z) silent ∙ (append-nil (progress_sent s k e events)
-      ∙ (same ∙ ap (map (marked_text (created_text s k))) (sym (moves.grows ∙ (ap (λ z. due (words settings s k e events) ++ z) none ∙ append-nil (due (words settings s k e events))))))))
+  one_silent : (events : List Event) (out : Out) → sent_outs s k e (out ∷ []) ≡ [] → gain settings s k e events (said out) ≡ [] → broke e k (word settings s k e events (said out)) ≡ false → Moves settings s k e events (said out) → IsDue events → IsDue (events ++ said out ∷ [])
+  one_silent events out silent none whole moves same = sent_behind s k e events (out ∷ []) ∙ (ap (λ z. progress_sent s k e events ++ z) silent ∙ (append-nil (progress_sent s k e events)
+      ∙ (same ∙ ap₂ (λ u b. map (marked_text (created_text s k)) u ++ closing s k b) (sym (moves.grows ∙ (ap (λ z. due (words settings s k e events) ++ z) none ∙ append-nil (due (words settings s k e events)))))
+      (sym (moves.cut ∙ (ap (λ b. is_closing (words settings s k e events) || (b && has_begun e k (created_of settings s events))) whole ∙ or_none (is_closing (words settings s k e events))))))))
+    where
+      or_none : (b : Bool) → (b || false) ≡ b
+      or_none true = refl
+      or_none false = refl
 
 module _ (settings : Settings) (range : InRange settings) where
   entry : (before : List Event) → Reached settings before → (cause : Cause) → fits_behind before cause ≡ true → built_behind settings before cause ≡ true
@@ -110,13 +117,13 @@ module _ (settings : Settings) (range : InRange settings) where
           record {
             here = here_did settings range place (quitting n) facts (quit_built settings place n) place (CloseEditor n) (parting_why settings range place facts n is).0 i.here;
             tied = m.tie;
-            same = one_silent settings s k e place (CloseEditor n) refl refl m i.same;
+            same = one_silent settings s k e place (CloseEditor n) refl refl (left_whole settings s k e place (nat_eq n e)) m i.same;
           })
           (λ events t body why i. let m : Moves settings s k e events (said (ToServer t body)) = moved_did settings s k e events i.tied (((i.here).mid).steady).starts (ToServer t body) tt (λ asks. never (sym asks)) in
           record {
             here = here_did settings range place (quitting n) facts (quit_built settings place n) events (ToServer t body) why i.here;
             tied = m.tie;
-            same = one_silent settings s k e events (ToServer t body) refl refl m i.same;
+            same = one_silent settings s k e events (ToServer t body) refl refl refl m i.same;
           })
           (record { here = here_slow settings range place n facts; tied = was.tie; same = was.same })
 

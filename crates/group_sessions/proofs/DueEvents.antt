@@ -23,15 +23,20 @@ use Rattle.mux_facts.proofs.Starts.{Starts}
 use Rattle.mux_facts.proofs.Words.{number_same, same_number}
 use Rattle.group_words.proofs.Frames.{past_more}
 use Rattle.group_rows.specs.Asks.{asking_of, is_taken, next_ask}
-use Rattle.group_rows.specs.Created.{Created, Token, accepts, answered, asked, begun_by, created_next, created_of, created_token, first_begin, held_first, is_answered, is_called, is_creating, is_ended_by, is_numbered, is_over, is_progress, left, lives, named_token, no_created, progressed, settled, spoken, told as told_taking, token_called, token_marked, is_marked, with_asked, with_token}
+use Rattle.group_rows.specs.Created.{Created, Token, accepts, answered, asked, begun_by, created_next, created_of, created_token, first_begin, held_first, is_answered, is_called, is_creating, is_ended_by, is_numbered, is_over, is_progress, left, lives, named_token, no_created, progressed, settled, spoken, told as told_taking, token_called, token_marked, is_marked, with_asked, with_token, is_end}
 use Rattle.group_rows.specs.Live.{is_heard}
 use Rattle.group_sessions.proofs.CreatedFold.{IsLive, IsNew, Orderly, created_orderly, new_is}
 use Rattle.group_sessions.proofs.CreatedTies.{created_more}
+use Rattle.group_rows.specs.ExitRows.{has_begun}
 use Rattle.group_sessions.proofs.HeldFold.{gone_behind}
-use Rattle.group_sessions.specs.Due.{Word, asked_by, asks, bodies, body_in, due, is_asks, is_beginning, is_ending, opening, parts, replies, rests, spoken_by, tells, told_by, word, words}
+use Rattle.group_sessions.specs.Due.{Word, asked_by, asks, bodies, body_in, due, is_asks, is_beginning, is_ending, opening, parts, replies, rests, spoken_by, tells, told_by, word, words, breaks, is_closing}
 use Rattle.group_sessions.proofs.DueFold.{own, own_answered, own_asked, own_left, own_other, own_stays, own_still, own_told}
-use Rattle.group_sessions.proofs.DueStates.{State, Steps, ask, fresh, gained, handed, idle, part, reply, tell}
+use Rattle.group_sessions.proofs.DueStates.{State, Steps, ask, fresh, gained, handed, idle, part, reply, tell, broke, cuts}
 use Rattle.group_sessions.proofs.DueWords.{any_join, bodies_join, opening_step}
+
+or_nil : (b : Bool) → (b || false) ≡ b
+or_nil true = refl
+or_nil false = refl
 
 pub num_off : (a b : ℕ) → (a ≡ b → ⊥) → nat_eq a b ≡ false
 num_off a b f = go (nat_eq a b) refl
@@ -70,17 +75,25 @@ begun_number j body params t = go (is_numbered j t)
     go true = refl
     go false = refl
 
-none_back : (j k : ℕ) (body : List ℕ) (params : Option Json) (ts : List Token) → list_any (is_numbered k) ts ≡ false → list_any (is_numbered k) (filter (λ u. not (is_ended_by j params u)) (map (begun_by j body params) ts)) ≡ false
-none_back j k body params [] h = refl
-none_back j k body params (t ∷ ts) h = go (is_numbered k t) refl (not (is_ended_by j params (begun_by j body params t))) (λ f. none_back j k body params ts f) h
+same_back : (j k : ℕ) (body : List ℕ) (params : Option Json) → nat_eq j k ≡ false → (ts : List Token) → list_any (is_numbered k) (filter (λ u. not (is_ended_by j params u)) (map (begun_by j body params) ts)) ≡ list_any (is_numbered k) ts
+same_back j k body params apart [] = refl
+same_back j k body params apart (t ∷ ts) = go (is_ended_by j params (begun_by j body params t)) refl (same_back j k body params apart ts)
   where
     rest : List Token
     rest = filter (λ u. not (is_ended_by j params u)) (map (begun_by j body params) ts)
 
-    go : (b : Bool) → is_numbered k t ≡ b → (d : Bool) → (list_any (is_numbered k) ts ≡ false → list_any (is_numbered k) rest ≡ false) → (b || list_any (is_numbered k) ts) ≡ false → list_any (is_numbered k) (cond d (begun_by j body params t ∷ rest) rest) ≡ false
-    go true at d f g = never g
-    go false at true f g = ap₂ (λ u v. u || v) (ap (λ n. nat_eq n k) (begun_number j body params t) ∙ at) (f g)
-    go false at false f g = f g
+    go : (d : Bool) → is_ended_by j params (begun_by j body params t) ≡ d → list_any (is_numbered k) rest ≡ list_any (is_numbered k) ts → list_any (is_numbered k) (cond (not d) (begun_by j body params t ∷ rest) rest) ≡ (is_numbered k t || list_any (is_numbered k) ts)
+    go false off later = ap₂ (λ u v. u || v) (ap (λ n. nat_eq n k) (begun_number j body params t)) later
+    go true gone later = later ∙ ap (λ b. b || list_any (is_numbered k) ts) (sym (ap (λ n. nat_eq n k) (sym (begun_number j body params t) ∙ number_same (begun_by j body params t).number j (and_parts (is_end params) (is_numbered j (begun_by j body params t)) gone).1) ∙ apart))
+
+-- where it doesn't end, each lives on
+all_back : (j k : ℕ) (body : List ℕ) (params : Option Json) → is_end params ≡ false → (ts : List Token) → list_any (is_numbered k) (filter (λ u. not (is_ended_by j params u)) (map (begun_by j body params) ts)) ≡ list_any (is_numbered k) ts
+all_back j k body params goes_on [] = refl
+all_back j k body params goes_on (t ∷ ts) = ap (λ b. list_any (is_numbered k) (cond (not (b && is_numbered j (begun_by j body params t))) (begun_by j body params t ∷ rest) rest)) goes_on
+    ∙ ap₂ (λ u v. u || v) (ap (λ n. nat_eq n k) (begun_number j body params t)) (all_back j k body params goes_on ts)
+  where
+    rest : List Token
+    rest = filter (λ u. not (is_ended_by j params u)) (map (begun_by j body params) ts)
 
 -- What is known of a token's first `begin`, from these bodies
 
@@ -138,6 +151,7 @@ module _ (settings : Settings) (s k e : ℕ) where
   pub record Moves (events : List Event) (event : Event) : Type 0 where
     pub tie : Tie (events ++ event ∷ [])
     pub grows : due (said_of (events ++ event ∷ [])) ≡ due (said_of events) ++ gain events event
+    pub cut : is_closing (said_of (events ++ event ∷ [])) ≡ (is_closing (said_of events) || (broke e k (word settings s k e events event) && has_begun e k (fold events)))
 
   module _ (events : List Event) where
     abbrev x : Created
@@ -151,18 +165,72 @@ module _ (settings : Settings) (s k e : ℕ) where
       steps : Steps e k y ws w g
       rest : Rest k y (ws ++ w ∷ []) later
 
-    build : (event : Event) → Stepped (stage_of (events ++ event ∷ [])) (created_next settings s events x event) (word settings s k e events event) (gain events event) → Moves events event
-    build event st = record {
+    told_whole : (body : List ℕ) (o : Option Token) → broke e k (told_by k body o) ≡ false
+    told_whole body None = refl
+    told_whole body (Some t) = go (is_numbered k t)
+      where
+        go : (b : Bool) → broke e k (if b then tells body else rests) ≡ false
+        go true = refl
+        go false = refl
+
+    asked_whole : (n : ℕ) (o : Option Token) → broke e k (asked_by k n o) ≡ false
+    asked_whole n None = refl
+    asked_whole n (Some t) = go (is_numbered k t)
+      where
+        go : (b : Bool) → broke e k (if b then asks n else rests) ≡ false
+        go true = refl
+        go false = refl
+
+    pub server_whole : (n : ℕ) (body : List ℕ) (m : Message) → broke e k (word settings s k e events (took (FromServer n body) m)) ≡ false
+    server_whole n body (notification method params) = go (nat_eq n s && (is_progress method && is_ready (life_of s events).stage))
+      where
+        go : (b : Bool) → broke e k (if b then told_by k body (token_called (named_token params) x) else rests) ≡ false
+        go true = told_whole body (token_called (named_token params) x)
+        go false = refl
+    server_whole n body (request id method params) = refl
+    server_whole n body (result id r) = refl
+    server_whole n body (error id r) = refl
+    server_whole n body not_json = refl
+    server_whole n body not_message = refl
+
+    pub editor_whole : (b c : Bool) (m : Message) → broke e k (if b then (if c then parts else replies (answered_id m) (accepts m)) else rests) ≡ false
+    editor_whole true true m = refl
+    editor_whole true false m = refl
+    editor_whole false c m = refl
+
+    pub left_whole : (b : Bool) → broke e k (if b then parts else rests) ≡ false
+    left_whole true = refl
+    left_whole false = refl
+
+    pub out_whole : (out : Out) (m : Message) → broke e k (word settings s k e events (did out m)) ≡ false
+    out_whole (ToEditor n body) (request id method params) = go (nat_eq n e && is_creating method)
+      where
+        go : (b : Bool) → broke e k (if b then asked_by k (next_ask n events) (token_marked s params x) else rests) ≡ false
+        go true = asked_whole (next_ask n events) (token_marked s params x)
+        go false = refl
+    out_whole (ToEditor n body) (notification method params) = refl
+    out_whole (ToEditor n body) (result id r) = refl
+    out_whole (ToEditor n body) (error id r) = refl
+    out_whole (ToEditor n body) not_json = refl
+    out_whole (ToEditor n body) not_message = refl
+    out_whole (CloseEditor n) m = left_whole (nat_eq n e)
+    out_whole (ToServer n body) m = refl
+    out_whole (Spawn n g) m = refl
+    out_whole (EndServer n) m = refl
+
+    build : Tie events → (event : Event) → Stepped (stage_of (events ++ event ∷ [])) (created_next settings s events x event) (word settings s k e events event) (gain events event) → Moves events event
+    build old event st = record {
       tie = record {
         state = subst (State e k (fold (events ++ event ∷ []))) (sym (words_more events event)) (subst (λ y. State e k y (ws ++ word settings s k e events event ∷ [])) (sym (created_more settings s events event)) (st.steps).state);
         rest = subst (λ z. Rest k (fold (events ++ event ∷ [])) z (stage_of (events ++ event ∷ []))) (sym (words_more events event)) (subst (λ y. Rest k y (ws ++ word settings s k e events event ∷ []) (stage_of (events ++ event ∷ []))) (sym (created_more settings s events event)) st.rest);
       };
       grows = ap due (words_more events event) ∙ (st.steps).grows;
+      cut = ap is_closing (words_more events event) ∙ cuts e k x ws (word settings s k e events event) old.state;
     }
 
     module _ (tie : Tie events) where
       -- the event is nothing to them
-      resting : (y : Created) (later : Stage) → own e k y ≡ own e k x → (k < x.next → lives k x ≡ false → lives k y ≡ false) → ((x.next ≤ k → bodies ws ≡ []) → AllByRecursion (Begun k (bodies ws)) x.tokens → AllByRecursion (Begun k (bodies ws)) y.tokens) → x.next ≤ y.next
+      resting : (y : Created) (later : Stage) → own e k y ≡ own e k x → (k < x.next → lives k y ≡ lives k x) → ((x.next ≤ k → bodies ws ≡ []) → AllByRecursion (Begun k (bodies ws)) x.tokens → AllByRecursion (Begun k (bodies ws)) y.tokens) → x.next ≤ y.next
           → (x ≡ no_created → stage_of events ≡ Ended → y ≡ no_created) → (stage_of events ≡ Ended → later ≡ Ended) → Stepped later y rests []
       resting y later same off begun more none stays = record {
         steps = idle e k x y ws rests refl refl refl (λ c only un. refl) same off more tie.state;
@@ -170,15 +238,15 @@ module _ (settings : Settings) (s k e : ℕ) where
       }
 
       still : (later : Stage) → (stage_of events ≡ Ended → later ≡ Ended) → Stepped later x rests []
-      still later stays = resting x later refl (λ low off. off) (λ untold h. h) (omega arith) (λ is ended. is) stays
+      still later stays = resting x later refl (λ low. refl) (λ untold h. h) (omega arith) (λ is ended. is) stays
 
       alike : (y : Created) (later : Stage) → own e k y ≡ own e k x → y.tokens ≡ x.tokens → y.next ≡ x.next → (x ≡ no_created → y ≡ no_created) → (stage_of events ≡ Ended → later ≡ Ended) → Stepped later y rests []
-      alike y later same tokens next none stays = resting y later same (λ low off. ap (list_any (is_numbered k)) tokens ∙ off) (λ untold h. subst (AllByRecursion (Begun k (bodies ws))) (sym tokens) h) (omega (arith, next)) (λ is ended. none is) stays
+      alike y later same tokens next none stays = resting y later same (λ low. ap (list_any (is_numbered k)) tokens) (λ untold h. subst (AllByRecursion (Begun k (bodies ws))) (sym tokens) h) (omega (arith, next)) (λ is ended. none is) stays
 
       -- the editor leaves
       parting : (y : Created) (later : Stage) → own e k y ≡ [] → y.tokens ≡ x.tokens → y.next ≡ x.next → (x ≡ no_created → y ≡ no_created) → (stage_of events ≡ Ended → later ≡ Ended) → Stepped later y parts []
       parting y later gone tokens next none stays = record {
-        steps = part e k x y ws gone tie.state;
+        steps = part e k parts refl refl refl (λ j. refl) x y ws gone tie.state;
         rest = rest_more k x y ws parts (stage_of events) later refl (inl refl) (λ untold h. subst (AllByRecursion (Begun k (bodies ws))) (sym tokens) h) (omega (arith, next)) (λ is ended. none is) stays tie.rest;
       }
 
@@ -197,8 +265,8 @@ module _ (settings : Settings) (s k e : ℕ) where
           n : IsNew body x t
           n = new_is body x t is
 
-          none : k < x.next → lives k x ≡ false → lives k (with_token (Some t) x) ≡ false
-          none low off = any_join (is_numbered k) x.tokens (t ∷ []) ∙ ap₂ (λ a b. a || (b || false)) off (num_off t.number k (λ same. let at : t.number ≡ x.next = n.number in omega (arith, low, same, at)))
+          none : k < x.next → lives k (with_token (Some t) x) ≡ lives k x
+          none low = any_join (is_numbered k) x.tokens (t ∷ []) ∙ (ap (λ b. lives k x || (b || false)) (num_off t.number k (λ same. let at : t.number ≡ x.next = n.number in omega (arith, low, same, at))) ∙ or_nil (lives k x))
 
           begun : (x.next ≤ k → bodies ws ≡ []) → AllByRecursion (Begun k (bodies ws)) x.tokens → AllByRecursion (Begun k (bodies ws)) (x.tokens ++ t ∷ [])
           begun untold h = all_join (Begun k (bodies ws)) x.tokens (t ∷ []) h (
@@ -218,8 +286,9 @@ module _ (settings : Settings) (s k e : ℕ) where
               (own_told e k body params t x ∙ ap (λ j. map (told_taking j body params) (filter (λ c. not (is_over j params c)) (own e k x))) same)
               (ap (λ j. lives j x) (sym same) ∙ called_lives (named_token params) x t called)
               (λ end. ap (λ j. lives j y) (sym same) ∙ gone_behind t.number body params end x.tokens)
+              (λ goes_on. all_back t.number k body params goes_on x.tokens ∙ (ap (λ j. lives j x) (sym same) ∙ called_lives (named_token params) x t called))
               refl
-              (ap is_ending says) tie.state;
+              (ap is_ending says) (ap is_beginning says) tie.state;
           rest = here tie.rest;
         }
           where
@@ -248,7 +317,7 @@ module _ (settings : Settings) (s k e : ℕ) where
             here (dead is ended) = absurd (ready_not r ended)
 
         tell_other : nat_eq t.number k ≡ false → Stepped later y rests []
-        tell_other apart = resting y later (own_other e k body params t x apart) (λ low off. none_back t.number k body params x.tokens off) (λ untold h. begun h) (omega arith) (λ is ended. absurd (ready_not r ended)) stays
+        tell_other apart = resting y later (own_other e k body params t x apart) (λ low. same_back t.number k body params apart x.tokens) (λ untold h. begun h) (omega arith) (λ is ended. absurd (ready_not r ended)) stays
           where
             one : (u : Token) → Begun k (bodies ws) u → Begun k (bodies ws) (begun_by t.number body params u)
             one u h = go (is_numbered t.number u) refl
@@ -316,11 +385,11 @@ module _ (settings : Settings) (s k e : ℕ) where
           go true at = parting (left n x) later (ap (λ z. own e k (left z x)) (number_same n e at) ∙ own_left e k x) refl refl (λ is. ap (left n) is) stays
           go false off = alike (left n x) later (own_still e k n x off) refl refl (λ is. ap (left n) is) stays
 
-      ending_start : (n : ℕ) (later : Stage) → (stage_of events ≡ Ended → later ≡ Ended) → (nat_eq n s ≡ true → later ≡ Ended) → Stepped later (if nat_eq n s then no_created else x) (if nat_eq n s then parts else rests) []
+      ending_start : (n : ℕ) (later : Stage) → (stage_of events ≡ Ended → later ≡ Ended) → (nat_eq n s ≡ true → later ≡ Ended) → Stepped later (if nat_eq n s then no_created else x) (if nat_eq n s then breaks else rests) []
       ending_start n later stays ends_now = go (nat_eq n s) refl
         where
-          go : (b : Bool) → nat_eq n s ≡ b → Stepped later (if b then no_created else x) (if b then parts else rests) []
-          go true at = record { steps = part e k x no_created ws refl tie.state; rest = dead refl (ends_now at) }
+          go : (b : Bool) → nat_eq n s ≡ b → Stepped later (if b then no_created else x) (if b then breaks else rests) []
+          go true at = record { steps = part e k breaks refl refl refl (λ j. refl) x no_created ws refl tie.state; rest = dead refl (ends_now at) }
           go false off = still later stays
 
       pick_life : (b : Bool) (l : Life) → l.stage ≡ Ended → stage_of events ≡ Ended → (if b then l else life_of s events).stage ≡ Ended
@@ -345,15 +414,15 @@ module _ (settings : Settings) (s k e : ℕ) where
       ended_now l n at = ap (λ b. (if b then record { stage = Ended; started = l.started } else l).stage) at
 
       pub moved_took : (cause : Cause) → Moves events (heard cause)
-      moved_took (FromServer n body) = build (heard (FromServer n body)) (heard_server n body (message_of body) refl (stage_of (with_cause events (FromServer n body))) (ended_took (FromServer n body)))
-      moved_took (FromEditor n body) = build (heard (FromEditor n body)) (heard_editor n (message_of body) (stage_of (with_cause events (FromEditor n body))) (ended_took (FromEditor n body)))
-      moved_took (EditorGone n why) = build (heard (EditorGone n why)) (leaving n (stage_of (with_cause events (EditorGone n why))) (ended_took (EditorGone n why)))
-      moved_took (StartFailed n) = build (heard (StartFailed n)) (ending_start n (stage_of (with_cause events (StartFailed n))) (ended_took (StartFailed n)) (λ at. ap (λ (l : Life). l.stage) (life_more s events (heard (StartFailed n))) ∙ ended_now (life_of s events) n at))
-      moved_took (ServerGone n) = build (heard (ServerGone n)) (ending_start n (stage_of (with_cause events (ServerGone n))) (ended_took (ServerGone n)) (λ at. ap (λ (l : Life). l.stage) (life_more s events (heard (ServerGone n))) ∙ ended_now (life_of s events) n at))
-      moved_took (Started n) = build (heard (Started n)) (still (stage_of (with_cause events (Started n))) (ended_took (Started n)))
-      moved_took (Joined n) = build (heard (Joined n)) (still (stage_of (with_cause events (Joined n))) (ended_took (Joined n)))
-      moved_took (Drained n j) = build (heard (Drained n j)) (still (stage_of (with_cause events (Drained n j))) (ended_took (Drained n j)))
-      moved_took (Tick j) = build (heard (Tick j)) (still (stage_of (with_cause events (Tick j))) (ended_took (Tick j)))
+      moved_took (FromServer n body) = build tie (heard (FromServer n body)) (heard_server n body (message_of body) refl (stage_of (with_cause events (FromServer n body))) (ended_took (FromServer n body)))
+      moved_took (FromEditor n body) = build tie (heard (FromEditor n body)) (heard_editor n (message_of body) (stage_of (with_cause events (FromEditor n body))) (ended_took (FromEditor n body)))
+      moved_took (EditorGone n why) = build tie (heard (EditorGone n why)) (leaving n (stage_of (with_cause events (EditorGone n why))) (ended_took (EditorGone n why)))
+      moved_took (StartFailed n) = build tie (heard (StartFailed n)) (ending_start n (stage_of (with_cause events (StartFailed n))) (ended_took (StartFailed n)) (λ at. ap (λ (l : Life). l.stage) (life_more s events (heard (StartFailed n))) ∙ ended_now (life_of s events) n at))
+      moved_took (ServerGone n) = build tie (heard (ServerGone n)) (ending_start n (stage_of (with_cause events (ServerGone n))) (ended_took (ServerGone n)) (λ at. ap (λ (l : Life). l.stage) (life_more s events (heard (ServerGone n))) ∙ ended_now (life_of s events) n at))
+      moved_took (Started n) = build tie (heard (Started n)) (still (stage_of (with_cause events (Started n))) (ended_took (Started n)))
+      moved_took (Joined n) = build tie (heard (Joined n)) (still (stage_of (with_cause events (Joined n))) (ended_took (Joined n)))
+      moved_took (Drained n j) = build tie (heard (Drained n j)) (still (stage_of (with_cause events (Drained n j))) (ended_took (Drained n j)))
+      moved_took (Tick j) = build tie (heard (Tick j)) (still (stage_of (with_cause events (Tick j))) (ended_took (Tick j)))
 
       -- Outs
 
@@ -404,6 +473,9 @@ module _ (settings : Settings) (s k e : ℕ) where
             first num (going begun untold lower) = (found_is (Begun k (bodies ws)) (is_marked s (named_of (codes "token") params)) t x.tokens begun marked) num
             first num (dead is ended) = absurd (unmarked is)
 
+            living : is_numbered k t ≡ true → lives k x ≡ true
+            living num = ap (λ j. lives j x) (sym (number_same t.number k num)) ∙ found_lives (is_marked s (named_of (codes "token") params)) t x.tokens marked
+
             low : is_numbered k t ≡ true → k < x.next
             low num =
                 let below : t.number < x.next = (found_is (IsLive x.next) (is_marked s (named_of (codes "token") params)) t x.tokens (created_orderly settings s events).live marked).below in
@@ -411,7 +483,7 @@ module _ (settings : Settings) (s k e : ℕ) where
 
             go : (d : Bool) → is_numbered k t ≡ d → (is_asks (if d then asks (next_ask n events) else rests) ≡ true → list_any is_asks ws ≡ false) → Stepped later y (if d then asks (next_ask n events) else rests) []
             go true num once = record {
-              steps = ask e k x y ws (next_ask n events) t (once refl) (own_then true num ∙ ap (λ z. own e k x ++ asked z (next_ask n events) t ∷ []) (number_same n e at)) (first num tie.rest) (low num) tie.state;
+              steps = ask e k x y ws (next_ask n events) t (once refl) (own_then true num ∙ ap (λ z. own e k x ++ asked z (next_ask n events) t ∷ []) (number_same n e at)) (first num tie.rest) (low num) (living num) tie.state;
               rest = rest_more k x y ws (asks (next_ask n events)) (stage_of events) later refl (inr (low num)) (λ untold h. h) (omega arith) (λ is ended. absurd (unmarked is)) stays tie.rest;
             }
             go false num once = alike y later (own_then false num ∙ append-nil (own e k x)) refl refl (λ is. absurd (unmarked is)) stays
@@ -427,11 +499,11 @@ module _ (settings : Settings) (s k e : ℕ) where
 
         -- where an editor is asked once
         pub moved_did : (out : Out) → IsNewStart out → (is_asks (word settings s k e events (said out)) ≡ true → list_any is_asks (words settings s k e events) ≡ false) → Moves events (said out)
-        moved_did (ToEditor n body) new once = build (said (ToEditor n body)) (told_editor n body (message_of body) (stage_of (events ++ said (ToEditor n body) ∷ [])) (ended_did (ToEditor n body) new) once)
-        moved_did (ToServer n body) new once = build (said (ToServer n body)) (still (stage_of (events ++ said (ToServer n body) ∷ [])) (ended_did (ToServer n body) new))
-        moved_did (Spawn n g) new once = build (said (Spawn n g)) (still (stage_of (events ++ said (Spawn n g) ∷ [])) (ended_did (Spawn n g) new))
-        moved_did (CloseEditor n) new once = build (said (CloseEditor n)) (leaving n (stage_of (events ++ said (CloseEditor n) ∷ [])) (ended_did (CloseEditor n) new))
-        moved_did (EndServer n) new once = build (said (EndServer n)) (still (stage_of (events ++ said (EndServer n) ∷ [])) (ended_did (EndServer n) new))
+        moved_did (ToEditor n body) new once = build tie (said (ToEditor n body)) (told_editor n body (message_of body) (stage_of (events ++ said (ToEditor n body) ∷ [])) (ended_did (ToEditor n body) new) once)
+        moved_did (ToServer n body) new once = build tie (said (ToServer n body)) (still (stage_of (events ++ said (ToServer n body) ∷ [])) (ended_did (ToServer n body) new))
+        moved_did (Spawn n g) new once = build tie (said (Spawn n g)) (still (stage_of (events ++ said (Spawn n g) ∷ [])) (ended_did (Spawn n g) new))
+        moved_did (CloseEditor n) new once = build tie (said (CloseEditor n)) (leaving n (stage_of (events ++ said (CloseEditor n) ∷ [])) (ended_did (CloseEditor n) new))
+        moved_did (EndServer n) new once = build tie (said (EndServer n)) (still (stage_of (events ++ said (EndServer n) ∷ [])) (ended_did (EndServer n) new))
 
   -- Before anything happened
   pub tied_first : Tie []

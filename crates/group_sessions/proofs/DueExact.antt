@@ -36,7 +36,7 @@ use Rattle.group_rows.specs.Forwarded.{Forwarded, forwarding_of, names as names_
 use Rattle.group_rows.specs.Rows.{from_editor, from_server, outs_of}
 use Rattle.group_rows.specs.Tokens.{is_mark, is_told, listens, mark, marked_text, own_token, partial_mark, tell_progress, work_mark}
 use Rattle.group_facts.specs.Settled.{HasTaken, RunsAt, Settled}
-use Rattle.group_facts.specs.Why.{IsNotified, IsTaken, Showing, Why, WhyToEditor, answers, asks, begins_by, calls, comes, opened_by, passes, progresses, recalls, refuses, rejects, resumes, shows, spreads, turns_away, welcomes, loses}
+use Rattle.group_facts.specs.Why.{IsNotified, IsTaken, Showing, Why, WhyToEditor, answers, asks, begins_by, calls, comes, opened_by, passes, progresses, recalls, refuses, rejects, resumes, shows, spreads, turns_away, welcomes, loses, winds_up}
 use Rattle.group_facts.proofs.Facts.{Facts}
 use Rattle.group_sessions.proofs.Accepted.{NamesToken}
 use Rattle.group_sessions.proofs.Client6Law.{created_id}
@@ -218,6 +218,7 @@ module _ (settings : Settings) (before : List Event) (facts : Facts settings bef
         none (comes asked method given list from notified class came fitting) = absurd (let clash : FromEditor e body ≡ FromServer w.start asked = from in cc)
         none (opened_by words u l v t list from says found full fitting) = absurd (unopened (message_of body) agrees u l v t (ap (λ z. saying_of (message_of z)) (let is : FromEditor e body ≡ FromEditor e words = from in let same : body ≡ words = cc in same) ∙ says))
         none (begins_by list earlier later restoring order full fitting) = absurd (let clash : Running ≡ Answered = sym seat.running ∙ restoring.waited in cc)
+    progress_of events out (winds_up w) method params says = never (sym (w.lost).from)
     progress_of events out (spreads w) method params says = absurd (let clash : FromEditor e body ≡ FromServer w.start out = (w.source).from in cc)
     progress_of events out (recalls w) method params says = absurd (let clash : FromEditor e body ≡ FromServer w.start w.asked = (w.source).from in cc)
     progress_of events out (rejects w) method params says = absurd (let clash : notification method params ≡ error None w.x = sym says ∙ w.says in cc)

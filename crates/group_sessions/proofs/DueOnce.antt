@@ -48,7 +48,7 @@ use Rattle.group_rows.proofs.LiveTexts.{again_written, live_written, register_sa
 use Rattle.group_facts.specs.Built.{built_behind}
 use Rattle.group_facts.specs.Facts.{IsParked}
 use Rattle.group_facts.specs.Settled.{Settled}
-use Rattle.group_facts.specs.Why.{Calling, IsCall, IsChange, IsRestoring, Why, WhyToEditor, answers, asks, asks_something, calls, creates, displaces, enrols, passes, progresses, recalls, refuses, rejects, releases, restores, resumes, revives, shows, spreads, turns_away, welcomes, loses}
+use Rattle.group_facts.specs.Why.{Calling, IsCall, IsChange, IsRestoring, Why, WhyToEditor, answers, asks, asks_something, calls, creates, displaces, enrols, passes, progresses, recalls, refuses, rejects, releases, restores, resumes, revives, shows, spreads, turns_away, welcomes, loses, winds_up, forgets}
 use Rattle.group_facts.proofs.Asks.{is_question, response_asks_none}
 use Rattle.group_facts.proofs.Begun.{all_outs, leave_by}
 use Rattle.group_facts.proofs.Facts.{Facts}
@@ -66,7 +66,7 @@ use Rattle.group_sessions.proofs.HeldFold.{created_fair}
 use Rattle.group_sessions.proofs.Taken.{HasRun}
 use Rattle.group_sessions.proofs.TakingTies.{find_true}
 use Rattle.group_sessions.proofs.Tied.{all_back, has_run, not_run, unrun}
-use Rattle.group_sessions.specs.Due.{is_asks, asked_by, asks as due_asks, parts as due_parts, replies as due_replies, rests, tells as due_tells, told_by, word, words}
+use Rattle.group_sessions.specs.Due.{breaks, is_asks, asked_by, asks as due_asks, parts as due_parts, replies as due_replies, rests, tells as due_tells, told_by, word, words}
 use Rattle.group_sessions.proofs.DueClear.{off_creating}
 use Rattle.group_sessions.proofs.DueEvents.{Rest, Tie, dead, going, num_off, words_more}
 use Rattle.group_sessions.proofs.DueLaw.{AskedOnce}
@@ -265,6 +265,7 @@ module _ (settings : Settings) (range : InRange settings) (before : List Event) 
   called_origin events n body w a (displaces asked items c found is) = never (sym (asking_makes events n body a) ∙ (ap makes (ap message_of is ∙ (unregister_says (again items (live_of settings w.start before)) (again_written items (live_of settings w.start before) (live_written settings w.start before)) (next_ask n events) (number_small n events w.room)).1) ∙ unregister_plain))
   called_origin events n body w a (enrols asked items c found is) = never (sym (asking_makes events n body a) ∙ (ap makes (ap message_of is ∙ (register_says items (registered_written asked items found) (next_ask n events) (number_small n events w.room)).1) ∙ register_plain))
   called_origin events n body w a (releases asked items c found is) = never (sym (asking_makes events n body a) ∙ (ap makes (ap message_of is ∙ (unregister_says (again items (live_of settings w.start before)) (again_written items (live_of settings w.start before) (live_written settings w.start before)) (next_ask n events) (number_small n events w.room)).1) ∙ unregister_plain))
+  called_origin events n body w a (forgets r first is) = never (sym (asking_makes events n body a) ∙ (ap makes (ap message_of is ∙ (unregister_says (live_of settings w.start before) (live_written settings w.start before) (next_ask n events) (number_small n events w.room)).1) ∙ unregister_plain))
   called_origin events n body w a (restores r is) = never (sym (asking_makes events n body a) ∙ (ap makes (ap message_of is ∙ (register_says (live_of settings w.start before) (live_written settings w.start before) (next_ask n events) (number_small n events w.room)).1) ∙ register_plain))
 
   origin : (events : List Event) (n : ℕ) (body : List ℕ) → WhyToEditor settings before cause events n body → IsAsking events n body → Origin
@@ -282,6 +283,7 @@ module _ (settings : Settings) (range : InRange settings) (before : List Event) 
   origin events n body (recalls w) a = never (sym (asking_makes events n body a) ∙ ap makes w.says)
   origin events n body (progresses w) a = never (sym (asking_makes events n body a) ∙ ap makes w.says)
   origin events n body (shows w) a = never (sym (asking_makes events n body a) ∙ ap makes w.says)
+  origin events n body (winds_up w) a = never (sym (asking_makes events n body a) ∙ ap makes w.says)
 
   -- such an editor runs at that place
   asked_runs : (events : List Event) (n : ℕ) (body : List ℕ) → WhyToEditor settings before cause events n body → IsAsking events n body → (desk_of n events).phase ≡ Running
@@ -299,6 +301,7 @@ module _ (settings : Settings) (range : InRange settings) (before : List Event) 
   asked_runs events n body (recalls w) a = never (sym (asking_makes events n body a) ∙ ap makes w.says)
   asked_runs events n body (progresses w) a = never (sym (asking_makes events n body a) ∙ ap makes w.says)
   asked_runs events n body (shows w) a = never (sym (asking_makes events n body a) ∙ ap makes w.says)
+  asked_runs events n body (winds_up w) a = never (sym (asking_makes events n body a) ∙ ap makes w.says)
 
   pub closed_off : (events : List Event) (n : ℕ) → is_asks (word settings s k e events (said (CloseEditor n))) ≡ false
   closed_off events n = go (nat_eq n e)
@@ -359,12 +362,12 @@ module _ (settings : Settings) (range : InRange settings) (before : List Event) 
       parting false = refl
   heard_off (StartFailed n) = parting (nat_eq n s)
     where
-      parting : (b : Bool) → is_asks (if b then due_parts else rests) ≡ false
+      parting : (b : Bool) → is_asks (if b then breaks else rests) ≡ false
       parting true = refl
       parting false = refl
   heard_off (ServerGone n) = parting (nat_eq n s)
     where
-      parting : (b : Bool) → is_asks (if b then due_parts else rests) ≡ false
+      parting : (b : Bool) → is_asks (if b then breaks else rests) ≡ false
       parting true = refl
       parting false = refl
   heard_off (Joined n) = refl

@@ -26,7 +26,7 @@ use Rattle.group_rows.specs.Created.{Created, Taking, Token, created_mark, creat
 use Rattle.group_rows.specs.Forwarded.{forwarding_of}
 use Rattle.group_rows.specs.Tokens.{is_told, marked_text}
 use Rattle.group_facts.specs.Settled.{Settled}
-use Rattle.group_facts.specs.Why.{IsNotified, IsTaken, Telling, Why, WhyToEditor, answers, asks, calls, of_held, of_request, of_token, passes, progresses, recalls, refuses, rejects, resumes, shows, spreads, turns_away, welcomes, loses}
+use Rattle.group_facts.specs.Why.{IsNotified, IsTaken, Telling, Why, WhyToEditor, answers, asks, calls, of_held, of_request, of_token, passes, progresses, recalls, refuses, rejects, resumes, shows, spreads, turns_away, welcomes, loses, IsLost, Losing, ends, frees, empties, winds_up}
 use Rattle.group_facts.proofs.Facts.{Facts}
 use Rattle.group_facts.proofs.Marks.{mark_number, mark_start}
 use Rattle.group_sessions.proofs.Accepted.{NamesToken}
@@ -39,6 +39,10 @@ use Rattle.group_sessions.proofs.Unreserved.{IsFreeText, IsUnreserved, Unreserve
 use Rattle.group_sessions.specs.Due.{names_mark, progress_sent, sent_by}
 use Rattle.group_sessions.proofs.DueEvents.{num_off}
 use Rattle.group_sessions.proofs.DueWords.{flat_join}
+use Rattle.group_rows.proofs.Cancels.{cancel_says}
+use Rattle.group_rows.proofs.ExitTexts.{empty_says, end_says}
+use Rattle.group_rows.specs.ExitRows.{has_begun}
+use Rattle.group_sessions.proofs.EndTexts.{end_marks}
 
 some_same : {A : Type 0} (a b : A) → ◌≡◌ {A = Option A} (Some a) (Some b) → a ≡ b
 some_same a b e = cc
@@ -154,6 +158,10 @@ pub none_found : {A : Type 0} (test : A → Bool) → ((a : A) → test a ≡ fa
 none_found test f [] = refl
 none_found test f (x ∷ xs) = ap (λ b. cond b (Some x) (find test xs)) (f x) ∙ none_found test f xs
 
+no_item : {A : Type 0} (xs : List A) (x : A) (ys : List A) → [] ≡ xs ++ x ∷ ys → ⊥
+no_item [] x ys h = cc
+no_item (z ∷ xs) x ys h = cc
+
 -- Where it comes from
 
 module _ (settings : Settings) (before : List Event) (facts : Facts settings before) (settled : Settled settings before) (free : Unreserved before) (few : starts_of before ≤ 2 ^ 64) (cause : Cause) (s k e : ℕ) (low : s < 2 ^ 64) (small : k < 2 ^ 64) where
@@ -164,6 +172,7 @@ module _ (settings : Settings) (before : List Event) (facts : Facts settings bef
   pub data Source : Type 0 where
     hears : (asked : List ℕ) (given : Option Json) (t : Token) → IsNotified before cause s asked given → token_called (named_token given) x ≡ Some t → t.number ≡ k → has_accepted e k x ≡ true → Source
     takes : (c : Taking) → IsTaken settings before cause e s c → c.token ≡ k → Source
+    ends_there : IsLost settings before cause e s → has_begun e k x ≡ true → Source
 
   fair : (n : ℕ) → Fair (created_of settings n before)
   fair n = created_fair settings n before (facts.base).meant
@@ -258,6 +267,33 @@ module _ (settings : Settings) (before : List Event) (facts : Facts settings bef
   source events body (calls w) h = never (sym h ∙ ap (names_mark s k) w.says)
   source events body (spreads w) h = never (sym h ∙ (ap (names_mark s k) w.says ∙ ap (λ b. b && option_map_or (bytes_eq (created_mark s k)) (string_of (named_of (codes "token") w.params)) false) (not_progress w.method w.class)))
   source events body (shows w) h = never (sym h ∙ (ap (names_mark s k) w.says ∙ ap (λ b. b && option_map_or (bytes_eq (created_mark s k)) (string_of (named_of (codes "token") w.params)) false) (list_no_progress w.method w.class)))
+  source events body (winds_up w) h = wound w.told
+    where
+      wound : Losing settings before events e w.start body → Source
+      wound (ends token front back order begun is) = go start number w.lost begun
+        where
+          y : Created
+          y = created_of settings w.start before
+
+          same : created_mark s k ≡ created_mark w.start token.number
+          same = (bytes_eq-Decides (created_mark s k) (created_mark w.start token.number)).0 (sym (end_marks s k w.start token.number) ∙ (sym (ap (names_mark s k) (end_says w.start token.number)) ∙ (ap (λ z. names_mark s k (message_of z)) (sym is) ∙ h)))
+
+          low_start : w.start < 2 ^ 64
+          low_start = spawned w.start (λ none. let clash : ◌≡◌ {A = List Token} [] (front ++ token ∷ back) = sym (ap (λ (z : Created). z.tokens) none) ∙ order in no_item front token back clash)
+
+          low_token : token.number < 2 ^ 64
+          low_token = let below : token.number < y.next = ((all_at (IsLive y.next) front token back (subst (AllByRecursion (IsLive y.next)) order (created_orderly settings w.start before).live)).1).below in let top : y.next ≤ 2 ^ 64 = (fair w.start).small in omega (arith, below, top)
+
+          start : w.start ≡ s
+          start = sym (mark_start s k w.start token.number low low_start same)
+
+          number : token.number ≡ k
+          number = sym (mark_number s k w.start token.number small low_token same)
+
+          go : w.start ≡ s → token.number ≡ k → IsLost settings before cause e w.start → has_begun e token.number y ≡ true → Source
+          go p q i j = ends_there (subst (IsLost settings before cause e) p i) (subst (λ z. has_begun e z x ≡ true) q (subst (λ z. has_begun e token.number (created_of settings z before) ≡ true) p j))
+      wound (frees number unanswered low_number waits is) = never (sym h ∙ (ap (λ z. names_mark s k (message_of z)) is ∙ ap (names_mark s k) (cancel_says number low_number)))
+      wound (empties list front back order full spelt is) = never (sym h ∙ (ap (λ z. names_mark s k (message_of z)) is ∙ ap (names_mark s k) (empty_says list.uri spelt)))
   source events body (recalls w) h = never (sym h ∙ ap (names_mark s k) w.says)
 
   -- what is sent has such a source

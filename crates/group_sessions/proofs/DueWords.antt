@@ -6,7 +6,7 @@ use Rattle.rpc_message.specs.Message.{Id}
 use Rattle.event_model.proofs.Frames.{never}
 use Rattle.group_rows.specs.Created.{first_begin, held_first, held_most, is_begin}
 use Rattle.group_rows.specs.Forwarded.{names}
-use Rattle.group_sessions.specs.Due.{Word, asks, bodies, begins, body_in, due, due_asked, due_settled, ends, held_of, is_asks, is_parts, opening, parts, replies, rests, settles, since, tells, until}
+use Rattle.group_sessions.specs.Due.{Word, asks, bodies, begins, body_in, due, due_asked, due_settled, ends, held_of, is_asks, is_parts, opening, parts, replies, rests, settles, since, tells, until, breaks, breaks_off, cut_asked, cut_settled, is_cut}
 
 -- Lists
 
@@ -64,6 +64,14 @@ since_at test (u ∷ us) w vs h at = go (test u) h (λ k. since_at test us w vs 
     go : (b : Bool) → (b || list_any test us) ≡ false → (list_any test us ≡ false → since test (us ++ w ∷ vs) ≡ w ∷ vs) → (if b then u ∷ (us ++ w ∷ vs) else since test (us ++ w ∷ vs)) ≡ w ∷ vs
     go true k f = never k
     go false k f = f k
+
+-- one word more, behind none that is so
+pub since_last : (test : Word → Bool) (us : List Word) (w : Word) → list_any test us ≡ false → since test (us ++ w ∷ []) ≡ (if test w then w ∷ [] else [])
+since_last test us w h = go (test w) refl
+  where
+    go : (b : Bool) → test w ≡ b → since test (us ++ w ∷ []) ≡ (if b then w ∷ [] else [])
+    go true at = since_at test us w [] h at
+    go false off = since_none test (us ++ w ∷ []) (none_join test us (w ∷ []) h (ap (λ b. b || false) off))
 
 pub bodies_join : (us vs : List Word) → bodies (us ++ vs) ≡ bodies us ++ bodies vs
 bodies_join us vs = flat_join body_in us vs
@@ -133,6 +141,9 @@ opening_step params xs body is None h = go (is_begin params) ∙ (ap (λ b. take
 
 -- What is due
 
+pub cut_fresh : (ws : List Word) → list_any is_asks ws ≡ false → is_cut ws ≡ false
+cut_fresh ws h = ap cut_asked (since_none is_asks ws h)
+
 pub due_fresh : (ws : List Word) → list_any is_asks ws ≡ false → due ws ≡ []
 due_fresh ws h = ap (due_asked (opening (bodies (until is_asks ws)))) (since_none is_asks ws h)
 
@@ -143,7 +154,22 @@ module _ (us : List Word) (n : ℕ) (vs : List Word) (fresh : list_any is_asks u
   due_from : (ws : List Word) → due (us ++ asks n ∷ ws) ≡ due_settled (opening (bodies us) ++ bodies (until (settles n) ws)) (since (settles n) ws)
   due_from ws = ap₂ (λ x y. due_asked (opening (bodies x)) y) (until_at is_asks us (asks n) ws fresh refl) (since_at is_asks us (asks n) ws fresh refl)
 
+  cut_from : (ws : List Word) → is_cut (us ++ asks n ∷ ws) ≡ cut_settled (since (settles n) ws)
+  cut_from ws = ap cut_asked (since_at is_asks us (asks n) ws fresh refl)
+
   module _ (unsettled : list_any (settles n) vs ≡ false) where
+    pub cut_waits : is_cut (us ++ asks n ∷ vs) ≡ false
+    cut_waits = cut_from vs ∙ ap cut_settled (since_none (settles n) vs unsettled)
+
+    pub cut_settles : (w : Word) (zs : List Word) → settles n w ≡ true → is_cut (us ++ asks n ∷ (vs ++ w ∷ zs)) ≡ cut_settled (w ∷ zs)
+    cut_settles w zs at = cut_from (vs ++ w ∷ zs) ∙ ap cut_settled (since_at (settles n) vs w zs unsettled at)
+
+    pub cut_goes : (id : Option Id) (zs : List Word) → names id n ≡ true → list_any is_parts zs ≡ false → is_cut (us ++ asks n ∷ (vs ++ replies id true ∷ zs)) ≡ false
+    cut_goes id zs named stays = cut_settles (replies id true) zs named ∙ ap breaks_off (since_none is_parts zs stays)
+
+    pub cut_left : (id : Option Id) (zs : List Word) (w : Word) (ys : List Word) → names id n ≡ true → list_any is_parts zs ≡ false → is_parts w ≡ true → is_cut (us ++ asks n ∷ (vs ++ replies id true ∷ (zs ++ w ∷ ys))) ≡ breaks_off (w ∷ ys)
+    cut_left id zs w ys named stays off = cut_settles (replies id true) (zs ++ w ∷ ys) named ∙ ap breaks_off (since_at is_parts zs w ys stays off)
+
     pub due_waits : due (us ++ asks n ∷ vs) ≡ []
     due_waits = due_from vs ∙ ap (λ z. due_settled (opening (bodies us) ++ bodies (until (settles n) vs)) z) (since_none (settles n) vs unsettled)
 
@@ -166,17 +192,37 @@ none_due xs (replies id false) zs h = refl
 none_due xs (tells body) zs h = refl
 none_due xs (asks n) zs h = refl
 none_due xs parts zs h = refl
+none_due xs breaks zs h = refl
 none_due xs rests zs h = refl
+
+none_cut : (w : Word) (zs : List Word) → agrees w ≡ false → cut_settled (w ∷ zs) ≡ false
+none_cut (replies id true) zs h = never h
+none_cut (replies id false) zs h = refl
+none_cut (tells body) zs h = refl
+none_cut (asks n) zs h = refl
+none_cut parts zs h = refl
+none_cut breaks zs h = refl
+none_cut rests zs h = refl
+
+off_same : (w : Word) (ys zs : List Word) → breaks_off (w ∷ ys) ≡ breaks_off (w ∷ zs)
+off_same breaks ys zs = refl
+off_same (replies id agreed) ys zs = refl
+off_same (tells body) ys zs = refl
+off_same (asks n) ys zs = refl
+off_same parts ys zs = refl
+off_same rests ys zs = refl
 
 -- Nothing more is due, whatever comes
 pub record Over (ws : List Word) : Type 0 where
   pub asked : list_any is_asks ws ≡ true
   pub same : (more : List Word) → due (ws ++ more) ≡ due ws
+  pub cut : (more : List Word) → is_cut (ws ++ more) ≡ is_cut ws
 
 pub over_more : (ws more : List Word) → Over ws → Over (ws ++ more)
 over_more ws more h = record {
   asked = any_join is_asks ws more ∙ ap (λ b. b || list_any is_asks more) h.asked;
   same = λ later. ap due (append_assoc ws more later) ∙ (h.same (more ++ later) ∙ sym (h.same more));
+  cut = λ later. ap is_cut (append_assoc ws more later) ∙ (h.cut (more ++ later) ∙ sym (h.cut more));
 }
 
 or_second : (a b : Bool) → b ≡ true → (a || b) ≡ true
@@ -192,8 +238,14 @@ module _ (us : List Word) (n : ℕ) (vs : List Word) (fresh : list_any is_asks u
 
   -- it refuses, or leaves before it answers
   pub refused : (w : Word) → settles n w ≡ true → agrees w ≡ false → (Over ((us ++ asks n ∷ vs) ++ w ∷ [])) × (due ((us ++ asks n ∷ vs) ++ w ∷ []) ≡ [])
-  refused w at against = (record { asked = any_join is_asks (us ++ asks n ∷ vs) (w ∷ []) ∙ ap (λ b. b || list_any is_asks (w ∷ [])) (asked_there vs); same = λ more. nothing more ∙ sym once }, once)
+  refused w at against = (record { asked = any_join is_asks (us ++ asks n ∷ vs) (w ∷ []) ∙ ap (λ b. b || list_any is_asks (w ∷ [])) (asked_there vs); same = λ more. nothing more ∙ sym once; cut = λ more. uncut more ∙ sym uncut_once }, once)
     where
+      uncut : (more : List Word) → is_cut (((us ++ asks n ∷ vs) ++ w ∷ []) ++ more) ≡ false
+      uncut more = ap is_cut (along w more) ∙ (cut_settles us n vs fresh unsettled w more at ∙ none_cut w more against)
+
+      uncut_once : is_cut ((us ++ asks n ∷ vs) ++ w ∷ []) ≡ false
+      uncut_once = ap is_cut (append_assoc us (asks n ∷ vs) (w ∷ [])) ∙ (cut_settles us n vs fresh unsettled w [] at ∙ none_cut w [] against)
+
       nothing : (more : List Word) → due (((us ++ asks n ∷ vs) ++ w ∷ []) ++ more) ≡ []
       nothing more = ap due (along w more) ∙ (due_settles us n vs fresh unsettled w more at ∙ none_due (waited us n vs fresh) w more against)
 
@@ -208,9 +260,15 @@ module _ (us : List Word) (n : ℕ) (vs : List Word) (fresh : list_any is_asks u
     once_further : (w : Word) → (us ++ asks n ∷ (vs ++ replies id true ∷ zs)) ++ w ∷ [] ≡ us ++ asks n ∷ (vs ++ replies id true ∷ (zs ++ w ∷ []))
     once_further w = append_assoc us (asks n ∷ (vs ++ replies id true ∷ zs)) (w ∷ []) ∙ ap (λ z. us ++ asks n ∷ z) (append_assoc vs (replies id true ∷ zs) (w ∷ []))
 
+    pub cut_once : (w : Word) → is_parts w ≡ true → is_cut ((us ++ asks n ∷ (vs ++ replies id true ∷ zs)) ++ w ∷ []) ≡ breaks_off (w ∷ [])
+    cut_once w off = ap is_cut (once_further w) ∙ cut_left us n vs fresh unsettled id zs w [] named stays off
+
     pub parted : (w : Word) → is_parts w ≡ true → (Over ((us ++ asks n ∷ (vs ++ replies id true ∷ zs)) ++ w ∷ [])) × (due ((us ++ asks n ∷ (vs ++ replies id true ∷ zs)) ++ w ∷ []) ≡ held_of held_most (waited us n vs fresh) ++ bodies zs)
-    parted w off = (record { asked = any_join is_asks (us ++ asks n ∷ (vs ++ replies id true ∷ zs)) (w ∷ []) ∙ ap (λ b. b || list_any is_asks (w ∷ [])) (asked_there (vs ++ replies id true ∷ zs)); same = λ more. each more ∙ sym once }, once)
+    parted w off = (record { asked = any_join is_asks (us ++ asks n ∷ (vs ++ replies id true ∷ zs)) (w ∷ []) ∙ ap (λ b. b || list_any is_asks (w ∷ [])) (asked_there (vs ++ replies id true ∷ zs)); same = λ more. each more ∙ sym once; cut = λ more. cut_more more ∙ (off_same w more [] ∙ sym (cut_once w off)) }, once)
       where
+        cut_more : (more : List Word) → is_cut (((us ++ asks n ∷ (vs ++ replies id true ∷ zs)) ++ w ∷ []) ++ more) ≡ breaks_off (w ∷ more)
+        cut_more more = ap is_cut (further w more) ∙ cut_left us n vs fresh unsettled id zs w more named stays off
+
         each : (more : List Word) → due (((us ++ asks n ∷ (vs ++ replies id true ∷ zs)) ++ w ∷ []) ++ more) ≡ held_of held_most (waited us n vs fresh) ++ bodies zs
         each more = ap due (further w more) ∙ due_left us n vs fresh unsettled id zs w more named stays off
 

@@ -1,7 +1,5 @@
 -- What editors are told of tokens that a start created, in every legal history: of those that they accepted, and that haven't ended.
-use Rattle.std.proofs.Common.{◌≡◌, ℕ, Bool, true, false, ◌&&◌, ◌||◌, List, [], ◌∷◌, ◌++◌, append_assoc, bytes_eq, codes, map, nat_eq, if◌then◌else◌, refl, sym, ◌∙◌, ap, ap₂, subst}
-use Rattle.std.specs.List.{AllByRecursion, list_any}
-use Rattle.std.proofs.lemmas.Bool.{and_parts}
+use Rattle.std.proofs.Common.{◌≡◌, ℕ, Bool, true, false, ◌&&◌, List, [], ◌∷◌, ◌++◌, append_assoc, bytes_eq, codes, map, if◌then◌else◌, refl, sym, ◌∙◌, ap, ap₂, subst}
 use Rattle.mux_history.specs.declared.cause.Cause.{Cause}
 use Rattle.mux_history.specs.declared.cause.Cause.TheVariants.{FromEditor, FromServer}
 use Rattle.mux_history.specs.declared.out.Out.{Out}
@@ -17,42 +15,24 @@ use Rattle.mux_facts.proofs.Lists.{found_is}
 use Rattle.mux_facts.proofs.Reasons.{Reasons}
 use Rattle.mux_facts.proofs.Words.{number_same, same_number}
 use Rattle.session_laws.specs.Progress.{Creates, is_end, token_at}
-use Rattle.group_rows.specs.Created.{Taking, created_mark, created_of, created_text, is_answered, is_at}
+use Rattle.group_rows.specs.Created.{created_mark, created_of, created_text, is_answered}
 use Rattle.group_rows.specs.Rows.{outs_of}
 use Rattle.group_rows.specs.Tokens.{marked_text}
 use Rattle.group_facts.specs.Why.{Telling, of_held, of_request, of_token}
 use Rattle.group_facts.proofs.Facts.{Facts}
 use Rattle.group_facts.proofs.Reached.{facts_at}
-use Rattle.group_sessions.proofs.Accepted.{AllHeard, Heard, Hears, NamesToken, accepted}
+use Rattle.group_sessions.proofs.Accepted.{AllHeard, Heard, Hears, NamesToken, accepted, Closes, IsHeard}
 use Rattle.group_sessions.proofs.Client6Law.{created_id}
 use Rattle.group_sessions.proofs.HeldFold.{IsFair, LastEnds, NameTokens, NoneEnds, created_fair, none_before}
 use Rattle.group_sessions.proofs.Marked.{Marked, ends, marked}
 use Rattle.group_sessions.proofs.Taken.{Rests, all_at, all_rests}
 use Rattle.group_sessions.proofs.TakingTies.{Accepts, Answers, IsTied, TiedIf, accepted_aside, accepts_now, answers_it, find_true, mark_of, told_here}
 use Rattle.group_sessions.proofs.TellingPlaces.{Known, KnownOut, Knows, RunsIn, all_known, one_start}
+use Rattle.group_sessions.proofs.ExitCloses.{accepted_there, all_close}
 
 module _ (settings : Settings) (before : List Event) (facts : Facts settings before) (rests : Rests settings before) (cause : Cause) where
   abbrev now : List Event
   now = with_cause before cause
-
-  -- an editor that runs accepted it
-  accepted_there : (s e k : ℕ) → RunsIn settings before s e → (cs : List Taking) → AllByRecursion (TiedIf (RunsIn settings before) s before) cs → list_any (λ c. c.accepted && (is_at e c && nat_eq c.token k)) cs ≡ true
-      → is_open (text (created_mark s k)) (accepted e before).created ≡ true
-  accepted_there s e k at [] tied h = never (sym h)
-  accepted_there s e k at (c ∷ cs) tied h = go (λ z. accepted_there s e k at cs tied.1 z) (c.accepted && (is_at e c && nat_eq c.token k)) refl h
-    where
-      here : (c.accepted && (is_at e c && nat_eq c.token k)) ≡ true → is_open (text (created_mark s k)) (accepted e before).created ≡ true
-      here is =
-          let p = and_parts c.accepted (is_at e c && nat_eq c.token k) is in
-          let q = and_parts (is_at e c) (nat_eq c.token k) p.1 in
-          let editor : c.editor ≡ e = number_same c.editor e q.0 in
-          let token : c.token ≡ k = number_same c.token k q.1 in
-          let tie : IsTied s before c = tied.0 (subst (RunsIn settings before s) (sym editor) at) in
-          sym (ap₂ (λ n j. is_open (text (created_mark s j)) (accepted n before).created) editor token) ∙ tie.taken p.0
-
-      go : (list_any (λ d. d.accepted && (is_at e d && nat_eq d.token k)) cs ≡ true → is_open (text (created_mark s k)) (accepted e before).created ≡ true) → (b : Bool) → (c.accepted && (is_at e c && nat_eq c.token k)) ≡ b → (b || list_any (λ d. d.accepted && (is_at e d && nat_eq d.token k)) cs) ≡ true → is_open (text (created_mark s k)) (accepted e before).created ≡ true
-      go f true is z = here is
-      go f false is z = f z
 
   -- what was held of a token, without its end
   module _ (e s k : ℕ) where
@@ -84,7 +64,7 @@ module _ (settings : Settings) (before : List Event) (facts : Facts settings bef
     hears (of_request s asked given f bytes_of notified found own editor bytes) known = tt
     hears (of_token s asked given t k called takes bytes) known =
         ap (λ (x : Creates). is_open (text (created_mark s t.number)) x.created) (known.1 ∙ ap (λ c. accepted e (with_cause before c)) k.from ∙ accepted_aside e before (heard (FromServer s asked)) refl)
-        ∙ accepted_there s e t.number known.0 (created_of settings s before).takings (rests.tied s) takes
+        ∙ accepted_there settings before facts rests s e t.number known.0 (created_of settings s before).takings (rests.tied s) takes
     hears (of_held s c earlier held later taken order place bytes) known = (
       names.1,
       subst (λ z. is_open (mark_of s c) (accepted e z).created ≡ true) (sym place)
@@ -115,20 +95,20 @@ module _ (settings : Settings) (before : List Event) (facts : Facts settings bef
         open_now : is_open (mark_of s c) (accepted e now).created ≡ true
         open_now = ap₂ (λ n d. is_open (mark_of s c) (accepted n (with_cause before d)).created) (sym editor) taken.from ∙ accepts_here
 
-    heard_body : KnownOut settings before cause events (ToEditor e body) → Heard settings before cause events (ToEditor e body)
+    heard_body : KnownOut settings before cause events (ToEditor e body) → Telling settings before cause events e body → IsHeard settings before cause events e body
     heard_body known told = let k : Known settings before cause events e body = known told in record { told = k.told; hears = hears k.told k.knows }
 
-  heard_out : (events : List Event) (out : Out) → KnownOut settings before cause events out → Heard settings before cause events out
-  heard_out events (ToEditor e body) known = heard_body events e body known
-  heard_out events (ToServer s body) known = tt
-  heard_out events (Spawn s g) known = tt
-  heard_out events (CloseEditor e) known = tt
-  heard_out events (EndServer s) known = tt
+  heard_out : (events : List Event) (out : Out) → KnownOut settings before cause events out → Closes settings before cause events out → Heard settings before cause events out
+  heard_out events (ToEditor e body) known closes = (heard_body events e body known, closes)
+  heard_out events (ToServer s body) known closes = tt
+  heard_out events (Spawn s g) known closes = tt
+  heard_out events (CloseEditor e) known closes = tt
+  heard_out events (EndServer s) known closes = tt
 
-  heard_outs : (events : List Event) (outs : List Out) → Reasons (KnownOut settings before cause) events outs → Reasons (Heard settings before cause) events outs
-  heard_outs events [] h = tt
-  heard_outs events (out ∷ outs) h = (heard_out events out h.0, heard_outs (events ++ said out ∷ []) outs h.1)
+  heard_outs : (events : List Event) (outs : List Out) → Reasons (KnownOut settings before cause) events outs → Reasons (Closes settings before cause) events outs → Reasons (Heard settings before cause) events outs
+  heard_outs events [] h k = tt
+  heard_outs events (out ∷ outs) h k = (heard_out events out h.0 k.0, heard_outs (events ++ said out ∷ []) outs h.1 k.1)
 
 pub all_heard : (settings : Settings) → InRange settings → AllHeard settings
 all_heard settings range before so_far cause fits built = heard_outs settings before (facts_at settings range before so_far) (all_rests settings range before so_far) cause (with_cause before cause) (outs_of settings before cause)
-    (all_known settings before (one_start settings range before so_far) cause)
+    (all_known settings before (one_start settings range before so_far) cause) (all_close settings before (facts_at settings range before so_far) (all_rests settings range before so_far) (one_start settings range before so_far) cause)

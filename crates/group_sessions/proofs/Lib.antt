@@ -58,3 +58,8 @@ pub mod ListsShown
 pub mod ListsServed
 pub mod ListsLaw
 pub mod WorkedLists
+pub mod ExitCloses
+pub mod ListsLost
+pub mod EndTexts
+pub mod DueCut
+pub mod WorkedLost

@@ -57,6 +57,9 @@ use Rattle.group_sessions.proofs.TellingPlaces.{one_start}
 use Rattle.group_sessions.proofs.Tied.{runs_on}
 use Rattle.group_sessions.specs.LastLists.{KeepsLists, at_start, due_beginning, due_coming, due_opening, due_own, gives_list, lists_due, lists_to, shown}
 use Rattle.group_facts.specs.SlowRows.{slow_row}
+use Rattle.group_facts.specs.Facts.{is_exit}
+use Rattle.group_facts.proofs.ExitEntry.{failed_exit, gone_exit}
+use Rattle.group_sessions.proofs.ListsLost.{ending_lists}
 
 -- Editors that run
 
@@ -158,7 +161,7 @@ module _ (settings : Settings) (range : InRange settings) (before : List Event) 
           go not_message is says = absurd (cc)
 
       other : OpensNone (saying_of m) → Sends
-      other none = all_off settings before (FromEditor e body) e (λ events text k. hidden events text k.start k.shown) now xs why ∙ sym (nothing_due (is_running (desk_of e after).phase))
+      other none = all_off settings before (FromEditor e body) e (λ events text k. hidden events text k.start k.shown) (λ s is. never (sym is)) now xs why ∙ sym (nothing_due (is_running (desk_of e after).phase))
         where
           hidden : (events : List Event) (text : List ℕ) (s : ℕ) → Showing settings before (FromEditor e body) events e s text → ⊥
           hidden events text s (comes asked method given list from notified class came fitting) = let clash : FromEditor e body ≡ FromServer s asked = from in cc
@@ -295,7 +298,7 @@ module _ (settings : Settings) (range : InRange settings) (before : List Event) 
 
   -- by a message of another editor
   other_editor : (n : ℕ) (body : List ℕ) → nat_eq n e ≡ false → built_behind settings before (FromEditor n body) ≡ true → lists_to e (outs_of settings before (FromEditor n body)) ≡ []
-  other_editor n body apart built = all_off settings before (FromEditor n body) e (λ events text k. hidden events text k.start k.shown) (with_cause before (FromEditor n body)) (outs_of settings before (FromEditor n body)) (reasons settings range before facts (FromEditor n body) built).why
+  other_editor n body apart built = all_off settings before (FromEditor n body) e (λ events text k. hidden events text k.start k.shown) (λ s is. never (sym is)) (with_cause before (FromEditor n body)) (outs_of settings before (FromEditor n body)) (reasons settings range before facts (FromEditor n body) built).why
     where
       mine : (words : List ℕ) → FromEditor n body ≡ FromEditor e words → ⊥
       mine words from = never (sym (same_number e) ∙ (ap (λ z. nat_eq z e) (sym same) ∙ apart))
@@ -314,7 +317,7 @@ module _ (settings : Settings) (range : InRange settings) (before : List Event) 
     told = with_cause before (FromServer s body)
 
     unpublished : (gives_list (message_of body) ≡ true → is_ready (life_of s before).stage ≡ true → ⊥) → lists_to e (outs_of settings before (FromServer s body)) ≡ []
-    unpublished none = all_off settings before (FromServer s body) e (λ events text k. hidden events text k.start (ap is_ready k.ready) k.shown) told (outs_of settings before (FromServer s body)) (reasons settings range before facts (FromServer s body) built).why
+    unpublished none = all_off settings before (FromServer s body) e (λ events text k. hidden events text k.start (ap is_ready k.ready) k.shown) (λ n is. never (sym is)) told (outs_of settings before (FromServer s body)) (reasons settings range before facts (FromServer s body) built).why
       where
         hidden : (events : List Event) (text : List ℕ) (t : ℕ) → is_ready (life_of t before).stage ≡ true → Showing settings before (FromServer s body) events e t text → ⊥
         hidden events text t ready (comes asked method given list from notified class came fitting) =
@@ -349,8 +352,8 @@ module _ (settings : Settings) (range : InRange settings) (before : List Event) 
         go not_message says = unlisted (ap gives_list says)
 
   -- by none
-  silent : (cause : Cause) → talks cause ≡ false → built_behind settings before cause ≡ true → lists_to e (outs_of settings before cause) ≡ []
-  silent cause quiet built = all_off settings before cause e (λ events text k. never (sym (spoken events text k.start k.shown) ∙ quiet)) (with_cause before cause) (outs_of settings before cause) (reasons settings range before facts cause built).why
+  silent : (cause : Cause) → talks cause ≡ false → ((s : ℕ) → is_exit cause s ≡ true → ⊥) → built_behind settings before cause ≡ true → lists_to e (outs_of settings before cause) ≡ []
+  silent cause quiet on built = all_off settings before cause e (λ events text k. never (sym (spoken events text k.start k.shown) ∙ quiet)) on (with_cause before cause) (outs_of settings before cause) (reasons settings range before facts cause built).why
     where
       spoken : (events : List Event) (text : List ℕ) (s : ℕ) → Showing settings before cause events e s text → talks cause ≡ true
       spoken events text s (comes asked method given list from notified class came fitting) = ap talks from
@@ -367,13 +370,13 @@ module _ (settings : Settings) (range : InRange settings) (before : List Event) 
       go true same = subst (λ z. Holds z true) (sym (number_same n e same)) (own_lists body (subst (λ z. built_behind settings before (FromEditor z body) ≡ true) (number_same n e same) built))
       go false apart = other_editor n body apart built
   entry_lists (FromServer s body) built = start_lists s body built
-  entry_lists (Joined n) built = silent (Joined n) refl built
-  entry_lists (EditorGone n why) built = silent (EditorGone n why) refl built
-  entry_lists (Started s) built = silent (Started s) refl built
-  entry_lists (StartFailed s) built = silent (StartFailed s) refl built
-  entry_lists (ServerGone s) built = silent (ServerGone s) refl built
-  entry_lists (Drained n k) built = silent (Drained n k) refl built
-  entry_lists (Tick t) built = silent (Tick t) refl built
+  entry_lists (Joined n) built = silent (Joined n) refl (λ z is. never (sym is)) built
+  entry_lists (EditorGone n why) built = silent (EditorGone n why) refl (λ z is. never (sym is)) built
+  entry_lists (Started s) built = silent (Started s) refl (λ z is. never (sym is)) built
+  entry_lists (StartFailed s) built = ending_lists settings range before facts settled one e (StartFailed s) s (failed_exit settings before s) built
+  entry_lists (ServerGone s) built = ending_lists settings range before facts settled one e (ServerGone s) s (gone_exit settings before s) built
+  entry_lists (Drained n k) built = silent (Drained n k) refl (λ z is. never (sym is)) built
+  entry_lists (Tick t) built = silent (Tick t) refl (λ z is. never (sym is)) built
 
 -- A whole history
 

@@ -15,11 +15,12 @@ use Rattle.mux_facts.specs.Allowed.{is_response}
 use Rattle.mux_facts.proofs.Reasons.{Because, Reasons}
 use Rattle.mux_facts.proofs.Words.{number_same}
 use Rattle.group_rows.specs.Lists.{is_publishing, names_list}
-use Rattle.group_facts.specs.Why.{IsShown, Why, WhyToEditor, answers, asks, calls, passes, progresses, recalls, refuses, rejects, resumes, shows, spreads, turns_away, welcomes, loses}
+use Rattle.group_facts.specs.Why.{IsShown, Why, WhyToEditor, answers, asks, calls, passes, progresses, recalls, refuses, rejects, resumes, shows, spreads, turns_away, welcomes, loses, IsLosing, winds_up}
 use Rattle.group_facts.proofs.Begun.{all_outs}
 use Rattle.group_sessions.proofs.DueWords.{flat_join}
 use Rattle.group_sessions.proofs.Tied.{all_back, runs_on}
 use Rattle.group_sessions.specs.LastLists.{gives_list, list_to, lists_to}
+use Rattle.group_facts.specs.Facts.{is_exit}
 
 pub lists_join : (e : ℕ) (xs ys : List Out) → lists_to e (xs ++ ys) ≡ lists_to e xs ++ lists_to e ys
 lists_join e xs ys = flat_join (list_to e) xs ys
@@ -59,8 +60,8 @@ unfolding server_notification
 cancel_gives = refl
 
 module _ (settings : Settings) (before : List Event) (cause : Cause) where
-  -- only what is shown is a list
-  plain_or : (events : List Event) (n : ℕ) (body : List ℕ) → WhyToEditor settings before cause events n body → (gives_list (message_of body) ≡ false) ⊎ IsShown settings before cause events n body
+  -- only what is shown is a list, and what empties one
+  plain_or : (events : List Event) (n : ℕ) (body : List ℕ) → WhyToEditor settings before cause events n body → (gives_list (message_of body) ≡ false) ⊎ (IsShown settings before cause events n body ⊎ IsLosing settings before cause events n body)
   plain_or events n body (rejects k) = inl (ap gives_list k.says)
   plain_or events n body (refuses k) = inl (ap gives_list k.says)
   plain_or events n body (loses k) = inl (ap gives_list k.says)
@@ -74,25 +75,27 @@ module _ (settings : Settings) (before : List Event) (cause : Cause) where
   plain_or events n body (spreads k) = inl (ap gives_list k.says ∙ ap names_list k.class)
   plain_or events n body (recalls k) = inl (ap gives_list k.says ∙ cancel_gives)
   plain_or events n body (progresses k) = inl (ap gives_list k.says ∙ ap names_list k.class)
-  plain_or events n body (shows k) = inr k
+  plain_or events n body (shows k) = inr (inl k)
+  plain_or events n body (winds_up k) = inr (inr k)
 
   module _ (e : ℕ) where
-    one_off : (events : List Event) (out : Out) → ((body : List ℕ) → IsShown settings before cause events e body → ⊥) → Why settings before cause events out → Listless e out
-    one_off events (ToEditor n body) none why = go (nat_eq n e) refl (plain_or events n body why)
+    one_off : (events : List Event) (out : Out) → ((body : List ℕ) → IsShown settings before cause events e body → ⊥) → ((body : List ℕ) → IsLosing settings before cause events e body → ⊥) → Why settings before cause events out → Listless e out
+    one_off events (ToEditor n body) none nor why = go (nat_eq n e) refl (plain_or events n body why)
       where
-        go : (b : Bool) → nat_eq n e ≡ b → (gives_list (message_of body) ≡ false) ⊎ IsShown settings before cause events n body → (if b && gives_list (message_of body) then body ∷ [] else []) ≡ []
+        go : (b : Bool) → nat_eq n e ≡ b → (gives_list (message_of body) ≡ false) ⊎ (IsShown settings before cause events n body ⊎ IsLosing settings before cause events n body) → (if b && gives_list (message_of body) then body ∷ [] else []) ≡ []
         go true at (inl plain) = ap (λ b. if b then body ∷ [] else []) plain
-        go true at (inr k) = absurd (none body (subst (λ z. IsShown settings before cause events z body) (number_same n e at) k))
+        go true at (inr (inl k)) = absurd (none body (subst (λ z. IsShown settings before cause events z body) (number_same n e at) k))
+        go true at (inr (inr k)) = absurd (nor body (subst (λ z. IsLosing settings before cause events z body) (number_same n e at) k))
         go false off k = refl
-    one_off events (ToServer s body) none why = refl
-    one_off events (Spawn s g) none why = refl
-    one_off events (CloseEditor n) none why = refl
-    one_off events (EndServer s) none why = refl
+    one_off events (ToServer s body) none nor why = refl
+    one_off events (Spawn s g) none nor why = refl
+    one_off events (CloseEditor n) none nor why = refl
+    one_off events (EndServer s) none nor why = refl
 
-    -- where nothing may be shown to e
-    pub all_off : ((events : List Event) (body : List ℕ) → IsShown settings before cause events e body → ⊥) → (events : List Event) (xs : List Out) → Reasons (Why settings before cause) events xs → lists_to e xs ≡ []
-    all_off none events [] r = refl
-    all_off none events (x ∷ xs) r = ap₂ (λ u v. u ++ v) (one_off events x (none events) r.0) (all_off none (events ++ said x ∷ []) xs r.1)
+    -- where nothing may be shown to e, and no start ends
+    pub all_off : ((events : List Event) (body : List ℕ) → IsShown settings before cause events e body → ⊥) → ((s : ℕ) → is_exit cause s ≡ true → ⊥) → (events : List Event) (xs : List Out) → Reasons (Why settings before cause) events xs → lists_to e xs ≡ []
+    all_off none on events [] r = refl
+    all_off none on events (x ∷ xs) r = ap₂ (λ u v. u ++ v) (one_off events x (none events) (λ body k. on k.start (k.lost).from) r.0) (all_off none on (events ++ said x ∷ []) xs r.1)
 
     -- an editor that doesn't run there
     abbrev pub Unrun : List Event → Type 0
@@ -107,4 +110,4 @@ module _ (settings : Settings) (before : List Event) (cause : Cause) where
 
     pub unrun_off : (events : List Event) (xs : List Out) → Reasons (Why settings before cause) events xs → Unrun events → lists_to e xs ≡ []
     unrun_off events [] r h = refl
-    unrun_off events (x ∷ xs) r h = ap₂ (λ u v. u ++ v) (one_off events x (λ body k. never (sym (ap is_running k.running) ∙ h)) r.0) (unrun_off (events ++ said x ∷ []) xs r.1 (unrun_more events (x ∷ []) h))
+    unrun_off events (x ∷ xs) r h = ap₂ (λ u v. u ++ v) (one_off events x (λ body k. never (sym (ap is_running k.running) ∙ h)) (λ body k. never (sym (ap is_running k.running) ∙ h)) r.0) (unrun_off (events ++ said x ∷ []) xs r.1 (unrun_more events (x ∷ []) h))

@@ -39,6 +39,7 @@ use Rattle.group_facts.proofs.Shown.{list_is, text_says, text_shown}
 use Rattle.group_sessions.proofs.DueSent.{flat_kept, only_one}
 use Rattle.group_sessions.proofs.ListsNone.{lists_join}
 use Rattle.group_sessions.specs.LastLists.{due_coming, due_opening, gives_list, is_hearing, lists_to, shown, shown_full}
+use Rattle.group_rows.proofs.ExitTexts.{published_spelt}
 
 -- A list, to an editor that it fits
 
@@ -162,7 +163,7 @@ module _ (settings : Settings) (before : List Event) (facts : Facts settings bef
 
     module _ (l : LastList) (came : published (sayings_of s before) body ≡ Some l) (g : ℕ) where
       kept : IsList l
-      kept = record { method = method; params = params; says = ap message_of (published_body (sayings_of s before) body l came) ∙ says; class = class }
+      kept = record { method = method; params = params; says = ap message_of (published_body (sayings_of s before) body l came) ∙ says; class = class; spelt = published_spelt (sayings_of s before) body l came }
 
       abbrev of_one : ℕ → List (List ℕ)
       of_one n = if nat_eq n e then shown settings s n before l else []

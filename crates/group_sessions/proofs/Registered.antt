@@ -1,5 +1,5 @@
 -- Entries that leave what is registered at an editor as it is.
-use Rattle.std.proofs.Common.{ltb-true, arith, ◌<◌, ◌^◌, ◌||◌, ◌≡◌, ℕ, Bool, true, false, ◌&&◌, cond, List, [], ◌∷◌, ◌++◌, nat_eq, refl, sym, ◌∙◌, ap, subst}
+use Rattle.std.proofs.Common.{ltb-true, arith, ◌<◌, ◌^◌, ◌||◌, ◌≡◌, ℕ, Bool, true, false, ◌&&◌, cond, List, [], ◌∷◌, ◌++◌, nat_eq, refl, sym, ◌∙◌, ap, subst, ◌+◌, ◌≤◌, ◌⊎◌, inl, inr, if◌then◌else◌, nat_lt}
 use Rattle.mux_history.specs.declared.cause.Cause.{Cause}
 use Rattle.mux_history.specs.declared.cause.Cause.TheVariants.{Joined, FromServer}
 use Rattle.mux_history.specs.declared.out.Out.{Out}
@@ -22,20 +22,23 @@ use Rattle.mux_facts.specs.Ranges.{InRange}
 use Rattle.mux_facts.proofs.Reasons.{reasons_keep}
 use Rattle.mux_facts.proofs.Rules.{rule_more, word_more}
 use Rattle.mux_facts.proofs.Words.{number_same, same_number}
-use Rattle.session_laws.specs.ClientRules.{ClientRule7, after_told, may_register, registered_behind, registered_of}
+use Rattle.session_laws.specs.ClientRules.{ClientRule7, after_told, may_register, registered_behind, registered_of, has_id}
 use Rattle.session_laws.proofs.Client4Law.{is_told}
 use Rattle.session_laws.proofs.Client7Law.{free_7}
-use Rattle.group_rows.specs.Live.{changes_live, is_registering}
+use Rattle.group_rows.specs.Live.{changes_live, is_registering, live_of, unregister_text}
 use Rattle.group_rows.specs.Rows.{outs_of}
 use Rattle.group_facts.specs.Built.{built_behind}
-use Rattle.group_facts.specs.Why.{progresses, IsAsk, IsChange, IsResumed, Calling, Why, WhyToEditor, answers, asks, displaces, enrols, passes, recalls, refuses, calls, rejects, releases, restores, creates, revives, resumes, shows, spreads, turns_away, welcomes, loses}
+use Rattle.group_facts.specs.Why.{progresses, IsAsk, IsChange, IsResumed, Calling, Why, WhyToEditor, answers, asks, displaces, enrols, passes, recalls, refuses, calls, rejects, releases, restores, creates, revives, resumes, shows, spreads, turns_away, welcomes, loses, winds_up, IsCall, IsLost, forgets}
 use Rattle.group_facts.proofs.Asks.{call_hurried}
 use Rattle.group_facts.proofs.Facts.{Facts}
 use Rattle.group_facts.proofs.Table.{reasons}
-use Rattle.group_sessions.proofs.Enrolled.{create_apart, Leaves, is_about, leaves_other, left, may_leave}
+use Rattle.group_sessions.proofs.Enrolled.{create_apart, Leaves, is_about, leaves_other, left, may_leave, Drops, Same, may_drop, unregister_drops}
 use Rattle.group_rows.specs.Created.{is_creating}
-use Rattle.group_rows.specs.Asks.{next_ask}
+use Rattle.group_rows.specs.Asks.{next_ask, asked_behind, has_number}
 use Rattle.group_rows.proofs.CreatedTexts.{create_says}
+use Rattle.group_rows.proofs.LiveTexts.{live_written, unregister_says}
+use Rattle.registrations.specs.declared.registration.Registration.{Registration}
+use Rattle.std.proofs.lemmas.List.Sums.{fold-append}
 
 abbrev pub ids : ℕ → List Event → List (List ℕ)
 ids e events = registered_of (editor_part e events)
@@ -113,6 +116,20 @@ response_plain (notification method ps) h = never (sym h)
 response_plain not_json h = refl
 response_plain not_message h = refl
 
+small_number : (e : ℕ) (events : List Event) → has_number e events ≡ true → next_ask e events < 2 ^ 128
+small_number e events room = let small : next_ask e events < 2 ^ 64 = ltb-true (next_ask e events) (2 ^ 64) room in omega (arith, small)
+
+next_more : (e : ℕ) (events : List Event) (event : Event) → next_ask e (events ++ event ∷ []) ≡ asked_behind e (next_ask e events) event
+next_more e events event = fold-append (asked_behind e) 1 events (event ∷ [])
+
+asked_grows : (e n : ℕ) (event : Event) → n ≤ asked_behind e n event
+asked_grows e n (did (ToEditor k body) (request id method ps)) = go (nat_eq k e)
+  where
+    go : (b : Bool) → n ≤ (if b then n + 1 else n)
+    go true = omega arith
+    go false = omega arith
+asked_grows e n other = omega arith
+
 module _ (settings : Settings) (before : List Event) (cause : Cause) (same : is_change before cause ≡ false) where
   module _ (events : List Event) (n : ℕ) (body : List ℕ) (runs : begins before cause n ≡ false) where
     asked_plain : IsAsk settings before cause events n body → is_about (message_of body) ≡ false
@@ -128,38 +145,103 @@ module _ (settings : Settings) (before : List Event) (cause : Cause) (same : is_
     no_change : (s : ℕ) (asked : List ℕ) (c : Class) → (life_of s before).stage ≡ Ready → changes_live c ≡ true → IsChange settings before cause n s asked c → is_about (message_of body) ≡ false
     no_change s asked c ready kind k = never (sym (ap (is_change before) k.from ∙ ap (λ b. b && is_about (message_of asked)) (ap is_ready ready) ∙ ap is_about k.asks ∙ ap changes_live k.kind ∙ kind) ∙ same)
 
-    registers_plain : (s m : ℕ) → m < 2 ^ 128 → (life_of s before).stage ≡ Ready → Calling settings before cause n s m body → is_about (message_of body) ≡ false
-    registers_plain s m small ready (displaces asked items k found is) = no_change s asked Register ready refl k
-    registers_plain s m small ready (enrols asked items k found is) = no_change s asked Register ready refl k
-    registers_plain s m small ready (releases asked items k found is) = no_change s asked Unregister ready refl k
-    registers_plain s m small ready (restores k is) = never (sym (ap (λ p. is_answered p && is_running (desk_of n (with_cause before cause)).phase) k.waited ∙ ap is_running k.began) ∙ runs)
-    registers_plain s m small ready (creates asked token k found is) = ap is_about (ap message_of is ∙ create_says s token.number m small) ∙ create_apart
-    registers_plain s m small ready (revives token earlier later k order is) = ap is_about (ap message_of is ∙ create_says s token.number m small) ∙ create_apart
+    -- what takes back all that is live, as the start ends
+    record Forgets : Type 0 where
+      start : ℕ
+      lost : IsLost settings before cause n start
+      room : has_number n events ≡ true
+      first : next_ask n events ≡ next_ask n before
+      bytes : body ≡ unregister_text (live_of settings start before) (next_ask n events)
 
-    plain : WhyToEditor settings before cause events n body → is_about (message_of body) ≡ false
-    plain (rejects k) = ap is_about k.says
-    plain (refuses k) = ap is_about k.says
-    plain (loses k) = ap is_about k.says
-    plain (answers k) = ap is_about k.says
-    plain (turns_away k) = ap is_about k.says
-    plain (welcomes k) = ap is_about k.says
-    plain (passes k) = response_plain (message_of body) k.response
-    plain (asks k) = asked_plain k
-    plain (resumes k) = resumed_plain k
-    plain (calls k) = registers_plain k.start (next_ask n events) (let small : next_ask n events < 2 ^ 64 = ltb-true (next_ask n events) (2 ^ 64) k.room in omega (arith, small)) k.ready k.told
-    plain (spreads k) = ap is_about k.says
-    plain (recalls k) = ap is_about k.says
-    plain (progresses k) = ap is_about k.says
-    plain (shows k) = ap is_about k.says
+    registers_or : (k : IsCall settings before cause events n body) → next_ask n events < 2 ^ 128 → Calling settings before cause n k.start (next_ask n events) body → (is_about (message_of body) ≡ false) ⊎ Forgets
+    registers_or k small (displaces asked items c found is) = inl (no_change k.start asked Register k.ready refl c)
+    registers_or k small (enrols asked items c found is) = inl (no_change k.start asked Register k.ready refl c)
+    registers_or k small (releases asked items c found is) = inl (no_change k.start asked Unregister k.ready refl c)
+    registers_or k small (forgets lost first is) = inr (record { start = k.start; lost = lost; room = k.room; first = first; bytes = is })
+    registers_or k small (restores c is) = never (sym (ap (λ p. is_answered p && is_running (desk_of n (with_cause before cause)).phase) c.waited ∙ ap is_running c.began) ∙ runs)
+    registers_or k small (creates asked token c found is) = inl (ap is_about (ap message_of is ∙ create_says k.start token.number (next_ask n events) small) ∙ create_apart)
+    registers_or k small (revives token earlier later c order is) = inl (ap is_about (ap message_of is ∙ create_says k.start token.number (next_ask n events) small) ∙ create_apart)
 
-  -- each out leaves what is registered at an editor that doesn't begin to run
-  module _ (e : ℕ) (runs : begins before cause e ≡ false) (xs : List (List ℕ)) where
-    out_keeps : (events : List Event) (out : Out) → Why settings before cause events out → At e xs events → At e xs (events ++ said out ∷ [])
-    out_keeps events (ToEditor n body) why h = at_plain e n xs events body (λ is. plain events n body (subst (λ k. begins before cause k ≡ false) (sym (number_same n e is)) runs) why) h
-    out_keeps events (ToServer s body) why h = at_free e xs events (said (ToServer s body)) refl h
-    out_keeps events (Spawn s g) why h = at_free e xs events (said (Spawn s g)) refl h
-    out_keeps events (CloseEditor n) why h = at_free e xs events (said (CloseEditor n)) refl h
-    out_keeps events (EndServer s) why h = at_free e xs events (said (EndServer s)) refl h
+    plain_or : WhyToEditor settings before cause events n body → (is_about (message_of body) ≡ false) ⊎ Forgets
+    plain_or (rejects k) = inl (ap is_about k.says)
+    plain_or (refuses k) = inl (ap is_about k.says)
+    plain_or (loses k) = inl (ap is_about k.says)
+    plain_or (answers k) = inl (ap is_about k.says)
+    plain_or (turns_away k) = inl (ap is_about k.says)
+    plain_or (welcomes k) = inl (ap is_about k.says)
+    plain_or (passes k) = inl (response_plain (message_of body) k.response)
+    plain_or (asks k) = inl (asked_plain k)
+    plain_or (resumes k) = inl (resumed_plain k)
+    plain_or (calls k) = registers_or k (small_number n events k.room) k.told
+    plain_or (spreads k) = inl (ap is_about k.says)
+    plain_or (recalls k) = inl (ap is_about k.says)
+    plain_or (progresses k) = inl (ap is_about k.says)
+    plain_or (shows k) = inl (ap is_about k.says)
+    plain_or (winds_up k) = inl (ap is_about k.says)
 
-    pub entry_keeps : InRange settings → Facts settings before → built_behind settings before cause ≡ true → At e xs before → At e xs (behind (with_cause before cause) (outs_of settings before cause))
-    entry_keeps range facts built h = reasons_keep (λ events out. Why settings before cause events out) (At e xs) out_keeps (with_cause before cause) (outs_of settings before cause) (reasons settings range before facts cause built).why (at_took e xs before cause h)
+  -- an editor that doesn't begin to run: where it ran in the group of a start that ends, all that was registered is taken back at most once
+  module _ (e : ℕ) (runs : begins before cause e ≡ false) (tied : (s : ℕ) → IsLost settings before cause e s → has_number e before ≡ true → Same (ids e before) (live_of settings s before)) where
+    pub record Going (events : List Event) : Type 0 where
+      pub always : Always ClientRule7 (editor_part e events)
+      pub first : next_ask e events ≡ next_ask e before → ids e events ≡ ids e before
+      pub kept : ((s : ℕ) → IsLost settings before cause e s → ⊥) → ids e events ≡ ids e before
+      pub above : next_ask e before ≤ next_ask e events
+
+    next_up : (events : List Event) (event : Event) → next_ask e events ≤ next_ask e (events ++ event ∷ [])
+    next_up events event = let m = next_more e events event in let g = asked_grows e (next_ask e events) event in omega (arith, m, g)
+
+    unchanged : (events : List Event) (event : Event) → Going events → At e (ids e events) (events ++ event ∷ []) → Going (events ++ event ∷ [])
+    unchanged events event h at = record {
+      always = at.always;
+      first = λ same. at.has ∙ h.first (let low : next_ask e before ≤ next_ask e events = h.above in let up = next_up events event in omega (arith, low, up, same));
+      kept = λ none. at.has ∙ h.kept none;
+      above = let low : next_ask e before ≤ next_ask e events = h.above in let up = next_up events event in omega (arith, low, up);
+    }
+
+    still : (events : List Event) → Going events → At e (ids e events) events
+    still events h = record { always = h.always; has = refl }
+
+    forgotten : (events : List Event) (body : List ℕ) → Forgets events e body runs → Going events → Going (events ++ said (ToEditor e body) ∷ [])
+    forgotten events body k h = record {
+      always = told.always;
+      first = λ same. absurd (let low : next_ask e before ≤ next_ask e events = h.above in omega (arith, low, asked, same));
+      kept = λ none. absurd (none k.start k.lost);
+      above = let low : next_ask e before ≤ next_ask e events = h.above in let up = next_up events (said (ToEditor e body)) in omega (arith, low, up);
+    }
+      where
+        live : List Registration
+        live = live_of settings k.start before
+
+        text : List ℕ
+        text = unregister_text live (next_ask e events)
+
+        drops : Drops (message_of text) live
+        drops = unregister_drops live (live_written settings k.start before) (next_ask e events) (small_number e events k.room)
+
+        alike : Same (ids e events) live
+        alike x = ap (λ xs. has_id xs x) (h.first k.first) ∙ tied k.start k.lost (ap (λ n. nat_lt n (2 ^ 64)) (sym k.first) ∙ k.room) x
+
+        told : At e (after_told (ids e events) (message_of body)) (events ++ said (ToEditor e body) ∷ [])
+        told = at_told e (ids e events) events body (ap (λ z. may_register (ids e events) (message_of z)) k.bytes ∙ may_drop (ids e events) (message_of text) live drops (λ x named. alike x ∙ named)) (still events h)
+
+        asked : next_ask e (events ++ said (ToEditor e body) ∷ []) ≡ next_ask e events + 1
+        asked = next_more e events (said (ToEditor e body)) ∙ (ap (λ m. asked_behind e (next_ask e events) (did (ToEditor e body) m)) (ap message_of k.bytes ∙ (unregister_says live (live_written settings k.start before) (next_ask e events) (small_number e events k.room)).1)
+            ∙ ap (λ b. if b then next_ask e events + 1 else next_ask e events) (same_number e))
+
+    goes : (events : List Event) (out : Out) → Why settings before cause events out → Going events → Going (events ++ said out ∷ [])
+    goes events (ToEditor n body) why h = go (nat_eq n e) refl
+      where
+        own : WhyToEditor settings before cause events e body → Going (events ++ said (ToEditor e body) ∷ [])
+        own w = elim (plain_or events e body runs w) [ inl plain ↦ unchanged events (said (ToEditor e body)) h (at_plain e e (ids e events) events body (λ is. plain) (still events h)) | inr k ↦ forgotten events body k h ]
+
+        go : (b : Bool) → nat_eq n e ≡ b → Going (events ++ said (ToEditor n body) ∷ [])
+        go false other = unchanged events (said (ToEditor n body)) h (at_other e n (ids e events) events body other (still events h))
+        go true same = subst (λ z. Going (events ++ said (ToEditor z body) ∷ [])) (sym (number_same n e same)) (own (subst (λ z. WhyToEditor settings before cause events z body) (number_same n e same) why))
+    goes events (ToServer s body) why h = unchanged events (said (ToServer s body)) h (at_free e (ids e events) events (said (ToServer s body)) refl (still events h))
+    goes events (Spawn s g) why h = unchanged events (said (Spawn s g)) h (at_free e (ids e events) events (said (Spawn s g)) refl (still events h))
+    goes events (CloseEditor n) why h = unchanged events (said (CloseEditor n)) h (at_free e (ids e events) events (said (CloseEditor n)) refl (still events h))
+    goes events (EndServer s) why h = unchanged events (said (EndServer s)) h (at_free e (ids e events) events (said (EndServer s)) refl (still events h))
+
+    pub entry_goes : InRange settings → Facts settings before → built_behind settings before cause ≡ true → Always ClientRule7 (editor_part e before) → Going (behind (with_cause before cause) (outs_of settings before cause))
+    entry_goes range facts built always = reasons_keep (λ events out. Why settings before cause events out) Going goes (with_cause before cause) (outs_of settings before cause) (reasons settings range before facts cause built).why
+        (unchanged before (heard cause) (record { always = always; first = λ same. refl; kept = λ none. refl; above = omega arith }) (at_took e (ids e before) before cause (record { always = always; has = refl })))

@@ -30,14 +30,14 @@ use Rattle.mux_facts.proofs.Words.{id_same, number_same, same_number, still_open
 use Rattle.session_laws.specs.Progress.{is_end, token_at}
 use Rattle.group_words.specs.Houses.{home_of}
 use Rattle.group_rows.specs.Asks.{next_ask}
-use Rattle.group_rows.specs.Created.{Created, Taking, Token, accepts, answered, asked, created_mark, created_next, created_of, created_text, is_answered, is_called, is_creating, is_numbered, left, lives, named_token, names_progress, progressed, settled, token_called, token_marked, with_asked}
+use Rattle.group_rows.specs.Created.{Created, Taking, Token, accepts, answered, asked, created_mark, created_next, created_of, created_text, is_answered, is_called, is_creating, is_numbered, left, lives, named_token, names_progress, progressed, settled, token_called, token_marked, with_asked, no_created}
 use Rattle.group_rows.specs.Forwarded.{forwarding_of}
 use Rattle.group_rows.specs.Rows.{outs_of}
 use Rattle.group_rows.specs.Tokens.{is_told, marked_text}
 use Rattle.group_facts.specs.Built.{built_behind}
-use Rattle.group_facts.specs.Facts.{shuts}
+use Rattle.group_facts.specs.Facts.{shuts, is_exit}
 use Rattle.group_facts.specs.Settled.{Settled}
-use Rattle.group_facts.specs.Why.{IsNotified, IsTaken, Telling, Why, WhyToEditor, answers, asks, calls, of_held, of_request, of_token, passes, progresses, recalls, refuses, rejects, resumes, shows, spreads, turns_away, welcomes, loses}
+use Rattle.group_facts.specs.Why.{IsNotified, IsTaken, Telling, Why, WhyToEditor, answers, asks, calls, of_held, of_request, of_token, passes, progresses, recalls, refuses, rejects, resumes, shows, spreads, turns_away, welcomes, loses, winds_up, Losing, ends, frees, empties}
 use Rattle.group_facts.proofs.Facts.{Facts}
 use Rattle.group_facts.proofs.Known.{Here, here_did, here_took}
 use Rattle.group_facts.proofs.Reached.{Reached, facts_at, settled_at}
@@ -48,7 +48,7 @@ use Rattle.group_sessions.proofs.Client6Law.{created_id, list_no_progress, not_p
 use Rattle.group_sessions.proofs.CreatedFold.{IsLive, created_orderly, is_free}
 use Rattle.group_sessions.proofs.CreatedTies.{created_more, outs_tokens, spoken_tokens}
 use Rattle.group_sessions.proofs.HeldFold.{Fair, IsAlive, IsFair, NameTokens, NoneEnds, called_some, created_fair, gone_behind, rest}
-use Rattle.group_sessions.proofs.Marked.{Marked, ends, is_ending, marked}
+use Rattle.group_sessions.proofs.Marked.{Marked, ends as is_last, is_ending, marked}
 use Rattle.group_sessions.proofs.Registered.{begins, is_answered as is_answered_desk}
 use Rattle.group_sessions.proofs.TakingTies.{IsTied, Spares, Tied, TiedIf, aside_all, is_aside, left_all, mark_of, tied_aside, tied_heard, tied_notified, tied_request, tied_response}
 use Rattle.group_sessions.proofs.TellingPlaces.{Known, KnownOut, Knows, RunsIn, all_known, one_start}
@@ -59,6 +59,9 @@ use Rattle.group_facts.proofs.SlowRow.{parting, parting_calm, parting_keeps}
 use Rattle.group_facts.proofs.AskingRows.{running_is}
 use Rattle.group_facts.proofs.PutOut.{homes_stay}
 use Rattle.group_facts.proofs.Begun.{starts_stay}
+use Rattle.group_rows.proofs.Cancels.{cancel_says, params_tree}
+use Rattle.group_rows.proofs.ExitTexts.{empty_says, empty_tree, end_says, end_tree}
+use Rattle.group_sessions.proofs.EndTexts.{end_names}
 
 -- Editors that were asked ran
 
@@ -128,7 +131,7 @@ drop_same (x ∷ xs) ys zs h = drop_same xs ys zs (let same : xs ++ ys ≡ xs ++
 text_same : (a b : List ℕ) → text a ≡ text b → a ≡ b
 text_same a b e = cc
 
-same_mark : (s k j : ℕ) → k < 2 ^ 64 → j < 2 ^ 64 → same_id (text (created_mark s k)) (text (created_mark s j)) ≡ true → k ≡ j
+pub same_mark : (s k j : ℕ) → k < 2 ^ 64 → j < 2 ^ 64 → same_id (text (created_mark s k)) (text (created_mark s j)) ≡ true → k ≡ j
 same_mark s k j low high h = decimal_injective k j low high
     (drop_same (codes "lspmux:" ++ decimal s ++ codes ":") (decimal k) (decimal j) (text_same (created_mark s k) (created_mark s j) (id_same (text (created_mark s k)) (text (created_mark s j)) h)))
 
@@ -180,6 +183,7 @@ asked_ran settings before cause events n body (spreads k) is = never (sym is ∙
 asked_ran settings before cause events n body (recalls k) is = never (sym is ∙ ap is_request k.says)
 asked_ran settings before cause events n body (progresses k) is = never (sym is ∙ ap is_request k.says)
 asked_ran settings before cause events n body (shows k) is = never (sym is ∙ ap is_request k.says)
+asked_ran settings before cause events n body (winds_up k) is = never (sym is ∙ ap is_request k.says)
 
 took_tied : (At : ℕ → ℕ → Type 0) (settings : Settings) (before : List Event) (cause : Cause) → Tied At settings before → Tied At settings (with_cause before cause)
 took_tied At settings before (FromEditor e body) h = tied_heard At settings before e body h
@@ -202,7 +206,7 @@ desk p i = record { phase = p; initialize = i }
 
 -- One entry
 
-module _ (settings : Settings) (range : InRange settings) (before : List Event) (facts : Facts settings before) (settled : Settled settings before) (free : Unreserved before) (cause : Cause) (fits : fits_behind before cause ≡ true) (built : built_behind settings before cause ≡ true) where
+module _ (settings : Settings) (range : InRange settings) (before : List Event) (facts : Facts settings before) (settled : Settled settings before) (free : Unreserved before) (single : OneStart before) (cause : Cause) (fits : fits_behind before cause ≡ true) (built : built_behind settings before cause ≡ true) where
   abbrev now : List Event
   now = with_cause before cause
 
@@ -284,6 +288,18 @@ module _ (settings : Settings) (range : InRange settings) (before : List Event) 
     notified_tied : (token : Id) (bytes asked method : List ℕ) → (m : Marked token bytes asked method) → body ≡ marked_text bytes asked → Apart m.params token → Tied Stands settings sent
     notified_tied token bytes asked method m is apart = tied_notified Stands settings events n body method m.params (ap message_of is ∙ m.says) (spares_all method m.params token m.names apart) i.tied
 
+    -- a start that ended has none
+    exit_tokens : (s : ℕ) (c : Cause) → is_exit c s ≡ true → (created_of settings s (with_cause before c)).tokens ≡ []
+    exit_tokens s (StartFailed m) is = ap (λ (y : Created). y.tokens) (created_more settings s before (heard (StartFailed m))) ∙ ap (λ b. (if b then no_created else created_of settings s before).tokens) is
+    exit_tokens s (ServerGone m) is = ap (λ (y : Created). y.tokens) (created_more settings s before (heard (ServerGone m))) ∙ ap (λ b. (if b then no_created else created_of settings s before).tokens) is
+    exit_tokens s (Joined e) is = never (sym is)
+    exit_tokens s (FromEditor e asked) is = never (sym is)
+    exit_tokens s (EditorGone e why) is = never (sym is)
+    exit_tokens s (Started m) is = never (sym is)
+    exit_tokens s (FromServer m asked) is = never (sym is)
+    exit_tokens s (Drained e j) is = never (sym is)
+    exit_tokens s (Tick z) is = never (sym is)
+
     token_now : (s : ℕ) (asked : List ℕ) (given : Option Json) (token : Token) → IsNotified before cause s asked given → token_called (named_token given) (created_of settings s before) ≡ Some token
         → (created_of settings s now).tokens ≡ rest token.number asked given (created_of settings s before).tokens
     token_now s asked given token k called =
@@ -345,7 +361,7 @@ module _ (settings : Settings) (range : InRange settings) (before : List Event) 
             let top : x.next ≤ 2 ^ 64 = (fair_before s).small in omega (arith, low, top)
 
         dead : is_end m.params ≡ true → (b : Bool) → list_any (is_numbered c.token) x.tokens ≡ b → b ≡ false
-        dead end true alive = never (sym (sym m.ending ∙ end) ∙ (all_at (λ z. ends z ≡ false) earlier held later (subst NoneEnds order (fair_one.going alive))).1)
+        dead end true alive = never (sym (sym m.ending ∙ end) ∙ (all_at (λ z. is_last z ≡ false) earlier held later (subst NoneEnds order (fair_one.going alive))).1)
         dead end false none = refl
 
         gone : is_end m.params ≡ true → list_any (is_numbered c.token) (created_of settings s events).tokens ≡ false
@@ -372,6 +388,23 @@ module _ (settings : Settings) (range : InRange settings) (before : List Event) 
     tied_now (spreads k) known = tied_notified Stands settings events n body k.method k.params k.says (λ s. untold k.method k.params (not_progress k.method k.class) s (created_of settings s events).takings) i.tied
     tied_now (recalls k) known = tied_notified Stands settings events n body (codes "$/cancelRequest") (Some k.params) k.says (λ s. untold (codes "$/cancelRequest") (Some k.params) refl s (created_of settings s events).takings) i.tied
     tied_now (progresses k) known = let told : Known settings before cause events n body = known k.told in told_tied told.told told.knows
+    tied_now (winds_up k) known = wound k.told
+      where
+        over : (token : Token) (front back : List Token) → (created_of settings k.start before).tokens ≡ front ++ token ∷ back → Ended events n k.start token.number
+        over token front back order = record {
+          at = record { running = (k.lost).ran; group = (k.lost).group; home = (k.lost).home; last = single k.start (k.lost).group (k.lost).kept };
+          small = let low : token.number < x.next = ((all_at (IsLive x.next) front token back (subst (AllByRecursion (IsLive x.next)) order (created_orderly settings k.start before).live)).1).below in let top : x.next ≤ 2 ^ 64 = (fair_before k.start).small in omega (arith, low, top);
+          gone = ap (list_any (is_numbered token.number)) (tokens_at events i k.start ∙ exit_tokens k.start cause (k.lost).from);
+        }
+          where
+            x : Created
+            x = created_of settings k.start before
+
+        wound : Losing settings before events n k.start body → Tied Stands settings sent
+        wound (ends token front back order begun is) = tied_notified Stands settings events n body (codes "$/progress") (Some (end_tree k.start token.number)) (ap message_of is ∙ end_says k.start token.number)
+            (spares_all (codes "$/progress") (Some (end_tree k.start token.number)) (text (created_mark k.start token.number)) (end_names k.start token.number) (λ end t c stands on own fair low. ended_apart events n k.start token.number (over token front back order) t c stands on own fair low)) i.tied
+        wound (frees number unanswered small waits is) = tied_notified Stands settings events n body (codes "$/cancelRequest") (Some (params_tree number)) (ap message_of is ∙ cancel_says number small) (λ s. untold (codes "$/cancelRequest") (Some (params_tree number)) refl s (created_of settings s events).takings) i.tied
+        wound (empties list front back order full spelt is) = tied_notified Stands settings events n body (codes "textDocument/publishDiagnostics") (Some (empty_tree list.uri)) (ap message_of is ∙ empty_says list.uri spelt) (λ s. untold (codes "textDocument/publishDiagnostics") (Some (empty_tree list.uri)) refl s (created_of settings s events).takings) i.tied
     tied_now (shows k) known = tied_notified Stands settings events n body k.method k.params k.says (λ s. untold k.method k.params (list_no_progress k.method k.class) s (created_of settings s events).takings) i.tied
 
   has_later : (events : List Event) (out : Out) (e : ℕ) → HasRun events e → HasRun (events ++ said out ∷ []) e
@@ -483,11 +516,11 @@ module _ (settings : Settings) (range : InRange settings) (before : List Event) 
       go (inr begun) = let was : (desk_of e before).phase ≡ Answered = answered_is (desk_of e before).phase (and_parts (is_answered_desk (desk_of e before).phase) (is_running (desk_of e now).phase) begun).0 in
           at (ap needs_server was) (ap is_new was) (unshut e was here) (inr begun)
 
-  entry_rests : OneStart before → Rests settings before → Rests settings later
-  entry_rests one h = record { tied = λ s. all_of (TiedIf Stands s later) (TiedIf (RunsIn settings later) s later) (λ c tied at. tied (stood s c.editor at)) (created_of settings s later).takings (last.tied s); ran = last.ran }
+  entry_rests : Rests settings before → Rests settings later
+  entry_rests h = record { tied = λ s. all_of (TiedIf Stands s later) (TiedIf (RunsIn settings later) s later) (λ c tied at. tied (stood s c.editor at)) (created_of settings s later).takings (last.tied s); ran = last.ran }
     where
       last : At later
-      last = reasons_keep Both At step now (outs_of settings before cause) (both now (outs_of settings before cause) (reasons settings range before facts cause built).why (all_known settings before one cause)) (first h)
+      last = reasons_keep Both At step now (outs_of settings before cause) (both now (outs_of settings before cause) (reasons settings range before facts cause built).why (all_known settings before single cause)) (first h)
 
 -- An editor that is slow leaves
 
@@ -519,6 +552,6 @@ module _ (settings : Settings) (place : List Event) (e : ℕ) where
 
 pub all_rests : (settings : Settings) → InRange settings → (before : List Event) → Reached settings before → Rests settings before
 all_rests settings range before legal = walk settings (Rests settings)
-    (λ earlier so_far cause fits built h. entry_rests settings range earlier (facts_at settings range earlier so_far) (settled_at settings range earlier so_far) (all_unreserved settings range earlier so_far) cause fits built (one_start settings range earlier so_far) h)
+    (λ earlier so_far cause fits built h. entry_rests settings range earlier (facts_at settings range earlier so_far) (settled_at settings range earlier so_far) (all_unreserved settings range earlier so_far) (one_start settings range earlier so_far) cause fits built h)
     (λ place at e is h. rests_slow settings place e h)
     (record { tied = λ s. tt; ran = λ s. tt }) before legal

@@ -22,7 +22,7 @@ use Rattle.session_laws.proofs.Client6Law.{tokened, tokened_grows, tokened_left}
 use Rattle.session_laws.proofs.Tokens.{holds}
 use Rattle.group_rows.specs.Forwarded.{Forwarded, Forwarding, answered_by, cancelled_by, forwarding_behind, forwarding_of, forwards, is_written, no_forwarding, numbered}
 use Rattle.group_facts.specs.Facts.{AllForwarded, IsAlone, is_early}
-use Rattle.group_facts.specs.Why.{WhyToEditor, answers, asks, calls, passes, progresses, recalls, refuses, rejects, resumes, shows, spreads, turns_away, welcomes, loses}
+use Rattle.group_facts.specs.Why.{WhyToEditor, answers, asks, calls, passes, progresses, recalls, refuses, rejects, resumes, shows, spreads, turns_away, welcomes, loses, winds_up}
 use Rattle.group_facts.proofs.Apart.{alone_early}
 use Rattle.group_facts.proofs.Forwards.{forwarding_more, zip_all}
 use Rattle.group_rows.specs.StopRows.{stopped}
@@ -219,6 +219,7 @@ module _ (settings : Settings) (before : List Event) (cause : Cause) (events : L
   alone_answered on asked (recalls k) = none (ap answered_id k.says)
   alone_answered on asked (progresses k) = none (ap answered_id k.says)
   alone_answered on asked (shows k) = none (ap answered_id k.says)
+  alone_answered on asked (winds_up k) = none (ap answered_id k.says)
   alone_answered on asked (loses k) = never (sym k.over ∙ on)
 
   abbrev sent : List Event

@@ -1,5 +1,5 @@
 -- What is registered at an editor that runs is what is live at its group's start, and at one that doesn't run yet nothing is.
-use Rattle.std.proofs.Common.{◌≡◌, ℕ, ◌+◌, ◌^◌, ◌<◌, Bool, true, false, not, ◌&&◌, List, [], ◌∷◌, ◌++◌, append-nil, append_assoc, map, codes, nat_eq, nat_lt, ltb-true, if◌then◌else◌, Some, None, ◌⊎◌, inl, inr, refl, sym, ◌∙◌, ap, subst, subst₂, arith}
+use Rattle.std.proofs.Common.{◌≡◌, ℕ, ◌+◌, ◌^◌, ◌<◌, Bool, true, false, not, ◌&&◌, List, [], ◌∷◌, ◌++◌, append-nil, append_assoc, map, codes, nat_eq, nat_lt, ltb-true, if◌then◌else◌, Some, None, ◌⊎◌, inl, inr, refl, sym, ◌∙◌, ap, ap₂, subst, subst₂, arith}
 use Rattle.std.proofs.lemmas.Bool.{ltb-false}
 use Rattle.std.proofs.lemmas.List.Sums.{fold-append}
 use Rattle.mux_history.specs.declared.cause.Cause.{Cause}
@@ -16,18 +16,18 @@ use Rattle.event_model.specs.declared.phase.Phase.TheVariants.{Absent, New, Wait
 use Rattle.event_model.specs.Always.{Always}
 use Rattle.event_model.specs.Event.{Event, behind, did, heard, requests, said, took, with_cause}
 use Rattle.event_model.specs.Parts.{editor_part}
-use Rattle.event_model.specs.Phases.{Desk, desk_hears, desk_of, editors_of, has_id, is_new, is_running, needs_server, phase_closed, phase_told}
+use Rattle.event_model.specs.Phases.{Desk, desk_hears, desk_of, editors_of, has_id, is_begun, is_new, is_running, needs_server, phase_closed, phase_told}
 use Rattle.event_model.specs.Settings.{Settings}
-use Rattle.event_model.specs.Spawns.{start_of}
+use Rattle.event_model.specs.Spawns.{group_of, start_of}
 use Rattle.event_model.specs.Stages.{life_of, is_ready}
 use Rattle.event_model.proofs.Frames.{never}
 use Rattle.mux_model.specs.Fits.{fits_behind}
 use Rattle.mux_facts.specs.Ranges.{InRange}
 use Rattle.mux_facts.proofs.Folds.{desk_more}
-use Rattle.mux_facts.proofs.Words.{number_same}
+use Rattle.mux_facts.proofs.Words.{number_same, same_number}
 use Rattle.session_laws.specs.ClientRules.{ClientRule7}
 use Rattle.registrations.specs.declared.registration.Registration.{Registration}
-use Rattle.group_words.specs.Houses.{home_of}
+use Rattle.group_words.specs.Houses.{home_of, is_home}
 use Rattle.group_words.proofs.Frames.{past_more}
 use Rattle.group_rows.specs.Asks.{asked_behind, has_number, next_ask}
 use Rattle.group_rows.specs.Live.{changes_live, live_by, live_next, live_of}
@@ -36,19 +36,23 @@ use Rattle.group_words.specs.Houses.{groups_of}
 use Rattle.group_rows.specs.Asks.{asking_of, is_taken}
 use Rattle.group_rows.specs.Live.{is_registering}
 use Rattle.std.specs.Option.{option_map_or}
-use Rattle.group_facts.specs.Built.{built_behind, is_left}
+use Rattle.group_facts.specs.Built.{built_behind}
 use Rattle.group_facts.specs.Lively.{lives_at}
 use Rattle.group_facts.specs.Settled.{is_answered as answered_phase}
 use Rattle.group_facts.proofs.Lively.{lives_of}
-use Rattle.group_facts.specs.Facts.{is_unready, shuts}
+use Rattle.group_facts.specs.Facts.{ends_with, is_exit, is_put_out, is_unready, shuts}
 use Rattle.group_facts.specs.Settled.{IsSeated, Settled}
 use Rattle.group_facts.proofs.Facts.{Facts}
 use Rattle.group_facts.proofs.Homes.{took_home}
-use Rattle.group_facts.proofs.OneStart.{start_kept}
+use Rattle.group_facts.specs.Why.{IsLost}
+use Rattle.group_facts.proofs.Exits.{ends_live}
+use Rattle.group_facts.proofs.OneStart.{OneStart, start_kept}
 use Rattle.group_facts.proofs.PutOut.{homes_stay}
+use Rattle.group_facts.proofs.StopEntry.{put_out_ends}
+use Rattle.group_rows.specs.ExitRows.{begins_again}
 use Rattle.group_sessions.proofs.Enrolled.{Same, is_about}
 use Rattle.group_facts.proofs.AskingRows.{running_is}
-use Rattle.group_sessions.proofs.Registered.{At, begins, entry_keeps, ids, is_answered, is_change}
+use Rattle.group_sessions.proofs.Registered.{At, Going, begins, entry_goes, ids, is_answered, is_change}
 
 -- it runs, or did
 abbrev pub has_run : Phase → Bool
@@ -381,31 +385,51 @@ module _ (settings : Settings) (range : InRange settings) (before : List Event) 
   heard_same n s body not_json live off = refl
   heard_same n s body not_message live off = refl
 
-  -- the start of a running editor's group doesn't end
-  kept_start : (e g s : ℕ) → (desk_of e before).phase ≡ Running → Place e g s → is_left settings before s ≡ true → ⊥
-  kept_start e g s was k left = go left
+  -- where the start of an editor's group ends, the editor is to be ended
+  exit_closes : (e g s : ℕ) → (desk_of e before).phase ≡ Running → home_of settings e before ≡ Some g → group_of s before ≡ Some g → is_exit cause s ≡ true → is_begun (desk_of e later).phase ≡ false
+  exit_closes e g s was home kept exit = by_cause cause refl exit
     where
       lives : lives_at g (groups_of settings before) ≡ true
-      lives = lives_of settings before settled.lively e g (ap answered_phase was) k.home
+      lives = lives_of settings before settled.lively e g (ap answered_phase was) home
 
-      go : is_left settings before s ≡ true → ⊥
-      go h = never (sym (sym (ap (λ o. not (option_map_or (λ i. lives_at i (groups_of settings before)) o false)) (settled.lively.last g s k.start).0 ∙ ap not lives) ∙ h))
+      over : not (begins_again settings before s) ≡ true → (ends_with settings before s e && is_begun (desk_of e before).phase) ≡ true
+      over last = ap₂ (λ a b. a && b) (ap₂ (λ a b. a && b) (ends_live settings before s last g kept lives) (ap (λ o. option_map_or (λ i. is_home i (home_of settings e before)) o false) kept ∙ (ap (is_home g) home ∙ same_number g))) (ap is_begun was)
 
-  live_same : (e g s : ℕ) → is_change before cause ≡ false → (desk_of e before).phase ≡ Running → Place e g s → live_of settings s later ≡ live_of settings s before
-  live_same e g s off was k = live_here s ∙ by_cause cause refl
+      by_cause : (c : Cause) → cause ≡ c → is_exit c s ≡ true → is_begun (desk_of e later).phase ≡ false
+      by_cause (StartFailed n) is h = let same : n ≡ s = number_same n s h in
+          put_out_ends settings before cause (facts.steady).editors e (ap (λ c. is_put_out settings before c e) (is ∙ ap (λ i. StartFailed i) same) ∙ over (ap (built_behind settings before) (sym (is ∙ ap (λ i. StartFailed i) same)) ∙ built))
+      by_cause (ServerGone n) is h = let same : n ≡ s = number_same n s h in
+          put_out_ends settings before cause (facts.steady).editors e (ap (λ c. is_put_out settings before c e) (is ∙ ap (λ i. ServerGone i) same) ∙ over (ap (built_behind settings before) (sym (is ∙ ap (λ i. ServerGone i) same)) ∙ built))
+      by_cause (Joined n) is h = never (sym h)
+      by_cause (FromEditor n body) is h = never (sym h)
+      by_cause (EditorGone n why) is h = never (sym h)
+      by_cause (Started n) is h = never (sym h)
+      by_cause (FromServer n body) is h = never (sym h)
+      by_cause (Drained n k) is h = never (sym h)
+      by_cause (Tick t) is h = never (sym h)
+
+  -- so one that runs behind the entry didn't lose its start
+  pub unlost : (e : ℕ) → (desk_of e later).phase ≡ Running → (s : ℕ) → IsLost settings before cause e s → ⊥
+  unlost e runs s k = never (sym (ap is_begun runs) ∙ exit_closes e k.group s k.ran k.home k.kept k.from)
+
+  live_same : (e g s : ℕ) → is_change before cause ≡ false → (desk_of e before).phase ≡ Running → (desk_of e later).phase ≡ Running → Place e g s → live_of settings s later ≡ live_of settings s before
+  live_same e g s off was runs k = live_here s ∙ by_cause cause refl
     where
+      goes_on : is_exit cause s ≡ true → ⊥
+      goes_on h = never (sym (ap is_begun runs) ∙ exit_closes e g s was k.home (settled.lively.last g s k.start).0 h)
+
       by_cause : (c : Cause) → cause ≡ c → live_next settings s before (live_of settings s before) (heard c) ≡ live_of settings s before
       by_cause (FromServer n body) is = heard_same n s body (message_of body) (live_of settings s before) (ap (is_change before) (sym is) ∙ off)
       by_cause (StartFailed n) is = go (nat_eq n s) refl
         where
           go : (b : Bool) → nat_eq n s ≡ b → (if b then [] else live_of settings s before) ≡ live_of settings s before
           go false other = refl
-          go true same = absurd (kept_start e g s was k (ap (is_left settings before) (sym (number_same n s same)) ∙ ap (built_behind settings before) (sym is) ∙ built))
+          go true same = absurd (goes_on (ap (λ c. is_exit c s) is ∙ same))
       by_cause (ServerGone n) is = go (nat_eq n s) refl
         where
           go : (b : Bool) → nat_eq n s ≡ b → (if b then [] else live_of settings s before) ≡ live_of settings s before
           go false other = refl
-          go true same = absurd (kept_start e g s was k (ap (is_left settings before) (sym (number_same n s same)) ∙ ap (built_behind settings before) (sym is) ∙ built))
+          go true same = absurd (goes_on (ap (λ c. is_exit c s) is ∙ same))
       by_cause (Joined n) is = refl
       by_cause (FromEditor n body) is = refl
       by_cause (EditorGone n why) is = refl
@@ -422,18 +446,25 @@ module _ (settings : Settings) (range : InRange settings) (before : List Event) 
   tied_still e g s same at (inr h) = inr (no_number e h)
 
   module _ (all : All settings before) (off : is_change before cause ≡ false) where
-    pub ordinary : (e : ℕ) → begins before cause e ≡ false → At e (ids e before) later
-    ordinary e runs = entry_keeps settings before cause off e runs (ids e before) range facts built (record { always = all.always e; has = refl })
+    pub tied_by : OneStart before → (e s : ℕ) → IsLost settings before cause e s → has_number e before ≡ true → Same (ids e before) (live_of settings s before)
+    tied_by one e s k room = go (all.tied e k.group s k.ran k.home (one s k.group k.kept))
+      where
+        go : IsTied settings e s (ids e before) before → Same (ids e before) (live_of settings s before)
+        go (inl same) = same
+        go (inr none) = never (sym room ∙ none)
 
-    pub ordinary_tied : (e g s : ℕ) → begins before cause e ≡ false → (desk_of e later).phase ≡ Running → home_of settings e later ≡ Some g → start_of g later ≡ Some s → IsTied settings e s (ids e later) later
-    ordinary_tied e g s runs at home start = go (ran e here)
+    pub ordinary : (one : OneStart before) (e : ℕ) (runs : begins before cause e ≡ false) → Going settings before cause off e runs (tied_by one e) later
+    ordinary one e runs = entry_goes settings before cause off e runs (tied_by one e) range facts built (all.always e)
+
+    pub ordinary_tied : OneStart before → (e g s : ℕ) → begins before cause e ≡ false → (desk_of e later).phase ≡ Running → home_of settings e later ≡ Some g → start_of g later ≡ Some s → IsTied settings e s (ids e later) later
+    ordinary_tied one e g s runs at home start = go (ran e here)
       where
         here : is_running (desk_of e now).phase ≡ true
         here = all_back is_running runs_on e now (outs_of settings before cause) (ap is_running at)
 
         go : ((desk_of e before).phase ≡ Running) ⊎ (begins before cause e ≡ true) → IsTied settings e s (ids e later) later
         go (inl was) = let k : Place e g s = place e g s (ap needs_server was) (ap is_new was) (stays e was here) home start in
-            tied_still e g s (live_same e g s off was k) (ordinary e runs) (all.tied e g s was k.home k.start)
+            tied_still e g s (live_same e g s off was at k) (record { always = (ordinary one e runs).always; has = (ordinary one e runs).kept (unlost e at) }) (all.tied e g s was k.home k.start)
         go (inr begun) = never (sym begun ∙ runs)
 
   pub early_here : (e : ℕ) → has_run (desk_of e later).phase ≡ false → (has_run (desk_of e before).phase ≡ false) × (begins before cause e ≡ false)

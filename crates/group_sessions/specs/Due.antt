@@ -1,6 +1,7 @@
--- What editors are told of a token that a start created, and what they are due: the start's messages of it since they accepted it, and before these what was held until then (LSP 3.17, Work Done Progress, Server Initiated Progress).
-use Rattle.std.specs.Prelude.{◌≡◌, ℕ, ◌^◌, ◌≤◌, ◌<◌, Bool, true, false, ◌&&◌, List, [], ◌∷◌, ◌++◌, bytes_eq, codes, drop, filter, flat_map, map, nat_eq, take, if◌then◌else◌}
+-- What editors are told of a token that a start created, and what they are due: the start's messages of it since they accepted it, and before these what was held until then; and behind them an `end`, as the start's program ends before the token (LSP 3.17, Work Done Progress, Server Initiated Progress).
+use Rattle.std.specs.Prelude.{◌≡◌, ℕ, ◌^◌, ◌≤◌, ◌<◌, Bool, true, false, not, ◌&&◌, List, [], ◌∷◌, ◌++◌, bytes_eq, codes, drop, filter, flat_map, map, nat_eq, take, if◌then◌else◌}
 use Rattle.std.specs.Prelude.{Option, Some, None}
+use Rattle.std.specs.List.{list_any}
 use Rattle.std.specs.Option.{option_map_or}
 use Rattle.mux_history.specs.declared.cause.Cause.TheVariants.{FromEditor, EditorGone, FromServer, StartFailed, ServerGone}
 use Rattle.mux_history.specs.declared.entry.Entry.{Entry}
@@ -15,15 +16,17 @@ use Rattle.event_model.specs.Stages.{is_ready, life_of}
 use Rattle.group_words.specs.Past.{past}
 use Rattle.group_rows.specs.Asks.{next_ask}
 use Rattle.group_rows.specs.Created.{Token, accepts, created_mark, created_of, created_text, held_most, is_begin, is_creating, is_end, is_numbered, is_progress, named_token, token_called, token_marked}
+use Rattle.group_rows.specs.ExitRows.{end_text}
 use Rattle.group_rows.specs.Forwarded.{names}
 use Rattle.group_rows.specs.Tokens.{marked_text}
 
--- What an event is to one token of a start and one editor: the start tells of the token; the editor is asked to take it, under a number; the editor responds, under an id, by a result or not; it leaves, or the start's program ends; or it is nothing to them
+-- What an event is to one token of a start and one editor: the start tells of the token; the editor is asked to take it, under a number; the editor responds, under an id, by a result or not; it leaves; the start's program ends; or it is nothing to them
 pub data Word : Type 0 where
   tells : List ℕ → Word
   asks : ℕ → Word
   replies : Option Id → Bool → Word
   parts : Word
+  breaks : Word
   rests : Word
 
 abbrev pub told_by : ℕ → List ℕ → Option Token → Word
@@ -44,8 +47,8 @@ word settings s k e before (did (ToEditor n body) (request id method params)) = 
 word settings s k e before (took (FromEditor n body) m) = if nat_eq n e then spoken_by m else rests
 word settings s k e before (took (EditorGone n why) m) = if nat_eq n e then parts else rests
 word settings s k e before (did (CloseEditor n) m) = if nat_eq n e then parts else rests
-word settings s k e before (took (StartFailed n) m) = if nat_eq n s then parts else rests
-word settings s k e before (took (ServerGone n) m) = if nat_eq n s then parts else rests
+word settings s k e before (took (StartFailed n) m) = if nat_eq n s then breaks else rests
+word settings s k e before (took (ServerGone n) m) = if nat_eq n s then breaks else rests
 word settings s k e before other = rests
 
 abbrev pub words : Settings → ℕ → ℕ → ℕ → List Event → List Word
@@ -97,12 +100,14 @@ is_asks other = false
 
 abbrev pub is_parts : Word → Bool
 is_parts parts = true
+is_parts breaks = true
 is_parts other = false
 
 -- what the editor was asked under this number is settled: by its response, or since it leaves, or the program ends
 abbrev pub settles : ℕ → Word → Bool
 settles n (replies id agrees) = names id n
 settles n parts = true
+settles n breaks = true
 settles n other = false
 
 -- an editor that agrees is due what was held until then, and each message from then on
@@ -118,9 +123,35 @@ due_asked first other = []
 abbrev pub due : List Word → List (List ℕ)
 due ws = due_asked (opening (bodies (until is_asks ws))) (since is_asks ws)
 
+-- an editor agreed, and didn't leave before the program ended
+abbrev pub breaks_off : List Word → Bool
+breaks_off (breaks ∷ ws) = true
+breaks_off other = false
+
+abbrev pub cut_settled : List Word → Bool
+cut_settled (replies id true ∷ ws) = breaks_off (since is_parts ws)
+cut_settled other = false
+
+abbrev pub cut_asked : List Word → Bool
+cut_asked (asks n ∷ ws) = cut_settled (since (settles n) ws)
+cut_asked other = false
+
+abbrev pub is_cut : List Word → Bool
+is_cut ws = cut_asked (since is_asks ws)
+
+-- it is told then that the token ends, where it was told that it begins, and of no end
+abbrev pub is_open_yet : List (List ℕ) → Bool
+is_open_yet xs = list_any begins xs && not (list_any ends xs)
+
+abbrev pub is_closing : List Word → Bool
+is_closing ws = is_cut ws && is_open_yet (due ws)
+
 -- under the daemon's own token of it
+abbrev pub closing : ℕ → ℕ → Bool → List (List ℕ)
+closing s k cut = if cut then end_text (created_text s k) ∷ [] else []
+
 abbrev pub progress_due : Settings → ℕ → ℕ → ℕ → List Event → List (List ℕ)
-progress_due settings s k e events = map (marked_text (created_text s k)) (due (words settings s k e events))
+progress_due settings s k e events = map (marked_text (created_text s k)) (due (words settings s k e events)) ++ closing s k (is_closing (words settings s k e events))
 
 -- what the editor was sent of the daemon's own token
 abbrev pub names_mark : ℕ → ℕ → Message → Bool

@@ -1,10 +1,10 @@
--- Which lists of diagnostics each editor is sent (LSP 3.17, Publish Diagnostics): those of its group's last start that fit it, and no others: as one comes, as the editor begins to run, and as it opens a document.
+-- Which lists of diagnostics each editor is sent (LSP 3.17, Publish Diagnostics): those of its group's last start that fit it, and no others: as one comes, as the editor begins to run, and as it opens a document; and an empty one in the place of each as the start ends.
 use Rattle.std.specs.Prelude.{◌≡◌, ℕ, Bool, false, ◌&&◌, List, [], ◌∷◌, ◌++◌, find, flat_map, nat_eq, if◌then◌else◌}
 use Rattle.std.specs.Prelude.{Option, Some, None}
 use Rattle.std.specs.Option.{option_and_then, option_map_or}
 use Rattle.document_model.specs.Sayings.{Saying, opens, saying_of}
 use Rattle.mux_history.specs.declared.cause.Cause.{Cause}
-use Rattle.mux_history.specs.declared.cause.Cause.TheVariants.{FromEditor, FromServer}
+use Rattle.mux_history.specs.declared.cause.Cause.TheVariants.{FromEditor, FromServer, ServerGone, StartFailed}
 use Rattle.mux_history.specs.declared.entry.Entry.{Entry}
 use Rattle.mux_history.specs.declared.out.Out.{Out}
 use Rattle.mux_history.specs.declared.out.Out.TheVariants.{ToEditor}
@@ -20,6 +20,7 @@ use Rattle.group_rows.specs.diagnostics_route.specs.Published.{published}
 use Rattle.group_rows.specs.diagnostics_route.specs.Rows.{is_of}
 use Rattle.group_rows.specs.diagnostics_route.specs.Shown.{fits, shown_text}
 use Rattle.group_rows.specs.Asks.{serves}
+use Rattle.group_rows.specs.ExitRows.{empty_text, is_full}
 use Rattle.group_rows.specs.Lists.{agreement_at, is_publishing, lists_of, sayings_of, version_at}
 use Rattle.group_rows.specs.Rows.{outs_of}
 
@@ -72,10 +73,19 @@ due_opening settings e after other s = []
 abbrev pub due_own : Settings → ℕ → List Event → Message → List Event → List (List ℕ)
 due_own settings e before m after = if is_running (desk_of e after).phase then at_start settings e before (λ s. due_beginning settings e before s ++ due_opening settings e after (saying_of m) s) else []
 
+-- X2: s ends, which was ready: an empty list for each document of which it gave one, and the last that e was sent isn't empty
+abbrev pub emptied : ℕ → List Event → LastList → List (List ℕ)
+emptied e before l = if is_full e l.uri before then empty_text l.uri ∷ [] else []
+
+abbrev pub due_ending : Settings → ℕ → ℕ → List Event → List (List ℕ)
+due_ending settings s e before = if is_hearing settings s e before then flat_map (emptied e before) (lists_of s before) else []
+
 -- what e is due in an entry of this cause, with these events before it and those behind it
 abbrev pub lists_due : Settings → ℕ → List Event → Cause → List Event → List (List ℕ)
 lists_due settings e before (FromServer s body) after = if gives_list (message_of body) then due_coming settings s e before body else []
 lists_due settings e before (FromEditor n body) after = if nat_eq n e then due_own settings e before (message_of body) after else []
+lists_due settings e before (StartFailed s) after = due_ending settings s e before
+lists_due settings e before (ServerGone s) after = due_ending settings s e before
 lists_due settings e before other after = []
 
 -- in each entry each editor is sent just what it is due, by what stands before it and behind its cause's row

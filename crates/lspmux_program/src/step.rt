@@ -90,7 +90,7 @@ fn read_line<J: Journal>(
     let Some(cause) = read else {
         return Ok(Err(Refusal::Form));
     };
-    match refusal_of(&cause, hub) {
+    match refusal_of(&cause, hub)? {
         Some(refusal) => Ok(Err(refusal)),
         None => Ok(Ok(cause)),
     }

@@ -1,41 +1,53 @@
 // Which causes meet rows of the routing table that are built.
-ghost use Rattle.std.specs.Prelude.{◌≡◌, ℕ, List};
+ghost use Rattle.std.specs.Prelude.{◌≡◌, ℕ, List, IfOk, false, slice_get};
+ghost use Rattle.std.specs.Option.{option_map_or};
 ghost use Rattle.event_model.specs.Event.{Event};
 ghost use Rattle.event_model.specs.Settings.{Settings};
-ghost use Rattle.mux_turns.specs.group_facts.specs.Built.{built_behind, is_left};
-ghost use Rattle.mux_turns.specs.group_facts.specs.Lively.{lives_at};
+ghost use Rattle.mux_turns.specs.group_facts.specs.Built.{built_behind};
 ghost use Rattle.group_words.specs.Houses.{groups_of};
+ghost use Rattle.mux_turns.specs.group_rows.specs.ExitRows.{begins_again, comes_again};
 ghost use Rattle.mux_turns.specs.mux_tables.specs.Stands.{Stands};
 
+use message_body::Memory;
 use mux_history::Cause;
 use mux_turns::mux_tables::Tables;
 
-// Whether the group of a number lives.
-fn lives(tables: &Tables, g: u64) -> bool
-    ensures { (settings : Settings) (before : List Event) → Stands settings tables.now before → result ≡ lives_at g (groups_of settings before) }
+// X3: whether a group lives, and goes on with a new start where one of its starts ended.
+fn comes_again(tables: &Tables, restarts: u64, g: u64) -> Result<bool, Memory>
+    ensures { (settings : Settings) (before : List Event) → settings.limits.restarts ≡ restarts → Stands settings tables.now before
+        → IfOk result (λ again. again ≡ option_map_or (comes_again settings before g) (slice_get (groups_of settings before) g) false) }
 {
-    match tables.kept(g) {
-        Some(kept) => kept.live,
-        None => false,
+    let Some(kept) = tables.kept(g) else {
+        return Ok(false);
+    };
+    if !kept.live || kept.exits >= restarts {
+        return Ok(false);
     }
+    tables.needs_server(g)
 }
 
-// X1 to X3: whether the group of a start lives no more.
-fn is_left(tables: &Tables, s: u64) -> bool
-    ensures { (settings : Settings) (before : List Event) → Stands settings tables.now before → result ≡ is_left settings before s }
+// The same of the group of a start.
+fn begins_again(tables: &Tables, restarts: u64, s: u64) -> Result<bool, Memory>
+    ensures { (settings : Settings) (before : List Event) → settings.limits.restarts ≡ restarts → Stands settings tables.now before
+        → IfOk result (λ again. again ≡ begins_again settings before s) }
 {
     match tables.origin(s) {
-        Some(g) => !lives(tables, g),
-        None => true,
+        Some(g) => comes_again(tables, restarts, g),
+        None => Ok(false),
     }
 }
 
-/// Whether this cause meets only rows of the routing table that are built.
-pub fn built(tables: &Tables, cause: &Cause) -> bool
-    ensures { (settings : Settings) (before : List Event) → Stands settings tables.now before → result ≡ built_behind settings before cause.now }
+/// Whether this cause meets only rows of the routing table that are built: all but the end of a program whose group goes on with a new
+/// start, of which `restarts` are allowed.
+pub fn built(tables: &Tables, restarts: u64, cause: &Cause) -> Result<bool, Memory>
+    ensures { (settings : Settings) (before : List Event) → settings.limits.restarts ≡ restarts → Stands settings tables.now before
+        → IfOk result (λ answer. answer ≡ built_behind settings before cause.now) }
 {
     match cause {
-        Cause::StartFailed(s) | Cause::ServerGone(s) => is_left(tables, *s),
-        _ => true,
+        Cause::StartFailed(s) | Cause::ServerGone(s) => {
+            let again = begins_again(tables, restarts, *s)?;
+            Ok(!again)
+        }
+        _ => Ok(true),
     }
 }

@@ -15,20 +15,21 @@ ghost use Rattle.mux_starts.specs.mux_tables.specs.Stands.{Stands};
 
 use crate::editors::{from_editor, gone, joined};
 use crate::servers::from_server;
-use event_model::Server;
+use event_model::{Limits, Server};
 use message_body::Memory;
+use mux_exits::{take_exit, take_failure};
 use mux_history::{Cause, Outs};
 use mux_starts::mux_tables::Tables;
-use mux_starts::{take_left, take_started, take_tick};
+use mux_starts::{take_started, take_tick};
 use std::alloc::Global;
 
 // The row of a cause that is built, from the first of its outs.
 fn follow(
     tables: &mut Tables,
     alloc: Global,
+    limits: &Limits,
     servers: &[Server],
     default: u32,
-    grace: u64,
     outs: &mut Outs,
     cause: &Cause,
 ) -> Result<(), Memory>
@@ -38,7 +39,7 @@ fn follow(
     requires ceilings { HaveCeilings servers.now }
     ensures same_limit { tables.new.requests ≡ tables.old.requests }
     ensures same_versions { tables.new.versions ≡ tables.old.versions }
-    ensures does { (settings : Settings) (before : List Event) → settings.servers ≡ servers.now → settings.default ≡ default → settings.limits.grace ≡ grace
+    ensures does { (settings : Settings) (before : List Event) → settings.limits ≡ limits.now → settings.servers ≡ servers.now → settings.default ≡ default
         → outs.old ≡ [] → Known settings before → Settled settings before → fits_behind before cause.now ≡ true → built_behind settings before cause.now ≡ true
         → Stands settings tables.old before → DocumentsStand settings nothing_owed tables.old before
         → OnOk result (Done (λ k events. AllStand settings k events)
@@ -66,31 +67,30 @@ fn follow(
             Ok(())
         }
         Cause::StartFailed(s) => {
-            take_left(tables, alloc, *s);
+            take_failure(tables, alloc, limits.restarts as u64, outs, *s)?;
             Ok(())
         }
         Cause::ServerGone(s) => {
-            take_left(tables, alloc, *s);
+            take_exit(tables, alloc, limits.restarts as u64, outs, *s)?;
             Ok(())
         }
         // X6: bytes were written to the editor, which gives nothing.
         Cause::Drained(_, _) => Ok(()),
         Cause::Tick(now) => {
-            take_tick(tables, alloc, outs, *now, grace)?;
+            take_tick(tables, alloc, outs, *now, limits.grace)?;
             Ok(())
         }
     }
 }
 
-/// Takes a cause that can come, and that meets rows which are built: its outs are the routing table's. `grace` is how many seconds a
-/// start has to answer `shutdown`. Where the answer is an error
-/// the tables stand for nothing any more.
+/// Takes a cause that can come, and that meets rows which are built: its outs are those of its row. Where the answer is an error the
+/// tables stand for nothing any more.
 pub fn take(
     tables: &mut Tables,
     alloc: Global,
+    limits: &Limits,
     servers: &[Server],
     default: u32,
-    grace: u64,
     cause: &Cause,
 ) -> Result<Outs, Memory>
     requires small { body_length cause.now ≤ 268435456 }
@@ -99,13 +99,13 @@ pub fn take(
     requires ceilings { HaveCeilings servers.now }
     ensures same_limit { tables.new.requests ≡ tables.old.requests }
     ensures same_versions { tables.new.versions ≡ tables.old.versions }
-    ensures takes { (settings : Settings) (before : List Event) → settings.servers ≡ servers.now → settings.default ≡ default → settings.limits.grace ≡ grace
+    ensures takes { (settings : Settings) (before : List Event) → settings.limits ≡ limits.now → settings.servers ≡ servers.now → settings.default ≡ default
         → Known settings before → Settled settings before → fits_behind before cause.now ≡ true → built_behind settings before cause.now ≡ true
         → Stands settings tables.old before → DocumentsStand settings nothing_owed tables.old before
         → IfOk result (λ outs. (outs ≡ outs_of settings before cause.now)
         × AllStand settings (tables.new, nothing_owed) (behind (with_cause before cause.now) outs)) }
 {
     let mut outs = Outs::new(alloc);
-    follow(tables, alloc, servers, default, grace, &mut outs, cause)?;
+    follow(tables, alloc, limits, servers, default, &mut outs, cause)?;
     Ok(outs)
 }

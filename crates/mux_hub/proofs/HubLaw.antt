@@ -1,7 +1,8 @@
 -- A step of the hub leads from a history to the longer one.
 use Rattle.std.proofs.Common.{◌≡◌, ℕ, ◌+◌, ◌^◌, ◌<◌, ◌≤◌, List, [], ◌∷◌, ◌++◌, length, nat_lt, if◌then◌else◌, ap, sym, subst, ◌∙◌, append_assoc, append-nil, refl, arith, lit≤, Bool, true, false}
-use Rattle.std.specs.Prelude.{Option, Some, None, Err, IsTrue}
+use Rattle.std.specs.Prelude.{Option, Some, None, Result, Err, IsTrue, IfOk}
 use Rattle.std.proofs.lemmas.List.Sums.{fold-append}
+use Rattle.message_body.specs.declared.Memory.{Memory as Wanted}
 use Rattle.mux_history.specs.declared.cause.Cause.{Cause}
 use Rattle.mux_history.specs.declared.out.Out.{Out}
 use Rattle.mux_history.specs.declared.entry.Entry.{Entry}
@@ -68,14 +69,14 @@ pub record Stepped {J : Type 0} (told : J → Option (List Entry)) (hub : HubVie
 
 pub stepped : {J : Type 0} (told : J → Option (List Entry)) (hub : HubView J) (cause : Cause) (xs : List Out) (now : Tables) (counts servers : List ℕ) (count : ℕ) (journal : J) (history : List Entry) → HubStands told hub history → hub.spent ≡ false
     → InRange hub.settings → IsTrue (fits history cause) → IsTrue (built hub.settings history cause)
-    → ((settings : Settings) (before : List Event) → settings.servers ≡ hub.settings.servers → settings.default ≡ hub.settings.default → settings.limits.grace ≡ hub.settings.limits.grace → settings.limits.backlog ≡ hub.settings.limits.backlog → Known settings before → Settled settings before
+    → ((settings : Settings) (before : List Event) → settings.limits ≡ hub.settings.limits → settings.servers ≡ hub.settings.servers → settings.default ≡ hub.settings.default → Known settings before → Settled settings before
     → fits_behind before cause ≡ true → built_behind settings before cause ≡ true → TablesStand settings hub.tables hub.backlogs hub.starts before → Turns settings before cause xs now counts servers)
     → told journal ≡ append_told (told hub.journal) (record { cause = cause; outs = xs } ∷ []) → Some count ≡ (if nat_lt most_events (hub.events + (1 + length xs)) then None else Some (hub.events + (1 + length xs)))
     → Stepped told hub cause xs now counts servers count journal history
 stepped told hub cause xs now counts servers count journal history h s range f b takes t n =
     let events : List Event = events_of history in
     let turned : Turns hub.settings events cause xs now counts servers =
-    takes hub.settings events refl refl refl refl (known_holds hub.settings range history h.legal) (settled_holds hub.settings range history h.legal) f b (h.tables s) in
+    takes hub.settings events refl refl refl (known_holds hub.settings range history h.legal) (settled_holds hub.settings range history h.legal) f b (h.tables s) in
     let outs : xs ≡ emits hub.settings history cause = turned.0 in
     let kept : (count ≡ hub.events + (1 + length xs)) × (nat_lt most_events (hub.events + (1 + length xs)) ≡ false) = at_most (hub.events + (1 + length xs)) count n in
     let more : length (events_of (history ++ entry_of hub.settings history cause ∷ [])) ≡ length (events_of history) + (1 + length (emits hub.settings history cause)) = entry_counts history (entry_of hub.settings history cause) in
@@ -99,10 +100,10 @@ stepped told hub cause xs now counts servers count journal history h s range f b
 -- whether the causes and outs would be too many
 module _ {J : Type 0} (told : J → Option (List Entry)) (hub : HubView J) (cause : Cause) (xs : List Out) (now : Tables) (counts servers : List ℕ) (history : List Entry) (h : HubStands told hub history) (s : hub.spent ≡ false)
     (range : InRange hub.settings) (f : IsTrue (fits history cause)) (b : IsTrue (built hub.settings history cause))
-    (takes : (settings : Settings) (before : List Event) → settings.servers ≡ hub.settings.servers → settings.default ≡ hub.settings.default → settings.limits.grace ≡ hub.settings.limits.grace → settings.limits.backlog ≡ hub.settings.limits.backlog → Known settings before → Settled settings before
+    (takes : (settings : Settings) (before : List Event) → settings.limits ≡ hub.settings.limits → settings.servers ≡ hub.settings.servers → settings.default ≡ hub.settings.default → Known settings before → Settled settings before
     → fits_behind before cause ≡ true → built_behind settings before cause ≡ true → TablesStand settings hub.tables hub.backlogs hub.starts before → Turns settings before cause xs now counts servers) where
   turned_outs : xs ≡ emits hub.settings history cause
-  turned_outs = (takes hub.settings (events_of history) refl refl refl refl (known_holds hub.settings range history h.legal) (settled_holds hub.settings range history h.legal) f b (h.tables s)).0
+  turned_outs = (takes hub.settings (events_of history) refl refl refl (known_holds hub.settings range history h.legal) (settled_holds hub.settings range history h.legal) f b (h.tables s)).0
 
   pub few_says : (count : ℕ) → Some count ≡ (if nat_lt most_events (hub.events + (1 + length xs)) then None else Some (hub.events + (1 + length xs))) → passes hub.settings history cause ≡ false
   few_says count n = passes_by hub.settings history cause hub.events xs false (h.count s) turned_outs (at_most (hub.events + (1 + length xs)) count n).1
@@ -116,9 +117,10 @@ append_says p Failed e is few = subst (λ x. Counted p (Err x)) (sym is) few
 append_says p Memory e is few = subst (λ x. Counted p (Err x)) (sym is) tt
 
 -- the answer over the tables is that of the history
-pub built_answer : {J : Type 0} (told : J → Option (List Entry)) (hub : HubView J) (history : List Entry) (cause : Cause) (result : Bool) → ((settings : Settings) (before : List Event) → Stands settings hub.tables before → result ≡ built_behind settings before cause)
-    → HubStands told hub history → hub.spent ≡ false → result ≡ built hub.settings history cause
-built_answer told hub history cause result says h s = says hub.settings (events_of history) (h.tables s).tables
+pub built_answer : {J : Type 0} (told : J → Option (List Entry)) (hub : HubView J) (history : List Entry) (cause : Cause) (result : Result Bool Wanted)
+    → ((settings : Settings) (before : List Event) → settings.limits.restarts ≡ hub.settings.limits.restarts → Stands settings hub.tables before → IfOk result (λ answer. answer ≡ built_behind settings before cause))
+    → HubStands told hub history → hub.spent ≡ false → IfOk result (λ answer. answer ≡ built hub.settings history cause)
+built_answer told hub history cause result says h s = says hub.settings (events_of history) refl (h.tables s).tables
 
 -- tables and counts of nothing stand for the empty history, and are sound
 pub begins : {J : Type 0} (told : J → Option (List Entry)) (settings : Settings) (kept : Tables) (counts places : List ℕ) (journal : J) → Tells (told journal) [] → Stands settings kept [] → DocumentsStand settings nothing_owed kept []

@@ -30,10 +30,9 @@ use std::marker::Model;
 // answer is an error they stand for nothing any more.
 fn turn(
     alloc: Global,
+    limits: &Limits,
     servers: &[Server],
     default: u32,
-    grace: u64,
-    backlog: u64,
     tables: &mut Tables,
     backlogs: &mut Backlogs,
     starts: &mut Vec<u32>,
@@ -45,16 +44,16 @@ fn turn(
     requires ceilings { HaveCeilings servers.now }
     ensures same_limit { tables.new.requests ≡ tables.old.requests }
     ensures same_versions { tables.new.versions ≡ tables.old.versions }
-    ensures takes { (settings : Settings) (before : List Event) → settings.servers ≡ servers.now → settings.default ≡ default → settings.limits.grace ≡ grace
-        → settings.limits.backlog ≡ backlog → Known settings before → Settled settings before
+    ensures takes { (settings : Settings) (before : List Event) → settings.limits ≡ limits.now → settings.servers ≡ servers.now → settings.default ≡ default
+        → Known settings before → Settled settings before
         → fits_behind before cause.now ≡ true → built_behind settings before cause.now ≡ true
         → TablesStand settings tables.old backlogs.old starts.old.items before
         → IfOk result (λ outs. (outs ≡ entry_outs settings before cause.now)
         × TablesStand settings tables.new backlogs.new starts.new.items (behind (with_cause before cause.now) outs)) }
 {
-    let mut outs = mux_entries::take(tables, alloc, servers, default, grace, cause)?;
+    let mut outs = mux_entries::take(tables, alloc, limits, servers, default, cause)?;
     backlogs.take(cause, &outs)?;
-    mux_slow::leave_slow(tables, alloc, backlogs, backlog, &mut outs)?;
+    mux_slow::leave_slow(tables, alloc, backlogs, limits.backlog, &mut outs)?;
     note_spawns(starts, tables, default, &outs)?;
     Ok(outs)
 }
@@ -181,12 +180,13 @@ impl<J: Journal> Hub<J> {
         self.tables.is_stopped()
     }
 
-    /// Whether this cause, which fits, meets only rows of the routing table that are built: all but the end of a program whose group lives.
-    pub fn built(&self, cause: &Cause) -> bool
+    /// Whether this cause, which fits, meets only rows of the routing table that are built: all but the end of a program whose group goes on
+    /// with a new start.
+    pub fn built(&self, cause: &Cause) -> Result<bool, Memory>
         ensures { (history : List Entry) → HubStands J.told self.now history → self.now.spent ≡ false
-            → result ≡ built self.now.settings history cause.now }
+            → IfOk result (λ answer. answer ≡ built self.now.settings history cause.now) }
     {
-        mux_causes::built(&self.tables, cause)
+        mux_causes::built(&self.tables, self.limits.restarts as u64, cause)
     }
 
     /// Takes a cause and gives its outs: those of the routing table. The entry was appended to the journal. Where the causes and outs
@@ -215,10 +215,9 @@ impl<J: Journal> Hub<J> {
         self.spent = true;
         let outs = turn(
             self.alloc,
+            &self.limits,
             self.servers.as_slice(),
             self.default,
-            self.limits.grace,
-            self.limits.backlog,
             &mut self.tables,
             &mut self.backlogs,
             &mut self.starts,
@@ -274,7 +273,7 @@ impl<J: Journal> Steps for Hub<J> {
         if self.spent {
             return Err(CoreFault::Spent);
         }
-        if !self.built(&cause) {
+        if !matches!(self.built(&cause), Ok(true)) {
             self.spent = true;
             return Err(CoreFault::Memory);
         }

@@ -10,6 +10,8 @@ mod cores;
 #[cfg(test)]
 mod created;
 #[cfg(test)]
+mod exits;
+#[cfg(test)]
 mod languages;
 #[cfg(test)]
 mod lists;

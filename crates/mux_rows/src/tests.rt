@@ -1,3 +1,4 @@
+use crate::exits::{LOST, LOST_DOWN, LOST_EARLY, LOST_IDLE, NOT_RUN};
 use crate::offers::OFFERING;
 use crate::play::{limits, play};
 use crate::slow::{BOTH_SLOW, FILLED, TAKEN, TOO_MANY_TAKEN};
@@ -714,6 +715,22 @@ fn an_idle_group_ends_for_another(rt: HostRuntime) -> Result<(), Fail> {
 }
 
 #[test]
+fn a_group_ends_with_its_last_start(rt: HostRuntime) -> Result<(), Fail> {
+    let alloc = rt.alloc();
+    let once: [&[&[(&str, &str)]]; 3] = [&[&TWO_EDITORS, &LOST], &[&LOST_EARLY], &[&NOT_RUN]];
+    for parts in once {
+        let mut few = limits(MOST, MOST);
+        few.restarts = 0;
+        play(&rt, alloc, few, parts, Ok(()))?;
+    }
+    let unneeded: [&[&[(&str, &str)]]; 2] = [&[&OPENING, &LOST_IDLE], &[&TWO_EDITORS, &LOST_DOWN]];
+    for parts in unneeded {
+        play(&rt, alloc, limits(MOST, MOST), parts, Ok(()))?;
+    }
+    Ok(())
+}
+
+#[test]
 fn an_editor_that_is_slow_leaves(rt: HostRuntime) -> Result<(), Fail> {
     let alloc = rt.alloc();
     let absent = Err(Stop::Refused(7, Refusal::Absent));
@@ -766,7 +783,8 @@ fn a_hub_whose_journal_failed_is_spent(rt: HostRuntime) -> Result<(), Fail> {
     };
     let cause = Cause::Joined(0);
     assert!(rt; hub.fits(&cause));
-    assert!(rt; hub.built(&cause));
+    let built = hub.built(&cause)?;
+    assert!(rt; built);
     assert!(rt; matches!(hub.step(cause), Err(StepFault::Journal)));
     assert!(rt; hub.close().entries().is_empty());
     Ok(())

@@ -6,7 +6,8 @@ ghost use Rattle.event_model.specs.Event.{Event, behind, with_cause};
 ghost use Rattle.event_model.specs.Phases.{desk_of};
 ghost use Rattle.event_model.specs.Row.{each, look, send};
 ghost use Rattle.event_model.specs.Settings.{Settings};
-ghost use Rattle.group_rows.specs.Rows.{close_all, members_in, refusal, refused_row, waiting_in};
+ghost use Rattle.group_rows.specs.Asks.{members_in};
+ghost use Rattle.group_rows.specs.Rows.{close_all, refusal, refused_row, waiting_in};
 ghost use Rattle.group_words.specs.Houses.{home_of, is_first_error};
 ghost use Rattle.mux_history.specs.declared.cause.Cause.TheVariants.{FromServer};
 ghost use Rattle.mux_history.specs.declared.out.Out.TheVariants.{CloseEditor};
@@ -26,8 +27,8 @@ use mux_turns::answered_number;
 use rpc_message::Message;
 use std::alloc::Global;
 
-// The link of an editor is to be ended, whose group's last start gave no result yet.
-fn put_out(tables: &mut Tables, alloc: Global, outs: &mut Outs, e: u64) -> Result<(), Memory>
+/// S3 and X3: the link of an editor is to be ended, whose group's last start isn't ready.
+pub fn put_out(tables: &mut Tables, alloc: Global, outs: &mut Outs, e: u64) -> Result<(), Memory>
     requires { e < length tables.old.editors }
     ensures requests { tables.new.requests ≡ tables.old.requests }
     ensures versions { tables.new.versions ≡ tables.old.versions }

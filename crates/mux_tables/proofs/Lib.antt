@@ -32,6 +32,7 @@ pub mod Ends
 pub mod Exits
 pub mod Halted
 pub mod OpenIds
+pub mod Ending
 pub mod Heard
 pub mod DocumentBegins
 pub mod DocumentFrames

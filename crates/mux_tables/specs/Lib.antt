@@ -1,4 +1,5 @@
 pub mod Documents
+pub mod Losses
 pub mod Halts
 pub mod Stands
 pub mod Cancels

@@ -9,6 +9,7 @@ mod halts;
 mod hears;
 mod last_lists;
 mod looks;
+mod losses;
 mod notes;
 mod places;
 mod puts;

@@ -9,7 +9,7 @@ ghost use Rattle.event_model.specs.Settings.{Settings};
 ghost use Rattle.focus_switch.specs.Documents.{Documents};
 ghost use Rattle.focus_switch.specs.Rows.{unready_row};
 ghost use Rattle.event_model.specs.Stages.{is_first_result, is_initializing};
-ghost use Rattle.group_words.specs.Houses.{is_first_error};
+ghost use Rattle.group_words.specs.Houses.{has_editor, home_of, is_first_error};
 ghost use Rattle.group_words.specs.Rows.{shown_of};
 ghost use Rattle.mux_history.specs.declared.cause.Cause.TheVariants.{FromServer, ServerGone, StartFailed, Started};
 ghost use Rattle.rpc_message.specs.Message.{message_of, result_bytes};
@@ -129,9 +129,11 @@ impl Tables {
         forget(&mut last.ids, n);
     }
 
-    // An editor of the group needs a server.
-    fn needs_server(&self, g: u64) -> Result<bool, Memory>
-        ensures { IfOk result (λ b. b ≡ any_in needs_server self.now.editors g) }
+    /// X3: an editor of the group needs a server: it waits for a result, or is served.
+    pub fn needs_server(&self, g: u64) -> Result<bool, Memory>
+        ensures kept { IfOk result (λ b. b ≡ any_in needs_server self.now.editors g) }
+        ensures needed { (settings : Settings) (events : List Event) → Stands settings self.now events
+            → IfOk result (λ b. b ≡ has_editor needs_server g (λ e. home_of settings e events) events) }
     {
         let needing = self.editors.needing(g)?;
         Ok(is_any(&needing))
@@ -147,6 +149,7 @@ impl Tables {
         ensures exits { (z : Start) → slice_get self.old.lasts.items g ≡ Some z → OnOk result (Exits restarts self.old g z self.new) }
         ensures documents { (d : Documents) → slice_get self.old.documents.items g ≡ Some d
             → OnOk result (self.new.documents.items ≡ slice_set self.old.documents.items g (unready_row d)) }
+        ensures requests { self.new.requests ≡ self.old.requests }
         ensures versions { self.new.versions ≡ self.old.versions }
     {
         let group = self.lasts[g].life.group();
@@ -180,6 +183,9 @@ impl Tables {
         requires runs { (x : Start) → slice_get self.old.lasts.items g ≡ Some x → x.life.stage ≢ Ended }
         requires room { (z : Start) (x : Kept) → slice_get self.old.lasts.items g ≡ Some z → slice_get self.old.groups.groups z.life.group ≡ Some x
             → x.exits < 2 ^ 63 }
+        ensures requests { self.new.requests ≡ self.old.requests }
+        ensures versions { self.new.versions ≡ self.old.versions }
+        ensures exits { (z : Start) → slice_get self.old.lasts.items g ≡ Some z → OnOk result (Exits restarts self.old g z self.new) }
         ensures stands { (settings : Settings) (events : List Event) (s : ℕ) → settings.limits.restarts ≡ restarts
             → slice_get (map number_in self.old.lasts.items) g ≡ Some s → Stands settings self.old events
             → OnOk result (Stands settings self.new (events ++ heard (ServerGone s) ∷ [])) }
@@ -197,6 +203,9 @@ impl Tables {
         requires runs { (x : Start) → slice_get self.old.lasts.items g ≡ Some x → x.life.stage ≢ Ended }
         requires room { (z : Start) (x : Kept) → slice_get self.old.lasts.items g ≡ Some z → slice_get self.old.groups.groups z.life.group ≡ Some x
             → x.exits < 2 ^ 63 }
+        ensures requests { self.new.requests ≡ self.old.requests }
+        ensures versions { self.new.versions ≡ self.old.versions }
+        ensures exits { (z : Start) → slice_get self.old.lasts.items g ≡ Some z → OnOk result (Exits restarts self.old g z self.new) }
         ensures stands { (settings : Settings) (events : List Event) (s : ℕ) → settings.limits.restarts ≡ restarts
             → slice_get (map number_in self.old.lasts.items) g ≡ Some s → Stands settings self.old events
             → OnOk result (Stands settings self.new (events ++ heard (StartFailed s) ∷ [])) }
@@ -249,8 +258,8 @@ impl Tables {
         self.origins.created.end_start(last.life.start());
     }
 
-    // Nothing is kept any more of a group whose last start ended and has nothing to answer. The groups that were founded later move by one place.
-    fn forget(&mut self, g: usize)
+    /// Nothing is kept any more of a group whose last start ended and has nothing to answer. The groups that were founded later move by one place.
+    pub fn forget(&mut self, g: usize)
         requires { g < length self.old.lasts.items }
         ensures fewer { length self.new.lasts.items + 1 ≡ length self.old.lasts.items }
         ensures requests { self.new.requests ≡ self.old.requests }

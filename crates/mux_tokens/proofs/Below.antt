@@ -68,7 +68,7 @@ asked_grows e n (did (ToEditor k body) (request id method ps)) = go (nat_eq k e)
     go false = omega arith
 asked_grows e n other = omega arith
 
-later_asked : (events : List Event) (ev : Event) (cs : List Taking) → AllByRecursion (IsAsked events) cs → AllByRecursion (IsAsked (events ++ ev ∷ [])) cs
+pub later_asked : (events : List Event) (ev : Event) (cs : List Taking) → AllByRecursion (IsAsked events) cs → AllByRecursion (IsAsked (events ++ ev ∷ [])) cs
 later_asked events ev cs h = all_so (IsAsked events) (IsAsked (events ++ ev ∷ [])) (λ c k. let g = asked_grows c.editor (next_ask c.editor events) ev in let m = next_more c.editor events ev in omega (arith, k, g, m)) cs h
 
 new_asked : (s e : ℕ) (events : List Event) (body method : List ℕ) (id : Id) (params : Option Json) (o : Option Token) (x : Created) → AllByRecursion (IsAsked (events ++ did (ToEditor e body) (request id method params) ∷ [])) x.takings → AllByRecursion (IsAsked (events ++ did (ToEditor e body) (request id method params) ∷ [])) (with_asked e (next_ask e events) o x).takings
@@ -77,7 +77,7 @@ new_asked s e events body method id params (Some t) x h = all_last (IsAsked (eve
     (let m : next_ask e (events ++ did (ToEditor e body) (request id method params) ∷ []) ≡ next_ask e events + 1 = next_more e events (did (ToEditor e body) (request id method params)) ∙ ap (λ b. if b then next_ask e events + 1 else next_ask e events) (num_itself e) in omega (arith, m))
 
 module _ (settings : Settings) (s : ℕ) where
-  step_asked : (before : List Event) (x : Created) (ev : Event) → AllByRecursion (IsAsked (before ++ ev ∷ [])) x.takings → AllByRecursion (IsAsked (before ++ ev ∷ [])) (created_next settings s before x ev).takings
+  pub step_asked : (before : List Event) (x : Created) (ev : Event) → AllByRecursion (IsAsked (before ++ ev ∷ [])) x.takings → AllByRecursion (IsAsked (before ++ ev ∷ [])) (created_next settings s before x ev).takings
   step_asked before x (took (FromServer n body) (request id method params)) h = go (nat_eq n s && (is_creating method && is_heard settings s before id)) (created_token body x)
     where
       go : (b : Bool) (o : Option Token) → AllByRecursion (IsAsked (before ++ took (FromServer n body) (request id method params) ∷ [])) (if b then with_token o x else x).takings

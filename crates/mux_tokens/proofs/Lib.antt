@@ -13,3 +13,5 @@ pub mod TokenIds
 pub mod Seen
 pub mod Below
 pub mod Fresh
+pub mod Rising
+pub mod Ending

@@ -1,3 +1,4 @@
+pub mod Ends
 pub mod Rows
 pub mod Stands
 pub use Rattle.group_rows

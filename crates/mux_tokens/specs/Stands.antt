@@ -65,9 +65,13 @@ pub record PartStands (e : ℕ) (cs : List Taking) (part : Part) : Type 0 where
 abbrev pub IsOther : Taking → Taking → Type 0
 IsOther a b = ((is_at a.editor b && nat_eq b.number a.number) ≡ false) × ((is_at a.editor b && nat_eq b.token a.token) ≡ false)
 
+-- each with those behind it
+abbrev pub Pairs : (Taking → Taking → Type 0) → List Taking → Type 0
+Pairs R [] = Unit {0}
+Pairs R (c ∷ cs) = AllByRecursion (R c) cs × Pairs R cs
+
 abbrev pub AreApart : List Taking → Type 0
-AreApart [] = Unit {0}
-AreApart (c ∷ cs) = AllByRecursion (IsOther c) cs × AreApart cs
+AreApart cs = Pairs IsOther cs
 
 -- the tokens of one start
 pub record TokensStand (x : Created) (t : Table) : Type 0 where

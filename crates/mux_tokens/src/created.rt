@@ -3,7 +3,7 @@ ghost use Rattle.std.specs.Prelude.{◌≡◌, [], ℕ, is_some, option_copied, 
 ghost use Rattle.std.specs.Map.{keys_of};
 ghost use Rattle.std.specs.List.Sorted.{IsStrictlySortedBy};
 ghost use Rattle.std.specs.Ordering.{nat_cmp};
-ghost use Rattle.progress_route.specs.Tables.{accepted_in, all_of, answered, at, created, due, given, left, less, number_in, put_to, taken};
+ghost use Rattle.progress_route.specs.Tables.{accepted_in, all_of, answered, at, begun_at, created, due, given, left, less, number_in, numbers_in, put_to, taken};
 ghost use Rattle.mux_tokens.specs.Rows.{changed, edited, left_each, table_of};
 
 use message_body::{Body, Memory};
@@ -247,6 +247,26 @@ impl Created {
         match self.starts.get(&s) {
             Some(tokens) => tokens.has_accepted(token, editor),
             None => false,
+        }
+    }
+
+    /// X2: a start's live tokens, in the order of their creation, that an editor accepted and of which it was sent a `begin`.
+    pub fn begun(&self, s: u64, editor: u64) -> Result<Vec<u64>, Memory>
+        ensures { IfOk result (λ found. found.items ≡ begun_at editor (table_of s self.now)) }
+    {
+        match self.starts.get(&s) {
+            Some(tokens) => tokens.begun(editor),
+            None => Ok(Vec::new(self.alloc)),
+        }
+    }
+
+    /// X2: the numbers, rising, under which an editor was asked whether it takes a start's tokens, and didn't answer.
+    pub fn unanswered(&self, s: u64, editor: u64) -> Result<Vec<u128>, Memory>
+        ensures { IfOk result (λ numbers. numbers.items ≡ numbers_in (at editor (table_of s self.now).parts)) }
+    {
+        match self.starts.get(&s) {
+            Some(tokens) => tokens.numbers_of(editor),
+            None => Ok(Vec::new(self.alloc)),
         }
     }
 }

@@ -25,7 +25,7 @@ use Rattle.mux_tables.specs.Stands.{Keeps, Stands, is_request}
 use Rattle.mux_tables.proofs.Frames.{itself}
 
 -- an error makes nobody answered
-error_told : (p : Phase) (i : List ℕ) (id : Option Id) (x : Json) → phase_told p i (error id x) ≡ p
+pub error_told : (p : Phase) (i : List ℕ) (id : Option Id) (x : Json) → phase_told p i (error id x) ≡ p
 error_told Absent i id x = refl
 error_told New i id x = refl
 error_told Waiting i id x = refl

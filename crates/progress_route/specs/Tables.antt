@@ -227,3 +227,11 @@ begun_in k (Some part) = is_noted (at k part.accepted)
 abbrev pub numbers_in : Option Part → List ℕ
 numbers_in None = []
 numbers_in (Some part) = keys_of part.creates
+
+-- those of some tokens that an editor accepted and of which it was sent a `begin`; and of the live ones, in order
+abbrev pub begun_among : List ℕ → Option Part → List ℕ
+begun_among ks None = []
+begun_among ks (Some part) = filter (λ k. is_noted (at k part.accepted)) ks
+
+abbrev pub begun_at : ℕ → Table → List ℕ
+begun_at editor t = begun_among (keys_of t.names) (at editor t.parts)

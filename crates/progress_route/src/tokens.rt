@@ -1,11 +1,11 @@
 //! The progress tokens that one start of a server created.
-ghost use Rattle.std.specs.Prelude.{◌≡◌, false, is_some, option_copied, option_map, IfOk, OnOk};
+ghost use Rattle.std.specs.Prelude.{◌≡◌, Some, false, is_some, option_copied, option_map, IfOk, OnOk};
 ghost use Rattle.std.specs.Map.{keys_of};
 ghost use Rattle.std.specs.List.Sorted.{IsStrictlySortedBy};
 ghost use Rattle.std.specs.Ordering.{nat_cmp};
 ghost use Rattle.rpc_message.specs.Message.{Id};
 ghost use Rattle.rpc_message.specs.ValueTexts.{IsIdText};
-ghost use Rattle.progress_route.specs.Tables.{AreIds, accepted_in, accepting, all_in, all_of, answered, asked, at, begins_after, begun_in, bodies_of, changed, created, due, edited, given, held_in, left, nothing, number_as, number_in, numbers_in, put_to, settled, taken, token_at, told, told_all};
+ghost use Rattle.progress_route.specs.Tables.{AreIds, accepted_in, accepting, all_in, all_of, answered, asked, at, begins_after, begun_among, begun_at, begun_in, bodies_of, changed, created, due, edited, given, held_in, left, nothing, number_as, number_in, numbers_in, put_to, settled, taken, token_at, told, told_all};
 ghost use Rattle.progress_route.specs.Tells.{told_each};
 
 use crate::editor::Editor;
@@ -220,6 +220,23 @@ fn all_in(
     Ok(all)
 }
 
+// Those of these tokens that an editor accepted and of which it was sent a `begin`.
+fn begun_among(
+    alloc: Global,
+    names: &BTreeMap<u64, Body>,
+    part: &Editor,
+) -> Result<Vec<u64>, Memory>
+    ensures { IfOk result (λ found. found.items ≡ begun_among (keys_of names.now.entries) (Some part.now)) }
+{
+    let mut found = Vec::new(alloc);
+    for number in names.keys() {
+        if part.has_begun(*number) {
+            found.push(*number)?;
+        }
+    }
+    Ok(found)
+}
+
 impl Tokens {
     /// No tokens. It takes no memory.
     pub fn new(alloc: Global) -> Tokens
@@ -374,6 +391,16 @@ impl Tokens {
         match self.editors.get(&editor) {
             Some(part) => part.has_begun(token),
             None => false,
+        }
+    }
+
+    /// X2: the live tokens, in the order of their creation, that an editor accepted and of which it was sent a `begin`.
+    pub fn begun(&self, editor: u64) -> Result<Vec<u64>, Memory>
+        ensures { IfOk result (λ found. found.items ≡ begun_at editor self.now) }
+    {
+        match self.editors.get(&editor) {
+            Some(part) => begun_among(self.alloc, self.names.rows(), part),
+            None => Ok(Vec::new(self.alloc)),
         }
     }
 

@@ -1,5 +1,6 @@
 -- The outs of the cause's row, and behind them those of the editors that are slow: no other one is.
 use Rattle.std.proofs.Common.{◌++◌, ap, ◌∙◌}
+use Rattle.event_model.specs.declared.settings.Limits.{Limits}
 use Rattle.event_model.specs.Event.{behind, with_cause}
 use Rattle.event_model.specs.Row.{outs}
 use Rattle.group_sessions.specs.group_facts.specs.SlowRows.{slow_row}
@@ -9,10 +10,10 @@ use Rattle.mux_hub.proofs.Spawned.{cause_spawns_none}
 use Rattle.mux_hub.proofs.hub.turn.Goals as goal
 
 pub returns-clause-takes : goal.returns-clause-takes
-returns-clause-takes c = λ settings before s d g m k n f b h.
+returns-clause-takes c = λ settings before l s d k n f b h.
     let base = with_cause before c.args.cause.now in
-    let t = c.in_ok-outs.ensures.takes settings before s d g k n f b h.tables h.documents in
-    let w = c.in_ok-leave_slow.ensures.slow settings base m (all_told settings before c.args.cause.now _ h.quick (joins_clear _ before c.args.cause.now h.backlogs f)) t.1.0 t.1.1 (c.in_ok-take.ensures before h.backlogs) in (
+    let t = c.in_ok-outs.ensures.takes settings before l s d k n f b h.tables h.documents in
+    let w = c.in_ok-leave_slow.ensures.slow settings base (ap (λ (x : Limits). x.backlog) l) (all_told settings before c.args.cause.now _ h.quick (joins_clear _ before c.args.cause.now h.backlogs f)) t.1.0 t.1.1 (c.in_ok-take.ensures before h.backlogs) in (
       w.0 ∙ ap (λ xs. xs ++ outs (slow_row settings) (behind base xs)) t.0,
       record {
         tables = w.1.0.0;

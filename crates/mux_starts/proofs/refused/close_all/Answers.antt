@@ -4,7 +4,8 @@ use Rattle.event_model.specs.Event.{behind}
 use Rattle.event_model.specs.Row.{send}
 use Rattle.event_model.proofs.Turns.{does_knowing, does_look, does_next, does_whole}
 use Rattle.mux_history.specs.declared.out.Out.TheVariants.{CloseEditor}
-use Rattle.group_rows.specs.Rows.{close_all, members_in}
+use Rattle.group_rows.specs.Asks.{members_in}
+use Rattle.group_rows.specs.Rows.{close_all}
 use Rattle.mux_starts.specs.Refusing.{IsUnready}
 use Rattle.mux_starts.proofs.PutOut.{adds_one, adds_then, all_at_home, same_home}
 use Rattle.mux_starts.proofs.refused.close_all.Goals as goal

@@ -15,7 +15,7 @@ returns-clause-outs g c = λ history h.
     let b = c.requires.is_built history h s in
     subst (λ (v : HubView g.row.J.Denot). HubStands g.J.Journal.told v history → IsTrue (built v.settings history c.args.cause) → c.in_ok-outs.outs ≡ emits v.settings history c.args.cause) c.self.view_is
     (λ k x. (stepped g.J.Journal.told _ c.args.cause _ c.turn.new.tables c.turn.new.backlogs c.turn.new.starts.items _ _ history k c.if-self.false c.self.invariant.range f x
-    (λ settings before e d. c.in_ok-outs.ensures.takes settings before (e ∙ sym c.as_slice.ensures.value) d) c.in_ok-append.ensures.ok (sym c.in-Some.is ∙ (c.counted.ensures ∙ ap (λ n. if nat_lt most_events (c.self.inside.events + (1 + n)) then None else Some (c.self.inside.events + (1 + n))) c.len.ensures))).outs) h b
+    (λ settings before l e d. c.in_ok-outs.ensures.takes settings before l (e ∙ sym c.as_slice.ensures.value) d) c.in_ok-append.ensures.ok (sym c.in-Some.is ∙ (c.counted.ensures ∙ ap (λ n. if nat_lt most_events (c.self.inside.events + (1 + n)) then None else Some (c.self.inside.events + (1 + n))) c.len.ensures))).outs) h b
 
 pub returns-clause-stands : goal.returns-clause-stands
 returns-clause-stands g c = λ history h.
@@ -33,7 +33,7 @@ returns-clause-stands g c = λ history h.
     } in
     subst (λ (v : HubView g.row.J.Denot). HubStands g.J.Journal.told v history → IsTrue (built v.settings history c.args.cause) → HubStands g.J.Journal.told after (history ++ entry_of v.settings history c.args.cause ∷ [])) c.self.view_is
     (λ k x. (stepped g.J.Journal.told _ c.args.cause _ c.turn.new.tables c.turn.new.backlogs c.turn.new.starts.items _ _ history k c.if-self.false c.self.invariant.range f x
-    (λ settings before e d. c.in_ok-outs.ensures.takes settings before (e ∙ sym c.as_slice.ensures.value) d) c.in_ok-append.ensures.ok (sym c.in-Some.is ∙ (c.counted.ensures ∙ ap (λ n. if nat_lt most_events (c.self.inside.events + (1 + n)) then None else Some (c.self.inside.events + (1 + n))) c.len.ensures))).stands) h b
+    (λ settings before l e d. c.in_ok-outs.ensures.takes settings before l (e ∙ sym c.as_slice.ensures.value) d) c.in_ok-append.ensures.ok (sym c.in-Some.is ∙ (c.counted.ensures ∙ ap (λ n. if nat_lt most_events (c.self.inside.events + (1 + n)) then None else Some (c.self.inside.events + (1 + n))) c.len.ensures))).stands) h b
 
 pub returns-clause-numbers : goal.returns-clause-numbers
 returns-clause-numbers g c = λ history h fresh.
@@ -42,7 +42,7 @@ returns-clause-numbers g c = λ history h fresh.
     let b = c.requires.is_built history h s in
     subst (λ (v : HubView g.row.J.Denot). HubStands g.J.Journal.told v history → IsTrue (built v.settings history c.args.cause) → passes v.settings history c.args.cause ≡ false) c.self.view_is
     (λ k x. few_says g.J.Journal.told _ c.args.cause c.in_ok-outs.outs c.turn.new.tables c.turn.new.backlogs c.turn.new.starts.items history k c.if-self.false c.self.invariant.range f x
-    (λ settings before e d. c.in_ok-outs.ensures.takes settings before (e ∙ sym c.as_slice.ensures.value) d) c.in-Some.events (sym c.in-Some.is ∙ (c.counted.ensures ∙ ap (λ n. if nat_lt most_events (c.self.inside.events + (1 + n)) then None else Some (c.self.inside.events + (1 + n))) c.len.ensures))) h b
+    (λ settings before l e d. c.in_ok-outs.ensures.takes settings before l (e ∙ sym c.as_slice.ensures.value) d) c.in-Some.events (sym c.in-Some.is ∙ (c.counted.ensures ∙ ap (λ n. if nat_lt most_events (c.self.inside.events + (1 + n)) then None else Some (c.self.inside.events + (1 + n))) c.len.ensures))) h b
 
 pub returns-in_default-clause-numbers : goal.returns-in_default-clause-numbers
 returns-in_default-clause-numbers g c = λ history h fresh.
@@ -51,7 +51,7 @@ returns-in_default-clause-numbers g c = λ history h fresh.
     let b = c.requires.is_built history h s in
     subst (λ (v : HubView g.row.J.Denot). HubStands g.J.Journal.told v history → IsTrue (built v.settings history c.args.cause) → passes v.settings history c.args.cause ≡ true) c.self.view_is
     (λ k x. many_says g.J.Journal.told _ c.args.cause c.in_ok-outs.outs c.turn.new.tables c.turn.new.backlogs c.turn.new.starts.items history k c.if-self.false c.self.invariant.range f x
-    (λ settings before e d. c.in_ok-outs.ensures.takes settings before (e ∙ sym c.as_slice.ensures.value) d) (sym c.in_default.is ∙ (c.counted.ensures ∙ ap (λ n. if nat_lt most_events (c.self.inside.events + (1 + n)) then None else Some (c.self.inside.events + (1 + n))) c.len.ensures))) h b
+    (λ settings before l e d. c.in_ok-outs.ensures.takes settings before l (e ∙ sym c.as_slice.ensures.value) d) (sym c.in_default.is ∙ (c.counted.ensures ∙ ap (λ n. if nat_lt most_events (c.self.inside.events + (1 + n)) then None else Some (c.self.inside.events + (1 + n))) c.len.ensures))) h b
 
 pub returns-in_err-append-clause-numbers : goal.returns-in_err-append-clause-numbers
 returns-in_err-append-clause-numbers g c = λ history h fresh.
@@ -61,6 +61,6 @@ returns-in_err-append-clause-numbers g c = λ history h fresh.
     let few : passes c.args.self.now.settings history c.args.cause ≡ false =
     subst (λ (v : HubView g.row.J.Denot). HubStands g.J.Journal.told v history → IsTrue (built v.settings history c.args.cause) → passes v.settings history c.args.cause ≡ false) c.self.view_is
     (λ k x. few_says g.J.Journal.told _ c.args.cause c.in_ok-outs.outs c.turn.new.tables c.turn.new.backlogs c.turn.new.starts.items history k c.if-self.false c.self.invariant.range f x
-    (λ settings before e d. c.in_ok-outs.ensures.takes settings before (e ∙ sym c.as_slice.ensures.value) d) c.in-Some.events (sym c.in-Some.is ∙ (c.counted.ensures ∙ ap (λ n. if nat_lt most_events (c.self.inside.events + (1 + n)) then None else Some (c.self.inside.events + (1 + n))) c.len.ensures))) h b in
+    (λ settings before l e d. c.in_ok-outs.ensures.takes settings before l (e ∙ sym c.as_slice.ensures.value) d) c.in-Some.events (sym c.in-Some.is ∙ (c.counted.ensures ∙ ap (λ n. if nat_lt most_events (c.self.inside.events + (1 + n)) then None else Some (c.self.inside.events + (1 + n))) c.len.ensures))) h b in
     let p = err_from_is_err_and c.from_residual-in_err-append.result c.from_residual-in_err-append.ensures.1 in
     rw p.1 (append_says (passes c.args.self.now.settings history c.args.cause) _ _ p.2 few)

@@ -20,7 +20,7 @@ pub returns-clause-exits : goal.returns-clause-exits
 returns-clause-exits c = λ z at.
     let e = read_same c.args.self.now.lasts.items c.args.g c.index_mut-last.result.now z c.requires.group c.index_mut-last.ensures.value at in
     record {
-      groups = c.lose.ensures ∙ (ap (λ b. with_groups (changed c.group-group.result (exit_of c.args.restarts b) c.args.self.now.groups.groups) c.args.self.now.groups) c.in_ok-wanted.ensures
+      groups = c.lose.ensures ∙ (ap (λ b. with_groups (changed c.group-group.result (exit_of c.args.restarts b) c.args.self.now.groups.groups) c.args.self.now.groups) c.in_ok-wanted.ensures.kept
           ∙ ap (λ n. with_groups (changed n (exit_of c.args.restarts (any_in needs_server c.args.self.now.editors n)) c.args.self.now.groups.groups) c.args.self.now.groups) (c.group-group.ensures ∙ ap (λ (w : Start). w.life.group) (read_same c.args.self.now.lasts.items c.args.g c.index.result.now z c.requires.group c.index.ensures at)));
       start = record { life = c.over.new.self; started = c.index_mut-last.result.now.started; ids = c.new-ids.result; shown = None; asks = c.new-asks.result; parked = c.new-parked.result; live = c.new-live.result; lists = c.new-lists.result };
       lasts = refl;
