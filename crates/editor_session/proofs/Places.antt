@@ -59,6 +59,9 @@ module _ (n : ℕ) (kept : List (Numbered Session)) (sessions : List Session) (i
     kept_set y change same new = places.kept_set gone n kept sessions is rise e k l at t there y same
         ∙ ap (with_session sessions e) (new ∙ (ap change kept_session ∙ sym (ap (λ b. if b then session_of sessions e else change (session_of sessions e)) kept_stays)))
 
+    pub kept_put : (y : Numbered Session) → y.number ≡ t.number → spread gone 0 n (slice_set kept k y) ≡ with_session sessions e y.item
+    kept_put y same = places.kept_set gone n kept sessions is rise e k l at t there y same
+
     pub kept_order : (y : Numbered Session) → y.number ≡ t.number → is_linked y.item.phase ≡ true → Rise 0 n (slice_set kept k y) × AreLinked (slice_set kept k y)
     kept_order y same there_still = (places.kept_rise gone n kept sessions is rise e k l at t there y same, all_set Linked kept k y there_still linked)
 

@@ -1,2 +1,3 @@
 pub mod Kept
 pub mod Sessions
+pub use Rattle.number_index

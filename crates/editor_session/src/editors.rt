@@ -2,7 +2,7 @@
 ghost use Rattle.std.specs.Prelude.{◌≡◌, ◌≢◌, ◌+◌, ◌^◌, ◌<◌, ◌≤◌, ℕ, [], ◌∷◌, ◌++◌, length, true, None, Some, IfNone, IfOk, IfSome, OnErr, OnOk, option_copied};
 ghost use Rattle.event_model.specs.declared.phase.Phase.TheVariants.{Absent};
 ghost use Rattle.event_model.specs.Phases.{is_linked, is_there};
-ghost use Rattle.editor_session.specs.Sessions.{asked, gone, in_group, in_phase, is_gone, is_of, is_wanted, joined, meaning, needs_in, next_ask, numbers_of, runs_in, session_of, unless_gone, waits_in, with_session};
+ghost use Rattle.editor_session.specs.Sessions.{IsShown, asked, gone, in_group, in_phase, is_full, is_gone, is_of, is_wanted, joined, meaning, needs_in, next_ask, numbers_of, runs_in, session_of, unless_gone, waits_in, with_session};
 
 use crate::session::{Session, Wanted};
 use event_model::Phase;
@@ -15,7 +15,7 @@ use std::marker::Model;
 ///
 /// Of one whose link ended nothing is kept but that its number was given, so the memory is that of the most editors that were linked at once. A
 /// look-up by number takes a bisection of them, and a list of numbers a walk over them.
-#[derive(Debug, Drop)]
+#[derive(Drop)]
 pub struct Editors {
     alloc: Global,
     count: u64,
@@ -73,7 +73,7 @@ impl Editors {
     {
         self.linked.push(Numbered {
             number: e,
-            item: Session::new(),
+            item: Session::new(self.alloc),
         })?;
         self.count = e + 1;
         Ok(())
@@ -220,6 +220,30 @@ impl Editors {
         match self.find(e) {
             Some(session) => session.next_ask(),
             None => None,
+        }
+    }
+
+    /// It was sent a list of diagnostics of the document of this URI, which is empty or isn't; nothing is kept of that where it is gone.
+    /// Where the answer is an error nothing is said of what is kept of it, but for where it stands.
+    pub fn show(&mut self, e: u64, uri: &[u8], empty: bool) -> Result<(), Memory>
+        requires { e < length self.old }
+        ensures { OnOk result (IsShown uri.now empty e self.old self.new) }
+    {
+        let Some(at) = place_of(&self.linked, e) else {
+            return Ok(());
+        };
+        let kept = &mut self.linked[at];
+        kept.item.show(self.alloc, uri, empty)
+    }
+
+    /// Whether the last list of the document of this URI that it was sent isn't empty; not told of one that is gone.
+    pub fn is_full(&self, e: u64, uri: &[u8]) -> bool
+        requires { e < length self.now }
+        ensures { result ≡ is_full uri.now (session_of self.now e) }
+    {
+        match self.find(e) {
+            Some(session) => session.is_full(uri),
+            None => false,
         }
     }
 

@@ -1,13 +1,17 @@
 // One editor.
-ghost use Rattle.std.specs.Prelude.{◌≡◌};
+ghost use Rattle.std.specs.Prelude.{◌≡◌, OnOk};
 ghost use Rattle.event_model.specs.Phases.{is_there};
-ghost use Rattle.editor_session.specs.Sessions.{asked, in_group, is_in, is_of, is_wanted, joined, meaning, needs_in, number_of, runs_in, waits_in};
+ghost use Rattle.number_index.specs.Numbers.{Changes};
+ghost use Rattle.editor_session.specs.Sessions.{asked, first_of, in_group, is_full, is_in, is_of, is_wanted, joined, meaning, needs_in, noted_by, number_of, runs_in, waits_in};
 
 use event_model::Phase;
-use message_body::Body;
+use message_body::{Body, Memory};
+use number_index::Index;
+use std::alloc::Global;
+use std::collections::BTreeSet;
 
 /// What is kept of one editor.
-#[derive(Debug, Drop)]
+#[derive(Drop)]
 pub struct Session {
     /// Where it stands.
     pub phase: Phase,
@@ -21,6 +25,8 @@ pub struct Session {
     pub opened: bool,
     /// The place, among the servers of the settings, of the one that its first `lspmux/open` names.
     pub server: Option<u32>,
+    /// The URIs of the documents whose last list of diagnostics that it was sent isn't empty: under each the number 0.
+    pub full: Index,
 }
 
 /// Which editors are looked for.
@@ -38,9 +44,19 @@ pub enum Wanted {
     There,
 }
 
+// The first of some numbers.
+fn first_of(numbers: &BTreeSet<u64>) -> Option<u64>
+    ensures { result ≡ first_of numbers.now.keys }
+{
+    for number in numbers {
+        return Some(*number);
+    }
+    None
+}
+
 impl Session {
-    /// The editor as it joins.
-    pub fn new() -> Session
+    /// The editor as it joins. It takes no memory.
+    pub fn new(alloc: Global) -> Session
         ensures { result ≡ joined }
     {
         Session {
@@ -50,6 +66,7 @@ impl Session {
             asks: 0,
             opened: false,
             server: None,
+            full: Index::new(alloc),
         }
     }
 
@@ -89,6 +106,28 @@ impl Session {
             return None;
         }
         Some(self.asks + 1)
+    }
+
+    /// It was sent a list of diagnostics of the document of this URI, which is empty or isn't.
+    pub fn show(&mut self, alloc: Global, uri: &[u8], empty: bool) -> Result<(), Memory>
+        ensures rest { self.new ≡ record self.old { full = self.new.full } }
+        ensures full { OnOk result (Changes uri.now (noted_by empty) self.old.full self.new.full) }
+    {
+        if empty {
+            self.full.remove(uri, 0);
+            return Ok(());
+        }
+        self.full.add(alloc, uri, 0)
+    }
+
+    /// Whether the last list of the document of this URI that it was sent isn't empty.
+    pub fn is_full(&self, uri: &[u8]) -> bool
+        ensures { result ≡ is_full uri.now self.now }
+    {
+        match self.full.get(uri) {
+            Some(numbers) => first_of(numbers).is_some(),
+            None => false,
+        }
     }
 
     // Whether it was placed in this group.

@@ -1,18 +1,15 @@
 -- E6: what is open at an editor fails.
-use Rattle.std.proofs.Common.{◌≡◌, ℕ, zero, suc, ◌<◌, Bool, true, false, ◌&&◌, List, [], ◌∷◌, ◌++◌, filter, map, length, get_or, nat_eq, codes, if◌then◌else◌, refl, ap, ap₂, sym, subst, append-nil, ◌∙◌, arith}
+use Rattle.std.proofs.Common.{◌≡◌, ℕ, Bool, true, false, ◌&&◌, List, [], ◌∷◌, ◌++◌, filter, map, nat_eq, codes, if◌then◌else◌, refl, ap, sym, subst, append-nil, ◌∙◌}
 use Rattle.std.specs.List.{AllByRecursion}
 use Rattle.std.specs.Prelude.{Option, None, Some, slice_get}
 use Rattle.std.proofs.lemmas.Bool.{and_parts}
 use Rattle.mux_history.specs.declared.cause.Cause.TheVariants.{FromEditor}
 use Rattle.mux_history.specs.declared.out.Out.{Out}
 use Rattle.mux_history.specs.declared.out.Out.TheVariants.{CloseEditor, ToEditor}
-use Rattle.rpc_message.specs.Message.{Message, id_bytes, message_of}
-use Rattle.rpc_message.specs.ValueTexts.{IsIdText}
+use Rattle.rpc_message.specs.Message.{id_bytes, message_of}
 use Rattle.rpc_message.specs.Texts.{error_text, ok_text, request_failed}
-use Rattle.rpc_message.proofs.Ids.{request_id_bytes}
-use Rattle.event_model.specs.declared.phase.Phase.{Phase}
 use Rattle.event_model.specs.declared.phase.Phase.TheVariants.{Waiting}
-use Rattle.event_model.specs.Does.{Alike, Does, Done}
+use Rattle.event_model.specs.Does.{Does, Done}
 use Rattle.event_model.specs.Event.{Event, behind, heard, requests, said}
 use Rattle.event_model.specs.Phases.{Desk, desk_behind, desk_of, is_waiting, needs_server, phase_told}
 use Rattle.event_model.proofs.Frames.{one_more}
@@ -24,7 +21,7 @@ use Rattle.event_model.specs.Stages.{is_ready}
 use Rattle.group_words.specs.Houses.{groups_of, home_of, stops}
 use Rattle.group_words.specs.Placing.{all_from, is_live}
 use Rattle.group_words.specs.Rows.{end_group}
-use Rattle.event_model.proofs.Turns.{alike, alike_then, behind_more, does_alike, does_entry, does_false, does_knowing, does_look, does_nothing, does_then, does_true}
+use Rattle.event_model.proofs.Turns.{alike, alike_then, behind_more, does_alike, does_entry, does_knowing, does_nothing, does_then}
 use Rattle.group_rows.specs.Forwarded.{Forwarded, Forwarding, forwarding_behind, forwarding_of, is_of}
 use Rattle.group_rows.specs.Rows.{asks_lspmux}
 use Rattle.group_rows.specs.StopRows.{close_each, lose_request, lose_requests, refuse_initialize, refuse_open, stop_row, there_in}
@@ -32,55 +29,16 @@ use Rattle.mux_tables.specs.declared.tables.Tables.{Tables}
 use Rattle.mux_tables.specs.declared.tables.Start.{Start}
 use Rattle.mux_tables.specs.Documents.{AllStand, DocumentsStand, Owed, nothing_owed}
 use Rattle.mux_tables.specs.Halts.{ids_at}
-use Rattle.mux_tables.specs.Names.{id_in}
 use Rattle.mux_tables.specs.Stands.{IsLost, Rise, Stands, forwarded_of, of_ids}
 use Rattle.mux_tables.proofs.DocumentOwing.{unready_quiet}
 use Rattle.mux_turns.proofs.Evictions.{numbered_closed, numbered_told}
-use Rattle.mux_turns.specs.Welcomes.{AllAsking}
-use Rattle.mux_turns.specs.group_facts.specs.Facts.{AllForwarded, IsForwarded, Numbered, WaitingAsked}
+use Rattle.mux_turns.specs.group_facts.specs.Facts.{AllForwarded, Numbered, WaitingAsked}
 use Rattle.mux_turns.specs.group_facts.specs.Settled.{IsSeated}
-use Rattle.mux_turns.specs.mux_facts.proofs.Table.{waiting_is}
 use Rattle.mux_turns.specs.mux_facts.proofs.Words.{number_same}
 use Rattle.mux_editors.proofs.Lspmux.{desk_stays, own_placed, own_stays, stop_asks}
-use Rattle.mux_editors.specs.Halting.{AllHoused, Halts, IsNamed, Refusing, Stays, lose_from, refuse_id}
-
-none_some : {A : Type 0} {x : A} → ◌≡◌ {A = Option A} None (Some x) → ⊥
-none_some e = cc
-
-some_same : {A : Type 0} {x y : A} → ◌≡◌ {A = Option A} (Some x) (Some y) → x ≡ y
-some_same e = cc
-
-module _ (settings : Settings) (t : Tables) (base : List Event) (xs : List Out) (e : ℕ) where
-  abbrev now : List Event
-  now = behind base xs
-
-  abbrev Refuses : List Out → Type 0
-  Refuses ys = Does (λ t events. Stands settings t events) (refuse_initialize e) base t xs t ys
-
-  pub unwaiting_none : (Stands settings t now → is_waiting (desk_of e now).phase ≡ false) → Refuses xs
-  unwaiting_none off = does_look (λ st. ap (λ b. choose b (send (ToEditor e (error_text (id_bytes (desk_of e now).initialize) request_failed))) nothing) (off st)) (does_false does_nothing)
-
-  -- its id is kept
-  kept : AllHoused settings now → Stands settings t now → is_waiting (desk_of e now).phase ≡ true → id_in (slice_get t.editors e) ≡ Some (id_bytes (desk_of e now).initialize)
-  kept housed st waits =
-      let at : (desk_of e now).phase ≡ Waiting = waiting_is (desk_of e now).phase waits in
-      let home = housed e at in
-      (st.house.editors.names e).own home.0 at home.1
-
-  pub refuses_none : AllHoused settings now → id_in (slice_get t.editors e) ≡ None → (Stands settings t now → is_waiting (desk_of e now).phase ≡ true) → Refuses xs
-  refuses_none housed none waits = does_knowing (λ st. absurd (none_some (sym none ∙ kept housed st (waits st))))
-
-module _ (settings : Settings) (t : Tables) (base : List Event) (xs ys : List Out) (e : ℕ) (asking : AllAsking (behind base xs)) (housed : AllHoused settings (behind base xs)) (id : List ℕ) (is : id_in (slice_get t.editors e) ≡ Some id) where
-  pub refuses_waiting : (Stands settings t (behind base xs) → is_waiting (desk_of e (behind base xs)).phase ≡ true) → (IsNamed id → Does (λ t events. Stands settings t events) (refuse_id e id) base t xs t ys)
-      → Does (λ t events. Stands settings t events) (refuse_initialize e) base t xs t ys
-  refuses_waiting waits d = does_knowing (λ st.
-      let desk = desk_of e (behind base xs) in
-      let at : desk.phase ≡ Waiting = waiting_is desk.phase (waits st) in
-      let same : id ≡ id_bytes desk.initialize = some_same (sym is ∙ kept settings t base xs e housed st (waits st)) in
-      let asks = asking e at in
-      let named : IsNamed id = (asks.name, subst (λ w. IsIdText asks.name w) (sym same) (request_id_bytes desk.initialize asks.name asks.method asks.params asks.says)) in
-      does_look (λ _. ap (λ b. choose b (send (ToEditor e (error_text (id_bytes desk.initialize) request_failed))) nothing) (waits st))
-      (does_true (subst (λ w. Does (λ t events. Stands settings t events) (send (ToEditor e (error_text w request_failed))) base t xs t ys) same (d named))))
+use Rattle.mux_turns.specs.Initials.{IsNamed, refuse_id}
+use Rattle.mux_turns.proofs.Failing.{named_all, own_rows, told_waits}
+use Rattle.mux_editors.specs.Halting.{Halts, Refusing, Stays, lose_from}
 
 -- the tables stand, whatever is owed
 module _ (settings : Settings) (t u : Tables) (base : List Event) (xs ys : List Out) {row : Row} where
@@ -95,39 +53,11 @@ module _ (settings : Settings) (t u : Tables) (base : List Event) (xs ys : List 
   pub halts_each : ((owed : Owed) → Does (λ k events. AllStand settings k events) row base (t, owed) xs (u, owed) ys) → Does (λ t events. Halts settings t events) row base t xs u ys
   halts_each f = record { done = λ k. let d = f k.1.0 in let one = d.done (k.0, k.1.1) in record { outs = one.outs; stands = (one.stands.0, (k.1.0, one.stands.1)) } }
 
--- what a start has to answer
-pub named_at : (ids : List (List ℕ)) (i : ℕ) (d : List ℕ) → i < length ids → AllByRecursion IsNamed ids → IsNamed (get_or ids i d)
-named_at [] i d l h = absurd (omega arith)
-named_at (x ∷ xs) zero d l h = h.0
-named_at (x ∷ xs) (suc i) d l h = named_at xs i d (omega arith) h.1
-
 pub loses_all : (settings : Settings) (t : Tables) (base : List Event) (xs ys : List Out) (e s : ℕ) (ids : List (List ℕ)) → AllByRecursion IsNamed (ids_at e (forwarding_of s (behind base xs)).open_requests)
     → (Stands settings t (behind base xs) → ids ≡ ids_at e (forwarding_of s (behind base xs)).open_requests) → (AllByRecursion IsNamed ids → Does (λ t events. Stands settings t events) (each (refuse_id e) ids) base t xs t ys)
     → Does (λ t events. Stands settings t events) (each (refuse_id e) (ids_at e (forwarding_of s (behind base xs)).open_requests)) base t xs t ys
 loses_all settings t base xs ys e s ids named is d = does_knowing (λ st.
     subst (λ ws. Does (λ t events. Stands settings t events) (each (refuse_id e) ws) base t xs t ys) (is st) (d (subst (AllByRecursion IsNamed) (sym (is st)) named)))
-
--- each is an editor's own
-own_rows : (e : ℕ) (fs : List Forwarded) → Alike (each lose_request (filter (is_of e) fs)) (each (refuse_id e) (ids_at e fs))
-own_rows e [] = alike refl
-own_rows e (f ∷ fs) = go (own_rows e fs) (nat_eq f.editor e) refl
-  where
-    go : Alike (each lose_request (filter (is_of e) fs)) (each (refuse_id e) (ids_at e fs)) → (b : Bool) → nat_eq f.editor e ≡ b → Alike (each lose_request (if b then f ∷ filter (is_of e) fs else filter (is_of e) fs)) (each (refuse_id e) (map (λ (f : Forwarded). f.id) (if b then f ∷ filter (is_of e) fs else filter (is_of e) fs)))
-    go rest true mine = record {
-      sends = λ events.
-          let own : f.editor ≡ e = number_same f.editor e mine in
-          ap₂ (λ x ws. x ∷ ws) (ap (λ n. ToEditor n (error_text f.id request_failed)) own)
-          (ap (λ n. outs (each lose_request (filter (is_of e) fs)) (events ++ said (ToEditor n (error_text f.id request_failed)) ∷ [])) own ∙ rest.sends (events ++ said (ToEditor e (error_text f.id request_failed)) ∷ []));
-    }
-    go rest false off = rest
-
-named_all : (events : List Event) (e : ℕ) (fs : List Forwarded) → AllByRecursion (IsForwarded events) fs → AllByRecursion IsNamed (ids_at e fs)
-named_all events e [] h = tt
-named_all events e (f ∷ fs) h = go (named_all events e fs h.1) (nat_eq f.editor e)
-  where
-    go : AllByRecursion IsNamed (ids_at e fs) → (b : Bool) → AllByRecursion IsNamed (map (λ (f : Forwarded). f.id) (if b then f ∷ filter (is_of e) fs else filter (is_of e) fs))
-    go rest true = (((h.0).id, (h.0).text), rest)
-    go rest false = rest
 
 -- the start of its group
 module _ (settings : Settings) (t : Tables) (before base : List Event) (xs : List Out) (home e : ℕ) (stays : Stays settings before (behind base xs)) where
@@ -195,10 +125,6 @@ first_told e events = go (is_waiting (desk_of e events).phase)
 
 open_told : (settings : Settings) (before : List Event) (e : ℕ) (events : List Event) → AllByRecursion IsTold (outs (refuse_open settings before e) events)
 open_told settings before e events = all_join (outs (refuse_initialize e) events) _ (first_told e events) (lose_told settings before e (behind events (outs (refuse_initialize e) events)))
-
-told_waits : (p : Phase) (i : List ℕ) (m : Message) → phase_told p i m ≡ Waiting → p ≡ Waiting
-told_waits Waiting i m h = refl
-told_waits other i m h = h
 
 module _ (settings : Settings) (before now : List Event) (k : ℕ) (body : List ℕ) (r : Refusing settings before now) where
   abbrev ev : Event

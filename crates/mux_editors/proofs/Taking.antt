@@ -21,7 +21,8 @@ use Rattle.group_rows.proofs.CreatedKept.{AreTellings, found_one, held_told}
 use Rattle.mux_turns.specs.group_facts.specs.Facts.{Meant}
 use Rattle.mux_turns.proofs.Listed.{meant_same}
 use Rattle.mux_tables.specs.mux_tokens.specs.progress_route.specs.declared.tokens.Handed.{Handed}
-use Rattle.mux_editors.specs.Handing.{AllHeld, AreHeld, IsNotice}
+use Rattle.mux_tables.proofs.Publishing.{progress_apart}
+use Rattle.mux_editors.specs.Handing.{AllHeld, AreHeld, IsHeld}
 use Rattle.mux_editors.specs.Running.{may_begin}
 
 -- an editor that is served, and doesn't begin to run, runs
@@ -45,17 +46,17 @@ begins_unrun Down h = absurd (cc)
 begins_unrun Closed h = absurd (cc)
 begins_unrun Gone h = absurd (cc)
 
--- what was held are notifications
+-- what was held are notifications of progress
 held_tellings : (bodies : List (List ℕ)) → AreTellings bodies → AreHeld bodies
 held_tellings [] h = tt
-held_tellings (body ∷ bodies) h = ((h.0.method, h.0.params, h.0.says), held_tellings bodies h.1)
+held_tellings (body ∷ bodies) h = ((h.0.method, h.0.params, h.0.says, progress_apart h.0.method h.0.class), held_tellings bodies h.1)
 
 pub all_held : (cs : List Taking) → AllByRecursion (λ (c : Taking). AreTellings c.held) cs → AllHeld cs
 all_held [] h = tt
 all_held (c ∷ cs) h = (held_tellings c.held h.0, all_held cs h.1)
 
 -- one of them
-pub held_at : (bodies : List (List ℕ)) (i : ℕ) (d : List ℕ) → AreHeld bodies → i < length bodies → IsNotice (get_or bodies i d)
+pub held_at : (bodies : List (List ℕ)) (i : ℕ) (d : List ℕ) → AreHeld bodies → i < length bodies → IsHeld (get_or bodies i d)
 held_at [] i d h less = absurd (omega (arith, less))
 held_at (body ∷ bodies) zero d h less = h.0
 held_at (body ∷ bodies) (suc i) d h less = held_at bodies i d h.1 (omega (arith, less))

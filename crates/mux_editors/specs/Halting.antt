@@ -1,12 +1,7 @@
 -- The middle of a stop of all.
-use Rattle.std.specs.Prelude.{◌≡◌, ℕ, List, Option, Some, filter}
-use Rattle.rpc_message.specs.Message.{Id}
-use Rattle.rpc_message.specs.ValueTexts.{IsIdText}
-use Rattle.mux_history.specs.declared.out.Out.TheVariants.{ToEditor}
-use Rattle.event_model.specs.declared.phase.Phase.TheVariants.{Waiting}
+use Rattle.std.specs.Prelude.{◌≡◌, ℕ, List, Option, filter}
 use Rattle.event_model.specs.Event.{Event}
-use Rattle.event_model.specs.Phases.{desk_of}
-use Rattle.event_model.specs.Row.{Row, each, nothing, on, send}
+use Rattle.event_model.specs.Row.{Row, each, nothing, on}
 use Rattle.event_model.specs.Settings.{Settings}
 use Rattle.event_model.specs.Spawns.{start_of}
 use Rattle.group_words.specs.Houses.{home_of}
@@ -15,20 +10,8 @@ use Rattle.group_rows.specs.StopRows.{lose_request}
 use Rattle.mux_tables.specs.declared.tables.Tables.{Tables}
 use Rattle.mux_tables.specs.Documents.{DocumentsStand, Owed}
 use Rattle.mux_tables.specs.Stands.{Stands}
+use Rattle.mux_turns.specs.Initials.{AllHoused}
 use Rattle.mux_turns.specs.Welcomes.{AllAsking}
-use Rattle.rpc_message.specs.Texts.{error_text, request_failed}
-
--- the text of an id
-abbrev pub IsNamed : List ℕ → Type 0
-IsNamed bytes = (id : Id) × IsIdText id bytes
-
--- each editor that waits is in a group
-abbrev pub AllHoused : Settings → List Event → Type 0
-AllHoused settings events = (e : ℕ) → (desk_of e events).phase ≡ Waiting → (g : ℕ) × (home_of settings e events ≡ Some g)
-
--- what is open under this id at an editor fails
-abbrev pub refuse_id : ℕ → List ℕ → Row
-refuse_id e id = send (ToEditor e (error_text id request_failed))
 
 -- those that start s has to answer
 abbrev pub lose_from : List Event → ℕ → Option ℕ → Row

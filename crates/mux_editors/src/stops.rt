@@ -3,79 +3,32 @@ ghost use Rattle.std.specs.Prelude.{◌≡◌, ◌<◌, ℕ, List, [], map, Some
 ghost use Rattle.std.specs.List.{All, AllByRecursion};
 ghost use Rattle.event_model.specs.Does.{Does, Done};
 ghost use Rattle.event_model.specs.Event.{Event, behind, with_cause};
-ghost use Rattle.event_model.specs.Phases.{is_waiting};
 ghost use Rattle.event_model.specs.Row.{each};
 ghost use Rattle.event_model.specs.Settings.{Settings};
 ghost use Rattle.event_model.specs.Spawns.{start_of};
-ghost use Rattle.group_rows.specs.StopRows.{close_each, lose_requests, refuse_initialize, refuse_open, stop_row};
+ghost use Rattle.group_rows.specs.StopRows.{close_each, lose_requests, refuse_open, stop_row};
 ghost use Rattle.group_words.specs.Houses.{stops};
-ghost use Rattle.mux_editors.specs.Halting.{AllHoused, Halts, IsNamed, Refusing, Stays, lose_from, refuse_id};
+ghost use Rattle.mux_editors.specs.Halting.{Halts, Refusing, Stays, lose_from};
 ghost use Rattle.mux_history.specs.declared.cause.Cause.TheVariants.{FromEditor};
 ghost use Rattle.mux_tables.specs.Documents.{AllStand, DocumentsStand, Owed, nothing_owed};
 ghost use Rattle.mux_tables.specs.Halts.{ids_at};
 ghost use Rattle.mux_tables.specs.Stands.{Stands, number_in};
 ghost use Rattle.mux_turns.specs.group_facts.specs.Facts.{AllForwarded, Known};
 ghost use Rattle.mux_turns.specs.group_facts.specs.Settled.{Settled};
-ghost use Rattle.mux_turns.specs.Welcomes.{AllAsking};
+ghost use Rattle.mux_turns.specs.Initials.{IsNamed, refuse_id};
 ghost use Rattle.group_rows.specs.Forwarded.{forwarding_of};
 ghost use Rattle.rpc_message.specs.Message.{message_of};
 ghost use Rattle.rpc_message.specs.Parsed.{IsRead};
 
 use crate::quiet::phase_of;
-use event_model::Phase;
 use message_body::Memory;
 use mux_history::Outs;
 use mux_tables::Tables;
-use mux_turns::end_groups;
-use rpc_message::{ErrorCode, Message, error_answer, ok_reply};
+use mux_turns::{end_groups, refuse_id, refuse_initialize};
+use rpc_message::{Message, ok_reply};
 use std::alloc::Global;
 
-// What is open under this id at an editor fails.
-fn refuse_id(
-    tables: &Tables,
-    alloc: Global,
-    outs: &mut Outs,
-    e: u64,
-    id: &[u8],
-) -> Result<(), Memory>
-    ensures does { (settings : Settings) (base : List Event) → IsNamed id.now
-        → OnOk result (Does (λ t events. Stands settings t events) (refuse_id e id.now) base tables.now outs.old tables.now outs.new) }
-    ensures documents { (settings : Settings) (owed : Owed) (base : List Event) → DocumentsStand settings owed tables.now (behind base outs.old)
-        → OnOk result (DocumentsStand settings owed tables.now (behind base outs.new)) }
-{
-    let text = error_answer(alloc, id, ErrorCode::RequestFailed)?;
-    tables.tell(outs, e, text)?;
-    Ok(())
-}
-
-// It waits for the answer to its `initialize`.
-fn is_waiting(phase: Phase) -> bool
-    ensures { result ≡ is_waiting phase }
-{
-    matches!(phase, Phase::Waiting)
-}
-
-// Its `initialize` does, where it waits.
-fn refuse_initialize(tables: &Tables, alloc: Global, outs: &mut Outs, e: u64) -> Result<(), Memory>
-    requires { e < length tables.now.editors }
-    ensures does { (settings : Settings) (base : List Event) → AllAsking (behind base outs.old) → AllHoused settings (behind base outs.old)
-        → OnOk result (Does (λ t events. Stands settings t events) (refuse_initialize e) base tables.now outs.old tables.now outs.new) }
-    ensures documents { (settings : Settings) (owed : Owed) (base : List Event) → DocumentsStand settings owed tables.now (behind base outs.old)
-        → OnOk result (DocumentsStand settings owed tables.now (behind base outs.new)) }
-{
-    if !is_waiting(tables.phase(e)) {
-        return Ok(());
-    }
-    match tables.initialize_id(e) {
-        None => Ok(()),
-        Some(id) => {
-            refuse_id(tables, alloc, outs, e, id.bytes())?;
-            Ok(())
-        }
-    }
-}
-
-// So do those of its requests that the last start of its group, which is in this place, has to answer.
+// Those of its requests that the last start of its group, which is in this place, has to answer fail.
 fn lose_at(tables: &Tables, alloc: Global, outs: &mut Outs, g: usize, e: u64) -> Result<(), Memory>
     requires { g < length tables.now.lasts.items }
     ensures does { (settings : Settings) (base : List Event) (s : ℕ) → slice_get (map number_in tables.now.lasts.items) g ≡ Some s

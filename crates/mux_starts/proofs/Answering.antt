@@ -31,7 +31,7 @@ use Rattle.response_route.specs.Answers.{answer_text}
 use Rattle.response_route.specs.Versions.{stamp_of, version_now}
 use Rattle.mux_tables.specs.declared.tables.Tables.{Tables}
 use Rattle.mux_tables.specs.Notes.{IsNoted, has_left}
-use Rattle.mux_tables.specs.Stands.{Keeps, Stands, forwarded_as, is_request}
+use Rattle.mux_tables.specs.Stands.{Keeps, Stands, forwarded_as, is_traced}
 use Rattle.mux_tables.proofs.Frames.{itself}
 use Rattle.mux_starts.specs.Answers.{IsAsked}
 use Rattle.mux_starts.specs.Replies.{reply_row}
@@ -70,7 +70,7 @@ told_late Down i m h = refl
 told_late Closed i m h = refl
 told_late Gone i m h = refl
 
-pub keeps_late : (e : ℕ) (text : List ℕ) (events : List Event) → ((desk_of e events).phase ≡ Waiting → ⊥) → is_request (message_of text) ≡ false → Keeps e text events
+pub keeps_late : (e : ℕ) (text : List ℕ) (events : List Event) → ((desk_of e events).phase ≡ Waiting → ⊥) → is_traced (message_of text) ≡ false → Keeps e text events
 keeps_late e text events h plain = (ap (λ (d : Desk). d.phase) (one_more (desk_behind e) _ _ events (said (ToEditor e text)) refl) ∙ rw (itself e) (told_late (desk_of e events).phase (desk_of e events).initialize (message_of text) h), plain)
 
 -- a start's message touches no desk
@@ -89,24 +89,24 @@ pub waits_of : (before : List Event) (e : ℕ) (r : Option Reply) → ((desk_of 
 waits_of before e None h k = tt
 waits_of before e (Some x) h k = λ q. h (ap (λ n. (desk_of n before).phase) (sym k) ∙ q)
 
--- what goes to an editor is no request
-plain_response : (id : Id) (m : Message) → IsResponseTo id m → is_request m ≡ false
-plain_response id m (is_result r e) = ap is_request e
-plain_response id m (is_error x e) = ap is_request e
+-- what goes to an editor is no request, and no list of diagnostics
+plain_response : (id : Id) (m : Message) → IsResponseTo id m → is_traced m ≡ false
+plain_response id m (is_result r e) = ap is_traced e
+plain_response id m (is_error x e) = ap is_traced e
 
 module _ (settings : Settings) (before : List Event) (s : ℕ) (body : List ℕ) (meant : Meant before) where
   abbrev text_for : Forwarded → List ℕ
   text_for f = answer_text (own_version settings before s f) body f.id
 
-  plain_text : (f : Forwarded) (text : List ℕ) → is_response (message_of body) ≡ true → IsAsked before f → ◌≡◌ {A = List Out} (outs (hand_on settings before s body f) before) (ToEditor f.editor text ∷ []) → is_request (message_of text) ≡ false
+  plain_text : (f : Forwarded) (text : List ℕ) → is_response (message_of body) ≡ true → IsAsked before f → ◌≡◌ {A = List Out} (outs (hand_on settings before s body f) before) (ToEditor f.editor text ∷ []) → is_traced (message_of text) ≡ false
   plain_text f text response asked sends = go (is_there (desk_of f.editor before).phase) sends
     where
-      go : (b : Bool) → ◌≡◌ {A = List Out} (outs (choose b (send (ToEditor f.editor (text_for f))) nothing) before) (ToEditor f.editor text ∷ []) → is_request (message_of text) ≡ false
-      go true e = let same : text_for f ≡ text = cc in ap (λ w. is_request (message_of w)) (sym same) ∙ plain_response asked.name (message_of (text_for f)) (answer_says (own_version settings before s f) (own_flat settings before s f meant) body f.id asked.name response asked.text)
+      go : (b : Bool) → ◌≡◌ {A = List Out} (outs (choose b (send (ToEditor f.editor (text_for f))) nothing) before) (ToEditor f.editor text ∷ []) → is_traced (message_of text) ≡ false
+      go true e = let same : text_for f ≡ text = cc in ap (λ w. is_traced (message_of w)) (sym same) ∙ plain_response asked.name (message_of (text_for f)) (answer_says (own_version settings before s f) (own_flat settings before s f meant) body f.id asked.name response asked.text)
       go false e = absurd (cc)
 
   pub plain_reply : (r : Option Reply) → ((f : Forwarded) → find (answered_by (answered_id (message_of body))) (forwarding_of s before).open_requests ≡ Some f → IsAsked before f) → Alike (answer_row settings s before body (message_of body)) (reply_row r)
-      → MatchOption r (Unit {0}) (λ y. is_request (message_of y.body) ≡ false)
+      → MatchOption r (Unit {0}) (λ y. is_traced (message_of y.body) ≡ false)
   plain_reply None known a = tt
   plain_reply (Some x) known a = go (find (answered_by (answered_id (message_of body))) (forwarding_of s before).open_requests) refl
     where
@@ -117,7 +117,7 @@ module _ (settings : Settings) (before : List Event) (s : ℕ) (body : List ℕ)
       to_whom f true e = cc
       to_whom f false e = absurd (cc)
 
-      go : (o : Option Forwarded) → find (answered_by (answered_id (message_of body))) (forwarding_of s before).open_requests ≡ o → is_request (message_of x.body) ≡ false
+      go : (o : Option Forwarded) → find (answered_by (answered_id (message_of body))) (forwarding_of s before).open_requests ≡ o → is_traced (message_of x.body) ≡ false
       go None e = let none : ◌≡◌ {A = List Out} [] (ToEditor x.editor x.body ∷ []) = sends None e in absurd (cc)
       go (Some f) e =
           let sent = sends (Some f) e in
@@ -152,10 +152,10 @@ module _ (settings : Settings) (before : List Event) (body : List ℕ) (s : ℕ)
 pub handed_none : (settings : Settings) (t : Tables) (base : List Event) (xs : List Out) (r : Option Reply) → r ≡ None → Does (λ t events. Stands settings t events) (reply_row r) base t xs t xs
 handed_none settings t base xs r is = subst (λ o. Does (λ t events. Stands settings t events) (reply_row o) base t xs t xs) (sym is) does_nothing
 
-pub handed_some : {A E : Type 0} (settings : Settings) (t : Tables) (base : List Event) (xs ys : List Out) (result : Result A E) (r : Option Reply) (x : Reply) → r ≡ Some x → Waits (behind base xs) r → MatchOption r (Unit {0}) (λ y. is_request (message_of y.body) ≡ false)
+pub handed_some : {A E : Type 0} (settings : Settings) (t : Tables) (base : List Event) (xs ys : List Out) (result : Result A E) (r : Option Reply) (x : Reply) → r ≡ Some x → Waits (behind base xs) r → MatchOption r (Unit {0}) (λ y. is_traced (message_of y.body) ≡ false)
     → (Keeps x.editor x.body (behind base xs) → OnOk result (Does (λ t events. Stands settings t events) (send (ToEditor x.editor x.body)) base t xs t ys)) → OnOk result (Does (λ t events. Stands settings t events) (reply_row r) base t xs t ys)
 handed_some settings t base xs ys (Ok done) r x is h plain go =
     let late : Waits (behind base xs) (Some x) = subst (Waits (behind base xs)) is h in
-    let silent : is_request (message_of x.body) ≡ false = subst (λ (o : Option Reply). MatchOption o (Unit {0}) (λ y. is_request (message_of y.body) ≡ false)) is plain in
+    let silent : is_traced (message_of x.body) ≡ false = subst (λ (o : Option Reply). MatchOption o (Unit {0}) (λ y. is_traced (message_of y.body) ≡ false)) is plain in
     subst (λ o. Does (λ t events. Stands settings t events) (reply_row o) base t xs t ys) (sym is) (go (keeps_late x.editor x.body (behind base xs) late silent))
 handed_some settings t base xs ys (Err e) r x is h plain go = tt

@@ -1,4 +1,4 @@
--- A group ends whose start refuses its `initialize`.
+-- A group ends whose last start refuses its `initialize`, or ended.
 use Rattle.std.proofs.Common.{◌≡◌, ℕ, ◌<◌, Bool, true, false, ◌&&◌, List, [], ◌∷◌, ◌++◌, length, map, get_or, nat_eq, refl, ap, sym, subst, ◌∙◌, append-nil, append_assoc, if◌then◌else◌}
 use Rattle.std.specs.Prelude.{Option, Some, None, slice_get}
 use Rattle.std.specs.List.{All, range_with_len}
@@ -55,11 +55,11 @@ pub stage_kept : (g : ℕ) (ts us : List Start) (z : Start) → slice_get ts g �
 stage_kept g ts us z at stages h x here = sym (mapped_is stage_in ts g z x.life.stage at (sym (ap (λ ns. slice_get ns g) stages) ∙ mapped_on stage_in us g x here)) ∙ h
 
 -- its group is in no other place
-pub unready_at : (i : ℕ) (ls : List Start) (w : Start) → Rise 0 ls → slice_get ls i ≡ Some w → w.life.stage ≡ Initializing → IsUnready w.life.group ls
+pub unready_at : (i : ℕ) (ls : List Start) (w : Start) → Rise 0 ls → slice_get ls i ≡ Some w → is_ready w.life.stage ≡ false → IsUnready w.life.group ls
 unready_at i ls w rise at h p x here own = go p (compare i p) here
   where
-    go : (p : ℕ) → Same i p → slice_get ls p ≡ Some x → x.life.stage ≡ Initializing
-    go _ same here = ap (λ (y : Start). y.life.stage) (same_item (sym here ∙ at)) ∙ h
+    go : (p : ℕ) → Same i p → slice_get ls p ≡ Some x → is_ready x.life.stage ≡ false
+    go _ same here = ap (λ (y : Start). is_ready y.life.stage) (same_item (sym here ∙ at)) ∙ h
     go p (other d) here = absurd (groups_apart ls i p w x rise at here d own)
 
 module _ (settings : Settings) (t u : Tables) (events later : List Event) (e g : ℕ) (owed : List Out) (unready : IsUnready g t.lasts.items) (home : home_of settings e events ≡ Some g) (st : Stands settings t events) where
@@ -72,7 +72,7 @@ module _ (settings : Settings) (t u : Tables) (events later : List Event) (e g :
           let k = has_start settings t events g s st at (ready_runs (life_of s events).stage h) in
           let own = st.lasts.each k.place k.last k.at in
           let same : k.last.life.start ≡ s = same_item (sym own.start ∙ (ap (λ n. start_of n events) k.group ∙ at)) in
-          ap (λ n. is_ready (life_of n events).stage) (sym same) ∙ (ap (λ (l : Life). is_ready l.stage) (own.parts of_life) ∙ ap is_ready (unready k.place k.last k.at k.group))
+          ap (λ n. is_ready (life_of n events).stage) (sym same) ∙ (ap (λ (l : Life). is_ready l.stage) (own.parts of_life) ∙ unready k.place k.last k.at k.group)
 
   by_start : (o : Option ℕ) → start_of g events ≡ o → Leaves settings events e (Some g) o owed u later → DocumentsStand settings nothing_owed u later
   by_start None none h = h.1

@@ -1,26 +1,30 @@
 -- A start that is to end, or ended.
 use Rattle.std.proofs.Common.{◌≡◌, ℕ, ◌+◌, ◌<◌, ◌^◌, Bool, true, false, not, ◌&&◌, List, map, length, nat_eq, refl, ap, sym, subst, ◌∙◌, arith, codes}
-use Rattle.std.specs.Prelude.{Some, None, slice_get}
+use Rattle.std.specs.Prelude.{Option, Some, None, slice_get}
+use Rattle.std.specs.Option.{option_map_or}
 use Rattle.std.proofs.lemmas.Bool.Decides.{nat_tests}
 use Rattle.mux_history.specs.declared.out.Out.{Out}
 use Rattle.mux_history.specs.declared.out.Out.TheVariants.{EndServer, ToServer}
 use Rattle.rpc_message.specs.Message.{Message, message_of}
 use Rattle.event_model.specs.declared.stage.Stage.{Stage}
 use Rattle.event_model.specs.declared.stage.Stage.TheVariants.{Spawning, Stopping, Ending, Ended}
-use Rattle.event_model.specs.Does.{Does}
+use Rattle.event_model.specs.Does.{Alike, Does}
 use Rattle.event_model.specs.Event.{Event, behind, requests}
 use Rattle.event_model.specs.Requests.{answered_id, next_number}
-use Rattle.event_model.specs.Row.{send}
+use Rattle.event_model.specs.Row.{Row, choose, nothing, on, send}
 use Rattle.event_model.specs.Settings.{Settings}
+use Rattle.event_model.specs.Spawns.{group_of}
 use Rattle.event_model.specs.Stages.{Life, is_ended, is_initializing, life_of, may_begin, may_start, runs}
 use Rattle.event_model.proofs.Frames.{never}
-use Rattle.event_model.proofs.Turns.{does_then}
+use Rattle.event_model.proofs.Turns.{alike, alike_false, alike_then, does_then}
 use Rattle.document_model.specs.Sayings.{saying_of}
 use Rattle.document_model.specs.Sayings.{nothing as no_saying}
 use Rattle.mux_turns.specs.group_facts.specs.Built.{is_left}
-use Rattle.mux_turns.specs.group_facts.specs.Lively.{lives}
+use Rattle.mux_turns.specs.group_facts.specs.Lively.{lives, lives_at}
 use Rattle.mux_turns.specs.group_facts.proofs.Exits.{left_over}
 use Rattle.group_words.specs.declared.kept.Kept.{Kept}
+use Rattle.group_words.specs.Houses.{groups_of}
+use Rattle.group_rows.specs.ExitRows.{lost_row}
 use Rattle.group_rows.specs.Ends.{answers_shutdown, exit_server, exit_text, last_number}
 use Rattle.group_rows.specs.Forwarded.{forwarding_of, moves_ids, names}
 use Rattle.group_rows.specs.Texts.{is_synced}
@@ -124,3 +128,20 @@ module _ (settings : Settings) (t : Tables) (before : List Event) (g s : ℕ) (x
       where
         turned : (a c : ℕ) → nat_eq a c ≡ nat_eq c a
         turned a c = grind (arith, nat_tests)
+
+-- X1 to X3: nothing is sent where the start's group lives no more
+live_off : (b : Bool) → not b ≡ true → b ≡ false
+live_off false h = refl
+live_off true h = absurd (cc)
+
+left_in : (m : Option Kept) (say : Kept → Row) → not (lives m) ≡ true → Alike (on m nothing (λ x. choose x.live (say x) nothing)) nothing
+left_in None say h = alike refl
+left_in (Some x) say h = alike_then (alike (ap (λ b. choose b (say x) nothing) (live_off x.live h))) alike_false
+
+left_of : (o : Option ℕ) (groups : List Kept) (say : ℕ → Kept → Row) → not (option_map_or (λ g. lives_at g groups) o false) ≡ true
+    → Alike (on o nothing (λ g. on (slice_get groups g) nothing (λ x. choose x.live (say g x) nothing))) nothing
+left_of None groups say h = alike refl
+left_of (Some g) groups say h = left_in (slice_get groups g) (say g) h
+
+pub left_row : (settings : Settings) (before : List Event) (s : ℕ) → is_left settings before s ≡ true → Alike (lost_row settings before s) nothing
+left_row settings before s left = left_of (group_of s before) (groups_of settings before) _ left

@@ -17,7 +17,7 @@ ghost use Rattle.mux_tables.specs.declared.tables.Start.{Start};
 ghost use Rattle.mux_tables.specs.Documents.{AllStand, DocumentsStand, Owed, nothing_owed};
 ghost use Rattle.mux_tables.specs.Notes.{IsNoted};
 ghost use Rattle.mux_tables.specs.mux_tokens.specs.Stands.{CreatedStay};
-ghost use Rattle.mux_tables.specs.Stands.{ListsStay, NamesAt, Stands, forwarded_as, is_request, number_in};
+ghost use Rattle.mux_tables.specs.Stands.{ListsStay, NamesAt, Stands, forwarded_as, is_request, is_traced, number_in};
 ghost use Rattle.response_route.specs.Answers.{answer_text};
 ghost use Rattle.rpc_message.specs.Message.{message_of};
 ghost use Rattle.rpc_message.specs.Parsed.{IsRead};
@@ -137,7 +137,7 @@ fn reply_to(
 fn hand_out(tables: &Tables, outs: &mut Outs, reply: Option<Reply>) -> Result<(), Memory>
     ensures does { (settings : Settings) (base : List Event)
         → MatchOption reply (Unit {0}) (λ r. (desk_of r.editor (behind base outs.old)).phase ≡ Waiting → ⊥)
-        → MatchOption reply (Unit {0}) (λ r. is_request (message_of r.body) ≡ false)
+        → MatchOption reply (Unit {0}) (λ r. is_traced (message_of r.body) ≡ false)
         → OnOk result (Does (λ t events. Stands settings t events) (reply_row reply) base tables.now outs.old tables.now outs.new) }
     ensures documents { (settings : Settings) (owed : Owed) (base : List Event) → DocumentsStand settings owed tables.now (behind base outs.old)
         → OnOk result (DocumentsStand settings owed tables.now (behind base outs.new)) }

@@ -30,7 +30,7 @@ pub fn spread(
     numbers: &[u64],
     body: &[u8],
 ) -> Result<(), Memory>
-    ensures does { (settings : Settings) (base : List Event) (method : List ℕ) (params : Option Json) → message_of body.now ≡ notification method params
+    ensures does { (settings : Settings) (base : List Event) (method : List ℕ) (params : Option Json) → is_publishing method ≡ false → message_of body.now ≡ notification method params
         → OnOk result (Does (λ t events. Stands settings t events) (each (broadcast body.now) numbers.now) base tables.now outs.old tables.now outs.new) }
     ensures documents { (settings : Settings) (owed : Owed) (base : List Event) → DocumentsStand settings owed tables.now (behind base outs.old)
         → OnOk result (DocumentsStand settings owed tables.now (behind base outs.new)) }

@@ -1,6 +1,6 @@
 //! S13: what a start tells of an editor's open request, and of a token that it created (LSP 3.17, Work Done Progress and Partial Result
 //! Progress).
-ghost use Rattle.std.specs.Prelude.{◌≡◌, ◌<◌, ℕ, List, [], Option, Some, IfOk, OnOk, is_some, length, map, slice_get, true};
+ghost use Rattle.std.specs.Prelude.{◌≡◌, ◌<◌, ℕ, List, [], Option, Some, IfOk, OnOk, false, is_some, length, map, slice_get, true};
 ghost use Rattle.event_model.specs.declared.stage.Stage.TheVariants.{Ready};
 ghost use Rattle.event_model.specs.Does.{Does, Done};
 ghost use Rattle.event_model.specs.Event.{Event, with_cause};
@@ -9,6 +9,7 @@ ghost use Rattle.event_model.specs.Settings.{Settings};
 ghost use Rattle.group_rows.specs.AskRows.{broadcast};
 ghost use Rattle.group_rows.specs.Created.{created_of, created_text, is_progress, named_token, token_called};
 ghost use Rattle.group_rows.specs.CreatedRows.{progress_row};
+ghost use Rattle.group_rows.specs.Lists.{is_publishing};
 ghost use Rattle.group_rows.specs.Tokens.{marked_text};
 ghost use Rattle.json_text.specs.Json.{Json};
 ghost use Rattle.mux_history.specs.declared.cause.Cause.TheVariants.{FromServer};
@@ -64,7 +65,7 @@ fn telling_of(
 
 // The editor is told so.
 fn tell(tables: &Tables, outs: &mut Outs, telling: Telling) -> Result<(), Memory>
-    ensures does { (settings : Settings) (base : List Event) (method : List ℕ) (params : Option Json) → message_of telling.text ≡ notification method params
+    ensures does { (settings : Settings) (base : List Event) (method : List ℕ) (params : Option Json) → is_publishing method ≡ false → message_of telling.text ≡ notification method params
         → OnOk result (Does (λ k events. AllStand settings k events) (send (ToEditor telling.editor telling.text)) base
         (tables.now, nothing_owed) outs.old (tables.now, nothing_owed) outs.new) }
 {
@@ -132,7 +133,7 @@ fn tell_due(
 ) -> Result<(), Memory>
     requires { g < length tables.now.lasts.items }
     ensures does { (settings : Settings) (base : List Event) (body method : List ℕ) (params : Option Json) (s : ℕ)
-        → IsRead message.now body → message_of body ≡ notification method params
+        → IsRead message.now body → message_of body ≡ notification method params → is_publishing method ≡ false
         → slice_get (map number_in tables.now.lasts.items) g ≡ Some s
         → OnOk result (Does (λ k events. AllStand settings k events)
         (each (broadcast (marked_text (created_text s due.now.token) body)) due.now.editors.items) base

@@ -27,8 +27,8 @@ use mux_turns::answered_number;
 use rpc_message::Message;
 use std::alloc::Global;
 
-// The link of an editor is to be ended, whose group's last start gave no result yet.
-fn put_out(tables: &mut Tables, alloc: Global, outs: &mut Outs, e: u64) -> Result<(), Memory>
+/// S3 and X3: the link of an editor is to be ended, whose group's last start isn't ready.
+pub fn put_out(tables: &mut Tables, alloc: Global, outs: &mut Outs, e: u64) -> Result<(), Memory>
     requires { e < length tables.old.editors }
     ensures requests { tables.new.requests ≡ tables.old.requests }
     ensures versions { tables.new.versions ≡ tables.old.versions }

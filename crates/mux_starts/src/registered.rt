@@ -85,8 +85,8 @@ fn copy(alloc: Global, item: &Registration) -> Result<Registration, Memory>
     })
 }
 
-// These once more.
-fn copies(alloc: Global, items: &[Registration]) -> Result<Vec<Registration>, Memory>
+/// These once more.
+pub fn copies(alloc: Global, items: &[Registration]) -> Result<Vec<Registration>, Memory>
     ensures { IfOk result (λ v. v.items ≡ items.now) }
 {
     let mut all = Vec::new(alloc);

@@ -35,7 +35,7 @@ pub begins : (settings : Settings) (t : Tables) (groups idle : ℕ) → 2 ≤ t.
     → settings.limits.groups ≡ groups → settings.limits.idle ≡ idle → settings.limits.requests ≡ t.requests → Stands settings t []
 begins settings t groups idle h below es gs now ls os sk cr limit wait last = record {
   house = record {
-    editors = rw es (record { count = refl; phase = λ e. refl; home = λ e. refl; names = λ e. record { own = λ g w h. absurd (none_some h); unplaced = λ n. refl }; meant = λ e w. refl; asked = λ e there. refl });
+    editors = rw es (record { count = refl; phase = λ e. refl; home = λ e. refl; names = λ e. record { own = λ g w h. absurd (none_some h); unplaced = λ n. refl }; meant = λ e w. refl; asked = λ e there. refl; full = λ e there u. refl });
     groups = rw gs (no_groups settings groups idle limit wait);
     now = rw now refl;
     halted = rw now refl;

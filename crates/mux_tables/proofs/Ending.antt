@@ -1,5 +1,5 @@
 -- What ends with the program of a group's last start, as it is kept.
-use Rattle.std.proofs.Common.{◌≡◌, ℕ, ◌<◌, Bool, true, false, cond, List, [], ◌∷◌, ◌++◌, filter, flat_map, map, length, get_or, refl, ap, ◌∙◌, nat_eq}
+use Rattle.std.proofs.Common.{◌≡◌, ℕ, ◌<◌, Bool, true, false, cond, List, [], ◌∷◌, filter, flat_map, map, length, get_or, refl, ap, ◌∙◌, nat_eq}
 use Rattle.std.specs.Prelude.{Some, slice_get}
 use Rattle.ask_route.specs.declared.ask.Ask as route
 use Rattle.ask_route.specs.Tables as asks

@@ -28,7 +28,9 @@ use Rattle.group_laws.specs.group_rows.specs.Asks.{Asking, asked_behind, asker_o
 use Rattle.group_laws.specs.group_rows.specs.Forwarded.{Forwarding, forwarding_behind, forwarding_of, forwards, moves_ids, numbered}
 use Rattle.mux_tables.specs.Stands.{EditorsStand, GroupsStand, OriginsStand, IdsAt, IdsStand, Part, of_life, of_ids, of_shown, PartStands, LastStands, ShownAt, of_stop, StopAt, of_asks, of_parked, of_live, of_lists, AsksStay, ListsStay, LiveStay, OpenStay, is_answer, is_request}
 use Rattle.mux_tables.proofs.Asking.{asks_by, parked_by, told_asking, unanswered, unhanded, unwaited}
+use Rattle.group_laws.specs.group_rows.specs.ExitRows.{full_behind, is_full}
 use Rattle.mux_tables.proofs.Counted.{counted_same, next_more}
+use Rattle.mux_tables.proofs.Fulls.{full_more, full_same}
 use Rattle.mux_tables.proofs.Named.{goes_so, meant_by, named_by}
 use Rattle.mux_tables.proofs.Publishing.{lists_by_stay, silent_lists}
 use Rattle.mux_tables.proofs.Registering.{live_by_stay, silent_live}
@@ -95,6 +97,10 @@ meant_alone : (servers : List Server) (e : ℕ) (x : Meant) (ev : Event) → nam
 meant_alone servers e x (took (Joined n) m) h = never h
 meant_alone servers e x (took (FromEditor n body) m) h = never h
 meant_alone servers e x other h = refl
+
+full_alone : (e : ℕ) (u : List ℕ) (full : Bool) (ev : Event) → names_editor ev ≡ false → full_behind e u full ev ≡ full
+full_alone e u full (did (ToEditor k body) m) h = never h
+full_alone e u full other h = refl
 
 asked_alone : (e n : ℕ) (ev : Event) → names_editor ev ≡ false → asked_behind e n ev ≡ n
 asked_alone e n (did (ToEditor k body) m) h = never h
@@ -168,6 +174,7 @@ editors_stand settings t events ev h s = record {
   names = λ e. named_by (goes_so (one_more (desk_behind e) _ _ events ev refl ∙ desk_alone e _ ev h)) (home_stays settings e events ev (homeless e ev h)) refl (s.names e);
   meant = λ e. meant_by (goes_so (one_more (desk_behind e) _ _ events ev refl ∙ desk_alone e _ ev h)) refl (one_more (meant_behind settings.servers e) _ _ events ev refl ∙ meant_alone settings.servers e _ ev h) (s.meant e);
   asked = λ e. counted_same (slice_get t e) (next_ask e events) (next_ask e (events ++ ev ∷ [])) (next_more e events ev ∙ asked_alone e (next_ask e events) ev h) (s.asked e);
+  full = λ e. full_same (slice_get t e) (λ u. is_full e u events) (λ u. is_full e u (events ++ ev ∷ [])) (λ u. full_more e u events ev ∙ full_alone e u (is_full e u events) ev h) (s.full e);
 }
 
 pub groups_stand : (settings : Settings) (t : group_tables.Table) (events : List Event) (ev : Event) → touches_groups ev ≡ false → GroupsStand settings t events → GroupsStand settings t (events ++ ev ∷ [])

@@ -30,7 +30,7 @@ use Rattle.mux_tables.proofs.Halted.{stopped_more, stopped_now, stopped_quiet}
 use Rattle.group_laws.specs.group_rows.specs.StopRows.{stopped}
 use Rattle.mux_tables.specs.declared.tables.Tables.{Tables}
 use Rattle.mux_tables.specs.Names.{NameStands, id_in}
-use Rattle.mux_tables.specs.Stands.{AnswersNone, CountStands, EditorsStand, GroupsStand, HouseStands, LastsStand, Stands, ends, is_answer, phase_in, group_in, meant_in, stays_in}
+use Rattle.mux_tables.specs.Stands.{AnswersNone, CountStands, EditorsStand, FullStands, GroupsStand, HouseStands, LastsStand, Stands, ends, is_answer, phase_in, group_in, meant_in, noted_for, stays_in}
 use Rattle.group_laws.specs.group_rows.specs.Asks.{next_ask}
 use Rattle.mux_tables.proofs.Asking.{answers_all, answers_none, none_answered}
 use Rattle.mux_tables.proofs.Counted.{counted_same, counted_set, next_more}
@@ -46,6 +46,8 @@ use Rattle.mux_tokens.specs.Stands.{TakesNone}
 use Rattle.mux_tables.proofs.TokenMoves.{OriginsMove, origins_left, origins_stay, request_takes}
 use Rattle.mux_tables.proofs.Moves.{house_and_lasts, house_moves, quiet_moves}
 use Rattle.mux_tables.proofs.Silent.{lasts_silent}
+use Rattle.group_laws.specs.group_rows.specs.ExitRows.{is_full}
+use Rattle.mux_tables.proofs.Fulls.{full_more, full_same, full_set}
 use Rattle.mux_tables.proofs.Named.{Goes, goes_heard, goes_so, goes_then, meant_by, named_by, named_new}
 use Rattle.mux_tables.proofs.Phased.{heard_plain, heard_same, phased}
 use Rattle.mux_tables.proofs.Seated.{Seated, initialize_heard}
@@ -65,6 +67,7 @@ joined_editors settings t u events e last is s = record {
       (subst (λ n. NameStands (desk_behind j (desk_of j events) (took (Joined n) not_message)) (home_of settings j (events ++ took (Joined e) not_message ∷ [])) (id_in (slice_get u j))) (sym last) (named j (compare (length t) j)));
   meant = λ j. meant_at j (compare (length t) j);
   asked = λ j. subst (λ (z : List Session). CountStands (slice_get z j) (next_ask j (events ++ ev ∷ []))) (sym is) (counted j (compare (length t) j));
+  full = λ j. subst (λ (z : List Session). FullStands (slice_get z j) (λ u. is_full j u (events ++ ev ∷ []))) (sym is) (fulls j (compare (length t) j));
 }
   where
     ev : Event
@@ -77,6 +80,14 @@ joined_editors settings t u events e last is s = record {
     counted : (j : ℕ) → Same (length t) j → CountStands (slice_get (t ++ joined ∷ []) j) (next_ask j (events ++ ev ∷ []))
     counted _ same = subst (λ (o : Option Session). CountStands o (next_ask (length t) (events ++ ev ∷ []))) (sym (get_push_same t joined)) (λ there. next_more (length t) events ev ∙ unasked)
     counted j (other h) = subst (λ (o : Option Session). CountStands o (next_ask j (events ++ ev ∷ []))) (sym (get_push_other t joined j h)) (counted_same (slice_get t j) (next_ask j events) (next_ask j (events ++ ev ∷ [])) (next_more j events ev) (s.asked j))
+
+    -- nor was it sent a list
+    fulls : (j : ℕ) → Same (length t) j → FullStands (slice_get (t ++ joined ∷ []) j) (λ u. is_full j u (events ++ ev ∷ []))
+    fulls _ same = subst (λ (o : Option Session). FullStands o (λ u. is_full (length t) u (events ++ ev ∷ []))) (sym (get_push_same t joined))
+        (λ there u. let none : FullStands None (λ u. is_full (length t) u events) = subst (λ (o : Option Session). FullStands o (λ u. is_full (length t) u events)) (slice_get_past t (length t) (omega arith)) (s.full (length t)) in
+        none refl u ∙ ap noted_for (sym (full_more (length t) u events ev)))
+    fulls j (other h) = subst (λ (o : Option Session). FullStands o (λ u. is_full j u (events ++ ev ∷ []))) (sym (get_push_other t joined j h))
+        (full_same (slice_get t j) (λ u. is_full j u events) (λ u. is_full j u (events ++ ev ∷ [])) (λ u. full_more j u events ev) (s.full j))
 
     meant_at : (j : ℕ) → Same (length t) j → (desk_of j (events ++ ev ∷ [])).phase ≡ New → meant_in (slice_get u j) ≡ meant_of settings.servers j (events ++ ev ∷ [])
     meant_at _ same w = ap (λ z. meant_in (slice_get z (length t))) is ∙ ap meant_in (get_push_same t joined)
@@ -158,7 +169,7 @@ module _ (settings : Settings) (t : List Session) (events : List Event) (e : ℕ
 module _ (settings : Settings) (t u : Tables) (events : List Event) (e : ℕ) (body : List ℕ) (y : Session) (l : e < length t.editors) (is : u.editors ≡ with_session t.editors e y)
     (now : u.course.time ≡ t.course.time) (ls : u.lasts ≡ t.lasts) (os : OriginsMove settings t.origins u.origins events (took (FromEditor e body) (message_of body))) (r : u.requests ≡ t.requests)
     (stays : places (desk_of e events).phase (message_of body) ≡ false) (step : (desk_of e (events ++ heard (FromEditor e body) ∷ [])).phase ≡ y.phase)
-    (group : y.group ≡ (session_of t.editors e).group) (id : y.id ≡ (session_of t.editors e).id) (count : y.asks ≡ (session_of t.editors e).asks)
+    (group : y.group ≡ (session_of t.editors e).group) (id : y.id ≡ (session_of t.editors e).id) (count : y.asks ≡ (session_of t.editors e).asks) (shows : y.full ≡ (session_of t.editors e).full)
     (means : (desk_of e (events ++ heard (FromEditor e body) ∷ [])).phase ≡ New → meant_in (Some y) ≡ meant_of settings.servers e (events ++ heard (FromEditor e body) ∷ [])) where
   abbrev ev : Event
   ev = took (FromEditor e body) (message_of body)
@@ -172,6 +183,8 @@ module _ (settings : Settings) (t u : Tables) (events : List Event) (e : ℕ) (b
     meant = λ n w. ap (λ z. meant_in (slice_get z n)) is ∙ meant_at n (compare e n) w;
     asked = λ n. subst (λ (z : List Session). CountStands (slice_get z n) (next_ask n (events ++ ev ∷ []))) (sym is)
         (counted_set t.editors e (session_of t.editors e) y (slice_get-get_or t.editors e absent l) (λ there. (sym (heard_same settings t.editors events e y.phase l s body step) ∙ there, count)) n (next_ask n events) (next_ask n (events ++ ev ∷ [])) (next_more n events ev) (s.asked n));
+    full = λ n. subst (λ (z : List Session). FullStands (slice_get z n) (λ u. is_full n u (events ++ ev ∷ []))) (sym is)
+        (full_set t.editors e (session_of t.editors e) y (slice_get-get_or t.editors e absent l) (λ there. (sym (heard_same settings t.editors events e y.phase l s body step) ∙ there, shows)) n (λ u. is_full n u events) (λ u. is_full n u (events ++ ev ∷ [])) (λ u. full_more n u events ev) (s.full n));
   }
     where
       here : slice_get (slice_set t.editors e y) e ≡ Some y
@@ -249,16 +262,16 @@ module _ (settings : Settings) (t u : Tables) (events : List Event) (e : ℕ) (b
   put = record (session_of t.editors e) { phase = p }
 
   pub set_house : u.groups ≡ t.groups → u.course.stopped ≡ t.course.stopped → stops events e (message_of body) ≡ false → is_first_open settings.servers events e (message_of body) ≡ false → HouseStands settings t events → HouseStands settings u (events ++ heard (FromEditor e body) ∷ [])
-  set_house gs keeps goes off h = heard_house settings t u events e body put l (set ∙ heard_plain settings t.editors events e p l h.editors body step) now ls os r stays step refl refl refl
+  set_house gs keeps goes off h = heard_house settings t u events e body put l (set ∙ heard_plain settings t.editors events e p l h.editors body step) now ls os r stays step refl refl refl refl
       (meant_kept settings t.editors events e body l p stays off h.editors) (λ s. stopped_quiet events e body (message_of body) goes ∙ (s ∙ sym keeps))
-      (heard_groups settings t u events e body put l (set ∙ heard_plain settings t.editors events e p l h.editors body step) now ls os r stays step refl refl refl (meant_kept settings t.editors events e body l p stays off h.editors) gs goes) h
+      (heard_groups settings t u events e body put l (set ∙ heard_plain settings t.editors events e p l h.editors body step) now ls os r stays step refl refl refl refl (meant_kept settings t.editors events e body l p stays off h.editors) gs goes) h
 
   pub set_moves : AnswersNone settings e (message_of body) events → u.groups ≡ t.groups → u.course.stopped ≡ t.course.stopped → stops events e (message_of body) ≡ false → is_first_open settings.servers events e (message_of body) ≡ false → Stands settings t events → Stands settings u (events ++ heard (FromEditor e body) ∷ [])
-  set_moves silent gs keeps goes off s = heard_moves settings t u events e body put l (set ∙ heard_plain settings t.editors events e p l s.house.editors body step) now ls os r stays step refl refl refl
+  set_moves silent gs keeps goes off s = heard_moves settings t u events e body put l (set ∙ heard_plain settings t.editors events e p l s.house.editors body step) now ls os r stays step refl refl refl refl
       (meant_kept settings t.editors events e body l p stays off s.house.editors) silent gs keeps goes s
 
   pub stop_moves : AnswersNone settings e (message_of body) events → (ns : List ℕ) → ns ≡ all_from 0 is_live t.groups.groups → u.groups ≡ with_groups (ends ns t.groups.groups) t.groups → u.course.stopped ≡ true → stops events e (message_of body) ≡ true → Stands settings t events → Stands settings u (events ++ heard (FromEditor e body) ∷ [])
-  stop_moves silent ns all gs halts stop s = stopped_moves settings t u events e body put l (set ∙ heard_plain settings t.editors events e p l s.house.editors body step) now ls os r stays step refl refl refl
+  stop_moves silent ns all gs halts stop s = stopped_moves settings t u events e body put l (set ∙ heard_plain settings t.editors events e p l s.house.editors body step) now ls os r stays step refl refl refl refl
       (meant_kept settings t.editors events e body l p stays (stops_asks events e settings.servers (message_of body) stop) s.house.editors) silent ns all gs halts stop s
 
 -- E4: the first `lspmux/open` of a new editor
@@ -301,7 +314,7 @@ module _ (settings : Settings) (t u : Tables) (events : List Event) (e : ℕ) (b
       (set ∙ ap (λ p. with_session t.editors e (if is_gone p then seen else record seen { opened = true; server = o })) (stands_new s.house.editors)) (ap (λ (c : Course). c.time) now) ls (origins_stay settings t.origins u.origins events (heard (FromEditor e body)) os (request_takes settings e (codes "lspmux/open") (message_of body) events refl asks)) r
       (ap (λ b. is_new (desk_of e events).phase && b) (no_first (message_of body) asks) ∙ and_off (is_new (desk_of e events).phase))
       (now_new ∙ sym (stands_new s.house.editors))
-      refl refl refl (λ w. meant_first settings t.editors events e body l o is first) (answers_none settings e (message_of body) events (asks_silent (codes "lspmux/open") (message_of body) asks))
+      refl refl refl refl (λ w. meant_first settings t.editors events e body l o is first) (answers_none settings e (message_of body) events (asks_silent (codes "lspmux/open") (message_of body) asks))
       gs (ap (λ (c : Course). c.stopped) now) (ap (λ b. b && (is_there (desk_of e events).phase && not (is_begun (desk_of e events).phase && is_doubled events e (message_of body)))) (no_stop (message_of body) asks)) s
 
 -- X6: no table speaks of bytes that were written

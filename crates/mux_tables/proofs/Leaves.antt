@@ -27,9 +27,11 @@ use Rattle.group_laws.specs.group_rows.specs.StopRows.{stopped, stopped_next}
 use Rattle.mux_tables.specs.declared.tables.Tables.{Tables}
 use Rattle.mux_tables.specs.Names.{NameStands, id_in}
 use Rattle.group_laws.specs.group_rows.specs.Asks.{asked_behind, next_ask}
-use Rattle.mux_tables.specs.Stands.{CountStands, EditorsStand, GroupsStand, HouseStands, phase_in, group_in, meant_in, stays_in}
+use Rattle.mux_tables.specs.Stands.{CountStands, EditorsStand, FullStands, GroupsStand, HouseStands, phase_in, group_in, meant_in, stays_in}
 use Rattle.event_model.proofs.Frames.{never, one_more}
+use Rattle.group_laws.specs.group_rows.specs.ExitRows.{full_behind, is_full}
 use Rattle.mux_tables.proofs.Counted.{counted_set, next_more}
+use Rattle.mux_tables.proofs.Fulls.{full_more, full_set}
 use Rattle.mux_tables.proofs.Frames.{ticks, time_alone}
 use Rattle.mux_tables.proofs.Lists.{editors_by}
 use Rattle.mux_tables.proofs.Named.{closed_old, goes_closed, goes_so, goes_then, meant_by, named_by}
@@ -47,8 +49,9 @@ record LeftOne (settings : Settings) (events : List Event) (ev : Event) (e : ℕ
   old : (desk_behind e (desk_of e events) ev).phase ≡ New → ⊥
   counts : (g : ℕ) (o : Option ℕ) → o ≡ x.group → (is_begun y.phase && is_home g o) ≡ (is_begun y.phase && is_home g y.group)
   asked : is_gone y.phase ≡ false → (is_gone x.phase ≡ false) × (y.asks ≡ x.asks)
+  full : is_gone y.phase ≡ false → (is_gone x.phase ≡ false) × (y.full ≡ x.full)
 
-module _ (settings : Settings) (events : List Event) (ev : Event) (e : ℕ) (leaves : (x : House) → groups_next settings events x ev ≡ groups_left events ev e x) (rest : (n : ℕ) (d : Desk) → nat_eq e n ≡ false → desk_behind n d ev ≡ d) (number : (n : ℕ) → editors_behind n ev ≡ n) (homes : (n : ℕ) → nat_eq e n ≡ false → names_home n ev ≡ false) (time : ticks ev ≡ false) (halts : (b : Bool) → stopped_next events b ev ≡ b) (unmeant : (n : ℕ) (x : Meant) → meant_behind settings.servers n x ev ≡ x) (unasked : (n k : ℕ) → asked_behind n k ev ≡ k) where
+module _ (settings : Settings) (events : List Event) (ev : Event) (e : ℕ) (leaves : (x : House) → groups_next settings events x ev ≡ groups_left events ev e x) (rest : (n : ℕ) (d : Desk) → nat_eq e n ≡ false → desk_behind n d ev ≡ d) (number : (n : ℕ) → editors_behind n ev ≡ n) (homes : (n : ℕ) → nat_eq e n ≡ false → names_home n ev ≡ false) (time : ticks ev ≡ false) (halts : (b : Bool) → stopped_next events b ev ≡ b) (unmeant : (n : ℕ) (x : Meant) → meant_behind settings.servers n x ev ≡ x) (unasked : (n k : ℕ) → asked_behind n k ev ≡ k) (unshown : (n : ℕ) (u : List ℕ) (full : Bool) → full_behind n u full ev ≡ full) where
   home_apart : (n : ℕ) → (n ≡ e → ⊥) → home_of settings n (events ++ ev ∷ []) ≡ home_of settings n events
   home_apart n h = home_stays settings n events ev (homes n (ne_eqb e n (λ q. h (sym q))))
 
@@ -63,6 +66,8 @@ module _ (settings : Settings) (events : List Event) (ev : Event) (e : ℕ) (lea
     meant = λ n. meant_at n (compare e n);
     asked = λ n. subst (λ (z : List Session). CountStands (slice_get z n) (next_ask n (events ++ ev ∷ []))) (sym is)
         (counted_set t e x y at own.asked n (next_ask n events) (next_ask n (events ++ ev ∷ [])) (next_more n events ev ∙ unasked n (next_ask n events)) (s.asked n));
+    full = λ n. subst (λ (z : List Session). FullStands (slice_get z n) (λ u. is_full n u (events ++ ev ∷ []))) (sym is)
+        (full_set t e x y at own.full n (λ u. is_full n u events) (λ u. is_full n u (events ++ ev ∷ [])) (λ u. full_more n u events ev ∙ unshown n u (is_full n u events)) (s.full n));
   }
     where
       here : slice_get (slice_set t e y) e ≡ Some y
@@ -126,11 +131,11 @@ module _ (settings : Settings) (events : List Event) (ev : Event) (e : ℕ) (lea
       }
 
 -- its link is to be ended: it keeps its home
-pub close_moves : (settings : Settings) (events : List Event) (e : ℕ) (m : Message) (t u : Tables) (x y : Session) → slice_get t.editors e ≡ Some x → u.editors ≡ slice_set t.editors e y → y.group ≡ x.group → y.id ≡ x.id → y.asks ≡ x.asks → y.phase ≡ phase_closed x.phase
+pub close_moves : (settings : Settings) (events : List Event) (e : ℕ) (m : Message) (t u : Tables) (x y : Session) → slice_get t.editors e ≡ Some x → u.editors ≡ slice_set t.editors e y → y.group ≡ x.group → y.id ≡ x.id → y.asks ≡ x.asks → y.full ≡ x.full → y.phase ≡ phase_closed x.phase
     → u.groups.limit ≡ t.groups.limit → u.groups.idle ≡ t.groups.idle → u.course ≡ t.course → u.groups.groups ≡ emptied x.group (is_begun x.phase) (stays_in u.editors) t.course.time t.groups.groups
     → HouseStands settings t events → HouseStands settings u (events ++ did (CloseEditor e) m ∷ [])
-close_moves settings events e m t u x y at is group id asks closed l i k gs s =
-    left_moves settings events (did (CloseEditor e) m) e (λ h. refl) (λ n d f. rw f refl) (λ n. refl) (λ n f. refl) refl (λ b. refl) (λ n x. refl) (λ n k. refl) t u x y at is own (λ d p. rw (itself e, p) (sym closed)) l i k gs s
+close_moves settings events e m t u x y at is group id asks shows closed l i k gs s =
+    left_moves settings events (did (CloseEditor e) m) e (λ h. refl) (λ n d f. rw f refl) (λ n. refl) (λ n f. refl) refl (λ b. refl) (λ n x. refl) (λ n k. refl) (λ n u full. refl) t u x y at is own (λ d p. rw (itself e, p) (sym closed)) l i k gs s
   where
     stays : home_of settings e (events ++ did (CloseEditor e) m ∷ []) ≡ home_of settings e events
     stays = home_stays settings e events (did (CloseEditor e) m) refl
@@ -145,6 +150,7 @@ close_moves settings events e m t u x y at is group id asks closed l i k gs s =
       old = λ w. closed_old (desk_of e events).phase _ refl (sym (ap (λ (d : Desk). d.phase) closes) ∙ w);
       counts = λ g o h. ap (λ q. is_begun y.phase && is_home g q) (h ∙ sym group);
       asked = λ there. (sym (ap is_gone closed ∙ closed_gone x.phase) ∙ there, asks);
+      full = λ there. (sym (ap is_gone closed ∙ closed_gone x.phase) ∙ there, shows);
     }
 
 -- its link ended: it is in no group from then on
@@ -152,7 +158,7 @@ pub gone_moves : (settings : Settings) (events : List Event) (e : ℕ) (why : Wh
     → u.groups.limit ≡ t.groups.limit → u.groups.idle ≡ t.groups.idle → u.course ≡ t.course → u.groups.groups ≡ emptied x.group (is_begun x.phase) (stays_in u.editors) t.course.time t.groups.groups
     → HouseStands settings t events → HouseStands settings u (events ++ took (EditorGone e why) m ∷ [])
 gone_moves settings events e why m t u x at is l i k gs s =
-    left_moves settings events (took (EditorGone e why) m) e (λ h. refl) (λ n d f. rw f refl) (λ n. refl) (λ n f. f) refl (λ b. refl) (λ n x. refl) (λ n k. refl) t u x gone at is own (λ d p. rw (itself e) refl) l i k gs s
+    left_moves settings events (took (EditorGone e why) m) e (λ h. refl) (λ n d f. rw f refl) (λ n. refl) (λ n f. f) refl (λ b. refl) (λ n x. refl) (λ n k. refl) (λ n u full. refl) t u x gone at is own (λ d p. rw (itself e) refl) l i k gs s
   where
     leaves : desk_behind e (desk_of e events) (took (EditorGone e why) m) ≡ record { phase = Gone; initialize = (desk_of e events).initialize }
     leaves = rw (itself e) refl
@@ -164,6 +170,7 @@ gone_moves settings events e why m t u x at is l i k gs s =
       old = λ w. let k : Gone ≡ New = sym (ap (λ (d : Desk). d.phase) leaves) ∙ w in cc;
       counts = λ g o h. refl;
       asked = λ there. never there;
+      full = λ there. never there;
     }
 
 pub closed_said : (settings : Settings) (events : List Event) (e : ℕ) (m : Message) (t u : Tables) (mid : List Session) (x : Session) (p : Phase) → e < length t.editors → slice_get t.editors e ≡ Some x → p ≡ phase_closed x.phase → mid ≡ with_session t.editors e (record (session_of t.editors e) { phase = p }) → u.editors ≡ mid → u.course ≡ t.course
@@ -171,7 +178,7 @@ pub closed_said : (settings : Settings) (events : List Event) (e : ℕ) (m : Mes
     → HouseStands settings t events → HouseStands settings u (events ++ did (CloseEditor e) m ∷ [])
 closed_said settings events e m t u mid x p h at closed set es now gs s =
     let y : Session = record (session_of t.editors e) { phase = p } in
-    close_moves settings events e m t u x y at (es ∙ set) (ap (λ (z : Session). z.group) (index_get t.editors e x _ at)) (ap (λ (z : Session). z.id) (index_get t.editors e x _ at)) (ap (λ (z : Session). z.asks) (index_get t.editors e x _ at)) closed (ap (λ (w : Table). w.limit) gs) (ap (λ (w : Table). w.idle) gs) now
+    close_moves settings events e m t u x y at (es ∙ set) (ap (λ (z : Session). z.group) (index_get t.editors e x _ at)) (ap (λ (z : Session). z.id) (index_get t.editors e x _ at)) (ap (λ (z : Session). z.asks) (index_get t.editors e x _ at)) (ap (λ (z : Session). z.full) (index_get t.editors e x _ at)) closed (ap (λ (w : Table). w.limit) gs) (ap (λ (w : Table). w.idle) gs) now
     (ap (λ (w : Table). w.groups) gs ∙ ap (λ ns. emptied x.group (is_begun x.phase) (stays_in ns) t.course.time t.groups.groups) (sym es)) s
 
 read_at : {X : Type 0} (xs : List X) (i : ℕ) (d : X) → i < length xs → slice_get xs i ≡ Some (slice_index_or xs i d)

@@ -8,6 +8,8 @@ pub mod Asking
 pub mod Counted
 pub mod Awaited
 pub mod Begins
+pub mod Fulls
+pub mod Showing
 pub mod Frames
 pub mod IdMoves
 pub mod Idles

@@ -25,8 +25,10 @@ use Rattle.mux_tables.proofs.Halted.{initialize_goes, stopped_quiet}
 use Rattle.mux_tables.specs.declared.tables.Tables.{Tables}
 use Rattle.mux_tables.specs.Names.{NameStands, id_in}
 use Rattle.group_laws.specs.group_rows.specs.Asks.{next_ask}
-use Rattle.mux_tables.specs.Stands.{CountStands, EditorsStand, GroupsStand, HouseStands, phase_in, group_in, meant_in}
+use Rattle.mux_tables.specs.Stands.{CountStands, EditorsStand, FullStands, GroupsStand, HouseStands, phase_in, group_in, meant_in}
+use Rattle.group_laws.specs.group_rows.specs.ExitRows.{is_full}
 use Rattle.mux_tables.proofs.Counted.{counted_set, next_more}
+use Rattle.mux_tables.proofs.Fulls.{full_more, full_set}
 use Rattle.mux_tables.proofs.Frames.{desk_apart, meant_apart}
 use Rattle.mux_tables.proofs.Named.{goes_so, meant_by, named_by, named_first}
 use Rattle.event_model.proofs.Frames.{one_more}
@@ -45,9 +47,9 @@ module _ (settings : Settings) (events : List Event) (e : ℕ) (body : List ℕ)
   abbrev pub placed : List Kept → Placed
   placed groups = placed_for settings events e body groups
 
-  placed_editors : (t u : List Session) (groups : List Kept) (x y : Session) → groups_of settings events ≡ groups → slice_get t e ≡ Some x → x.phase ≡ New → u ≡ slice_set t e y → y.phase ≡ Waiting → y.group ≡ home_by (placed groups) x.group → ((g : ℕ) → home_by (placed groups) None ≡ Some g → y.id ≡ Some (id_bytes body)) → y.asks ≡ x.asks
+  placed_editors : (t u : List Session) (groups : List Kept) (x y : Session) → groups_of settings events ≡ groups → slice_get t e ≡ Some x → x.phase ≡ New → u ≡ slice_set t e y → y.phase ≡ Waiting → y.group ≡ home_by (placed groups) x.group → ((g : ℕ) → home_by (placed groups) None ≡ Some g → y.id ≡ Some (id_bytes body)) → y.asks ≡ x.asks → y.full ≡ x.full
       → EditorsStand settings t events → EditorsStand settings u (events ++ took (FromEditor e body) m ∷ [])
-  placed_editors t u groups x y now at new is waits home keeps asks s = record {
+  placed_editors t u groups x y now at new is waits home keeps asks shows s = record {
     count = one_more editors_behind _ _ events (took (FromEditor e body) m) s.count ∙ (sym (length-set t e y) ∙ ap length (sym is));
     phase = λ n. ap (λ (d : Desk). d.phase) (one_more (desk_behind n) _ _ events (took (FromEditor e body) m) refl) ∙ (phase_at n (compare e n) ∙ ap (λ z. phase_in (slice_get z n)) (sym is));
     home = λ n. home_more settings n events (took (FromEditor e body) m) ∙ (home_at n (compare e n) ∙ ap (λ z. group_in (slice_get z n)) (sym is));
@@ -55,6 +57,8 @@ module _ (settings : Settings) (events : List Event) (e : ℕ) (body : List ℕ)
     meant = λ n. meant_at n (compare e n);
     asked = λ n. subst (λ (z : List Session). CountStands (slice_get z n) (next_ask n (events ++ took (FromEditor e body) m ∷ []))) (sym is)
         (counted_set t e x y at (λ there. (ap is_gone new, asks)) n (next_ask n events) (next_ask n (events ++ took (FromEditor e body) m ∷ [])) (next_more n events (took (FromEditor e body) m)) (s.asked n));
+    full = λ n. subst (λ (z : List Session). FullStands (slice_get z n) (λ u. is_full n u (events ++ took (FromEditor e body) m ∷ []))) (sym is)
+        (full_set t e x y at (λ there. (ap is_gone new, shows)) n (λ u. is_full n u events) (λ u. is_full n u (events ++ took (FromEditor e body) m ∷ [])) (λ u. full_more n u events (took (FromEditor e body) m)) (s.full n));
   }
     where
       was_new : (desk_of e events).phase ≡ New
@@ -105,11 +109,11 @@ module _ (settings : Settings) (events : List Event) (e : ℕ) (body : List ℕ)
       → ((g : ℕ) → home_by (placed_in t.groups.limit (key_for settings events e body) (declared_for settings events e body) t.groups.groups) None ≡ Some g → y.id ≡ Some (id_bytes body))
       → y.group ≡ home_by (placed_in t.groups.limit (key_for settings events e body) (declared_for settings events e body) t.groups.groups) x.group
       → u.groups.groups ≡ with_editor (placed_in t.groups.limit (key_for settings events e body) (declared_for settings events e body) t.groups.groups) (key_for settings events e body) (declared_for settings events e body) t.groups.groups
-      → u.groups.limit ≡ t.groups.limit → u.groups.idle ≡ t.groups.idle → u.course ≡ t.course → y.asks ≡ x.asks
+      → u.groups.limit ≡ t.groups.limit → u.groups.idle ≡ t.groups.idle → u.course ≡ t.course → y.asks ≡ x.asks → y.full ≡ x.full
       → HouseStands settings t events → HouseStands settings u (events ++ took (FromEditor e body) m ∷ [])
-  initialize_moves t u x y at new es waits keeps home gs l i k asks s = record {
+  initialize_moves t u x y at new es waits keeps home gs l i k asks shows s = record {
     editors = placed_editors t.editors u.editors t.groups.groups x y s.groups.groups at new es waits (home ∙ ap (λ n. home_by (placed_in n (key_for settings events e body) (declared_for settings events e body) t.groups.groups) x.group) (sym s.groups.limit))
-        (λ g q. keeps g (ap (λ n. home_by (placed_in n (key_for settings events e body) (declared_for settings events e body) t.groups.groups) None) (sym s.groups.limit) ∙ q)) asks s.editors;
+        (λ g q. keeps g (ap (λ n. home_by (placed_in n (key_for settings events e body) (declared_for settings events e body) t.groups.groups) None) (sym s.groups.limit) ∙ q)) asks shows s.editors;
     groups = placed_groups t.groups u.groups (s.editors.phase e ∙ (ap phase_in at ∙ new)) l i gs s.groups;
     now = one_more time_behind _ _ events (took (FromEditor e body) m) s.now ∙ ap (λ (c : Course). c.time) (sym k);
     halted = stopped_quiet events e body m (initialize_goes events e m first) ∙ (s.halted ∙ ap (λ (c : Course). c.stopped) (sym k));

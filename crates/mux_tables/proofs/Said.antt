@@ -25,8 +25,10 @@ use Rattle.group_words.proofs.Frames.{home_stays}
 use Rattle.mux_tables.specs.declared.tables.Course.{Course}
 use Rattle.mux_tables.proofs.Halted.{stopped_more}
 use Rattle.mux_tables.specs.declared.tables.Tables.{Tables}
-use Rattle.mux_tables.specs.Stands.{AsksStay, CountStands, EditorsStand, GroupsStand, HouseStands, IsAtRest, Keeps, Stands, phase_in, group_in, is_request, meant_in, stays_in}
+use Rattle.mux_tables.specs.Stands.{AsksStay, CountStands, EditorsStand, FullStands, GroupsStand, HouseStands, IsAtRest, Keeps, Stands, phase_in, group_in, is_request, is_traced, meant_in, stays_in}
 use Rattle.mux_tables.proofs.Counted.{asked_apart, asked_more, asked_quiet, counted_same, counted_set, next_more}
+use Rattle.group_laws.specs.group_rows.specs.ExitRows.{is_full}
+use Rattle.mux_tables.proofs.Fulls.{asked_full, full_more, full_same, full_set, untraced_asks, untraced_full}
 use Rattle.mux_tables.proofs.Frames.{asks_stay, groups_stand}
 use Rattle.mux_tables.proofs.Leaves.{closed_by}
 use Rattle.std.specs.Map.{keys_of}
@@ -79,7 +81,8 @@ module _ (settings : Settings) (events : List Event) (e : ℕ) (body : List ℕ)
     home = λ n. home_stays settings n events ev refl ∙ s.home n;
     names = λ n. named_by (told_goes n) (home_stays settings n events ev refl) refl (s.names n);
     meant = λ n. meant_by (told_goes n) refl (one_more (meant_behind settings.servers n) _ _ events ev refl) (s.meant n);
-    asked = λ n. counted_same (slice_get t n) (next_ask n events) (next_ask n (events ++ ev ∷ [])) (quiet_count n k.1) (s.asked n);
+    asked = λ n. counted_same (slice_get t n) (next_ask n events) (next_ask n (events ++ ev ∷ [])) (quiet_count n (untraced_asks (message_of body) k.1)) (s.asked n);
+    full = λ n. full_same (slice_get t n) (λ u. is_full n u events) (λ u. is_full n u (events ++ ev ∷ [])) (λ u. full_more n u events ev ∙ untraced_full n e u (is_full n u events) body (message_of body) k.1) (s.full n);
   }
     where
       at : (n : ℕ) → Same e n → (desk_of n (events ++ ev ∷ [])).phase ≡ phase_in (slice_get t n)
@@ -87,15 +90,16 @@ module _ (settings : Settings) (events : List Event) (e : ℕ) (body : List ℕ)
       at n (other h) = ap (λ (d : Desk). d.phase) (one_more (desk_behind n) _ _ events ev refl ∙ untold n (desk_of n events) (ne_eqb e n (λ q. h (sym q)))) ∙ s.phase n
 
   -- the editor's session changes, but not its group, its id and what it meant
-  said_editors : (t : List Session) (y : Session) → e < length t → (desk_of e (events ++ ev ∷ [])).phase ≡ y.phase → y.group ≡ (session_of t e).group → y.id ≡ (session_of t e).id → meant_in (Some y) ≡ meant_in (Some (session_of t e))
-      → ((n : ℕ) → CountStands (slice_get (slice_set t e y) n) (next_ask n (events ++ ev ∷ []))) → EditorsStand settings t events → EditorsStand settings (with_session t e y) (events ++ ev ∷ [])
-  said_editors t y l k group id means counts s = record {
+  pub said_editors : (t : List Session) (y : Session) → e < length t → (desk_of e (events ++ ev ∷ [])).phase ≡ y.phase → y.group ≡ (session_of t e).group → y.id ≡ (session_of t e).id → meant_in (Some y) ≡ meant_in (Some (session_of t e))
+      → ((n : ℕ) → CountStands (slice_get (slice_set t e y) n) (next_ask n (events ++ ev ∷ []))) → ((n : ℕ) → FullStands (slice_get (slice_set t e y) n) (λ u. is_full n u (events ++ ev ∷ []))) → EditorsStand settings t events → EditorsStand settings (with_session t e y) (events ++ ev ∷ [])
+  said_editors t y l k group id means counts fulls s = record {
     count = one_more editors_behind _ _ events ev s.count ∙ sym (length-set t e y);
     phase = λ n. at n (compare e n);
     home = λ n. home_stays settings n events ev refl ∙ (s.home n ∙ home_at n (compare e n));
     names = λ n. named_by (told_goes n) (home_stays settings n events ev refl) (ids_kept t e y l id n) (s.names n);
     meant = λ n. meant_by (told_goes n) (meant_kept t e y l means n) (one_more (meant_behind settings.servers n) _ _ events ev refl) (s.meant n);
     asked = counts;
+    full = fulls;
   }
     where
       here : slice_get (slice_set t e y) e ≡ Some y
@@ -110,14 +114,17 @@ module _ (settings : Settings) (events : List Event) (e : ℕ) (body : List ℕ)
       home_at n (other h) = ap group_in (sym (get_set_other t e n y h))
 
   -- its phase does, by a body that is no request
-  moved_editors : (t : List Session) (p : Phase) → e < length t → (desk_of e (events ++ ev ∷ [])).phase ≡ p → is_request (message_of body) ≡ false → EditorsStand settings t events → EditorsStand settings (with_session t e (record (session_of t e) { phase = p })) (events ++ ev ∷ [])
+  moved_editors : (t : List Session) (p : Phase) → e < length t → (desk_of e (events ++ ev ∷ [])).phase ≡ p → is_traced (message_of body) ≡ false → EditorsStand settings t events → EditorsStand settings (with_session t e (record (session_of t e) { phase = p })) (events ++ ev ∷ [])
   moved_editors t p l k quiet s =
       let y : Session = record (session_of t e) { phase = p } in
-      said_editors t y l k refl refl refl (λ n. counted_set t e (session_of t e) y (slice_get-get_or t e absent l) (λ there. (sym (told_same settings t events e p l s body k) ∙ there, refl)) n (next_ask n events) (next_ask n (events ++ ev ∷ [])) (quiet_count n quiet) (s.asked n)) s
+      said_editors t y l k refl refl refl (λ n. counted_set t e (session_of t e) y (slice_get-get_or t e absent l) (λ there. (sym (told_same settings t events e p l s body k) ∙ there, refl)) n (next_ask n events) (next_ask n (events ++ ev ∷ [])) (quiet_count n (untraced_asks (message_of body) quiet)) (s.asked n))
+      (λ n. full_set t e (session_of t e) y (slice_get-get_or t e absent l) (λ there. (sym (told_same settings t events e p l s body k) ∙ there, refl)) n (λ u. is_full n u events) (λ u. is_full n u (events ++ ev ∷ []))
+      (λ u. full_more n u events ev ∙ untraced_full n e u (is_full n u events) body (message_of body) quiet) (s.full n)) s
 
   -- it is asked once more
   pub asked_editors : (t : List Session) → e < length t → (desk_of e (events ++ ev ∷ [])).phase ≡ (session_of t e).phase → is_request (message_of body) ≡ true → EditorsStand settings t events → EditorsStand settings (with_session t e (record (session_of t e) { asks = (session_of t e).asks + 1 })) (events ++ ev ∷ [])
-  asked_editors t l k asks s = said_editors t y l k refl refl refl (λ n. counts n (compare e n)) s
+  asked_editors t l k asks s = said_editors t y l k refl refl refl (λ n. counts n (compare e n))
+      (λ n. full_set t e (session_of t e) y (slice_get-get_or t e absent l) (λ there. (there, refl)) n (λ u. is_full n u events) (λ u. is_full n u (events ++ ev ∷ [])) (λ u. full_more n u events ev ∙ asked_full n e u (is_full n u events) body (message_of body) asks) (s.full n)) s
     where
       y : Session
       y = record (session_of t e) { asks = (session_of t e).asks + 1 }
@@ -143,12 +150,12 @@ idle_stay settings s e events body rest =
 
 pub told_does : (settings : Settings) (t : Tables) (xs ys : List Out) (base : List Event) (e : ℕ) (body : List ℕ) → Keeps e body (behind base xs) → ys ≡ xs ++ ToEditor e body ∷ [] → Does (λ t events. Stands settings t events) (send (ToEditor e body)) base t xs t ys
 told_does settings t xs ys base e body k is = does_send settings (ToEditor e body) base t t xs ys is
-    (house_moves settings t t (behind base xs) (said (ToEditor e body)) (λ n. refl) (λ s. asks_stay settings s (behind base xs) (said (ToEditor e body)) k.1) refl refl (origins_stay settings t.origins t.origins (behind base xs) (said (ToEditor e body)) refl (λ s. told_tokens settings s e (behind base xs) (created_of settings s (behind base xs)) body (message_of body) k.1)) refl (λ h. told_house settings (behind base xs) e body t t (kept_editors settings (behind base xs) e body t.editors k h.editors) refl refl h))
+    (house_moves settings t t (behind base xs) (said (ToEditor e body)) (λ n. refl) (λ s. asks_stay settings s (behind base xs) (said (ToEditor e body)) (untraced_asks (message_of body) k.1)) refl refl (origins_stay settings t.origins t.origins (behind base xs) (said (ToEditor e body)) refl (λ s. told_tokens settings s e (behind base xs) (created_of settings s (behind base xs)) body (message_of body) (untraced_asks (message_of body) k.1))) refl (λ h. told_house settings (behind base xs) e body t t (kept_editors settings (behind base xs) e body t.editors k h.editors) refl refl h))
 
-pub welcome_does : (settings : Settings) (t u : Tables) (xs ys : List Out) (base : List Event) (e : ℕ) (body : List ℕ) (p : Phase) → e < length t.editors → (desk_of e (behind base xs ++ said (ToEditor e body) ∷ [])).phase ≡ p → is_request (message_of body) ≡ false → u.editors ≡ with_session t.editors e (phased t.editors e p)
+pub welcome_does : (settings : Settings) (t u : Tables) (xs ys : List Out) (base : List Event) (e : ℕ) (body : List ℕ) (p : Phase) → e < length t.editors → (desk_of e (behind base xs ++ said (ToEditor e body) ∷ [])).phase ≡ p → is_traced (message_of body) ≡ false → u.editors ≡ with_session t.editors e (phased t.editors e p)
     → u.groups ≡ t.groups → u.course ≡ t.course → u.lasts ≡ t.lasts → u.origins ≡ t.origins → u.requests ≡ t.requests → ys ≡ xs ++ ToEditor e body ∷ [] → Does (λ t events. Stands settings t events) (send (ToEditor e body)) base t xs u ys
 welcome_does settings t u xs ys base e body p l k q es gs now ls os r is = does_send settings (ToEditor e body) base t u xs ys is
-    (house_moves settings t u (behind base xs) (said (ToEditor e body)) (λ n. refl) (λ s. asks_stay settings s (behind base xs) (said (ToEditor e body)) q) refl (ap (λ v. v.items) ls) (origins_stay settings t.origins u.origins (behind base xs) (said (ToEditor e body)) os (λ s. told_tokens settings s e (behind base xs) (created_of settings s (behind base xs)) body (message_of body) q)) r
+    (house_moves settings t u (behind base xs) (said (ToEditor e body)) (λ n. refl) (λ s. asks_stay settings s (behind base xs) (said (ToEditor e body)) (untraced_asks (message_of body) q)) refl (ap (λ v. v.items) ls) (origins_stay settings t.origins u.origins (behind base xs) (said (ToEditor e body)) os (λ s. told_tokens settings s e (behind base xs) (created_of settings s (behind base xs)) body (message_of body) (untraced_asks (message_of body) q))) r
     (λ h. told_house settings (behind base xs) e body t u (subst (λ z. EditorsStand settings z (behind base xs ++ said (ToEditor e body) ∷ [])) (sym (es ∙ told_plain settings t.editors (behind base xs) e p l h.editors body k)) (moved_editors settings (behind base xs) e body t.editors p l k q h.editors)) gs now h))
 
 pub close_does : (settings : Settings) (t u : Tables) (xs ys : List Out) (base : List Event) (e : ℕ) (mid : List Session) (before p : Phase) (home : Option ℕ) (was : Bool) → e < length t.editors

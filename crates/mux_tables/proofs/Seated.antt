@@ -43,7 +43,7 @@ index_get (w ∷ xs) (suc i) x d h = index_get xs i x d h
 
 -- what is left of an editor that was placed
 abbrev pub Seated : List Session → List Session → ℕ → Placed → Session → List ℕ → Type 0
-Seated t u e p x id = (y : Session) × (u ≡ slice_set t e y) × (y.phase ≡ Waiting) × (y.group ≡ home_by p x.group) × ((g : ℕ) → home_by p None ≡ Some g → y.id ≡ Some id) × (y.asks ≡ x.asks)
+Seated t u e p x id = (y : Session) × (u ≡ slice_set t e y) × (y.phase ≡ Waiting) × (y.group ≡ home_by p x.group) × ((g : ℕ) → home_by p None ≡ Some g → y.id ≡ Some id) × (y.asks ≡ x.asks) × (y.full ≡ x.full)
 
 abbrev pub waiting : List Session → ℕ → Session
 waiting t e = phased t e Waiting
@@ -65,10 +65,11 @@ seated t u v e g id p x h at there one two home = (
   sym (home x.group),
   λ n q. refl,
   refl,
+  refl,
 )
 
 pub unseated : (t u : List Session) (e : ℕ) (x : Session) (id : List ℕ) (p : Placed) → slice_get t e ≡ Some x → is_gone x.phase ≡ false → u ≡ with_session t e (waiting t e) → ((o : Option ℕ) → home_by p o ≡ o) → Seated t u e p x id
-unseated t u e x id p at there one home = (record x { phase = Waiting }, one ∙ ap (slice_set t e) (ap (λ (z : Session). unless_gone (in_phase Waiting) z) (index_get t e x _ at) ∙ waits x there), refl, sym (home x.group), λ g q. none g (sym (home None) ∙ q), refl)
+unseated t u e x id p at there one home = (record x { phase = Waiting }, one ∙ ap (slice_set t e) (ap (λ (z : Session). unless_gone (in_phase Waiting) z) (index_get t e x _ at) ∙ waits x there), refl, sym (home x.group), λ g q. none g (sym (home None) ∙ q), refl, refl)
   where
     none : {A : Type 0} (g : ℕ) → ◌≡◌ {A = Option ℕ} None (Some g) → A
     none g q = absurd (cc)
@@ -91,7 +92,7 @@ initialize_heard settings before e body m t u mid x p key given id first at new 
     let limit : u.groups.limit ≡ T.limit = ap (λ (w : Table). w.limit) busy ∙ ap (λ (w : Table). w.limit) placed in
     let idle : u.groups.idle ≡ T.idle = ap (λ (w : Table). w.idle) busy ∙ ap (λ (w : Table). w.idle) placed in (
       p_is ∙ (ap (λ n. placed_in n K D T.groups) (sym s.groups.limit) ∙ ap (λ gs. placed_in settings.limits.groups K D gs) (sym s.groups.groups)),
-      initialize_moves settings before e body m first t u x sits.0 at new sits.1 sits.2 (λ g q. sits.4 g (ap (λ w. home_by w None) p_is ∙ q) ∙ ap (λ w. Some w) own) (sits.3 ∙ ap (λ q. home_by q x.group) p_is) groups limit idle now sits.5 s,
+      initialize_moves settings before e body m first t u x sits.0 at new sits.1 sits.2 (λ g q. sits.4 g (ap (λ w. home_by w None) p_is ∙ q) ∙ ap (λ w. Some w) own) (sits.3 ∙ ap (λ q. home_by q x.group) p_is) groups limit idle now sits.5 sits.6 s,
     )
 
 pub joined_inside : (p : Placed) (t u : Table) → u ≡ with_groups (placing.joined p t.groups) t → Inside p (length t.groups) → Inside p (length u.groups)

@@ -1,12 +1,12 @@
 -- When the tables stand for events: one record for each table.
-use Rattle.std.specs.Prelude.{◌≡◌, ℕ, ◌<◌, ◌≤◌, ◌^◌, nat_eq, not, ◌⊎◌, Bool, true, false, ◌&&◌, List, [], ◌∷◌, ◌++◌, map, length, nat_lt, is_some}
+use Rattle.std.specs.Prelude.{◌≡◌, ℕ, ◌<◌, ◌≤◌, ◌^◌, nat_eq, not, ◌⊎◌, Bool, true, false, ◌&&◌, List, [], ◌∷◌, ◌++◌, map, length, nat_lt, is_some, if◌then◌else◌}
 use Rattle.std.specs.List.{AllByRecursion, filter, range_with_len}
 use Rattle.std.specs.Option.{option_and_then}
 use Rattle.std.specs.Prelude.{Option, Some, None, slice_get, slice_set, ◌+◌}
 use Rattle.ask_route.specs.declared.ask.Ask as route
 use Rattle.ask_route.specs.Tables as asks
 use Rattle.json_text.specs.Json.{Json}
-use Rattle.rpc_message.specs.Message.{Id, Message, id_bytes, message_of, request, result_bytes, same_id}
+use Rattle.rpc_message.specs.Message.{Id, Message, id_bytes, message_of, notification, request, result_bytes, same_id}
 use Rattle.rpc_message.specs.ValueTexts.{IsIdText}
 use Rattle.event_model.specs.declared.phase.Phase.{Phase}
 use Rattle.event_model.specs.declared.phase.Phase.TheVariants.{Absent, Answered, New}
@@ -22,6 +22,8 @@ use Rattle.event_model.specs.Spawns.{starts_of, start_of, group_of}
 use Rattle.event_model.specs.Stages.{life_of}
 use Rattle.diagnostics_route.specs.declared.last_list.LastList.{LastList}
 use Rattle.diagnostics_route.specs.Lists.{nothing}
+use Rattle.diagnostics_route.specs.Published.{published}
+use Rattle.editor_session.specs.number_index.specs.Numbers.{numbers_under}
 use Rattle.editor_session.specs.declared.session.Session.{Session}
 use Rattle.editor_session.specs.Sessions.{is_gone, is_of, numbers_of}
 use Rattle.group_table.specs.Tables as group_tables
@@ -40,7 +42,8 @@ use Rattle.mux_tables.specs.declared.tables.Tables.{Tables}
 use Rattle.mux_tables.specs.Names.{NamesStand}
 use Rattle.group_laws.specs.group_rows.specs.Asks.{Ask, Parked, asking_next, asking_of, asks_of, is_patient, is_seated, is_under, next_ask, parked_of}
 use Rattle.group_laws.specs.group_rows.specs.Forwarded.{Forwarded, Forwarding, forwarding_of, names}
-use Rattle.group_laws.specs.group_rows.specs.Lists.{lists_next, lists_of}
+use Rattle.group_laws.specs.group_rows.specs.ExitRows.{is_full}
+use Rattle.group_laws.specs.group_rows.specs.Lists.{is_publishing, lists_next, lists_of}
 use Rattle.group_laws.specs.group_rows.specs.Live.{live_next, live_of}
 use Rattle.group_laws.specs.group_rows.specs.StopRows.{stopped}
 use Rattle.group_laws.specs.group_rows.specs.Ticks.{stop_of, stopping_of}
@@ -69,6 +72,17 @@ asked_in (Some s) = s.asks
 abbrev pub CountStands : Option Session → ℕ → Type 0
 CountStands kept next = is_gone (phase_in kept) ≡ false → next ≡ asked_in kept + 1
 
+-- the documents of which the last list that an editor was sent isn't empty: each is noted by its URI, unless the editor is gone
+abbrev pub full_in : Option Session → List (List ℕ × List ℕ)
+full_in None = []
+full_in (Some s) = s.full
+
+abbrev pub noted_for : Bool → List ℕ
+noted_for full = if full then 0 ∷ [] else []
+
+abbrev pub FullStands : Option Session → (List ℕ → Bool) → Type 0
+FullStands kept full = is_gone (phase_in kept) ≡ false → (u : List ℕ) → numbers_under u (full_in kept) ≡ noted_for (full u)
+
 pub record EditorsStand (settings : Settings) (sessions : List Session) (events : List Event) : Type 0 where
   pub count : editors_of events ≡ length sessions
   pub phase : (e : ℕ) → (desk_of e events).phase ≡ phase_in (slice_get sessions e)
@@ -76,6 +90,7 @@ pub record EditorsStand (settings : Settings) (sessions : List Session) (events 
   pub names : NamesStand settings sessions events
   pub meant : (e : ℕ) → (desk_of e events).phase ≡ New → meant_in (slice_get sessions e) ≡ meant_of settings.servers e events
   pub asked : (e : ℕ) → CountStands (slice_get sessions e) (next_ask e events)
+  pub full : (e : ℕ) → FullStands (slice_get sessions e) (λ u. is_full e u events)
 
 -- the groups: the list itself, and its limits
 pub record GroupsStand (settings : Settings) (table : group_tables.Table) (events : List Event) : Type 0 where
@@ -343,6 +358,12 @@ abbrev pub is_request : Message → Bool
 is_request (request id method params) = true
 is_request other = false
 
+-- a message to an editor of which more is kept there than where the editor stands: a request, and a list of diagnostics
+abbrev pub is_traced : Message → Bool
+is_traced (request id method params) = true
+is_traced (notification method params) = is_publishing method
+is_traced other = false
+
 abbrev pub is_answer : Message → Bool
 is_answer m = is_some (answered_id m)
 
@@ -379,13 +400,24 @@ pub record IsWorking (settings : Settings) (e s : ℕ) (events : List Event) : T
 abbrev pub AnswersNone : Settings → ℕ → Message → List Event → Type 0
 AnswersNone settings e m events = (s : ℕ) → (life_of s events).stage ≡ Ready → AllByRecursion (λ (a : Ask). is_seated e (answered_id m) a ≡ false) (asks_of settings s events)
 
--- this body is no request, and leaves the editor in its phase
+-- this body is no request, no list of diagnostics, and leaves the editor in its phase
 abbrev pub Keeps : ℕ → List ℕ → List Event → Type 0
-Keeps e body events = ((desk_of e (events ++ said (ToEditor e body) ∷ [])).phase ≡ (desk_of e events).phase) × (is_request (message_of body) ≡ false)
+Keeps e body events = ((desk_of e (events ++ said (ToEditor e body) ∷ [])).phase ≡ (desk_of e events).phase) × (is_traced (message_of body) ≡ false)
 
--- this body answers its `initialize`, and is no request
+-- this body answers its `initialize`, and is neither
 abbrev pub Welcomes : ℕ → List ℕ → List Event → Type 0
-Welcomes e body events = ((desk_of e (events ++ said (ToEditor e body) ∷ [])).phase ≡ Answered) × (is_request (message_of body) ≡ false)
+Welcomes e body events = ((desk_of e (events ++ said (ToEditor e body) ∷ [])).phase ≡ Answered) × (is_traced (message_of body) ≡ false)
+
+-- this body is a list of diagnostics of the document of a URI, which is empty or isn't (LSP 3.17, Publish Diagnostics)
+pub record IsListOf (uri : List ℕ) (empty : Bool) (body : List ℕ) : Type 0 where
+  pub method : List ℕ
+  pub params : Option Json
+  pub list : LastList
+  pub says : message_of body ≡ notification method params
+  pub publishes : is_publishing method ≡ true
+  pub given : published 0 body ≡ Some list
+  pub document : list.uri ≡ uri
+  pub none : list.empty ≡ empty
 
 -- e's request under this id is at work, with these tokens for progress, and goes to start s
 abbrev pub Sends : ℕ → ℕ → List ℕ → Option (List ℕ) → Option (List ℕ) → List Event → Type 0

@@ -20,6 +20,7 @@ mod resumes;
 mod says;
 mod seats;
 mod serves;
+mod shows;
 mod statuses;
 mod stops;
 mod tables;

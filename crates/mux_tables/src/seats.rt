@@ -22,7 +22,7 @@ pub fn seat(editors: &mut Editors, e: u64, id: Body, placed: Placed)
     ensures count { length editors.new ≡ length editors.old }
     ensures sits { (x : Session) → slice_get editors.old e ≡ Some x → is_gone x.phase ≡ false
         → (y : Session) × (editors.new ≡ slice_set editors.old e y) × (y.phase ≡ Waiting)
-        × (y.group ≡ home_by placed x.group) × ((g : ℕ) → home_by placed None ≡ Some g → y.id ≡ Some id) × (y.asks ≡ x.asks) }
+        × (y.group ≡ home_by placed x.group) × ((g : ℕ) → home_by placed None ≡ Some g → y.id ≡ Some id) × (y.asks ≡ x.asks) × (y.full ≡ x.full) }
 {
     editors.set(e, Phase::Waiting);
     match placed {

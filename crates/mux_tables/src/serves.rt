@@ -149,6 +149,7 @@ impl Tables {
         ensures exits { (z : Start) → slice_get self.old.lasts.items g ≡ Some z → OnOk result (Exits restarts self.old g z self.new) }
         ensures documents { (d : Documents) → slice_get self.old.documents.items g ≡ Some d
             → OnOk result (self.new.documents.items ≡ slice_set self.old.documents.items g (unready_row d)) }
+        ensures requests { self.new.requests ≡ self.old.requests }
         ensures versions { self.new.versions ≡ self.old.versions }
     {
         let group = self.lasts[g].life.group();
@@ -182,6 +183,9 @@ impl Tables {
         requires runs { (x : Start) → slice_get self.old.lasts.items g ≡ Some x → x.life.stage ≢ Ended }
         requires room { (z : Start) (x : Kept) → slice_get self.old.lasts.items g ≡ Some z → slice_get self.old.groups.groups z.life.group ≡ Some x
             → x.exits < 2 ^ 63 }
+        ensures requests { self.new.requests ≡ self.old.requests }
+        ensures versions { self.new.versions ≡ self.old.versions }
+        ensures exits { (z : Start) → slice_get self.old.lasts.items g ≡ Some z → OnOk result (Exits restarts self.old g z self.new) }
         ensures stands { (settings : Settings) (events : List Event) (s : ℕ) → settings.limits.restarts ≡ restarts
             → slice_get (map number_in self.old.lasts.items) g ≡ Some s → Stands settings self.old events
             → OnOk result (Stands settings self.new (events ++ heard (ServerGone s) ∷ [])) }
@@ -199,6 +203,9 @@ impl Tables {
         requires runs { (x : Start) → slice_get self.old.lasts.items g ≡ Some x → x.life.stage ≢ Ended }
         requires room { (z : Start) (x : Kept) → slice_get self.old.lasts.items g ≡ Some z → slice_get self.old.groups.groups z.life.group ≡ Some x
             → x.exits < 2 ^ 63 }
+        ensures requests { self.new.requests ≡ self.old.requests }
+        ensures versions { self.new.versions ≡ self.old.versions }
+        ensures exits { (z : Start) → slice_get self.old.lasts.items g ≡ Some z → OnOk result (Exits restarts self.old g z self.new) }
         ensures stands { (settings : Settings) (events : List Event) (s : ℕ) → settings.limits.restarts ≡ restarts
             → slice_get (map number_in self.old.lasts.items) g ≡ Some s → Stands settings self.old events
             → OnOk result (Stands settings self.new (events ++ heard (StartFailed s) ∷ [])) }

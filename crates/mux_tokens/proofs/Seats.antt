@@ -1,13 +1,12 @@
 -- What editors were asked to take, apart from one another.
-use Rattle.std.proofs.Common.{◌≡◌, ℕ, Bool, true, false, not, ◌&&◌, cond, List, [], ◌∷◌, ◌++◌, filter, find, flat_map, map, refl, sym, subst, ◌∙◌, ap, nat_eq, if◌then◌else◌}
-use Rattle.std.specs.Prelude.{Option, Some, None}
+use Rattle.std.proofs.Common.{◌≡◌, ℕ, Bool, true, false, ◌&&◌, cond, List, [], ◌∷◌, ◌++◌, filter, find, flat_map, map, sym, subst, ◌∙◌, ap, nat_eq}
+use Rattle.std.specs.Prelude.{Some}
 use Rattle.std.specs.List.{AllByRecursion}
-use Rattle.event_model.proofs.Frames.{never}
-use Rattle.group_rows.specs.Created.{Taking, is_at}
+use Rattle.group_rows.specs.Created.{Taking}
 use Rattle.group_rows.proofs.CreatedKept.{found_one}
-use Rattle.mux_tokens.specs.Stands.{AreApart, AreFresh, IsFresh, IsOther, Pairs, is_held_by, is_open_as, is_open_of}
-use Rattle.mux_tokens.proofs.Finding.{all_joined, all_kept, all_last, all_so, all_spread}
-use Rattle.mux_tokens.proofs.Rows.{num_back, num_itself, num_same}
+use Rattle.mux_tokens.specs.Stands.{AreApart, AreFresh, IsFresh, IsOther, Pairs}
+use Rattle.mux_tokens.proofs.Finding.{all_kept, all_last, all_so, all_spread}
+use Rattle.mux_tokens.proofs.Rows.{num_back}
 
 -- the same editor, number and token
 pub record SameSeat (c d : Taking) : Type 0 where

@@ -19,13 +19,14 @@ use Rattle.event_model.specs.Settings.{Settings}
 use Rattle.event_model.proofs.Frames.{one_more}
 use Rattle.event_model.proofs.Turns.{does_false, does_true}
 use Rattle.group_facts.proofs.OpenByPhase.{reply_told}
+use Rattle.group_facts.specs.group_rows.specs.Lists.{is_publishing}
 use Rattle.group_facts.proofs.Nulls.{null_said}
 use Rattle.mux_tables.specs.declared.tables.Tables.{Tables}
-use Rattle.mux_tables.specs.Stands.{Keeps, Stands, is_request}
+use Rattle.mux_tables.specs.Stands.{Keeps, Stands, is_traced}
 use Rattle.mux_tables.proofs.Frames.{itself}
 
 -- an error makes nobody answered
-error_told : (p : Phase) (i : List ℕ) (id : Option Id) (x : Json) → phase_told p i (error id x) ≡ p
+pub error_told : (p : Phase) (i : List ℕ) (id : Option Id) (x : Json) → phase_told p i (error id x) ≡ p
 error_told Absent i id x = refl
 error_told New i id x = refl
 error_told Waiting i id x = refl
@@ -61,18 +62,18 @@ module _ (e : ℕ) (text : List ℕ) (events : List Event) where
   told m says keeps = ap (λ (d : Desk). d.phase) (one_more (desk_behind e) _ _ events (said (ToEditor e text)) refl) ∙ rw (itself e, says) (keeps (desk_of e events).phase (desk_of e events).initialize refl)
 
   pub keeps_error : (id : Option Id) (x : Json) → message_of text ≡ error id x → Keeps e text events
-  keeps_error id x says = (told (error id x) says (λ p i h. error_told p i id x), ap is_request says)
+  keeps_error id x says = (told (error id x) says (λ p i h. error_told p i id x), ap is_traced says)
 
-  -- nor a notification
-  pub keeps_notice : (method : List ℕ) (ps : Option Json) → message_of text ≡ notification method ps → Keeps e text events
-  keeps_notice method ps says = (told (notification method ps) says (λ p i h. notice_told p i method ps), ap is_request says)
+  -- nor a notification that publishes no diagnostics
+  pub keeps_notice : (method : List ℕ) (ps : Option Json) → is_publishing method ≡ false → message_of text ≡ notification method ps → Keeps e text events
+  keeps_notice method ps plain says = (told (notification method ps) says (λ p i h. notice_told p i method ps), ap is_traced says ∙ plain)
 
   pub keeps_result : (id : Option Id) (x : Json) → message_of text ≡ result id x → ((desk_of e events).phase ≡ Waiting → ⊥) → Keeps e text events
-  keeps_result id x says stays = (told (result id x) says (λ p i h. result_told p i id x (λ q. stays (sym h ∙ q))), ap is_request says)
+  keeps_result id x says stays = (told (result id x) says (λ p i h. result_told p i id x (λ q. stays (sym h ∙ q))), ap is_traced says)
 
   -- a result for another request than the `initialize` of an editor that waits
   pub keeps_reply : (id : Id) (x : Json) → message_of text ≡ result (Some id) x → ((desk_of e events).phase ≡ Waiting → has_id id (message_of (desk_of e events).initialize) ≡ false) → Keeps e text events
-  keeps_reply id x says others = (ap (λ (d : Desk). d.phase) (one_more (desk_behind e) _ _ events (said (ToEditor e text)) refl) ∙ rw (itself e, says) (reply_told (desk_of e events).phase (desk_of e events).initialize id x others), ap is_request says)
+  keeps_reply id x says others = (ap (λ (d : Desk). d.phase) (one_more (desk_behind e) _ _ events (said (ToEditor e text)) refl) ∙ rw (itself e, says) (reply_told (desk_of e events).phase (desk_of e events).initialize id x others), ap is_traced says)
 
 -- a text in place of one that it is
 module _ (settings : Settings) (base : List Event) (t u : Tables) (xs ys : List Out) (e : ℕ) (text : List ℕ) where

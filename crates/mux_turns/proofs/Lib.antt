@@ -9,6 +9,7 @@ pub mod Departing
 pub mod Evictions
 pub mod Numbering
 pub mod Folders
+pub mod Failing
 pub mod Joining
 pub mod Listed
 pub mod LiveTexts

@@ -32,7 +32,7 @@ use Rattle.group_facts.proofs.ShownResult.{shown_value}
 use Rattle.mux_tables.specs.declared.tables.Tables.{Tables}
 use Rattle.mux_tables.specs.Documents.{AllStand, DocumentsStand, nothing_owed}
 use Rattle.mux_tables.specs.Names.{NamesStand, id_in}
-use Rattle.mux_tables.specs.Stands.{Stands, Welcomes, is_request}
+use Rattle.mux_tables.specs.Stands.{Stands, Welcomes, is_traced}
 use Rattle.mux_tables.proofs.DocumentOwed.{all_does}
 use Rattle.mux_tables.proofs.Frames.{itself}
 use Rattle.mux_turns.specs.Welcomes.{AllAsking, AreBodies, IsBody, IsGreeted, IsShown, Tells, is_greeted}
@@ -122,7 +122,7 @@ module _ (e : ℕ) (events : List Event) (body text shown : List ℕ) (k : IsGre
   answers Gone i h says = absurd (cc)
 
   pub welcomes : Welcomes e text events
-  welcomes = (ap (λ (d : Desk). d.phase) (one_more (desk_behind e) _ _ events (said (ToEditor e text)) refl) ∙ rw (itself e, text_says) (answers (desk_of e events).phase (desk_of e events).initialize k.phase k.asks.says), ap is_request text_says)
+  welcomes = (ap (λ (d : Desk). d.phase) (one_more (desk_behind e) _ _ events (said (ToEditor e text)) refl) ∙ rw (itself e, text_says) (answers (desk_of e events).phase (desk_of e events).initialize k.phase k.asks.says), ap is_traced text_says)
 
 -- as a row, over all tables
 pub answered_does : (settings : Settings) (t u : Tables) (base : List Event) (xs ys : List Out) (e : ℕ) (body text shown : List ℕ) → IsGreeted (behind base xs) e → IsShown body → text ≡ ok_text (id_bytes (desk_of e (behind base xs)).initialize) shown → shown ≡ shown_of (result_bytes body)

@@ -1,6 +1,7 @@
 pub mod Calls
 pub mod Creates
 pub mod Founding
+pub mod Initials
 pub mod Leavings
 pub mod Welcomes
 pub mod Responses

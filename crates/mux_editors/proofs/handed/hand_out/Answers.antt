@@ -14,7 +14,7 @@ use Rattle.rpc_message.specs.Message.{message_of}
 use Rattle.mux_tables.specs.Stands.{Stands}
 use Rattle.mux_tables.proofs.Lasts.{same_place}
 use Rattle.mux_turns.proofs.Keeping.{keeps_notice}
-use Rattle.mux_editors.specs.Handing.{AreHeld, IsNotice}
+use Rattle.mux_editors.specs.Handing.{AreHeld, IsHeld}
 use Rattle.mux_editors.proofs.Taking.{held_at}
 use Rattle.mux_editors.proofs.handed.hand_out.Goals as goal
 
@@ -28,12 +28,12 @@ loop-body-preserved c = record {
       let bodies = c.deref-body-items.result.now in
       let i = c.loop-body.body-index in
       let body = c.body-item.result in
-      let one = subst IsNotice (sym c.body-item.is) (held_at bodies i body held c.loop-body-test.true) in
+      let one = subst IsHeld (sym c.body-item.is) (held_at bodies i body held c.loop-body-test.true) in
       let is = c.in_ok-text.ensures one.0 one.1 one.2 in
       let new = marked_says (created_text s k) body one.0 one.1 (created_token_text s k) one.2 in
       does_next (tell s k e) bodies i body c.loop-body-test.true (c.loop-body.invariant.does settings base held)
       (subst (λ w. Does (λ t events. Stands settings t events) (send (ToEditor e w)) base t c.loop-body.outs t c.tell.new.outs) (is ∙ ap (marked_text (created_text s k)) c.body-item.is)
-      (c.in_ok-tell.ensures.does settings base (keeps_notice e c.in_ok-text.text (behind base c.loop-body.outs) one.0 new.0 (ap message_of is ∙ new.1))));
+      (c.in_ok-tell.ensures.does settings base (keeps_notice e c.in_ok-text.text (behind base c.loop-body.outs) one.0 new.0 one.3 (ap message_of is ∙ new.1))));
   documents = λ settings owed base ds. c.in_ok-tell.ensures.documents settings owed base (c.loop-body.invariant.documents settings owed base ds);
 }
 

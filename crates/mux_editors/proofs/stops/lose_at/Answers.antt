@@ -4,8 +4,9 @@ use Rattle.event_model.specs.Does.{Does}
 use Rattle.event_model.specs.Event.{behind}
 use Rattle.event_model.proofs.Turns.{does_next, does_whole}
 use Rattle.mux_tables.specs.Stands.{Stands}
-use Rattle.mux_editors.specs.Halting.{IsNamed, refuse_id}
-use Rattle.mux_editors.proofs.Halting.{loses_all, named_at}
+use Rattle.mux_turns.specs.Initials.{IsNamed, refuse_id}
+use Rattle.mux_turns.proofs.Failing.{named_at}
+use Rattle.mux_editors.proofs.Halting.{loses_all}
 use Rattle.mux_editors.proofs.stops.lose_at.Goals as goal
 
 pub loop-id-preserved : goal.loop-id-preserved

@@ -7,7 +7,7 @@ use Rattle.event_model.specs.Row.{each}
 use Rattle.event_model.specs.Settings.{Settings}
 use Rattle.mux_tables.specs.Documents.{DocumentsStand, Owed}
 use Rattle.mux_tables.specs.Stands.{Stands}
-use Rattle.mux_editors.specs.Halting.{IsNamed, refuse_id}
+use Rattle.mux_turns.specs.Initials.{IsNamed, refuse_id}
 use Rattle.mux_editors.proofs.stops.lose_at.Given as goal
 
 abbrev pub invariant-loop-id : goal.invariant-loop-id

@@ -35,6 +35,6 @@ returns-clause-does c = λ settings before body method params s x read says unte
     let docs = c.hear_answer.ensures.documents settings nothing_owed before s body x here at (not_first (is_first_result m) x.life.stage ready) (λ e. not_spawning x.life.stage ready e) st ds in
     let sent = subst (λ w. Does (λ k events. AllStand settings k events) (each (broadcast w) (running_in settings x.life.group before)) base (u, nothing_owed) xs (u, nothing_owed) ys) is
     (subst (λ ns. Does (λ k events. AllStand settings k events) (each (broadcast c.bytes.result.now) ns) base (u, nothing_owed) xs (u, nothing_owed) ys) those
-    (all_does settings u u nothing_owed nothing_owed base xs ys (c.in_ok-spread.ensures.does settings base method params (ap message_of is ∙ says)) (λ _ d. c.in_ok-spread.ensures.documents settings nothing_owed base d))) in
+    (all_does settings u u nothing_owed nothing_owed base xs ys (c.in_ok-spread.ensures.does settings base method params unlisting (ap message_of is ∙ says)) (λ _ d. c.in_ok-spread.ensures.documents settings nothing_owed base d))) in
     whole_entry (λ k events. AllStand settings k events) (broadcast_row settings before s body) base (u, nothing_owed) (u, nothing_owed) xs ys first (moved, docs)
     (does_alike (λ _. alike (ap (λ o. on o nothing (λ h. each (broadcast body) (running_in settings h before))) (group_seen settings c.args.tables.now before g s x st here at).0)) sent)

@@ -7,9 +7,9 @@ use Rattle.mux_starts.proofs.progress.tell.Goals as goal
 
 pub returns : goal.returns
 returns c = record {
-  does = λ settings base method params says.
+  does = λ settings base method params plain says.
       let t = c.args.tables.now in
       all_does settings t t nothing_owed nothing_owed base c.args.outs.now c.tell.new.outs
-      (c.in_ok-tell.ensures.does settings base (keeps_notice c.args.telling.editor c.args.telling.text (behind base c.args.outs.now) method params says))
+      (c.in_ok-tell.ensures.does settings base (keeps_notice c.args.telling.editor c.args.telling.text (behind base c.args.outs.now) method params plain says))
       (λ _ d. c.in_ok-tell.ensures.documents settings nothing_owed base d);
 }

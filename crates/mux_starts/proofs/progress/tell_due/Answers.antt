@@ -15,7 +15,7 @@ use Rattle.mux_starts.proofs.progress.tell_due.Goals as goal
 
 pub returns : goal.returns
 returns c = record {
-  does = λ settings base body method params s read says at.
+  does = λ settings base body method params s read says plain at.
       let t = c.args.tables.now in
       let xs = c.args.outs.now in
       let ys = c.spread.new.outs in
@@ -23,5 +23,5 @@ returns c = record {
       let new = marked_says (created_text s c.args.due.now.token) body method params (created_token_text s c.args.due.now.token) says in
       subst (λ w. Does (λ k events. AllStand settings k events) (each (broadcast w) c.args.due.now.editors.items) base (t, nothing_owed) xs (t, nothing_owed) ys) is
       (subst (λ ns. Does (λ k events. AllStand settings k events) (each (broadcast c.bytes.result.now) ns) base (t, nothing_owed) xs (t, nothing_owed) ys) c.deref.ensures.value
-      (all_does settings t t nothing_owed nothing_owed base xs ys (c.in_ok-spread.ensures.does settings base method new.0 (ap message_of is ∙ new.1)) (λ _ d. c.in_ok-spread.ensures.documents settings nothing_owed base d)));
+      (all_does settings t t nothing_owed nothing_owed base xs ys (c.in_ok-spread.ensures.does settings base method new.0 plain (ap message_of is ∙ new.1)) (λ _ d. c.in_ok-spread.ensures.documents settings nothing_owed base d)));
 }

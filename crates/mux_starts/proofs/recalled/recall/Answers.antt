@@ -1,5 +1,5 @@
 -- An editor's answer is awaited no more.
-use Rattle.std.proofs.Common.{ap, codes, subst, ◌∙◌}
+use Rattle.std.proofs.Common.{ap, codes, refl, subst, ◌∙◌}
 use Rattle.std.specs.Prelude.{Some}
 use Rattle.mux_history.specs.declared.out.Out.TheVariants.{ToEditor}
 use Rattle.event_model.specs.Does.{Does}
@@ -23,6 +23,6 @@ returns c = record {
       let is = c.in_ok-text.ensures in
       let says = ap message_of is ∙ cancel_says c.args.n low in
       subst (λ w. Does (λ k events. AllStand settings k events) (send (ToEditor e w)) base (t, nothing_owed) xs (t, nothing_owed) ys) is
-      (all_does settings t t nothing_owed nothing_owed base xs ys (c.in_ok-tell.ensures.does settings base (keeps_notice e text (behind base xs) (codes "$/cancelRequest") (Some (params_tree c.args.n)) says))
+      (all_does settings t t nothing_owed nothing_owed base xs ys (c.in_ok-tell.ensures.does settings base (keeps_notice e text (behind base xs) (codes "$/cancelRequest") (Some (params_tree c.args.n)) refl says))
       (λ _ d. c.in_ok-tell.ensures.documents settings nothing_owed base d));
 }

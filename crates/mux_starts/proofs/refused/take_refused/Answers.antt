@@ -4,6 +4,7 @@ use Rattle.std.specs.Prelude.{Some, slice_get}
 use Rattle.event_model.specs.declared.stage.Stage.TheVariants.{Ended, Initializing}
 use Rattle.event_model.specs.Event.{heard, with_cause}
 use Rattle.event_model.specs.Spawns.{group_behind}
+use Rattle.event_model.specs.Stages.{is_ready}
 use Rattle.event_model.proofs.Frames.{one_more}
 use Rattle.event_model.proofs.Places.{item_at, same_item}
 use Rattle.mux_history.specs.declared.cause.Cause.TheVariants.{FromServer}
@@ -36,7 +37,7 @@ returns-clause-does c = λ settings before body s read first at none asking st d
     let home = (group_seen settings t before g s z.0 st z.1 at).0 ∙ ap Some (sym (c.group_number-group.ensures z.0 z.1)) in
     let w = start_from c.hear_refusal.new.self.lasts.items g s starts in
     let own : w.0.life.group ≡ h = same_item (sym (group_seen settings c.hear_refusal.new.self base g s w.0 stands w.1 starts).0 ∙ (one_more (group_behind s) _ _ before (heard (FromServer s body)) refl ∙ home)) in
-    let unready : IsUnready h c.hear_refusal.new.self.lasts.items = subst (λ n. IsUnready n c.hear_refusal.new.self.lasts.items) own (unready_at g c.hear_refusal.new.self.lasts.items w.0 stands.lasts.rise w.1 (stage_kept g t.lasts.items c.hear_refusal.new.self.lasts.items z.0 z.1 c.hear_refusal.ensures.stages (c.requires.stage z.0 z.1) w.0 w.1)) in
+    let unready : IsUnready h c.hear_refusal.new.self.lasts.items = subst (λ n. IsUnready n c.hear_refusal.new.self.lasts.items) own (unready_at g c.hear_refusal.new.self.lasts.items w.0 stands.lasts.rise w.1 (ap is_ready (stage_kept g t.lasts.items c.hear_refusal.new.self.lasts.items z.0 z.1 c.hear_refusal.ensures.stages (c.requires.stage z.0 z.1) w.0 w.1))) in
     let later = subst (λ ls. IsUnready h ls.items) (sym c.in_ok-refuse_all.ensures.lasts) unready in
     let there = ap (λ ls. slice_get (map number_in ls.items) g) (c.in_ok-close_all.ensures.lasts ∙ c.in_ok-refuse_all.ensures.lasts) ∙ (ap (λ ns. slice_get ns g) c.hear_refusal.ensures.starts ∙ at) in
     refused_entry settings before s h body c.hear_refusal.new.self c.refuse_all.new.tables c.close_all.new.tables c.end.new.self c.args.outs.now c.refuse_all.new.outs c.close_all.new.outs c.end.new.outs home none (stands, docs)

@@ -6,7 +6,7 @@ use Rattle.rpc_message.specs.Texts.{error_text, error_tree, request_failed}
 use Rattle.rpc_message.proofs.Fixed.{error_law, id_as_response}
 use Rattle.event_model.specs.Event.{behind}
 use Rattle.mux_turns.proofs.Keeping.{keeps_error, told_as}
-use Rattle.mux_editors.proofs.stops.refuse_id.Goals as goal
+use Rattle.mux_turns.proofs.initials.refuse_id.Goals as goal
 
 pub returns-clause-does : goal.returns-clause-does
 returns-clause-does c = λ settings base named.

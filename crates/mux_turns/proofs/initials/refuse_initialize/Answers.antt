@@ -3,8 +3,8 @@ use Rattle.std.proofs.Common.{true, false, ap, sym, ◌∙◌}
 use Rattle.std.specs.Prelude.{Some}
 use Rattle.event_model.specs.Event.{behind}
 use Rattle.event_model.specs.Phases.{is_waiting}
-use Rattle.mux_editors.proofs.Halting.{refuses_none, refuses_waiting, unwaiting_none}
-use Rattle.mux_editors.proofs.stops.refuse_initialize.Goals as goal
+use Rattle.mux_turns.proofs.Failing.{refuses_none, refuses_waiting, unwaiting_none}
+use Rattle.mux_turns.proofs.initials.refuse_initialize.Goals as goal
 
 pub returns-then-not-is_waiting-clause-does : goal.returns-then-not-is_waiting-clause-does
 returns-then-not-is_waiting-clause-does c = λ settings base asking housed.

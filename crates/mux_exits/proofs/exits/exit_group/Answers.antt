@@ -1,0 +1,66 @@
+-- A group ends with the program of its last start.
+use Rattle.std.proofs.Common.{◌<◌, ◌^◌, length, ltb-true, ap, sym, subst, ◌∙◌}
+use Rattle.std.specs.Prelude.{slice_get}
+use Rattle.std.specs.List.{All, AllByRecursion}
+use Rattle.std.proofs.lemmas.List.{length-set}
+use Rattle.event_model.specs.Event.{with_cause}
+use Rattle.event_model.specs.Stages.{is_ended, life_of}
+use Rattle.event_model.proofs.Frames.{never}
+use Rattle.event_model.proofs.Places.{item_at}
+use Rattle.mux_exits.specs.Losses.{IsInside}
+use Rattle.mux_exits.proofs.Ending.{entry_done, exit_over, exit_unready}
+use Rattle.mux_history.specs.declared.cause.Cause.TheVariants.{ServerGone}
+use Rattle.mux_starts.specs.group_facts.specs.Lively.{lives_at}
+use Rattle.mux_starts.specs.group_facts.proofs.ExitEntry.{gone_exit}
+use Rattle.mux_starts.proofs.Stopped.{ended_never, last_life}
+use Rattle.mux_tables.specs.Documents.{nothing_owed}
+use Rattle.mux_tables.proofs.DocumentOwed.{number_there}
+use Rattle.mux_tables.proofs.Homes.{group_seen}
+use Rattle.mux_exits.proofs.exits.exit_group.Goals as goal
+
+pub returns-then-is_ended-clause-exit : goal.returns-then-is_ended-clause-exit
+returns-then-is_ended-clause-exit c = λ settings before x here live restarts first known settled fit built st ds.
+    let t = c.args.tables.now in
+    ended_never (life_of x.life.start before) x.life.stage x.started (last_life settings t before c.args.g x.life.start x here (number_there t.lasts.items c.args.g x here) st) (ap is_ended (sym (c.stage_at.ensures x here)) ∙ (sym c.is_ended.ensures ∙ c.if-is_ended.true)) fit
+
+pub hear_exit-requires-clause-runs : goal.hear_exit-requires-clause-runs
+hear_exit-requires-clause-runs c = λ x here ended. never (sym (ap is_ended (c.stage_at.ensures x here ∙ ended)) ∙ (sym c.is_ended.ensures ∙ c.if-is_ended.false))
+
+pub hear_exit-requires-clause-room : goal.hear_exit-requires-clause-room
+hear_exit-requires-clause-room c = λ z x here at.
+    ltb-true x.exits (2 ^ 63) (sym (c.is_counted.ensures x (ap (λ h. slice_get c.args.tables.now.groups.groups h) (c.group_number.ensures z here) ∙ at)) ∙ c.if-not-is_counted.false)
+
+pub part-requires-clause-group : goal.part-requires-clause-group
+part-requires-clause-group c =
+    let lasts = c.args.tables.now.lasts.items in
+    let z = item_at lasts c.args.g c.requires.group in
+    let e = c.in_ok-hear_exit.ensures.exits z.0 z.1 in
+    subst (λ n. c.args.g < n) (sym (ap length e.lasts ∙ length-set lasts c.args.g e.start)) c.requires.group
+
+pub part-requires-clause-members : goal.part-requires-clause-members
+part-requires-clause-members c =
+    let z = item_at c.args.tables.now.lasts.items c.args.g c.requires.group in
+    let e = c.in_ok-hear_exit.ensures.exits z.0 z.1 in
+    subst (λ n. All (λ k. k < n) c.in_ok-parting.parting.members.items) (sym (ap length e.editors)) c.in_ok-parting.ensures.members
+
+pub part-requires-clause-inside : goal.part-requires-clause-inside
+part-requires-clause-inside c =
+    let z = item_at c.args.tables.now.lasts.items c.args.g c.requires.group in
+    let e = c.in_ok-hear_exit.ensures.exits z.0 z.1 in
+    subst (λ n. AllByRecursion (IsInside n) c.in_ok-parting.parting.losses.items) (sym (ap length e.editors)) c.in_ok-parting.ensures.inside
+
+pub returns-clause-exit : goal.returns-clause-exit
+returns-clause-exit c = λ settings before x here live restarts first known settled fit built st ds.
+    let t = c.args.tables.now in
+    let u = c.hear_exit.new.self in
+    let g = c.args.g in
+    let s = x.life.start in
+    let h = x.life.group in
+    let now = with_cause before (ServerGone s) in
+    let at = number_there t.lasts.items g x here in
+    let e = c.in_ok-hear_exit.ensures.exits x here in
+    let stands = c.in_ok-hear_exit.ensures.stands settings before s restarts at st in
+    entry_done settings before (ServerGone s) s (gone_exit settings before s) h (group_seen settings t before g s x st here at).0 (ap (lives_at h) st.house.groups.groups ∙ live) known settled
+    c.in_ok-parting.parting (c.in_ok-parting.ensures.parts settings before x here st) u c.part.new.tables c.args.outs.now c.part.new.outs built first
+    (stands, c.in_ok-hear_exit.ensures.documents settings nothing_owed before s ds)
+    (λ can. c.in_ok-part.ensures.does settings now h (exit_over c.args.restarts t u g x c.requires.group e) (exit_unready c.args.restarts t u g x c.requires.group e settings now stands) can)

@@ -1,0 +1,25 @@
+-- Editors that run lose a start.
+use Rattle.std.proofs.Common.{◌<◌, append-nil, length, sym}
+use Rattle.std.proofs.lemmas.List.Elements.{All-get_or}
+use Rattle.mux_exits.specs.Losses.{lost_start}
+use Rattle.mux_exits.proofs.Gathering.{flat_next, flat_whole}
+use Rattle.mux_exits.proofs.losses.lose_all_starts.Goals as goal
+
+pub loop-e-init : goal.loop-e-init
+loop-e-init c = record {
+  inside = λ h. h;
+  lost = λ settings before x here ready st. sym (append-nil c.args.losses.now.items);
+}
+
+pub loop-e-preserved : goal.loop-e-preserved
+loop-e-preserved c = record {
+  inside = λ h. c.in_ok-lose_start.ensures.inside (length c.args.tables.now.editors) (All-get_or (λ e. e < length c.args.tables.now.editors) c.args.editors.now c.loop-e.e-index 0 c.loop-e-test.true c.requires.editors) (c.loop-e.invariant.inside h);
+  lost = λ settings before x here ready st. flat_next (lost_start settings before x.life.start) c.args.editors.now c.loop-e.e-index 0 c.args.losses.now.items c.loop-e.losses.items c.lose_start.new.losses.items c.loop-e-test.true
+      (c.loop-e.invariant.lost settings before x here ready st) (c.in_ok-lose_start.ensures.lost settings before x here ready st);
+}
+
+pub returns-clause-lost : goal.returns-clause-lost
+returns-clause-lost c = λ settings before x here ready st. flat_whole (lost_start settings before x.life.start) c.args.editors.now c.loop-e.e-index c.args.losses.now.items c.loop-e.losses.items c.loop-e-test.false (c.loop-e.invariant.lost settings before x here ready st)
+
+pub returns-clause-inside : goal.returns-clause-inside
+returns-clause-inside c = λ h. c.loop-e.invariant.inside h

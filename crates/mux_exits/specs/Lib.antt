@@ -1,0 +1,3 @@
+pub mod Losses
+pub mod Partings
+pub use Rattle.mux_starts

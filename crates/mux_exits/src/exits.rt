@@ -1,0 +1,257 @@
+//! X1 to X3: the program of a start ended, or couldn't be run, and its group doesn't go on.
+ghost use Rattle.std.specs.Prelude.{◌≡◌, ◌<◌, ◌≤◌, ◌^◌, ℕ, List, [], Some, true, length, map, nat_lt, OnOk, slice_get};
+ghost use Rattle.std.specs.List.{All, AllByRecursion};
+ghost use Rattle.event_model.specs.Does.{Does, Done};
+ghost use Rattle.event_model.specs.Event.{Event, behind, with_cause};
+ghost use Rattle.event_model.specs.Settings.{Settings};
+ghost use Rattle.group_rows.specs.Rows.{row_of};
+ghost use Rattle.group_words.specs.declared.kept.Kept.{Kept};
+ghost use Rattle.mux_exits.specs.Losses.{IsInside};
+ghost use Rattle.mux_exits.specs.Partings.{CanPart, IsOver, parting_row};
+ghost use Rattle.mux_history.specs.declared.cause.Cause.TheVariants.{ServerGone, StartFailed};
+ghost use Rattle.mux_starts.specs.Refusing.{IsUnready};
+ghost use Rattle.mux_starts.specs.group_facts.specs.Built.{built_behind};
+ghost use Rattle.mux_starts.specs.group_facts.specs.Facts.{Known};
+ghost use Rattle.mux_starts.specs.group_facts.specs.Lively.{lives_at};
+ghost use Rattle.mux_starts.specs.group_facts.specs.Settled.{Settled};
+ghost use Rattle.mux_model.specs.Fits.{fits_behind};
+ghost use Rattle.mux_tables.specs.declared.tables.Start.{Start};
+ghost use Rattle.mux_tables.specs.Documents.{AllStand, DocumentsStand, nothing_owed};
+ghost use Rattle.mux_tables.specs.Stands.{Stands, number_in};
+
+use crate::partings::{Parting, gather};
+use crate::told::tell_losses;
+use crate::turned::turn_out_all;
+use message_body::Memory;
+use mux_history::Outs;
+use mux_starts::take_left;
+use mux_tables::Tables;
+use mux_turns::stage_at;
+use std::alloc::Global;
+
+// More exits of one group aren't counted.
+const MOST: u64 = 0x8000_0000_0000_0000;
+
+// Whether the group of this number lives.
+fn lives(tables: &Tables, h: u64) -> bool
+    ensures { result ≡ lives_at h tables.now.groups.groups }
+{
+    match tables.groups.get(h) {
+        None => false,
+        Some(kept) => kept.live,
+    }
+}
+
+// Whether one more exit of it can be counted.
+fn is_counted(tables: &Tables, h: u64) -> bool
+    ensures { (x : Kept) → slice_get tables.now.groups.groups h ≡ Some x → result ≡ nat_lt x.exits (2 ^ 63) }
+{
+    match tables.groups.get(h) {
+        None => true,
+        Some(kept) => kept.exits < MOST,
+    }
+}
+
+// What was gathered is said, and nothing is kept of the group.
+fn part(
+    tables: &mut Tables,
+    alloc: Global,
+    outs: &mut Outs,
+    g: usize,
+    parting: Parting,
+) -> Result<(), Memory>
+    requires group { g < length tables.old.lasts.items }
+    requires members { All (λ e. e < length tables.old.editors) parting.members.items }
+    requires inside { AllByRecursion (IsInside (length tables.old.editors)) parting.losses.items }
+    ensures requests { tables.new.requests ≡ tables.old.requests }
+    ensures versions { tables.new.versions ≡ tables.old.versions }
+    ensures does { (settings : Settings) (base : List Event) (h : ℕ) → IsOver g tables.old.lasts.items → IsUnready h tables.old.lasts.items
+        → CanPart settings (behind base outs.old) h parting
+        → OnOk result (Does (λ k events. AllStand settings k events)
+        (parting_row parting) base (tables.old, nothing_owed) outs.old (tables.new, nothing_owed) outs.new) }
+{
+    let Parting {
+        members,
+        losses,
+        live,
+    } = parting;
+    tell_losses(tables, alloc, outs, losses, &live)?;
+    turn_out_all(tables, alloc, outs, &members)?;
+    tables.forget(g);
+    Ok(())
+}
+
+// X1 to X3: the group in this place lives, and ends as the program of its last start ended.
+fn exit_group(
+    tables: &mut Tables,
+    alloc: Global,
+    restarts: u64,
+    outs: &mut Outs,
+    g: usize,
+) -> Result<(), Memory>
+    requires limit { 2 ≤ tables.old.requests }
+    requires group { g < length tables.old.lasts.items }
+    ensures requests { tables.new.requests ≡ tables.old.requests }
+    ensures versions { tables.new.versions ≡ tables.old.versions }
+    ensures exit { (settings : Settings) (before : List Event) (x : Start) → slice_get tables.old.lasts.items g ≡ Some x
+        → lives_at x.life.group tables.old.groups.groups ≡ true → settings.limits.restarts ≡ restarts → outs.old ≡ []
+        → Known settings before → Settled settings before
+        → fits_behind before (ServerGone x.life.start) ≡ true → built_behind settings before (ServerGone x.life.start) ≡ true
+        → Stands settings tables.old before → DocumentsStand settings nothing_owed tables.old before
+        → OnOk result (Done (λ k events. AllStand settings k events) (row_of settings before (ServerGone x.life.start))
+        (with_cause before (ServerGone x.life.start)) [] (tables.new, nothing_owed) outs.new) }
+{
+    if stage_at(tables, g).is_ended() {
+        return Ok(());
+    }
+    if !is_counted(tables, tables.group_number(g)) {
+        return Err(Memory);
+    }
+    let parting = gather(tables, alloc, g)?;
+    tables.hear_exit(alloc, restarts, g)?;
+    part(tables, alloc, outs, g, parting)?;
+    Ok(())
+}
+
+// The same where it couldn't be run.
+fn fail_group(
+    tables: &mut Tables,
+    alloc: Global,
+    restarts: u64,
+    outs: &mut Outs,
+    g: usize,
+) -> Result<(), Memory>
+    requires limit { 2 ≤ tables.old.requests }
+    requires group { g < length tables.old.lasts.items }
+    ensures requests { tables.new.requests ≡ tables.old.requests }
+    ensures versions { tables.new.versions ≡ tables.old.versions }
+    ensures failure { (settings : Settings) (before : List Event) (x : Start) → slice_get tables.old.lasts.items g ≡ Some x
+        → lives_at x.life.group tables.old.groups.groups ≡ true → settings.limits.restarts ≡ restarts → outs.old ≡ []
+        → Known settings before → Settled settings before
+        → fits_behind before (StartFailed x.life.start) ≡ true → built_behind settings before (StartFailed x.life.start) ≡ true
+        → Stands settings tables.old before → DocumentsStand settings nothing_owed tables.old before
+        → OnOk result (Done (λ k events. AllStand settings k events) (row_of settings before (StartFailed x.life.start))
+        (with_cause before (StartFailed x.life.start)) [] (tables.new, nothing_owed) outs.new) }
+{
+    if stage_at(tables, g).is_ended() {
+        return Ok(());
+    }
+    if !is_counted(tables, tables.group_number(g)) {
+        return Err(Memory);
+    }
+    let parting = gather(tables, alloc, g)?;
+    tables.hear_failure(alloc, restarts, g)?;
+    part(tables, alloc, outs, g, parting)?;
+    Ok(())
+}
+
+// The program of the last start of the group in this place ended.
+fn exit_at(
+    tables: &mut Tables,
+    alloc: Global,
+    restarts: u64,
+    outs: &mut Outs,
+    s: u64,
+    g: usize,
+) -> Result<(), Memory>
+    requires limit { 2 ≤ tables.old.requests }
+    requires group { g < length tables.old.lasts.items }
+    ensures requests { tables.new.requests ≡ tables.old.requests }
+    ensures versions { tables.new.versions ≡ tables.old.versions }
+    ensures exit { (settings : Settings) (before : List Event) → slice_get (map number_in tables.old.lasts.items) g ≡ Some s
+        → settings.limits.restarts ≡ restarts → outs.old ≡ [] → Known settings before → Settled settings before
+        → fits_behind before (ServerGone s) ≡ true → built_behind settings before (ServerGone s) ≡ true
+        → Stands settings tables.old before → DocumentsStand settings nothing_owed tables.old before
+        → OnOk result (Done (λ k events. AllStand settings k events) (row_of settings before (ServerGone s))
+        (with_cause before (ServerGone s)) [] (tables.new, nothing_owed) outs.new) }
+{
+    if !lives(tables, tables.group_number(g)) {
+        take_left(tables, alloc, s);
+        return Ok(());
+    }
+    exit_group(tables, alloc, restarts, outs, g)?;
+    Ok(())
+}
+
+// The same where it couldn't be run.
+fn failure_at(
+    tables: &mut Tables,
+    alloc: Global,
+    restarts: u64,
+    outs: &mut Outs,
+    s: u64,
+    g: usize,
+) -> Result<(), Memory>
+    requires limit { 2 ≤ tables.old.requests }
+    requires group { g < length tables.old.lasts.items }
+    ensures requests { tables.new.requests ≡ tables.old.requests }
+    ensures versions { tables.new.versions ≡ tables.old.versions }
+    ensures failure { (settings : Settings) (before : List Event) → slice_get (map number_in tables.old.lasts.items) g ≡ Some s
+        → settings.limits.restarts ≡ restarts → outs.old ≡ [] → Known settings before → Settled settings before
+        → fits_behind before (StartFailed s) ≡ true → built_behind settings before (StartFailed s) ≡ true
+        → Stands settings tables.old before → DocumentsStand settings nothing_owed tables.old before
+        → OnOk result (Done (λ k events. AllStand settings k events) (row_of settings before (StartFailed s))
+        (with_cause before (StartFailed s)) [] (tables.new, nothing_owed) outs.new) }
+{
+    if !lives(tables, tables.group_number(g)) {
+        take_left(tables, alloc, s);
+        return Ok(());
+    }
+    fail_group(tables, alloc, restarts, outs, g)?;
+    Ok(())
+}
+
+/// X1 to X3: the program of a start ended. Where its group lives, and doesn't go on with a new start, each editor of it is told that its
+/// requests fail; each that runs, where the start is ready, what ends with it; and each is turned out. Else nothing is sent.
+pub fn take_exit(
+    tables: &mut Tables,
+    alloc: Global,
+    restarts: u64,
+    outs: &mut Outs,
+    s: u64,
+) -> Result<(), Memory>
+    requires { 2 ≤ tables.old.requests }
+    ensures requests { tables.new.requests ≡ tables.old.requests }
+    ensures versions { tables.new.versions ≡ tables.old.versions }
+    ensures exit { (settings : Settings) (before : List Event) → settings.limits.restarts ≡ restarts → outs.old ≡ []
+        → Known settings before → Settled settings before
+        → fits_behind before (ServerGone s) ≡ true → built_behind settings before (ServerGone s) ≡ true
+        → Stands settings tables.old before → DocumentsStand settings nothing_owed tables.old before
+        → OnOk result (Done (λ k events. AllStand settings k events) (row_of settings before (ServerGone s))
+        (with_cause before (ServerGone s)) [] (tables.new, nothing_owed) outs.new) }
+{
+    match tables.last(s) {
+        None => Ok(()),
+        Some(g) => {
+            exit_at(tables, alloc, restarts, outs, s, g)?;
+            Ok(())
+        }
+    }
+}
+
+/// X1 to X3: the same of a start whose program couldn't be run.
+pub fn take_failure(
+    tables: &mut Tables,
+    alloc: Global,
+    restarts: u64,
+    outs: &mut Outs,
+    s: u64,
+) -> Result<(), Memory>
+    requires { 2 ≤ tables.old.requests }
+    ensures requests { tables.new.requests ≡ tables.old.requests }
+    ensures versions { tables.new.versions ≡ tables.old.versions }
+    ensures failure { (settings : Settings) (before : List Event) → settings.limits.restarts ≡ restarts → outs.old ≡ []
+        → Known settings before → Settled settings before
+        → fits_behind before (StartFailed s) ≡ true → built_behind settings before (StartFailed s) ≡ true
+        → Stands settings tables.old before → DocumentsStand settings nothing_owed tables.old before
+        → OnOk result (Done (λ k events. AllStand settings k events) (row_of settings before (StartFailed s))
+        (with_cause before (StartFailed s)) [] (tables.new, nothing_owed) outs.new) }
+{
+    match tables.last(s) {
+        None => Ok(()),
+        Some(g) => {
+            failure_at(tables, alloc, restarts, outs, s, g)?;
+            Ok(())
+        }
+    }
+}
