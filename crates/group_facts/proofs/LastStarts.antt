@@ -94,6 +94,18 @@ alive_exit before (FromServer n body) s is fits = never (sym is)
 alive_exit before (Drained n k) s is fits = never (sym is)
 alive_exit before (Tick t) s is fits = never (sym is)
 
+-- behind it its group may have ended
+exit_groups : (settings : Settings) (before : List Event) (s : ℕ) (cause : Cause) → is_exit cause s ≡ true → groups_of settings (with_cause before cause) ≡ groups_lose settings before s (house_of settings before)
+exit_groups settings before s (StartFailed n) is = groups_more settings before (heard (StartFailed n)) ∙ ap (λ k. groups_lose settings before k (house_of settings before)) (number_same n s is)
+exit_groups settings before s (ServerGone n) is = groups_more settings before (heard (ServerGone n)) ∙ ap (λ k. groups_lose settings before k (house_of settings before)) (number_same n s is)
+exit_groups settings before s (Joined n) is = never (sym is)
+exit_groups settings before s (FromEditor n body) is = never (sym is)
+exit_groups settings before s (EditorGone n why) is = never (sym is)
+exit_groups settings before s (Started n) is = never (sym is)
+exit_groups settings before s (FromServer n body) is = never (sym is)
+exit_groups settings before s (Drained n k) is = never (sym is)
+exit_groups settings before s (Tick t) is = never (sym is)
+
 module _ (settings : Settings) (before : List Event) (cause : Cause) (begun : Begun settings before) where
   abbrev pub N : ℕ
   N = length (groups_of settings before)
@@ -138,6 +150,19 @@ module _ (settings : Settings) (before : List Event) (cause : Cause) (begun : Be
   by_founding P f g h (quiet all same) = f (outs_of settings before cause) all
   by_founding P f g h (founds xs n all sent more live) = subst P (sym sent) (g xs n all live)
   by_founding P f g h (renews xs s i all sent same is home live) = subst P (sym sent) (h xs s i (told_quiet xs all) is home live)
+
+  -- a group that goes on from a start that ends goes on with the next one
+  pub start_renewed : (g s : ℕ) → group_of s before ≡ Some g → is_exit cause s ≡ true → begins_again settings before s ≡ true → start_of g (behind now (outs_of settings before cause)) ≡ Some (starts_of before)
+  start_renewed g s home is again = ap (λ xs. start_of g (behind now xs)) r.1.1 ∙ (start_last g (starts_of before) k.group r.0 (told_quiet r.0 r.1.0) ∙ ap (λ b. if b then Some (starts_of before) else start_of g before) same)
+    where
+      k : RenewsGroup settings before s
+      k = renews_parts settings before s again
+
+      r : (xs : List Out) × (AllByRecursion IsTold xs × (outs_of settings before cause ≡ xs ++ Spawn (starts_of before) k.group ∷ []))
+      r = renewed_outs settings before cause s is (exit_by settings before cause s is).row (exit_groups settings before s cause is) k
+
+      same : nat_eq k.group g ≡ true
+      same = let both : ◌≡◌ {A = Option ℕ} (Some k.group) (Some g) = sym k.home ∙ home in let it : k.group ≡ g = cc in subst (λ z. nat_eq k.group z ≡ true) it (same_number k.group)
 
   -- of a cause that fits
   module _ (fits : fits_behind before cause ≡ true) (lasts : AllLast before) where
@@ -200,18 +225,7 @@ module _ (settings : Settings) (before : List Event) (cause : Cause) (begun : Be
         exit = exit_by settings before cause s is
 
         groups : groups_of settings now ≡ groups_lose settings before s (house_of settings before)
-        groups = groups_by cause is
-          where
-            groups_by : (c : Cause) → is_exit c s ≡ true → groups_of settings (with_cause before c) ≡ groups_lose settings before s (house_of settings before)
-            groups_by (StartFailed n) same = groups_more settings before (heard (StartFailed n)) ∙ ap (λ k. groups_lose settings before k (house_of settings before)) (number_same n s same)
-            groups_by (ServerGone n) same = groups_more settings before (heard (ServerGone n)) ∙ ap (λ k. groups_lose settings before k (house_of settings before)) (number_same n s same)
-            groups_by (Joined n) same = never (sym same)
-            groups_by (FromEditor n body) same = never (sym same)
-            groups_by (EditorGone n why) same = never (sym same)
-            groups_by (Started n) same = never (sym same)
-            groups_by (FromServer n body) same = never (sym same)
-            groups_by (Drained n k) same = never (sym same)
-            groups_by (Tick t) same = never (sym same)
+        groups = exit_groups settings before s cause is
 
         again : RenewsGroup settings before s → ⊥
         again k = by_group (nat_eq k.group g) refl (sym (start_last g (starts_of before) k.group r.0 (told_quiet r.0 r.1.0)) ∙ (ap (λ xs. start_of g (behind now xs)) (sym r.1.1) ∙ at))

@@ -103,6 +103,11 @@ none_did settings s events (Spawn n g) = refl
 none_did settings s events (CloseEditor e) = refl
 none_did settings s events (EndServer n) = refl
 
+pub none_outs : (settings : Settings) (s : ℕ) (events : List Event) (xs : List Out) → created_of settings s events ≡ no_created → created_of settings s (behind events xs) ≡ no_created
+none_outs settings s events [] h = ap (created_of settings s) (append-nil events) ∙ h
+none_outs settings s events (x ∷ xs) h = ap (created_of settings s) (sym (append_assoc events (said x ∷ []) (map said xs)))
+    ∙ none_outs settings s (events ++ said x ∷ []) xs (created_more settings s events (said x) ∙ (ap (λ y. created_next settings s events y (said x)) h ∙ none_did settings s events x))
+
 -- nor does it behind a cause
 pub uncreated_heard : (settings : Settings) (before : List Event) → Starts before → (cause : Cause) → Uncreated settings before → (s : ℕ) → starts_of before ≤ s → created_of settings s (with_cause before cause) ≡ no_created
 uncreated_heard settings before starts cause h s few =
@@ -462,13 +467,8 @@ module _ (settings : Settings) (range : InRange settings) (before : List Event) 
       none_now (Drained n k) is = never (sym is)
       none_now (Tick t) is = never (sym is)
 
-      none_outs : (events : List Event) (xs : List Out) → created_of settings s events ≡ no_created → created_of settings s (behind events xs) ≡ no_created
-      none_outs events [] h = ap (created_of settings s) (append-nil events) ∙ h
-      none_outs events (x ∷ xs) h = ap (created_of settings s) (sym (append_assoc events (said x ∷ []) (map said xs)))
-          ∙ none_outs (events ++ said x ∷ []) xs (created_more settings s events (said x) ∙ (ap (λ y. created_next settings s events y (said x)) h ∙ none_did settings s events x))
-
       by_exit : (b : Bool) → is_exit cause s ≡ b → AllByRecursion (HasTaken settings there s) (created_of settings s there).takings
-      by_exit true is = subst (λ (x : Created). AllByRecursion (HasTaken settings there s) x.takings) (sym (none_outs (with_cause before cause) (outs_of settings before cause) (created_more settings s before (heard cause) ∙ none_now cause is))) tt
+      by_exit true is = subst (λ (x : Created). AllByRecursion (HasTaken settings there s) x.takings) (sym (none_outs settings s (with_cause before cause) (outs_of settings before cause) (created_more settings s before (heard cause) ∙ none_now cause is))) tt
       by_exit false goes_on = all_so (Taker settings before cause there s) (RunsAt settings there s) (created_of settings s there) (λ e k. runs_there lively s e goes_on k) (place_rests.takers few s)
 
 pub none_uncreated : (settings : Settings) → Uncreated settings []

@@ -47,6 +47,7 @@ use Rattle.group_facts.proofs.Table.{reasons}
 use Rattle.group_sessions.proofs.Begins.{begun_outcome}
 use Rattle.group_sessions.proofs.Enrolled.{is_about}
 use Rattle.group_sessions.proofs.Registered.{At, begins, ids, is_answered, is_change}
+use Rattle.group_sessions.proofs.Numbers.{out_rests}
 use Rattle.group_sessions.proofs.Tied.{All, IsTied, early_here, has_run, live_here, ordinary, ordinary_tied}
 use Rattle.group_sessions.proofs.Told.{change_outcome}
 use Rattle.group_sessions.proofs.Walk.{Keeps, KeepsSlow, walk}
@@ -57,7 +58,7 @@ use Rattle.group_facts.proofs.Begun.{starts_stay}
 use Rattle.group_facts.proofs.PutOut.{homes_stay}
 use Rattle.group_sessions.proofs.Enrolled.{Same}
 use Rattle.group_sessions.proofs.Registered.{at_free}
-use Rattle.group_sessions.proofs.Tied.{all_back, live_rests, not_run, out_rests, runs_on}
+use Rattle.group_sessions.proofs.Tied.{all_back, live_rests, not_run, runs_on}
 
 -- A start that gave no result has nothing that is live
 

@@ -16,7 +16,9 @@ pub mod Client4Law
 pub mod Client5Law
 pub mod Server5Law
 pub mod Enrolled
+pub mod Numbers
 pub mod Registered
+pub mod Renewed
 pub mod Tied
 pub mod Changes
 pub mod Told

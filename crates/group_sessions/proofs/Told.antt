@@ -41,7 +41,8 @@ use Rattle.group_facts.proofs.LastStarts.{AllLast}
 use Rattle.group_sessions.proofs.Changes.{Holds, Some_hold, registers_all, registers_none, takes_all, takes_none}
 use Rattle.group_sessions.proofs.Enrolled.{Same}
 use Rattle.group_sessions.proofs.Registered.{At, at_free, at_took, begins, ids}
-use Rattle.group_sessions.proofs.Tied.{All, IsTied, Place, all_back, live_here, out_rests, out_took, place, ran, runs_on, stays}
+use Rattle.group_sessions.proofs.Numbers.{out_rests, out_took}
+use Rattle.group_sessions.proofs.Tied.{All, IsTied, Place, all_back, live_here, place, ran, runs_on, stays}
 
 -- A request of a ready start about registrations
 
