@@ -5,7 +5,6 @@ ghost use Rattle.mux_history.specs.declared.entry.Entry.{Entry};
 ghost use Rattle.mux_history.specs.Cores.{body_length};
 ghost use Rattle.mux_hub.specs.Hubs.{HubView, HubStands};
 ghost use Rattle.mux_model.specs.Fits.{fits};
-ghost use Rattle.mux_hub.specs.group_facts.specs.Built.{built};
 ghost use Rattle.lspmux_program.specs.Runs.{reading_bytes};
 ghost use Rattle.lspmux_program.specs.Steps.{IsTaken, IsTooMany, LineTaken, LineLeft};
 ghost use Rattle.lspmux_program.specs.Faults.{LeavesWritten};
@@ -81,8 +80,6 @@ fn read_line<J: Journal>(
     requires ready { hub.now.spent ≡ false }
     ensures reads { (history : List Entry) → HubStands J.told hub.now history → IfOk result (λ read. read ≡ reading_bytes hub.now.settings history line.items) }
     ensures fits { (history : List Entry) → HubStands J.told hub.now history → IfOk result (λ read. IfOk read (λ cause. IsTrue (fits history cause))) }
-    ensures is_built { (history : List Entry) → HubStands J.told hub.now history
-        → IfOk result (λ read. IfOk read (λ cause. IsTrue (built hub.now.settings history cause))) }
     ensures small { IfOk result (λ read. IfOk read (λ cause. body_length cause ≤ 67108864)) }
 {
     let read = cause_of_line(alloc, &line, CONTENT)?;
@@ -90,7 +87,7 @@ fn read_line<J: Journal>(
     let Some(cause) = read else {
         return Ok(Err(Refusal::Form));
     };
-    match refusal_of(&cause, hub)? {
+    match refusal_of(&cause, hub) {
         Some(refusal) => Ok(Err(refusal)),
         None => Ok(Ok(cause)),
     }

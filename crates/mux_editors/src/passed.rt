@@ -27,11 +27,13 @@ ghost use Rattle.mux_turns.specs.group_facts.specs.Facts.{Meant};
 ghost use Rattle.mux_turns.specs.group_facts.specs.Settled.{Settled};
 
 use crate::running::hear_running;
+use lsp_method::Class;
 use message_body::{Body, Memory};
 use mux_history::Outs;
 use mux_tables::Tables;
-use mux_turns::stage_at;
-use rpc_message::Message;
+use mux_turns::mux_members::class_in;
+use mux_turns::{Carries, stage_at};
+use rpc_message::{Message, Sort};
 use std::alloc::Global;
 
 // The place of an editor's group, whose last start is ready; none where the editor is in no group, or the group has no start, or that
@@ -109,4 +111,33 @@ pub fn take_passed(
             Ok(())
         }
     }
+}
+
+// E16: whether a message changes the configuration.
+fn configures(message: &Message) -> bool {
+    match message.sort() {
+        Sort::Notification => matches!(class_in(message), Class::Configuration),
+        _ => false,
+    }
+}
+
+/// E16: where an editor that is served changes the configuration, that is kept as its group's.
+pub fn keep_configuration(
+    tables: &Tables,
+    carries: &mut Carries,
+    alloc: Global,
+    e: u64,
+    message: &Message,
+) -> Result<(), Memory>
+    requires { e < length tables.now.editors }
+{
+    if !configures(message) || !tables.phase(e).is_served() {
+        return Ok(());
+    }
+    let Some(group) = tables.editors.group(e) else {
+        return Ok(());
+    };
+    let body = Body::new(Vec::from_slice(alloc, message.bytes())?);
+    carries.configure(tables, group, body)?;
+    Ok(())
 }

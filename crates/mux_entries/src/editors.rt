@@ -30,7 +30,7 @@ use event_model::{Phase, Server};
 use lsp_method::Class;
 use message_body::{Body, Memory};
 use mux_editors::{
-    asks_lspmux, doubles, take_cancel, take_closed, take_doubled, take_doubled_own, take_down,
+    asks_lspmux, doubles, keep_configuration, take_cancel, take_closed, take_doubled, take_doubled_own, take_down,
     take_early, take_exit, take_gone, take_initialize, take_malformed, take_notice, take_open,
     take_passed, take_quiet, take_reply, take_request, take_shutdown, take_status, take_stop,
     take_work_cancel, take_wrong,
@@ -39,6 +39,7 @@ use mux_history::Outs;
 use mux_starts::mux_members::{
     cancels_work, class_in, goes_on, is_cancel, is_exit, is_initialize, is_open, is_stop,
 };
+use mux_starts::Carries;
 use mux_starts::mux_tables::Tables;
 use rpc_message::{Malformed, Message, Sort};
 use std::alloc::Global;
@@ -529,6 +530,7 @@ fn from_malformed(
 /// one of the multiplexer's own; else E7 to E10, or E12 to E17, by where the editor stands, or nothing.
 pub fn from_editor(
     tables: &mut Tables,
+    carries: &mut Carries,
     alloc: Global,
     servers: &[Server],
     default: u32,
@@ -553,6 +555,7 @@ pub fn from_editor(
     }
     match Message::read(alloc, body.bytes()) {
         Ok(message) => {
+            keep_configuration(tables, carries, alloc, e, &message)?;
             from_message(tables, alloc, servers, default, outs, e, &message)?;
             Ok(())
         }

@@ -33,7 +33,7 @@ use mux_history::Outs;
 use mux_starts::mux_members::{asked_class, is_first_result, told_class};
 use mux_starts::mux_tables::Tables;
 use mux_starts::{
-    answered_number, is_first_error, stage_at, take_answer, take_broadcast, take_create,
+    Carries, answered_number, is_first_error, stage_at, take_answer, take_broadcast, take_create,
     take_ending, take_focused, take_folders, take_hasty, take_list, take_lowest, take_progress,
     take_recall, take_refresh, take_refused, take_register, take_repeated, take_result,
     take_stopping, take_unregister,
@@ -112,6 +112,7 @@ fn take_other(
 // S2, with the replay X4, S3 and S4: a message comes from a start that gave no result of its `initialize` yet.
 fn take_first(
     tables: &mut Tables,
+    carries: &mut Carries,
     alloc: Global,
     outs: &mut Outs,
     g: usize,
@@ -128,7 +129,7 @@ fn take_first(
         (with_cause before (FromServer s body)) [] (tables.new, nothing_owed) outs.new) }
 {
     if is_first_result(message) {
-        take_result(tables, alloc, outs, g, message)?;
+        take_result(tables, carries, alloc, outs, g, message)?;
         Ok(())
     } else if is_first_error(message) {
         take_refused(tables, alloc, outs, g, message)?;
@@ -297,6 +298,7 @@ fn take_ready(
 // behind its end, gives nothing (S4); a start whose program runs is in no other stage than these.
 fn take_message(
     tables: &mut Tables,
+    carries: &mut Carries,
     alloc: Global,
     outs: &mut Outs,
     g: usize,
@@ -314,7 +316,7 @@ fn take_message(
     let stage = stage_at(tables, g);
     match stage {
         Stage::Initializing => {
-            take_first(tables, alloc, outs, g, message)?;
+            take_first(tables, carries, alloc, outs, g, message)?;
             Ok(())
         }
         Stage::Ready => {
@@ -336,6 +338,7 @@ fn take_message(
 // A body comes from the group's last start.
 fn take_body(
     tables: &mut Tables,
+    carries: &mut Carries,
     alloc: Global,
     outs: &mut Outs,
     g: usize,
@@ -353,7 +356,7 @@ fn take_body(
 {
     match Message::read(alloc, body.bytes()) {
         Ok(message) => {
-            take_message(tables, alloc, outs, g, &message)?;
+            take_message(tables, carries, alloc, outs, g, &message)?;
             Ok(())
         }
         Err(fault) => {
@@ -369,6 +372,7 @@ fn take_body(
 /// gives nothing. Only a start that is the last of its group has a program that runs.
 pub fn from_server(
     tables: &mut Tables,
+    carries: &mut Carries,
     alloc: Global,
     outs: &mut Outs,
     s: u64,
@@ -386,7 +390,7 @@ pub fn from_server(
     match tables.last(s) {
         None => Ok(()),
         Some(g) => {
-            take_body(tables, alloc, outs, g, body)?;
+            take_body(tables, carries, alloc, outs, g, body)?;
             Ok(())
         }
     }

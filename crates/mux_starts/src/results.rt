@@ -19,13 +19,21 @@ ghost use Rattle.mux_turns.specs.Welcomes.{AllAsking, IsGreeted, IsShown, Tells}
 ghost use Rattle.rpc_message.specs.Message.{Id, id_bytes, message_of, result as outcome, result_bytes};
 ghost use Rattle.rpc_message.specs.Parsed.{IsRead};
 
-use message_body::Memory;
+use event_model::Phase;
+use message_body::{Body, Memory};
 use mux_history::Outs;
 use mux_members::encoding;
 use mux_tables::Tables;
-use mux_turns::{answered_number, shown_of};
+use mux_turns::{Carries, answered_number, shown_of};
 use rpc_message::{Message, initialized, ok_reply};
 use std::alloc::Global;
+
+// An editor was shown a result of its group.
+fn was_shown(phase: Phase) -> bool
+    ensures { result ≡ was_shown phase }
+{
+    matches!(phase, Phase::Answered | Phase::Running | Phase::Down)
+}
 
 // An editor that waits is answered, under the id of its `initialize`.
 fn greet(
@@ -78,10 +86,91 @@ fn greet_all(
     Ok(())
 }
 
-/// S2: the group's last start gives the result of its `initialize`: it is told that the session begins, and of each document that is
-/// open; and the editors of the group that wait are answered, rising.
+// S2: the editors of a group that were shown a result, rising.
+fn shown_in(tables: &Tables, alloc: Global, g: u64) -> Result<Vec<u64>, Memory>
+    ensures inside { IfOk result (λ numbers. All (λ e. e < length tables.now.editors) numbers.items) }
+    ensures those { (settings : Settings) (events : List Event) → Stands settings tables.now events
+        → IfOk result (λ numbers. numbers.items ≡ shown_in settings g events) }
+{
+    let members = tables.members(g)?;
+    let mut shown = Vec::new(alloc);
+    for e in &members {
+        if was_shown(tables.phase(*e)) {
+            shown.push(*e)?;
+        }
+    }
+    Ok(shown)
+}
+
+// S2: the editors whose links are to be ended: where they are shown other capabilities now than of an earlier start of their group, those
+// that were shown a result.
+fn parted_in(
+    tables: &Tables,
+    carries: &Carries,
+    alloc: Global,
+    g: u64,
+    shown: &[u8],
+) -> Result<Vec<u64>, Memory>
+    ensures inside { IfOk result (λ numbers. All (λ e. e < length tables.now.editors) numbers.items) }
+    ensures those { (settings : Settings) (before : List Event) (body : List ℕ) → Stands settings tables.now before
+        → CarriedStand settings carries.now before → lives_at g (groups_of settings before) ≡ true → shown.now ≡ shown_of (result_bytes body)
+        → IfOk result (λ numbers. numbers.items ≡ parted settings before body g) }
+{
+    if carries.differs(alloc, g, shown)? {
+        shown_in(tables, alloc, g)
+    } else {
+        Ok(Vec::new(alloc))
+    }
+}
+
+// The links of these editors are to be ended, of which the documents are closed already.
+fn part_each(
+    tables: &mut Tables,
+    alloc: Global,
+    outs: &mut Outs,
+    editors: &[u64],
+) -> Result<(), Memory>
+    requires { All (λ e. e < length tables.old.editors) editors.now }
+    ensures requests { tables.new.requests ≡ tables.old.requests }
+    ensures versions { tables.new.versions ≡ tables.old.versions }
+    ensures lasts { tables.new.lasts ≡ tables.old.lasts }
+    ensures outs { OnOk result (outs.new ≡ outs.old ++ closes editors.now) }
+    ensures does { (settings : Settings) (owed : Owed) (base : List Event)
+        → OnOk result (Does (λ k events. AheadStand settings k events)
+        (close_each editors.now) base (tables.old, (owed, closes editors.now)) outs.old (tables.new, (owed, [])) outs.new) }
+{
+    for e in editors {
+        tables.close(alloc, outs, *e)?;
+    }
+    Ok(())
+}
+
+// S2: the start is told of the configuration, where an editor of its group gave one.
+fn configure(
+    tables: &Tables,
+    alloc: Global,
+    outs: &mut Outs,
+    g: usize,
+    configuration: Option<&Body>,
+) -> Result<(), Memory>
+    requires { g < length tables.now.lasts.items }
+{
+    match configuration {
+        None => Ok(()),
+        Some(body) => {
+            let text = body.copy(alloc)?;
+            tables.notify(outs, g, text)?;
+            Ok(())
+        }
+    }
+}
+
+/// S2: the group's last start gives the result of its `initialize`: where by it editors are shown other capabilities than of an earlier start
+/// of the group, the links of those that were shown a result are to be ended; it is told that the session begins, of the group's configuration,
+/// and of each document that is open; and the editors of the group that wait are answered, rising.
 pub fn take_result(
     tables: &mut Tables,
+    carries: &mut Carries,
     alloc: Global,
     outs: &mut Outs,
     g: usize,
@@ -101,11 +190,15 @@ pub fn take_result(
     let group = tables.group_number(g);
     let n = answered_number(message);
     let told = shown_of(alloc, message.result_bytes())?;
+    let parted = parted_in(tables, carries, alloc, group, told.bytes())?;
     let kept = told.copy(alloc)?;
-    let owed = tables.hear_result(alloc, g, n, encoding(message), kept)?;
+    let owed = tables.hear_result(alloc, g, n, encoding(message), kept, &parted)?;
+    part_each(tables, alloc, outs, &parted)?;
     let text = initialized(alloc)?;
     tables.notify(outs, g, text)?;
+    configure(tables, alloc, outs, g, carries.configuration(group))?;
     tables.pay(outs, owed)?;
     greet_all(tables, alloc, outs, group, told.bytes())?;
+    carries.give(tables, group, told)?;
     Ok(())
 }
