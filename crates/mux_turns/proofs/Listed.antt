@@ -59,19 +59,20 @@ own_notes settings s e events u body method params meant says = shown_says (vers
 pub plain_notes : (body method : List ℕ) (params : Option Json) → message_of body ≡ notification method params → Notes method (shown_text None body)
 plain_notes body method params says = shown_says None body method params (λ v is. absurd (cc)) says
 
--- what is shown of a list is one of the same document, and as empty
-module _ (body method : List ℕ) (params : Option Json) (place : ℕ) (l : LastList) (says : message_of body ≡ notification method params) (publishes : is_publishing method ≡ true) (one : published place body ≡ Some l) where
-  list_from : (text : List ℕ) → Notes method text → Listed l.uri l.empty text → IsListOf l.uri l.empty text
-  list_from text note x = record { method = method; params = note.0; list = x.list; says = note.1; publishes = publishes; given = x.is; document = x.document; none = x.none }
+-- a notification that publishes and is a list
+list_from : (method : List ℕ) (l : LastList) (text : List ℕ) → is_publishing method ≡ true → Notes method text → Listed l.uri l.empty text → IsListOf l.uri l.empty text
+list_from method l text publishes note x = record { method = method; params = note.0; list = x.list; says = note.1; publishes = publishes; given = x.is; document = x.document; none = x.none }
 
-  -- with an editor's own version of a document
-  pub own_list : (settings : Settings) (s e : ℕ) (events : List Event) (u : List ℕ) → Meant events → IsListOf l.uri l.empty (shown_text (version_at settings s e events u) body)
-  own_list settings s e events u meant = list_from (shown_text (version_at settings s e events u) body) (own_notes settings s e events u body method params meant says)
-      (shown_list (version_at settings s e events u) body method params place l (λ v is. version_number settings s e events u v (meant_same events meant) is) says one)
+-- what is shown of a list is one of the same document, and as empty: with an editor's own version of a document
+pub own_listed : (settings : Settings) (s e : ℕ) (events : List Event) (u body method : List ℕ) (params : Option Json) (place : ℕ) (l : LastList) → Meant events → message_of body ≡ notification method params → is_publishing method ≡ true → published place body ≡ Some l
+    → IsListOf l.uri l.empty (shown_text (version_at settings s e events u) body)
+own_listed settings s e events u body method params place l meant says publishes one =
+    list_from method l (shown_text (version_at settings s e events u) body) publishes (own_notes settings s e events u body method params meant says)
+    (shown_list (version_at settings s e events u) body method params place l (λ v is. version_number settings s e events u v (meant_same events meant) is) says one)
 
-  -- and without one
-  pub plain_list : IsListOf l.uri l.empty (shown_text None body)
-  plain_list = list_from (shown_text None body) (plain_notes body method params says) (shown_list None body method params place l (λ v is. absurd (cc)) says one)
+-- and without one
+pub plain_listed : (body method : List ℕ) (params : Option Json) (place : ℕ) (l : LastList) → message_of body ≡ notification method params → is_publishing method ≡ true → published place body ≡ Some l → IsListOf l.uri l.empty (shown_text None body)
+plain_listed body method params place l says publishes one = list_from method l (shown_text None body) publishes (plain_notes body method params says) (shown_list None body method params place l (λ v is. absurd (cc)) says one)
 
 -- a notification to an editor leaves each editor where it stood, and what starts ask as it was
 pub noted_quiet : (settings : Settings) (e : ℕ) (text : List ℕ) (events : List Event) (method : List ℕ) → Notes method text → Quiet settings events (behind events (ToEditor e text ∷ []))
