@@ -27,11 +27,9 @@ ghost use Rattle.mux_turns.specs.group_facts.specs.Facts.{Meant};
 ghost use Rattle.mux_turns.specs.group_facts.specs.Settled.{Settled};
 
 use crate::running::hear_running;
-use lsp_method::Class;
 use message_body::{Body, Memory};
 use mux_history::Outs;
 use mux_tables::Tables;
-use mux_turns::mux_members::class_in;
 use mux_turns::{Carries, stage_at};
 use rpc_message::{Message, Sort};
 use std::alloc::Global;
@@ -113,10 +111,22 @@ pub fn take_passed(
     }
 }
 
-// E16: whether a message changes the configuration.
-fn configures(message: &Message) -> bool {
+// Whether a method is that of a change of the configuration.
+fn names_configuration(method: &[u8]) -> bool
+    ensures { result ≡ bytes_eq method.now (codes "workspace/didChangeConfiguration") }
+{
+    method == "workspace/didChangeConfiguration".as_bytes()
+}
+
+// E16: whether a message changes the configuration (LSP 3.17, DidChangeConfiguration Notification).
+fn configures(message: &Message) -> bool
+    ensures { (body : List ℕ) → IsRead message.now body → result ≡ notifies (codes "workspace/didChangeConfiguration") (message_of body) }
+{
     match message.sort() {
-        Sort::Notification => matches!(class_in(message), Class::Configuration),
+        Sort::Notification => match message.method() {
+            Some(method) => names_configuration(method),
+            None => false,
+        },
         _ => false,
     }
 }

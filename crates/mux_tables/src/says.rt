@@ -150,7 +150,8 @@ impl Tables {
             → is_synced (message_of text) ≡ false → DocumentsStand settings owed self.now (behind base outs.old)
             → OnOk result (DocumentsStand settings owed self.now (behind base outs.new)) }
         // by which no editor's message goes on
-        ensures idle { (settings : Settings) (owed : Owed) (base : List Event) → saying_of (message_of text) ≡ nothing
+        ensures idle { (settings : Settings) (owed : Owed) (base : List Event) (method : List ℕ) (ps : Option Json)
+            → message_of text ≡ message.notification method ps → saying_of (message_of text) ≡ nothing
             → worker_of (behind base outs.old) ≡ None → DocumentsStand settings owed self.now (behind base outs.old)
             → OnOk result (DocumentsStand settings owed self.now (behind base outs.new)) }
     {

@@ -1,10 +1,12 @@
-//! What groups carry from one of their starts to the next (S2): what editors were shown of the last result of `initialize`, and the configuration, which E16 keeps (LSP 3.17, Initialize Request and DidChangeConfiguration Notification).
-ghost use Rattle.std.specs.Prelude.{◌≡◌, ℕ, Option, Some, if◌then◌else◌, length, nat_eq, IfOk, IfSome, IfNone, List, OnOk, option_copied, option_map};
-ghost use Rattle.std.specs.Option.{is_some};
+//! What groups carry from one of their starts to the next: what editors were shown of the last result of `initialize` (S2), and the
+//! configuration (E16; LSP 3.17, Initialize Request and DidChangeConfiguration Notification).
+ghost use Rattle.std.specs.Prelude.{◌≡◌, ◌<◌, ℕ, List, [], length, IfOk, MatchOption, OnOk, option_copied};
+ghost use Rattle.capability_meet.specs.Answers.{IsRead};
+ghost use Rattle.event_model.specs.Settings.{Settings};
 ghost use Rattle.group_facts.specs.Lively.{lives_at};
 ghost use Rattle.group_facts.specs.group_rows.specs.Earlier.{same_shown};
-ghost use Rattle.mux_turns.specs.Carried.{capabilities_in, configuration_in, shown_in, was_kept};
-ghost use Rattle.mux_turns.specs.declared.carried.Carried.{Carried};
+ghost use Rattle.json_nodes.specs.At.{Found};
+ghost use Rattle.mux_turns.specs.Carried.{CarriedStand, ReadsTo, capabilities_in, carried, differs_shown, with_carried};
 
 use json_span::{JsonFault, Tape, same};
 use message_body::{Body, Memory};
@@ -12,34 +14,33 @@ use mux_tables::Tables;
 use std::alloc::Global;
 use std::marker::Model;
 
-/// What one group carries.
+/// A body of a group.
 #[derive(Drop)]
 pub struct Carried {
     /// The group's number.
     pub group: u64,
-    /// What editors were shown of the last result that one of its starts gave.
-    pub shown: Option<Body>,
-    /// The last change of the configuration that an editor of it gave.
-    pub configuration: Option<Body>,
+    pub body: Body,
 }
 
-/// What the groups carry that live, and at most as many others.
+/// What the groups that live carry, and at most as many others, each at most once.
 #[derive(Drop)]
 pub struct Carries {
-    list: Vec<Carried>,
+    shown: Vec<Carried>,
+    configurations: Vec<Carried>,
 }
 
 impl Model for Carries {
-    ghost use Rattle.std.specs.Prelude.{List};
-    ghost use Rattle.mux_turns.specs.declared.carried.Carried.{Carried};
+    ghost use Rattle.mux_turns.specs.Carried.{CarriesView};
 
-    ghost Value = { List Carried };
+    ghost Value = { CarriesView };
 
-    ghost view = { λ c. c.list.items };
+    ghost view = { λ c. record { shown = c.shown.items; configurations = c.configurations.items } };
 }
 
-// A JSON text, where the bytes are one.
-fn read<'a>(alloc: Global, bytes: &'a [u8]) -> Result<Option<Tape<'a>>, Memory> {
+// Bytes as a JSON text, where they are one.
+fn read<'a>(alloc: Global, bytes: &'a [u8]) -> Result<Option<Tape<'a>>, Memory>
+    ensures { IfOk result (λ tape. ReadsTo tape bytes.now) }
+{
     if bytes.len() > 268_435_456 {
         return Err(Memory);
     }
@@ -51,97 +52,120 @@ fn read<'a>(alloc: Global, bytes: &'a [u8]) -> Result<Option<Tape<'a>>, Memory> 
     }
 }
 
-// The place of its member `capabilities`.
-fn capabilities(tape: &Option<Tape>) -> Option<u32> {
-    match tape {
-        Some(tape) => tape.maybe_member(Some(tape.root()), "capabilities"),
-        None => None,
-    }
-}
-
-// Whether two values are the same; two that aren't there are.
-fn same_values(left: &Option<Tape>, right: &Option<Tape>) -> bool {
-    let one = capabilities(left);
-    let other = capabilities(right);
-    match (left, one) {
-        (Some(left), Some(one)) => match (right, other) {
-            (Some(right), Some(other)) => same(left, one, right, other),
-            _ => false,
-        },
-        _ => other.is_none(),
-    }
-}
-
-// Whether the capabilities in two texts are the same value.
-fn same_capabilities(alloc: Global, earlier: &[u8], shown: &[u8]) -> Result<bool, Memory>
-    ensures { IfOk result (λ answer. answer ≡ same_shown (capabilities_in earlier.now) (capabilities_in shown.now)) }
+// The place of the capabilities.
+fn capabilities(tape: &Tape) -> Option<u32>
+    ensures found { (bytes : List ℕ) → IsRead tape.now bytes → Found tape.now (capabilities_in bytes) result }
+    ensures inside { MatchOption result (Unit {0}) (λ member. member < length tape.now.nodes) }
 {
-    let left = read(alloc, earlier)?;
-    let right = read(alloc, shown)?;
-    Ok(same_values(&left, &right))
+    tape.maybe_member(Some(tape.root()), "capabilities")
+}
+
+// Whether those of two texts are the same value, or neither has them.
+fn same_in(left: &Tape, right: &Tape) -> bool
+    ensures { (a b : List ℕ) → IsRead left.now a → IsRead right.now b → result ≡ same_shown (capabilities_in a) (capabilities_in b) }
+{
+    match capabilities(left) {
+        None => capabilities(right).is_none(),
+        Some(one) => match capabilities(right) {
+            None => false,
+            Some(other) => same(left, one, right, other),
+        },
+    }
+}
+
+// The same of bytes; what is no JSON text has none.
+fn same_capabilities(alloc: Global, a: &[u8], b: &[u8]) -> Result<bool, Memory>
+    ensures { IfOk result (λ answer. answer ≡ same_shown (capabilities_in a.now) (capabilities_in b.now)) }
+{
+    let left = read(alloc, a)?;
+    let right = read(alloc, b)?;
+    match left {
+        None => match right {
+            None => Ok(true),
+            Some(right) => Ok(capabilities(&right).is_none()),
+        },
+        Some(left) => match right {
+            None => Ok(capabilities(&left).is_none()),
+            Some(right) => Ok(same_in(&left, &right)),
+        },
+    }
+}
+
+// The body of a group.
+fn get(list: &[Carried], g: u64) -> Option<&Body>
+    ensures { option_copied result ≡ carried g list.now }
+{
+    for one in list {
+        if one.group == g {
+            return Some(&one.body);
+        }
+    }
+    None
+}
+
+// Whether the group of this number lives.
+fn lives(tables: &Tables, g: u64) -> bool
+    ensures { result ≡ lives_at g tables.now.groups.groups }
+{
+    match tables.groups.get(g) {
+        None => false,
+        Some(kept) => kept.live,
+    }
+}
+
+// A group has this body from now on; those of groups that live no more are dropped.
+fn put(list: &mut Vec<Carried>, tables: &Tables, g: u64, body: Body) -> Result<(), Memory>
+    ensures { OnOk result (list.new.items ≡ with_carried tables.now.groups.groups g body list.old.items) }
+{
+    list.retain(|one| one.group != g && lives(tables, one.group));
+    list.push(Carried { group: g, body })?;
+    Ok(())
 }
 
 impl Carries {
     /// No group has a start. It takes no memory.
-    pub fn new(alloc: Global) -> Carries {
+    pub fn new(alloc: Global) -> Carries
+        ensures { (settings : Settings) → CarriedStand settings result [] }
+    {
         Carries {
-            list: Vec::new(alloc),
+            shown: Vec::new(alloc),
+            configurations: Vec::new(alloc),
         }
     }
 
-    // The place of what a group carries.
-    fn place(&self, g: u64) -> Option<usize> {
-        self.list.iter().position(|c| c.group == g)
-    }
-
-    // The same; where there is none it is made, and what groups carried that live no more is dropped.
-    fn place_for(&mut self, tables: &Tables, g: u64) -> Result<usize, Memory> {
-        if let Some(at) = self.place(g) {
-            return Ok(at);
-        }
-        self.list.retain(|c| match tables.groups.get(c.group) {
-            Some(kept) => kept.live,
-            None => false,
-        });
-        self.list.push(Carried {
-            group: g,
-            shown: None,
-            configuration: None,
-        })?;
-        Ok(self.list.len() - 1)
-    }
-
-    /// S2: whether the capabilities that editors are shown now differ from those that they were shown of an earlier start of the group.
-    pub fn differs(&self, alloc: Global, g: u64, shown: &[u8]) -> Result<bool, Memory> {
-        let Some(at) = self.place(g) else {
-            return Ok(false);
-        };
-        match &self.list[at].shown {
-            Some(earlier) => Ok(!same_capabilities(alloc, earlier.bytes(), shown)?),
+    /// S2: whether the capabilities that editors of a group are shown now differ from those that they were shown of an earlier start.
+    pub fn differs(&self, alloc: Global, g: u64, shown: &[u8]) -> Result<bool, Memory>
+        ensures { IfOk result (λ answer. answer ≡ differs_shown (carried g self.now.shown) shown.now) }
+    {
+        match get(&self.shown, g) {
             None => Ok(false),
+            Some(earlier) => {
+                let same = same_capabilities(alloc, earlier.bytes(), shown)?;
+                Ok(!same)
+            }
         }
     }
 
     /// The configuration of a group, where an editor of it gave one.
-    pub fn configuration(&self, g: u64) -> Option<&Body> {
-        let at = self.place(g)?;
-        match &self.list[at].configuration {
-            Some(body) => Some(body),
-            None => None,
-        }
+    pub fn configuration(&self, g: u64) -> Option<&Body>
+        ensures { option_copied result ≡ carried g self.now.configurations }
+    {
+        get(&self.configurations, g)
     }
 
     /// S2: editors of a group are shown this of a result.
-    pub fn give(&mut self, tables: &Tables, g: u64, shown: Body) -> Result<(), Memory> {
-        let at = self.place_for(tables, g)?;
-        self.list[at].shown = Some(shown);
-        Ok(())
+    pub fn give(&mut self, tables: &Tables, g: u64, shown: Body) -> Result<(), Memory>
+        ensures shown { OnOk result (self.new.shown ≡ with_carried tables.now.groups.groups g shown self.old.shown) }
+        ensures configurations { self.new.configurations ≡ self.old.configurations }
+    {
+        put(&mut self.shown, tables, g, shown)
     }
 
     /// E16: an editor of a group changes the configuration.
-    pub fn configure(&mut self, tables: &Tables, g: u64, body: Body) -> Result<(), Memory> {
-        let at = self.place_for(tables, g)?;
-        self.list[at].configuration = Some(body);
-        Ok(())
+    pub fn configure(&mut self, tables: &Tables, g: u64, body: Body) -> Result<(), Memory>
+        ensures shown { self.new.shown ≡ self.old.shown }
+        ensures configurations { OnOk result (self.new.configurations ≡ with_carried tables.now.groups.groups g body self.old.configurations) }
+    {
+        put(&mut self.configurations, tables, g, body)
     }
 }
