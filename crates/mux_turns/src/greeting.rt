@@ -15,8 +15,8 @@ use message_body::{Body, Memory};
 use rpc_message::initialize;
 use std::alloc::Global;
 
-// A text as a JSON string.
-fn quoted(alloc: Global, text: &[u8]) -> Result<Body, Memory>
+/// A text, which is UTF-8, as a JSON string.
+pub fn quoted(alloc: Global, text: &[u8]) -> Result<Body, Memory>
     ensures { IsUtf8 text.now → IfOk result (λ body. body ≡ quoted text.now) }
 {
     match std::str::from_utf8(text) {

@@ -21,7 +21,7 @@ pub use calls::{call_registered, call_unregistered, call_unregistered_any};
 pub use creates::{created_mark, created_text, held_text, kind_of, offer, told_text};
 pub use doubled::doubles;
 pub use evicting::{end_groups, evict, replace, stage_at};
-pub use greeting::{add_comma, bytes_of, folders_text, opening, shown_of};
+pub use greeting::{add_comma, bytes_of, folders_text, opening, quoted, shown_of};
 pub use group_facts::mux_members;
 pub use initials::{refuse_id, refuse_initialize};
 pub use leaves::{Departure, cancel_request, depart, leaving};
