@@ -1,4 +1,4 @@
--- A small history of the table, and lists as they are read and shown, worked out by the checker.
+-- A small history of the lists of a start, and lists as they are read and shown, worked out by the checker.
 use Rattle.std.proofs.Common.{◌≡◌, ℕ, Bool, true, false, List, [], ◌∷◌, ◌++◌, codes, map, refl}
 use Rattle.std.specs.Prelude.{Some, None}
 use Rattle.std.specs.Fmt.{digits}
@@ -9,9 +9,9 @@ use Rattle.document_model.specs.declared.agreement.Agreement.TheVariants.{NotOpe
 use Rattle.diagnostics_route.specs.declared.last_list.LastList.{LastList}
 use Rattle.diagnostics_route.specs.declared.last_list.Version.{Version}
 use Rattle.diagnostics_route.specs.declared.last_list.Version.TheVariants.{Absent, Null, Integer, Other}
-use Rattle.diagnostics_route.specs.Lists.{Table, full_at, left, nonempty, nothing, sent, taken}
+use Rattle.diagnostics_route.specs.Lists.{nonempty}
 use Rattle.diagnostics_route.specs.Published.{published}
-use Rattle.diagnostics_route.specs.Rows.{number_in}
+use Rattle.diagnostics_route.specs.Rows.{number_for, number_in, with_list}
 use Rattle.diagnostics_route.specs.Shown.{fits, shown_text}
 
 -- a list that came behind three notifications on documents
@@ -19,43 +19,30 @@ abbrev list : List ℕ → List ℕ → Version → Bool → LastList
 list uri body version empty = record { uri = uri; body = body; place = 3; version = version; empty = empty }
 
 -- of three documents lists come, and of the first one again, which keeps its place; the second one's is empty
-abbrev come : Table
-come = taken (list (codes "u") (codes "more") Absent false) (taken (list (codes "w") (codes "last") Absent false) (taken (list (codes "v") (codes "none") Absent true) (taken (list (codes "u") (codes "first") Absent false) nothing)))
+abbrev come : List LastList
+come = with_list (list (codes "u") (codes "more") Absent false) (with_list (list (codes "w") (codes "last") Absent false) (with_list (list (codes "v") (codes "none") Absent true) (with_list (list (codes "u") (codes "first") Absent false) [])))
 
-in_order : map (λ l. l.body) come.lists ≡ codes "more" ∷ codes "none" ∷ codes "last" ∷ []
+in_order : map (λ l. l.body) come ≡ codes "more" ∷ codes "none" ∷ codes "last" ∷ []
 in_order = refl
 
-is_third : number_in (codes "w") come.lists ≡ Some 2
+is_third : number_in (codes "w") come ≡ Some 2
 is_third = refl
 
-not_listed : number_in (codes "x") come.lists ≡ None
+keeps_place : number_for (codes "u") come ≡ 0
+keeps_place = refl
+
+not_listed : number_in (codes "x") come ≡ None
 not_listed = refl
 
-not_empty : nonempty come.lists ≡ 0 ∷ 2 ∷ []
+comes_behind : number_for (codes "x") come ≡ 3
+comes_behind = refl
+
+not_empty : nonempty come ≡ 0 ∷ 2 ∷ []
 not_empty = refl
 
--- editor 5 is sent the third, the second and the first; editor 7 the third
-abbrev told : Table
-told = sent 7 2 (sent 5 0 (sent 5 1 (sent 5 2 come)))
-
-two_there : full_at 5 told ≡ 0 ∷ 2 ∷ []
-two_there = refl
-
--- an empty list of the first document comes: it takes what editor 5 has once it is sent there
-abbrev emptied : Table
-emptied = taken (list (codes "u") (codes "no more") Absent true) told
-
-still_there : full_at 5 emptied ≡ 0 ∷ 2 ∷ []
-still_there = refl
-
-one_there : full_at 5 (sent 5 0 emptied) ≡ 2 ∷ []
-one_there = refl
-
-left_alone : full_at 7 (sent 5 0 emptied) ≡ 2 ∷ []
-left_alone = refl
-
-none_there : full_at 7 (left 7 emptied) ≡ []
-none_there = refl
+-- an empty list of the first document comes, which keeps its place
+emptied : nonempty (with_list (list (codes "u") (codes "no more") Absent true) come) ≡ 2 ∷ []
+emptied = refl
 
 -- which editors a list fits
 

@@ -2,11 +2,9 @@
 #![tactic(auto)]
 
 mod fitting;
-mod full;
 mod last_list;
 mod lists;
 mod reading;
-mod rows;
 mod showing;
 mod without;
 

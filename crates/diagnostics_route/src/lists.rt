@@ -1,18 +1,16 @@
-//! The last lists of diagnostics of one start of a server.
-ghost use Rattle.std.specs.Prelude.{◌≡◌, option_copied, slice_get, IfOk, OnOk};
-ghost use Rattle.diagnostics_route.specs.Lists.{cleared, filled, full_at, left, nonempty, noted, nothing, sent, taken};
-ghost use Rattle.diagnostics_route.specs.Rows.{number_for, number_in};
+//! The last lists of diagnostics of one start of a server: one behind the other, and an index of their numbers by URIs.
+ghost use Rattle.std.specs.Prelude.{◌≡◌, [], None, Some, slice_get, length, option_copied, IfOk, OnOk};
+ghost use Rattle.diagnostics_route.specs.Lists.{nonempty};
+ghost use Rattle.diagnostics_route.specs.Rows.{first_of, number_for, number_in, with_list};
 
-use crate::full::Full;
 use crate::last_list::LastList;
-use crate::rows::Rows;
 use message_body::Memory;
+use number_index::Index;
 use std::alloc::Global;
-use std::collections::BTreeMap;
+use std::collections::BTreeSet;
 use std::marker::Model;
 
-/// The last lists of diagnostics of one start of a server, in the order in which their documents got the first one, and of each
-/// editor the documents whose last list sent there isn't empty.
+/// The last lists of diagnostics of one start of a server, in the order in which their documents got the first one.
 ///
 /// A document has the number of its place in that order, from 0. It keeps it, with its list, until the start is gone, also where that
 /// list is empty.
@@ -22,137 +20,121 @@ use std::marker::Model;
 #[derive(Drop)]
 pub struct Lists {
     alloc: Global,
-    rows: Rows,
-    full: BTreeMap<u64, Full>,
+    lists: Vec<LastList>,
+    index: Index,
 }
 
 impl Model for Lists {
-    ghost use Rattle.diagnostics_route.specs.Lists.{Table};
+    ghost use Rattle.std.specs.Prelude.{List};
+    ghost use Rattle.diagnostics_route.specs.declared.last_list.LastList.{LastList};
+    ghost use Rattle.diagnostics_route.specs.Rows.{Indexes};
 
-    ghost Value = { Table };
+    ghost Value = { List LastList };
 
-    ghost view = { λ l. record { lists = l.rows; full = l.full.entries } };
+    ghost view = { λ l. l.lists.items };
+
+    ghost invariant = { λ l. Indexes l.lists.items l.index };
 }
 
-// A number more at an editor, which may have none yet.
-fn fill(
-    alloc: Global,
-    full: &mut BTreeMap<u64, Full>,
-    editor: u64,
-    number: u64,
-) -> Result<(), Memory>
-    ensures { OnOk result (full.new.entries ≡ filled editor number full.old.entries) }
+// The first of some numbers.
+fn first_of(numbers: &BTreeSet<u64>) -> Option<u64>
+    ensures { result ≡ first_of numbers.now.keys }
 {
-    match full.get_mut(&editor) {
-        Some(numbers) => numbers.add(number),
-        None => {
-            let mut numbers = Full::new(alloc);
-            numbers.add(number)?;
-            full.insert(editor, numbers)?;
-            Ok(())
+    for number in numbers {
+        return Some(*number);
+    }
+    None
+}
+
+// The numbers of the lists that aren't empty.
+fn nonempty_in(alloc: Global, lists: &[LastList]) -> Result<Vec<u64>, Memory>
+    ensures { IfOk result (λ numbers. numbers.items ≡ nonempty lists.now) }
+{
+    let mut numbers = Vec::new(alloc);
+    for number in 0..lists.len() {
+        if !lists[number].empty {
+            numbers.push(number as u64)?;
         }
     }
-}
-
-// One less, where it has some.
-fn clear(full: &mut BTreeMap<u64, Full>, editor: u64, number: u64)
-    ensures { full.new.entries ≡ cleared editor number full.old.entries }
-{
-    if let Some(numbers) = full.get_mut(&editor) {
-        numbers.remove(number);
-    }
-}
-
-// A document's last list was sent to an editor.
-fn note(
-    alloc: Global,
-    full: &mut BTreeMap<u64, Full>,
-    editor: u64,
-    number: u64,
-    empty: bool,
-) -> Result<(), Memory>
-    ensures { OnOk result (full.new.entries ≡ noted editor number empty full.old.entries) }
-{
-    if empty {
-        clear(full, editor, number);
-        Ok(())
-    } else {
-        fill(alloc, full, editor, number)
-    }
+    Ok(numbers)
 }
 
 impl Lists {
     /// No lists. It takes no memory.
     pub fn new(alloc: Global) -> Lists
-        ensures { result ≡ nothing }
+        ensures { result ≡ [] }
     {
         Lists {
             alloc,
-            rows: Rows::new(alloc),
-            full: BTreeMap::new(alloc),
+            lists: Vec::new(alloc),
+            index: Index::new(alloc),
         }
     }
 
-    /// S15: a list came. It is the last one of its document from now on, whose number is given.
-    pub fn take(&mut self, list: LastList) -> Result<u64, Memory>
-        ensures number { IfOk result (λ number. number ≡ number_for list.uri self.old.lists) }
-        ensures table { OnOk result (self.new ≡ taken list self.old) }
+    /// X2: how many documents have a list. It takes no memory.
+    pub fn count(&self) -> u64
+        ensures { result ≡ length self.now }
     {
-        self.rows.take(list)
+        self.lists.len() as u64
     }
 
     /// E12: the number of the document of a URI, where it has a list. It takes no memory.
     pub fn number_of(&self, uri: &[u8]) -> Option<u64>
-        ensures { result ≡ number_in uri.now self.now.lists }
+        ensures { result ≡ number_in uri.now self.now }
     {
-        self.rows.number_of(uri)
+        match self.index.get(uri) {
+            Some(numbers) => first_of(numbers),
+            None => None,
+        }
     }
 
     /// The last list of the document of a number. It takes no memory.
     pub fn get(&self, number: u64) -> Option<&LastList>
-        ensures { option_copied result ≡ slice_get self.now.lists number }
+        ensures { option_copied result ≡ slice_get self.now number }
     {
-        self.rows.get(number)
+        self.lists.get(number as usize)
+    }
+
+    // A list comes in the place of its document's.
+    fn replace(&mut self, number: u64, list: LastList)
+        requires { number_in list.uri self.old ≡ Some number }
+        ensures { self.new ≡ with_list list self.old }
+    {
+        self.lists[number as usize] = list;
+    }
+
+    // The first list of a document comes. Where memory runs out nothing changes.
+    fn push(&mut self, list: LastList) -> Result<u64, Memory>
+        requires { number_in list.uri self.old ≡ None }
+        ensures number { IfOk result (λ number. number ≡ length self.old) }
+        ensures lists { OnOk result (self.new ≡ with_list list self.old) }
+    {
+        let number = self.lists.len() as u64;
+        self.lists.reserve(1)?;
+        self.index.add(self.alloc, list.uri.bytes(), number)?;
+        self.lists.push_reserved(list);
+        Ok(number)
+    }
+
+    /// S15: a list came. It is the last one of its document from now on, whose number is given: that of the document's list before, in
+    /// whose place it comes, or the next one.
+    pub fn take(&mut self, list: LastList) -> Result<u64, Memory>
+        ensures number { IfOk result (λ number. number ≡ number_for list.uri self.old) }
+        ensures lists { OnOk result (self.new ≡ with_list list self.old) }
+    {
+        match self.number_of(list.uri.bytes()) {
+            Some(number) => {
+                self.replace(number, list);
+                Ok(number)
+            }
+            None => self.push(list),
+        }
     }
 
     /// L2: the numbers of the documents whose last list isn't empty, rising.
     pub fn nonempty(&self) -> Result<Vec<u64>, Memory>
-        ensures { IfOk result (λ numbers. numbers.items ≡ nonempty self.now.lists) }
+        ensures { IfOk result (λ numbers. numbers.items ≡ nonempty self.now) }
     {
-        self.rows.nonempty(self.alloc)
-    }
-
-    /// The last list of a document was sent to an editor, which has diagnostics of it from now on or, where that list is empty, none.
-    pub fn sent(&mut self, editor: u64, number: u64) -> Result<(), Memory>
-        ensures { OnOk result (self.new ≡ sent editor number self.old) }
-    {
-        match self.rows.get(number) {
-            Some(list) => note(self.alloc, &mut self.full, editor, number, list.empty),
-            None => Ok(()),
-        }
-    }
-
-    /// X2: the numbers of the documents whose last list sent to an editor isn't empty, rising.
-    pub fn full_at(&self, editor: u64) -> Result<Vec<u64>, Memory>
-        ensures { IfOk result (λ numbers. numbers.items ≡ full_at editor self.now) }
-    {
-        match self.full.get(&editor) {
-            Some(numbers) => numbers.all(self.alloc),
-            None => Ok(Vec::new(self.alloc)),
-        }
-    }
-
-    /// An editor leaves. It takes no memory.
-    pub fn leave(&mut self, editor: u64)
-        ensures { self.new ≡ left editor self.old }
-    {
-        let _numbers = self.full.remove(&editor);
-    }
-
-    /// The start is gone: all ends. It takes no memory.
-    pub fn over(&mut self)
-        ensures { self.new ≡ nothing }
-    {
-        *self = Lists::new(self.alloc);
+        nonempty_in(self.alloc, &self.lists)
     }
 }

@@ -1,12 +1,13 @@
 -- X2: what an editor is told where a start ends is notifications: that a token ends, and that a list of diagnostics is empty.
 use Rattle.std.proofs.Common.{◌≡◌, ℕ, ◌+◌, Bool, true, false, if◌then◌else◌, List, [], ◌∷◌, length, codes, IsUtf8, Option, Some, None, refl, ap, subst, arith}
+use Rattle.std.proofs.lemmas.Str.{encodes-chars}
 use Rattle.std.specs.Prelude.{encode_utf8_all}
 use Rattle.std.specs.Option.{option_and_then, option_map}
 use Rattle.std.specs.Str.{chars}
 use Rattle.json.specs.Print.{quoted}
 use Rattle.json_text.specs.Bare.{nowhere}
 use Rattle.json_text.specs.Json.{Json, word, number, string, array, object, no_items, no_members, member, value}
-use Rattle.json_text.specs.Named.{named_in}
+use Rattle.json_text.specs.Named.{named, named_in}
 use Rattle.json_text.specs.Paths.{key, value_at}
 use Rattle.json_text.specs.Tree.{tree_of}
 use Rattle.json_text.proofs.Compact.{closing_member, closing_none, compact_object, simple_string}
@@ -27,6 +28,7 @@ use Rattle.diagnostics_route.specs.Published.{list_of, published}
 use Rattle.group_rows.specs.Created.{created_mark, created_text}
 use Rattle.group_rows.specs.ExitRows.{empty_params, empty_text, end_params, end_text}
 use Rattle.group_rows.proofs.CreatedTexts.{mark_says}
+use Rattle.group_rows.proofs.ListTexts.{Listed, listed_by}
 use Rattle.group_rows.proofs.Statuses.{quoted_says}
 
 -- The end of a token
@@ -66,6 +68,11 @@ empty_written u spelt =
 pub empty_says : (u : List ℕ) → IsUtf8 u → message_of (empty_text u) ≡ notification (codes "textDocument/publishDiagnostics") (Some (empty_tree u))
 unfolding chars lib.Utf8.encode
 empty_says u spelt = notification_law (codes "textDocument/publishDiagnostics") (Some (empty_tree u)) (Some (empty_params u)) (codes "textDocument/publishDiagnostics", (refl, refl)) (empty_written u spelt) refl (omega arith)
+
+-- it is an empty list of the document
+pub empty_published : (u : List ℕ) → IsUtf8 u → Listed u true (empty_text u)
+unfolding named
+empty_published u spelt = listed_by (empty_text u) (codes "textDocument/publishDiagnostics") (Some (empty_tree u)) (empty_says u spelt) u true (ap Some (encodes-chars u spelt)) refl refl
 
 -- The uri of a list is UTF-8
 

@@ -1,12 +1,14 @@
--- What editors are shown of a list is a notification of the start's method: with the editor's own version, or without one.
-use Rattle.std.proofs.Common.{◌≡◌, ℕ, suc, ◌+◌, ◌≤◌, Bool, true, false, ◌&&◌, List, [], ◌∷◌, ◌++◌, length, length-append, codes, bytes_eq, is_some, if◌then◌else◌, Option, Some, None, refl, sym, ◌∙◌, ap, ap₂, subst, arith}
+-- What editors are shown of a list is a notification of the start's method, with the editor's own version or without one, and a list of the same document that is as empty.
+use Rattle.std.proofs.Common.{◌≡◌, ℕ, suc, ◌+◌, ◌≤◌, Bool, true, false, ◌&&◌, List, [], ◌∷◌, ◌++◌, length, length-append, codes, bytes_eq, is_some, if◌then◌else◌, Option, Some, None, option_map, refl, sym, ◌∙◌, ap, ap₂, subst, arith}
+use Rattle.std.proofs.lemmas.Slice.Eq.{bytes_eq-Decides}
 use Rattle.std.specs.List.{slice_get}
 use Rattle.std.specs.Option.{option_and_then}
 use Rattle.std.specs.Prelude.{MatchOption}
 use Rattle.json_text.specs.declared.span.Span.{Span}
-use Rattle.json_text.specs.Bare.{nowhere}
-use Rattle.json_text.specs.Json.{Json, word, number, string, array, object, Members, no_members, member, ◌then◌, space, value, span_of, IsText, depth, members_depth}
-use Rattle.json_text.specs.Named.{named, named_in}
+use Rattle.json_text.specs.declared.kind.Word.TheVariants as word_of
+use Rattle.json_text.specs.Bare.{bare, bare_members, nowhere}
+use Rattle.json_text.specs.Json.{Json, word, number, string, array, object, no_items, item, Members, no_members, member, ◌then◌, space, value, span_of, IsText, depth, members_depth}
+use Rattle.json_text.specs.Named.{if_named, named, named_in, or_else}
 use Rattle.json_text.specs.Number.{IsNumber}
 use Rattle.json_text.specs.Paths.{key, put_named, value_at}
 use Rattle.json_text.specs.Replace.{Edit, replace}
@@ -15,8 +17,9 @@ use Rattle.json_text.proofs.Forms.{name_and, quotes_of, says, says_members, says
 use Rattle.json_text.proofs.Inside.{Inside, path_inside}
 use Rattle.json_text.proofs.Laws.{tree_sound}
 use Rattle.json_text.proofs.Paths.{named_step}
-use Rattle.json_text.proofs.Put.{named_put, named_put_other}
+use Rattle.json_text.proofs.Put.{named_bare, named_put, named_put_other}
 use Rattle.json_text.proofs.Swaps.{Replaced, in_object, replaced, swapped}
+use Rattle.response_route.specs.json_nodes.specs.Puts.{new_or, put_members}
 use Rattle.response_route.specs.json_nodes.specs.Texts.{between}
 use Rattle.response_route.specs.json_nodes.proofs.Parts.{Entry, Part, all_part, between_is, entries, entry, entry_part, in_first, in_second, part_in, value_span}
 use Rattle.rpc_message.specs.Message.{are_params, by_method, called, given, is_two, message_of, not_message, notification, notification_if}
@@ -25,15 +28,21 @@ use Rattle.rpc_message.proofs.Bodies.{once_put}
 use Rattle.rpc_message.proofs.Meaning.{message_says}
 use Rattle.response_route.specs.document_model.specs.Notices.{edits_in, new_version}
 use Rattle.response_route.specs.document_model.proofs.Bares.{Notice, notice}
+use Rattle.response_route.specs.document_model.specs.doc_text.specs.Changes.{string_text}
+use Rattle.event_model.specs.Members as members
 use Rattle.event_model.specs.Members.{named_of, params_of}
+use Rattle.registrations.specs.mux_members.specs.Finds.{is_array_value}
+use Rattle.registrations.specs.mux_members.specs.Members.{string_at}
+use Rattle.diagnostics_route.specs.declared.last_list.LastList.{LastList}
 use Rattle.diagnostics_route.specs.declared.last_list.Version.{Version}
 use Rattle.diagnostics_route.specs.declared.last_list.Version.TheVariants.{Absent, Null, Integer, Other}
-use Rattle.diagnostics_route.specs.Published.{version_in}
+use Rattle.diagnostics_route.specs.Published.{are_none, is_empty, list_of, published, version_in}
 use Rattle.diagnostics_route.specs.Shown.{edits_by, plain_edits, shown_text}
 use Rattle.group_words.specs.capability_meet.specs.DeclaredTree.{members_without}
 use Rattle.group_words.specs.capability_meet.specs.Parts.{braced, listed}
 use Rattle.group_words.specs.capability_meet.specs.Shown.{other_pairs, without}
-use Rattle.group_rows.proofs.TokenTexts.{notice_changed}
+use Rattle.group_words.specs.capability_meet.proofs.Declares.{named_without}
+use Rattle.group_rows.proofs.TokenTexts.{notice_put, put_given}
 
 -- The pairs of an object, as they stand in a text
 
@@ -130,9 +139,10 @@ record Rest (j : Json) (bytes : List ℕ) : Type 0 where
   written : says tree bytes
   low : depth tree ≤ depth j
   fit : are_params (Some j) ≡ true → are_params (Some tree) ≡ true
+  same : (name : List ℕ) → bytes_eq (codes "version") name ≡ false → named_in name tree ≡ named_in name j
 
 as_it_is : (bs : List ℕ) (j : Json) → Part (value j) 0 bs → Rest j (between (span_of j).from (span_of j).to bs)
-as_it_is bs j p = record { tree = j; written = whole_says bs j p; low = omega arith; fit = λ h. h }
+as_it_is bs j p = record { tree = j; written = whole_says bs j p; low = omega arith; fit = λ h. h; same = λ name other. refl }
 
 rest_of : (bs : List ℕ) (j : Json) → Part (value j) 0 bs → Rest j (without bs (codes "version") None j)
 rest_of bs (object s ms) p = go (is_some (named_in (codes "version") (object s ms)))
@@ -141,18 +151,70 @@ rest_of bs (object s ms) p = go (is_some (named_in (codes "version") (object s m
     pairs = pairs_say bs ms (λ n e g. part_in (value (object s ms)) (entry e) 0 bs p (λ i xs h. entry_part s ms n e i xs h g))
 
     go : (b : Bool) → Rest (object s ms) (if b then braced (other_pairs bs (codes "version") None ms) else between s.from s.to bs)
-    go true = record { tree = object s (members_without (codes "version") ms); written = without_says bs (codes "version") s ms pairs; low = omega (arith, without_low bs (codes "version") ms); fit = λ h. refl }
+    go true = record {
+      tree = object s (members_without (codes "version") ms);
+      written = without_says bs (codes "version") s ms pairs;
+      low = omega (arith, without_low bs (codes "version") ms);
+      fit = λ h. refl;
+      same = λ name other. named_without (codes "version") name ms ∙ ap (λ b. if b then None else named name ms) other;
+    }
     go false = as_it_is bs (object s ms) p
 rest_of bs (word s w) p = as_it_is bs (word s w) p
 rest_of bs (number s ds) p = as_it_is bs (number s ds) p
 rest_of bs (string s cs) p = as_it_is bs (string s cs) p
 rest_of bs (array s js) p = as_it_is bs (array s js) p
 
+-- What params say under other names than `version`
+
+abbrev pub Bared : Option Json → Option Json → Type 0
+Bared old new = (name : List ℕ) → bytes_eq (codes "version") name ≡ false → named_of name new ≡ option_map bare (named_of name old)
+
+named_given : (name : List ℕ) (o : Option Json) → named_of name (given o) ≡ option_map bare (named_of name o)
+named_given name None = refl
+named_given name (Some (word s word_of.Null)) = refl
+named_given name (Some (word s word_of.False)) = refl
+named_given name (Some (word s word_of.True)) = refl
+named_given name (Some (number s ds)) = refl
+named_given name (Some (string s cs)) = refl
+named_given name (Some (array s js)) = refl
+named_given name (Some (object s ms)) = named_bare name ms
+
+-- a message's params are those of its body
+pub said_bared : (body method : List ℕ) (params : Option Json) → message_of body ≡ notification method params → Bared (params_of body) params
+said_bared body method params is name other =
+    let v : Notice method params body = notice method params body is in
+    ap (λ o. named_of name o) (sym v.is_given) ∙ named_given name (named (codes "params") v.members) ∙ ap (λ o. option_map bare (named_of name (named_of (codes "params") o))) (sym v.tree)
+
+named_puts : (new : List ℕ → Option Json) (name : List ℕ) → new name ≡ None → (ms : Members) → named name (put_members new ms) ≡ named name ms
+unfolding named
+named_puts new name none no_members = refl
+named_puts new name none (member s cs j ms) = ap (λ o. or_else o (if_named (bytes_eq name cs) (new_or (new cs) j))) (named_puts new name none ms) ∙ ap (λ o. or_else (named name ms) o) (go (bytes_eq name cs) refl)
+  where
+    go : (b : Bool) → bytes_eq name cs ≡ b → if_named b (new_or (new cs) j) ≡ if_named b j
+    go true e = ap (λ o. Some (new_or o j)) (ap new (sym ((bytes_eq-Decides name cs).0 e)) ∙ none)
+    go false e = refl
+
+put_bared : (new : List ℕ → Option Json) (p : Json) (name : List ℕ) → new name ≡ None → named_of name (put_given new p) ≡ option_map bare (named_in name p)
+put_bared new (object s ms) name none = named_puts new name none (bare_members ms) ∙ named_bare name ms
+put_bared new (word s w) name none = named_given name (Some (word s w))
+put_bared new (number s ds) name none = named_given name (Some (number s ds))
+put_bared new (string s cs) name none = named_given name (Some (string s cs))
+put_bared new (array s js) name none = named_given name (Some (array s js))
+
+-- a text that is a notification of the method, and says of all but the version what old params say
+record Told (old : Option Json) (method text : List ℕ) : Type 0 where
+  params : Option Json
+  says : message_of text ≡ notification method params
+  same : Bared old params
+
+as_it_came : (body method : List ℕ) (params : Option Json) → message_of body ≡ notification method params → (o : Option Json) → params_of body ≡ o → Told o method body
+as_it_came body method params is o at = record { params = params; says = is; same = subst (λ o. Bared o params) at (said_bared body method params is) }
+
 -- A notification whose params have no version
 
-plain_says : (body method : List ℕ) (params : Option Json) → message_of body ≡ notification method params → (new : Option Json) × (message_of (replace body (plain_edits body (params_of body))) ≡ notification method new)
+plain_told : (body method : List ℕ) (params : Option Json) → message_of body ≡ notification method params → Told (params_of body) method (replace body (plain_edits body (params_of body)))
 unfolding value_at
-plain_says body method params is = go (params_of body) refl
+plain_told body method params is = go (params_of body) refl
   where
     v : Notice method params body
     v = notice method params body is
@@ -171,7 +233,7 @@ plain_says body method params is = go (params_of body) refl
         let k : Inside i xs p = path_inside (key (codes "params") ∷ []) root p (ap (λ o. option_and_then (λ j. value_at [] j) o) at) i xs h in
         record { front = k.before; text = k.bytes; back = k.after; whole = k.whole; is = k.stands })
 
-    by : (p : Json) → named (codes "params") v.members ≡ Some p → (new : Option Json) × (message_of (replace body (plain_edits body (Some p))) ≡ notification method new)
+    by : (p : Json) → named (codes "params") v.members ≡ Some p → Told (Some p) method (replace body (plain_edits body (Some p)))
     by p at =
         let r : Rest p (without body (codes "version") None p) = rest_of body p (inside p at) in
         let es : List Edit = plain_edits body (Some p) in
@@ -179,27 +241,29 @@ plain_says body method params is = go (params_of body) refl
         let old : depth (object v.span ls) ≤ 1024 = sound.1 in
         let ns : Members = put_named (codes "params") r.tree ls in
         let made : Replaced body es (object v.span ns) = replaced body es root (object v.span ns) sound.0
-        (in_object v.span ls ns es (named_step (codes "params") ls p r.tree es at (swapped p r.tree (without body (codes "version") None p) r.written))) in (
-          given (Some r.tree),
-          message_says (object v.span ns) (replace body es) made.says (omega (arith, old, r.low, named_below (codes "params") ls p at, members_deep (codes "params") ls r.tree))
+        (in_object v.span ls ns es (named_step (codes "params") ls p r.tree es at (swapped p r.tree (without body (codes "version") None p) r.written))) in
+        record {
+          params = given (Some r.tree);
+          says = message_says (object v.span ns) (replace body es) made.says (omega (arith, old, r.low, named_below (codes "params") ls p at, members_deep (codes "params") ls r.tree))
               ∙ ap (λ b. if b then by_method (named (codes "method") ns) ns else not_message)
               (ap₂ (λ b o. b && is_two o) (once_put (codes "params") ls r.tree) (named_put_other (codes "params") (codes "jsonrpc") ls r.tree refl) ∙ v.test)
               ∙ ap (λ o. by_method o ns) (named_put_other (codes "params") (codes "method") ls r.tree refl ∙ v.named_method)
               ∙ ap₂ (λ i o. called method i o) (named_put_other (codes "params") (codes "id") ls r.tree refl ∙ v.no_id) (named_put (codes "params") ls p r.tree at)
-              ∙ ap (λ b. notification_if b method (given (Some r.tree))) (r.fit (ap (λ o. are_params o) (sym at) ∙ v.fit)),
-        )
+              ∙ ap (λ b. notification_if b method (given (Some r.tree))) (r.fit (ap (λ o. are_params o) (sym at) ∙ v.fit));
+          same = λ name other. named_given name (Some r.tree) ∙ ap (λ o. option_map bare o) (r.same name other);
+        }
 
-    go : (o : Option Json) → params_of body ≡ o → (new : Option Json) × (message_of (replace body (plain_edits body o)) ≡ notification method new)
+    go : (o : Option Json) → params_of body ≡ o → Told o method (replace body (plain_edits body o))
     go (Some p) at = by p (sym (ap (λ o. named_of (codes "params") o) v.tree) ∙ at)
-    go None at = (params, is)
+    go None at = as_it_came body method params is None at
 
 -- A notification under another version
 
 abbrev version_for : List ℕ → List ℕ → Option Json
 version_for digits name = if bytes_eq (codes "version") name then Some (number nowhere digits) else None
 
-own_says : (own body method : List ℕ) (params : Option Json) → IsNumber own → message_of body ≡ notification method params → (new : Option Json) × (message_of (replace body (edits_in own (params_of body))) ≡ notification method new)
-own_says own body method params number_text is = go (params_of body) refl
+own_told : (own body method : List ℕ) (params : Option Json) → IsNumber own → message_of body ≡ notification method params → Told (params_of body) method (replace body (edits_in own (params_of body)))
+own_told own body method params number_text is = go (params_of body) refl
   where
     text : IsValueText (number nowhere own) own
     text = record { tree = number (record { from = 0; to = 0 + length own }) own; stands = ((refl, number_text), refl); same = refl }
@@ -218,20 +282,116 @@ own_says own body method params number_text is = go (params_of body) refl
         by true = refl
         by false = tt
 
-    go : (o : Option Json) → params_of body ≡ o → (new : Option Json) × (message_of (replace body (edits_in own o)) ≡ notification method new)
-    go (Some p) at = notice_changed (new_version own) (version_for own) texts flat body method params is p at
-    go None at = (params, is)
+    go : (o : Option Json) → params_of body ≡ o → Told o method (replace body (edits_in own o))
+    go (Some p) at = record {
+      params = put_given (version_for own) p;
+      says = notice_put (new_version own) (version_for own) texts flat body method params is p at;
+      same = λ name other. put_bared (version_for own) p name (ap (λ b. if b then Some (number nowhere own) else None) other);
+    }
+    go None at = as_it_came body method params is None at
 
--- a list as it is shown
-pub shown_says : (own : Option (List ℕ)) (body method : List ℕ) (params : Option Json) → ((v : List ℕ) → own ≡ Some v → IsNumber v) → message_of body ≡ notification method params → (new : Option Json) × (message_of (shown_text own body) ≡ notification method new)
-shown_says own body method params numbers is = go own numbers (version_in (params_of body))
+-- A list as it is shown
+
+shown_told : (own : Option (List ℕ)) (body method : List ℕ) (params : Option Json) → ((v : List ℕ) → own ≡ Some v → IsNumber v) → message_of body ≡ notification method params → Told (params_of body) method (shown_text own body)
+shown_told own body method params numbers is = go own numbers (version_in (params_of body))
   where
-    go : (own : Option (List ℕ)) → ((v : List ℕ) → own ≡ Some v → IsNumber v) → (version : Version) → (new : Option Json) × (message_of (replace body (edits_by own version body (params_of body))) ≡ notification method new)
-    go (Some v) n (Integer digits) = own_says v body method params (n v refl) is
-    go (Some v) n Absent = (params, is)
-    go (Some v) n Null = (params, is)
-    go (Some v) n Other = (params, is)
-    go None n Absent = (params, is)
-    go None n Null = plain_says body method params is
-    go None n (Integer digits) = plain_says body method params is
-    go None n Other = plain_says body method params is
+    same : Told (params_of body) method body
+    same = as_it_came body method params is (params_of body) refl
+
+    go : (own : Option (List ℕ)) → ((v : List ℕ) → own ≡ Some v → IsNumber v) → (version : Version) → Told (params_of body) method (replace body (edits_by own version body (params_of body)))
+    go (Some v) n (Integer digits) = own_told v body method params (n v refl) is
+    go (Some v) n Absent = same
+    go (Some v) n Null = same
+    go (Some v) n Other = same
+    go None n Absent = same
+    go None n Null = plain_told body method params is
+    go None n (Integer digits) = plain_told body method params is
+    go None n Other = plain_told body method params is
+
+-- it is a notification of the start's method
+pub shown_says : (own : Option (List ℕ)) (body method : List ℕ) (params : Option Json) → ((v : List ℕ) → own ≡ Some v → IsNumber v) → message_of body ≡ notification method params → (new : Option Json) × (message_of (shown_text own body) ≡ notification method new)
+shown_says own body method params numbers is = let t : Told (params_of body) method (shown_text own body) = shown_told own body method params numbers is in (t.params, t.says)
+
+-- a text that is a list of the document of a URI, which is empty or isn't
+pub record Listed (uri : List ℕ) (empty : Bool) (text : List ℕ) : Type 0 where
+  pub list : LastList
+  pub is : published 0 text ≡ Some list
+  pub document : list.uri ≡ uri
+  pub none : list.empty ≡ empty
+
+-- what is read of a member is read of it without places too
+kept : {A : Type 0} (f : Option Json → A) → ((o : Option Json) → f (option_map bare o) ≡ f o) → (name : List ℕ) → bytes_eq (codes "version") name ≡ false → (old new : Option Json) → Bared old new → f (named_of name new) ≡ f (named_of name old)
+kept f reads name other old new same = ap f (same name other) ∙ reads (named_of name old)
+
+text_bare : (o : Option Json) → option_and_then string_text (option_map bare o) ≡ option_and_then string_text o
+text_bare None = refl
+text_bare (Some (word s w)) = refl
+text_bare (Some (number s ds)) = refl
+text_bare (Some (string s cs)) = refl
+text_bare (Some (array s js)) = refl
+text_bare (Some (object s ms)) = refl
+
+array_bare : (o : Option Json) → is_array_value (option_map bare o) ≡ is_array_value o
+array_bare None = refl
+array_bare (Some (word s w)) = refl
+array_bare (Some (number s ds)) = refl
+array_bare (Some (string s cs)) = refl
+array_bare (Some (array s js)) = refl
+array_bare (Some (object s ms)) = refl
+
+none_bare : (o : Option Json) → are_none (members.listed (option_map bare o)) ≡ are_none (members.listed o)
+none_bare None = refl
+none_bare (Some (word s w)) = refl
+none_bare (Some (number s ds)) = refl
+none_bare (Some (string s cs)) = refl
+none_bare (Some (array s no_items)) = refl
+none_bare (Some (array s (item j js))) = refl
+none_bare (Some (object s ms)) = refl
+
+string_named : (name : List ℕ) (o : Option Json) → string_at name o ≡ option_and_then string_text (named_of name o)
+string_named name None = refl
+string_named name (Some j) = refl
+
+module _ (old new : Option Json) (same : Bared old new) where
+  uri_kept : string_at (codes "uri") new ≡ string_at (codes "uri") old
+  uri_kept = string_named (codes "uri") new ∙ kept (λ o. option_and_then string_text o) text_bare (codes "uri") refl old new same ∙ sym (string_named (codes "uri") old)
+
+  array_kept : is_array_value (named_of (codes "diagnostics") new) ≡ is_array_value (named_of (codes "diagnostics") old)
+  array_kept = kept (λ o. is_array_value o) array_bare (codes "diagnostics") refl old new same
+
+  empty_kept : is_empty new ≡ is_empty old
+  empty_kept = kept (λ o. are_none (members.listed o)) none_bare (codes "diagnostics") refl old new same
+
+-- what is a list by its message's params
+pub listed_by : (text method : List ℕ) (params : Option Json) → message_of text ≡ notification method params → (u : List ℕ) (empty : Bool)
+    → string_at (codes "uri") params ≡ Some u → is_array_value (named_of (codes "diagnostics") params) ≡ true → is_empty params ≡ empty → Listed u empty text
+listed_by text method params is u empty document shape none = record {
+  list = list_of 0 text now u;
+  is = ap₂ (λ b o. if b then option_map (list_of 0 text now) o else None) (sym (array_kept now params same) ∙ shape) (sym (uri_kept now params same) ∙ document);
+  document = refl;
+  none = sym (empty_kept now params same) ∙ none;
+}
+  where
+    now : Option Json
+    now = params_of text
+
+    same : Bared now params
+    same = said_bared text method params is
+
+-- a list as it is shown is one of the same document, and as empty
+pub shown_list : (own : Option (List ℕ)) (body method : List ℕ) (params : Option Json) (place : ℕ) (l : LastList) → ((v : List ℕ) → own ≡ Some v → IsNumber v) → message_of body ≡ notification method params → published place body ≡ Some l
+    → Listed l.uri l.empty (shown_text own body)
+shown_list own body method params place l numbers is = go (is_array_value (named_of (codes "diagnostics") old)) (string_at (codes "uri") old) refl refl
+  where
+    old : Option Json
+    old = params_of body
+
+    t : Told old method (shown_text own body)
+    t = shown_told own body method params numbers is
+
+    go : (b : Bool) (o : Option (List ℕ)) → is_array_value (named_of (codes "diagnostics") old) ≡ b → string_at (codes "uri") old ≡ o → (if b then option_map (list_of place body old) o else None) ≡ Some l → Listed l.uri l.empty (shown_text own body)
+    go true (Some u) shape at e =
+        let same : list_of place body old u ≡ l = cc in
+        listed_by (shown_text own body) method t.params t.says l.uri l.empty (uri_kept old t.params t.same ∙ at ∙ ap (λ (x : LastList). Some x.uri) same) (array_kept old t.params t.same ∙ shape) (empty_kept old t.params t.same ∙ ap (λ (x : LastList). x.empty) same)
+    go true None shape at e = absurd (cc)
+    go false o shape at e = absurd (cc)

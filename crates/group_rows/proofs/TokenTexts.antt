@@ -128,6 +128,14 @@ token_written name body bytes is = by_tree (tree_of body) refl is
 
 -- Values of params that give way to others by their names
 
+-- what is given of params then
+abbrev pub put_given : (List ℕ → Option Json) → Json → Option Json
+put_given new (object r js) = Some (object nowhere (put_members new (bare_members js)))
+put_given new (word r x) = given (Some (word r x))
+put_given new (number r x) = given (Some (number r x))
+put_given new (string r x) = given (Some (string r x))
+put_given new (array r x) = given (Some (array r x))
+
 module _ (text : List ℕ → Option (List ℕ)) (new : List ℕ → Option Json) (texts : (name : List ℕ) → IsOptionText (new name) (text name)) (flat : (name : List ℕ) → MatchOption (new name) (Unit {0}) (λ u. depth u ≡ 0)) where
   low : (r s : Span) (js ls : Members) (cs body : List ℕ) → tree_of body ≡ Some (object s ls) → named cs ls ≡ Some (object r js) → depth (put_at [] (object nowhere (put_members new (bare_members js))) (object nowhere (bare_members js))) ≤ 1023
   unfolding put_at
@@ -177,25 +185,29 @@ module _ (text : List ℕ → Option (List ℕ)) (new : List ℕ → Option Json
       by_shape (string r x) at = alone (string r x) refl
       by_shape (array r x) at = alone (array r x) refl
 
-  pub notice_changed : (body m : List ℕ) (ps : Option Json) → message_of body ≡ notification m ps → (p : Json) → params_of body ≡ Some p
-      → (q : Option Json) × (message_of (replace body (put_edits text p)) ≡ notification m q)
+  -- of a notification
+  pub notice_put : (body m : List ℕ) (ps : Option Json) → message_of body ≡ notification m ps → (p : Json) → params_of body ≡ Some p → message_of (replace body (put_edits text p)) ≡ notification m (put_given new p)
   unfolding put_at value_at
-  notice_changed body m ps says p at = by_shape p (sym (ap (λ o. named_of (codes "params") o) v.tree) ∙ at)
+  notice_put body m ps says p at = by_shape p (sym (ap (λ o. named_of (codes "params") o) v.tree) ∙ at)
     where
       v : Notice m ps body
       v = notice m ps body says
 
-      by_shape : (p : Json) → named (codes "params") v.members ≡ Some p → (q : Option Json) × (message_of (replace body (put_edits text p)) ≡ notification m q)
+      with_given : (p : Json) → named (codes "params") v.members ≡ Some p → message_of body ≡ notification m (given (Some p))
+      with_given p at = says ∙ ap (λ z. notification m z) (sym v.is_given ∙ ap given at)
+
+      by_shape : (p : Json) → named (codes "params") v.members ≡ Some p → message_of (replace body (put_edits text p)) ≡ notification m (put_given new p)
       by_shape (object r js) at =
-          let is : given (Some (object r js)) ≡ ps = ap given (sym at) ∙ v.is_given in (
-            Some (object nowhere (put_members new (bare_members js))),
-            notification_puts body [] (object nowhere (bare_members js)) (object v.span v.members) [] r js text new v.tree texts (low r v.span js v.members (codes "params") body v.tree at) m
-                (says ∙ ap (λ z. notification m z) (sym is)) (ap (λ o. option_and_then (λ k. value_at [] k) o) at),
-          )
-      by_shape (word r x) at = (ps, ap message_of (replace_nothing body) ∙ says)
-      by_shape (number r x) at = (ps, ap message_of (replace_nothing body) ∙ says)
-      by_shape (string r x) at = (ps, ap message_of (replace_nothing body) ∙ says)
-      by_shape (array r x) at = (ps, ap message_of (replace_nothing body) ∙ says)
+          notification_puts body [] (object nowhere (bare_members js)) (object v.span v.members) [] r js text new v.tree texts (low r v.span js v.members (codes "params") body v.tree at) m
+          (with_given (object r js) at) (ap (λ o. option_and_then (λ k. value_at [] k) o) at)
+      by_shape (word r x) at = ap message_of (replace_nothing body) ∙ with_given (word r x) at
+      by_shape (number r x) at = ap message_of (replace_nothing body) ∙ with_given (number r x) at
+      by_shape (string r x) at = ap message_of (replace_nothing body) ∙ with_given (string r x) at
+      by_shape (array r x) at = ap message_of (replace_nothing body) ∙ with_given (array r x) at
+
+  pub notice_changed : (body m : List ℕ) (ps : Option Json) → message_of body ≡ notification m ps → (p : Json) → params_of body ≡ Some p
+      → (q : Option Json) × (message_of (replace body (put_edits text p)) ≡ notification m q)
+  notice_changed body m ps says p at = (put_given new p, notice_put body m ps says p at)
 
 -- The daemon's tokens in a request
 

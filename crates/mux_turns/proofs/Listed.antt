@@ -1,6 +1,6 @@
--- S15, E12 and L2: what editors are shown of lists of diagnostics are notifications.
+-- S15, E12 and L2: what editors are shown of lists of diagnostics are notifications, and lists of the same documents.
 use Rattle.std.proofs.Common.{◌≡◌, ℕ, Bool, true, false, List, [], ◌∷◌, map, nat_eq, if◌then◌else◌, refl, ap, ◌∙◌}
-use Rattle.std.specs.Prelude.{Option, None}
+use Rattle.std.specs.Prelude.{Option, None, Some}
 use Rattle.json_text.specs.Json.{Json}
 use Rattle.mux_history.specs.declared.cause.Cause.TheVariants.{FromEditor, FromServer}
 use Rattle.mux_history.specs.declared.out.Out.{Out}
@@ -10,15 +10,18 @@ use Rattle.event_model.specs.Event.{Event, behind, did, said, took}
 use Rattle.event_model.specs.Phases.{Desk, desk_behind, desk_of, phase_told}
 use Rattle.event_model.specs.Settings.{Settings}
 use Rattle.event_model.proofs.Frames.{one_more}
-use Rattle.group_facts.specs.group_rows.proofs.ListTexts.{shown_says}
+use Rattle.group_facts.specs.group_rows.proofs.ListTexts.{Listed, shown_list, shown_says}
 use Rattle.group_facts.specs.group_rows.proofs.Versions as versions
 use Rattle.group_facts.specs.group_rows.proofs.Versions.{AllMeant, version_number}
 use Rattle.group_facts.specs.group_rows.specs.Asks.{asking_next, asking_of}
+use Rattle.group_facts.specs.group_rows.specs.diagnostics_route.specs.declared.last_list.LastList.{LastList}
+use Rattle.group_facts.specs.group_rows.specs.diagnostics_route.specs.Published.{published}
 use Rattle.group_facts.specs.group_rows.specs.diagnostics_route.specs.Shown.{shown_text}
-use Rattle.group_facts.specs.group_rows.specs.Lists.{version_at}
+use Rattle.group_facts.specs.group_rows.specs.Lists.{is_publishing, version_at}
 use Rattle.group_facts.specs.Facts.{IsMeant, Meant}
 use Rattle.group_facts.specs.mux_facts.proofs.Lists.{all_join}
 use Rattle.group_words.proofs.Frames.{home_more}
+use Rattle.mux_tables.specs.Stands.{IsListOf}
 use Rattle.mux_tables.proofs.Asking.{asking_more}
 use Rattle.mux_turns.proofs.Called.{Quiet}
 use Rattle.mux_turns.proofs.Keeping.{notice_told}
@@ -55,6 +58,21 @@ own_notes settings s e events u body method params meant says = shown_says (vers
 -- and without one
 pub plain_notes : (body method : List ℕ) (params : Option Json) → message_of body ≡ notification method params → Notes method (shown_text None body)
 plain_notes body method params says = shown_says None body method params (λ v is. absurd (cc)) says
+
+-- a notification that publishes and is a list
+list_from : (method : List ℕ) (l : LastList) (text : List ℕ) → is_publishing method ≡ true → Notes method text → Listed l.uri l.empty text → IsListOf l.uri l.empty text
+list_from method l text publishes note x = record { method = method; params = note.0; list = x.list; says = note.1; publishes = publishes; given = x.is; document = x.document; none = x.none }
+
+-- what is shown of a list is one of the same document, and as empty: with an editor's own version of a document
+pub own_listed : (settings : Settings) (s e : ℕ) (events : List Event) (u body method : List ℕ) (params : Option Json) (place : ℕ) (l : LastList) → Meant events → message_of body ≡ notification method params → is_publishing method ≡ true → published place body ≡ Some l
+    → IsListOf l.uri l.empty (shown_text (version_at settings s e events u) body)
+own_listed settings s e events u body method params place l meant says publishes one =
+    list_from method l (shown_text (version_at settings s e events u) body) publishes (own_notes settings s e events u body method params meant says)
+    (shown_list (version_at settings s e events u) body method params place l (λ v is. version_number settings s e events u v (meant_same events meant) is) says one)
+
+-- and without one
+pub plain_listed : (body method : List ℕ) (params : Option Json) (place : ℕ) (l : LastList) → message_of body ≡ notification method params → is_publishing method ≡ true → published place body ≡ Some l → IsListOf l.uri l.empty (shown_text None body)
+plain_listed body method params place l says publishes one = list_from method l (shown_text None body) publishes (plain_notes body method params says) (shown_list None body method params place l (λ v is. absurd (cc)) says one)
 
 -- a notification to an editor leaves each editor where it stood, and what starts ask as it was
 pub noted_quiet : (settings : Settings) (e : ℕ) (text : List ℕ) (events : List Event) (method : List ℕ) → Notes method text → Quiet settings events (behind events (ToEditor e text ∷ []))

@@ -65,35 +65,16 @@ fn take(alloc: Global, lists: &mut Lists, body: &str) -> Result<Option<u64>, Mem
     }
 }
 
-fn send(lists: &mut Lists, editor: u64, number: u64) -> Result<(), Memory> {
-    lists.sent(editor, number)
-}
-
-// Whether an editor has diagnostics of these documents.
-fn has(lists: &Lists, editor: u64, numbers: &[u64]) -> Result<bool, Memory> {
-    Ok(lists.full_at(editor)?.as_slice() == numbers)
-}
-
-fn ends(lists: &mut Lists, editor: u64) -> Result<bool, Memory> {
-    lists.leave(editor);
-    let left = lists.full_at(editor)?.is_empty() && lists.number_of(b"file:///v") == Some(1);
-    lists.over();
-    Ok(left && lists.get(0).is_none())
-}
-
 #[test]
-fn an_empty_list_clears_where_it_is_sent(rt: HostRuntime) -> Result<(), Fail> {
+fn an_empty_list_keeps_its_place(rt: HostRuntime) -> Result<(), Fail> {
     let alloc = rt.alloc();
     let mut lists = Lists::new(alloc);
     assert!(rt; take(alloc, &mut lists, FIRST)? == Some(0));
     assert!(rt; take(alloc, &mut lists, OTHER)? == Some(1));
-    send(&mut lists, 5, 1)?;
-    send(&mut lists, 5, 0)?;
-    assert!(rt; has(&lists, 5, &[0, 1])?);
     assert!(rt; take(alloc, &mut lists, NONE)? == Some(0));
+    assert!(rt; lists.count() == 2);
     assert!(rt; lists.nonempty()?.as_slice() == [1].as_slice());
-    send(&mut lists, 5, 0)?;
-    assert!(rt; has(&lists, 5, &[1])?);
-    assert!(rt; ends(&mut lists, 5)?);
+    assert!(rt; lists.number_of(b"file:///v") == Some(1));
+    assert!(rt; lists.get(2).is_none());
     Ok(())
 }

@@ -2,7 +2,7 @@ use Rattle.std.proofs.Common.{◌∙◌, List, ap, arith, subst, sym}
 use Rattle.diagnostics_route.specs.declared.last_list.LastList.{LastList}
 use Rattle.diagnostics_route.specs.Rows.{Indexes, number_in, with_list}
 use Rattle.diagnostics_route.proofs.Numbering.{index_at, put_at}
-use Rattle.diagnostics_route.proofs.rows.Rows.replace.Goals as goal
+use Rattle.diagnostics_route.proofs.lists.Lists.replace.Goals as goal
 
 pub index_mut-requires : goal.index_mut-requires
 index_mut-requires c =

@@ -3,7 +3,7 @@ use Rattle.number_index.specs.Numbers.{Changes, with_number}
 use Rattle.diagnostics_route.specs.declared.last_list.LastList.{LastList}
 use Rattle.diagnostics_route.specs.Rows.{Indexes, number_in, with_list}
 use Rattle.diagnostics_route.proofs.Numbering.{index_behind, put_behind}
-use Rattle.diagnostics_route.proofs.rows.Rows.push.Goals as goal
+use Rattle.diagnostics_route.proofs.lists.Lists.push.Goals as goal
 
 pub invariant_of-self-2 : goal.invariant_of-self-2
 invariant_of-self-2 c =
