@@ -13,14 +13,12 @@ use Rattle.event_model.specs.Row.{each, outs, send}
 use Rattle.event_model.specs.Settings.{Settings}
 use Rattle.event_model.proofs.Frames.{never, one_more}
 use Rattle.group_rows.specs.Asks.{asking_next, asking_of}
-use Rattle.group_rows.specs.diagnostics_route.specs.declared.last_list.LastList.{LastList}
-use Rattle.group_rows.specs.diagnostics_route.specs.Published.{published}
 use Rattle.group_rows.specs.ExitRows.{empty_text}
 use Rattle.group_rows.specs.Lists.{is_publishing}
 use Rattle.group_rows.specs.Live.{unregister_text}
 use Rattle.group_rows.specs.LiveRows.{has_some, unregister_any}
 use Rattle.group_rows.specs.registrations.specs.declared.registration.Registration.{Registration}
-use Rattle.group_rows.proofs.ExitTexts.{empty_says, empty_tree}
+use Rattle.group_rows.proofs.ExitTexts.{empty_published, empty_says, empty_tree}
 use Rattle.group_words.proofs.Frames.{home_more}
 use Rattle.mux_exits.specs.declared.losses.Loss.{Loss}
 use Rattle.mux_exits.specs.declared.losses.Loss.TheVariants.{Emptied, Told, Unregistered}
@@ -110,21 +108,18 @@ publishes : is_publishing (codes "textDocument/publishDiagnostics") ≡ true
 unfolding server_notification
 publishes = refl
 
-empty_published : (uri : List ℕ) → IsUtf8 uri → (k : LastList) × ((published 0 (empty_text uri) ≡ Some k) × ((k.uri ≡ uri) × (k.empty ≡ true)))
-empty_published uri spelt = ?
-
 empty_list : (uri : List ℕ) → IsUtf8 uri → IsListOf uri true (empty_text uri)
 empty_list uri spelt =
     let given = empty_published uri spelt in
     record {
       method = codes "textDocument/publishDiagnostics";
       params = Some (empty_tree uri);
-      list = given.0;
+      list = given.list;
       says = empty_says uri spelt;
       publishes = publishes;
-      given = given.1.0;
-      document = given.1.1.0;
-      none = given.1.1.1;
+      given = given.is;
+      document = given.document;
+      none = given.none;
     }
 
 module _ (settings : Settings) (t u : Tables) (base : List Event) (xs ys : List Out) (live : List Registration) (loss : Loss) (can : CanLose (behind base xs) loss) where
