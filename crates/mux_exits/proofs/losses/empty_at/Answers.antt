@@ -11,14 +11,14 @@ use Rattle.mux_exits.proofs.losses.empty_at.Goals as goal
 pub returns-in_default-clause-lost : goal.returns-in_default-clause-lost
 returns-in_default-clause-lost c = λ settings before x here ready runs st.
     let xs = c.args.losses.now.items in
-    let none = sym (c.list_at.ensures settings before x here ready st) ∙ c.in_default.is in
+    let none = sym (c.in_default.ensures settings before x here ready st) in
     sym (append-nil xs) ∙ ap (λ ws. xs ++ ws) (sym (ap (emptied_at before c.args.e) none))
 
 pub returns-then-not-is_full-clause-lost : goal.returns-then-not-is_full-clause-lost
 returns-then-not-is_full-clause-lost c = λ settings before x here ready runs st.
     let e = c.args.e in
     let l = c.in-Some.list.now in
-    let found = sym (c.list_at.ensures settings before x here ready st) in
+    let found = sym (c.in-Some.ensures settings before x here ready st) in
     emptied_off before e l (slice_get (lists_of x.life.start before) c.args.n) c.args.losses.now.items found (sym (c.is_full.ensures settings before runs st ∙ ap (λ u. is_full e u before) c.bytes.ensures) ∙ c.if-not-is_full.true)
 
 pub returns-clause-inside : goal.returns-clause-inside
@@ -28,5 +28,5 @@ pub returns-clause-lost : goal.returns-clause-lost
 returns-clause-lost c = λ settings before x here ready runs st.
     let e = c.args.e in
     let l = c.in-Some.list.now in
-    let found = sym (c.list_at.ensures settings before x here ready st) in
+    let found = sym (c.in-Some.ensures settings before x here ready st) in
     emptied_on before e l c.in_ok-uri.uri (slice_get (lists_of x.life.start before) c.args.n) c.args.losses.now.items c.push.new.self.items found (sym (c.is_full.ensures settings before runs st ∙ ap (λ u. is_full e u before) c.bytes.ensures) ∙ c.if-not-is_full.false) c.in_ok-uri.ensures c.in_ok-push.ensures.items
