@@ -47,7 +47,7 @@ use Rattle.mux_turns.proofs.Matched.{whole_entry}
 use Rattle.mux_editors.specs.Running.{AreUnasked, Begun, CanBegin, may_begin, running_row}
 use Rattle.mux_editors.specs.Shows.{all_plain}
 use Rattle.mux_editors.proofs.Runs.{asks_all, begins_row, offers_all, ready_run, restores_all, runs_now, stage_now, works_now}
-use Rattle.mux_editors.proofs.Showing.{AreNotices, are_notices, lists_here, meant_here, plain_questions, plain_quiet, plain_row}
+use Rattle.mux_editors.proofs.Showing.{AreKept, are_kept, lists_here, meant_here, plain_questions, plain_quiet, plain_row}
 use Rattle.mux_editors.proofs.Takings.{away_spoken}
 
 module _ (settings : Settings) (t u : Tables) (owed : Owed) (before : List Event) (e : ℕ) (body : List ℕ) (xs ys : List Out) (first : xs ≡ []) where
@@ -163,11 +163,11 @@ module _ (settings : Settings) (t u : Tables) (owed : Owed) (before : List Event
             plain : Alike showing (all_plain e (lists_of s base))
             plain = alike_then (plain_row settings before s e unopened) (alike (ap (all_plain e) (sym (lists_here s before e body))))
 
-            notices : AreNotices (lists_of s base)
-            notices = are_notices s base (meant_here before e body can.meant)
+            kept : AreKept (lists_of s base)
+            kept = are_kept s base (meant_here before e body can.meant)
 
             quiet_late : Quiet settings now last
-            quiet_late = quiet_then settings now late last quiet_offered (quiet_behind settings (all_plain e (lists_of s base)) base vs ws shown (plain_quiet settings e (lists_of s base) notices late))
+            quiet_late = quiet_then settings now late last quiet_offered (quiet_behind settings (all_plain e (lists_of s base)) base vs ws shown (plain_quiet settings e (lists_of s base) kept late))
 
             pub runs_late : is_running (desk_of e last).phase ≡ true
             runs_late = runs_on settings now last quiet_late e runs_here
@@ -183,17 +183,17 @@ module _ (settings : Settings) (t u : Tables) (owed : Owed) (before : List Event
             parked_late : parked_of settings s last ≡ parked_of settings s base
             parked_late = ap (λ (a : Asking). a.parked) (quiet_late.asking s (works_here s).asker) ∙ ap (parked_of settings s) (sym here)
 
-            pub all_begun : (w v : Tables) → Does (λ k events. AllStand settings k events) (register_any (live_of settings s now) e) base (t, owed) xs (w, owed) zs
+            pub all_begun : (w v q : Tables) → Does (λ k events. AllStand settings k events) (register_any (live_of settings s now) e) base (t, owed) xs (w, owed) zs
                 → Does (λ k events. AllStand settings k events) (each (offer s e) (created_of settings s mid).tokens) base (w, owed) zs (v, owed) vs
-                → Does (λ k events. AllStand settings k events) (all_plain e (lists_of s base)) base (v, owed) vs (v, owed) ws
-                → Does (λ t events. Stands settings t events) (each (λ (p : Parked). ask p.body e) (parked_of settings s last)) base v ws u ys → (DocumentsStand settings owed v last → DocumentsStand settings owed u (behind base ys)) → Begun settings before e body owed u ys
-            all_begun w v d o shows one docs =
+                → Does (λ k events. AllStand settings k events) (all_plain e (lists_of s base)) base (v, owed) vs (q, owed) ws
+                → Does (λ t events. Stands settings t events) (each (λ (p : Parked). ask p.body e) (parked_of settings s last)) base q ws u ys → (DocumentsStand settings owed q last → DocumentsStand settings owed u (behind base ys)) → Begun settings before e body owed u ys
+            all_begun w v q d o shows one docs =
                 let first_part = subst (λ rs. Does (λ k events. AllStand settings k events) (register_any rs e) base (t, owed) xs (w, owed) zs) live_here d in
                 let second_part = subst (λ (c : Created). Does (λ k events. AllStand settings k events) (each (offer s e) c.tokens) base (w, owed) zs (v, owed) vs) created_mid o in
                 let third_part = does_alike (λ _. plain) shows in
-                let fourth_part = subst (λ ps. Does (λ t events. Stands settings t events) (each (λ (p : Parked). ask p.body e) ps) base v ws u ys) parked_late one in
+                let fourth_part = subst (λ ps. Does (λ t events. Stands settings t events) (each (λ (p : Parked). ask p.body e) ps) base q ws u ys) parked_late one in
                 let done = whole_entry (λ k events. AllStand settings k events) (running_row settings before e (message_of body)) base (t, owed) (u, owed) xs ys first (st, ds)
-                (does_alike (λ _. row_is) (does_then first_part (does_then second_part (does_then third_part (all_does settings v u owed owed base ws ys fourth_part (λ _ k. docs k)))))) in
+                (does_alike (λ _. row_is) (does_then first_part (does_then second_part (does_then third_part (all_does settings q u owed owed base ws ys fourth_part (λ _ k. docs k)))))) in
                 let told_first = outs (register_any live e) (behind base []) in
                 let told_next = outs offering (behind (behind base []) told_first) in
                 let told_last = outs showing (behind (behind (behind base []) told_first) told_next) in
@@ -203,7 +203,7 @@ module _ (settings : Settings) (t u : Tables) (owed : Owed) (before : List Event
                       (all_join (IsQuestion e) told_first (outs (after offering (after showing asking)) (behind (behind base []) told_first)) (restores_all e live called (behind base []))
                       (all_join (IsQuestion e) told_next (outs (after showing asking) (behind (behind (behind base []) told_first) told_next)) (offers_all s e (created_of settings s before).tokens (behind (behind base []) told_first))
                       (all_join (IsQuestion e) told_last (outs asking (behind (behind (behind (behind base []) told_first) told_next) told_last))
-                      (subst (AllByRecursion (IsQuestion e)) (sym (plain.sends (behind (behind (behind base []) told_first) told_next))) (plain_questions settings e (lists_of s base) notices (behind (behind (behind base []) told_first) told_next)))
+                      (subst (AllByRecursion (IsQuestion e)) (sym (plain.sends (behind (behind (behind base []) told_first) told_next))) (plain_questions settings e (lists_of s base) kept (behind (behind (behind base []) told_first) told_next)))
                       (asks_all e (parked_of settings s base) waiting (behind (behind (behind (behind base []) told_first) told_next) told_last)))));
                 }
 

@@ -47,11 +47,11 @@ module _ (settings : Settings) (old t : Tables) (before : List Event) (e g s : �
   Owes = owes g (noticing settings before g s e body what)
 
   -- where the start is ready
-  pub noticed : (p : ℕ) (x : Start) (zs : List Out) → slice_get old.lasts.items p ≡ Some x → x.life.stage ≡ Ready → home_of settings e before ≡ Some x.life.group
+  pub noticed : (p : ℕ) (x : Start) (v : Tables) (zs : List Out) → slice_get old.lasts.items p ≡ Some x → x.life.stage ≡ Ready → home_of settings e before ≡ Some x.life.group
       → ((z : Start) (bodies : List (List ℕ)) → slice_get t.lasts.items p ≡ Some z → z.life.stage ≡ Ready → owed ≡ to z.life.start bodies → Does (λ k events. AllStand settings k events) (to_start z.life.start bodies) base (t, owes z.life.group bodies) xs (t, nothing_owed) ys)
-      → ((z : Start) → slice_get t.lasts.items p ≡ Some z → z.life.stage ≡ Ready → Does (λ k events. AllStand settings k events) (show_opened settings z.life.start e what) base (t, nothing_owed) ys (t, nothing_owed) zs)
-      → Does (λ k events. AllStand settings k events) (document_row settings before e body what) base (t, Owes) xs (t, nothing_owed) zs
-  noticed p x zs at ready there pays shows =
+      → ((z : Start) → slice_get t.lasts.items p ≡ Some z → z.life.stage ≡ Ready → Does (λ k events. AllStand settings k events) (show_opened settings z.life.start e what) base (t, nothing_owed) ys (v, nothing_owed) zs)
+      → Does (λ k events. AllStand settings k events) (document_row settings before e body what) base (t, Owes) xs (v, nothing_owed) zs
+  noticed p x v zs at ready there pays shows =
       let last = st.lasts.each p x at in
       let group : x.life.group ≡ g = same_item (sym there ∙ home) in
       let own : x.life.start ≡ s = same_item (sym last.start ∙ (ap (λ n. start_of n before) group ∙ starts)) in
@@ -65,7 +65,7 @@ module _ (settings : Settings) (old t : Tables) (before : List Event) (e g s : �
       (pays z.0 told z.1.0 ready_z (are ∙ (ap (to s) is ∙ ap (λ n. to n told) (sym start)))) in
       let told_so = subst (λ bs. Does (λ k events. AllStand settings k events) (to_start s told) base (t, owes g bs) xs (t, nothing_owed) ys) (sym is)
       (subst (λ n. Does (λ k events. AllStand settings k events) (to_start n told) base (t, owes g told) xs (t, nothing_owed) ys) start paid) in
-      let shown_so = subst (λ n. Does (λ k events. AllStand settings k events) (show_opened settings n e what) base (t, nothing_owed) ys (t, nothing_owed) zs) start (shows z.0 z.1.0 ready_z) in
+      let shown_so = subst (λ n. Does (λ k events. AllStand settings k events) (show_opened settings n e what) base (t, nothing_owed) ys (v, nothing_owed) zs) start (shows z.0 z.1.0 ready_z) in
       does_alike (λ _. is_first row_is (ap is_ready stage)) (does_then told_so shown_so)
 
   -- and where it isn't

@@ -15,10 +15,6 @@ IsUnused id x = AllByRecursion (λ (a : Ask). is_under id a ≡ false) x.asks ×
 abbrev pub Fits : Asking → Ask → Type 0
 Fits x a = HasText a × IsUnused (Some a.id) x
 
--- a notification
-abbrev pub IsNotice : List ℕ → Type 0
-IsNotice body = (method : List ℕ) × (params : Option Json) × (message_of body ≡ notification method params)
-
 -- bodies that were held of a token: notifications that publish no diagnostics
 abbrev pub IsHeld : List ℕ → Type 0
 IsHeld body = (method : List ℕ) × (params : Option Json) × (message_of body ≡ notification method params) × (is_publishing method ≡ false)

@@ -139,6 +139,7 @@ pub fn begin(
     requires { e < length tables.old.editors }
     ensures requests { tables.new.requests ≡ tables.old.requests }
     ensures versions { tables.new.versions ≡ tables.old.versions }
+    ensures count { OnOk result (length tables.new.editors ≡ length tables.old.editors) }
     ensures rest { OnOk result (map unasked tables.new.lasts.items ≡ map unasked tables.old.lasts.items) }
     ensures begun { (settings : Settings) (owed : Owed) (before : List Event) (body : List ℕ) → is_served (desk_of e before).phase ≡ true
         → makes_running (message_of body) ≡ true → begins ≡ may_begin (desk_of e before).phase → outs.old ≡ []

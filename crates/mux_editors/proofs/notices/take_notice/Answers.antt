@@ -35,7 +35,7 @@ returns-in_ok-show_opened-in-Some-clause-does c = λ settings before body method
     let rest = c.in_ok-begin.ensures.rest ∙ ap (λ ls. map unasked ls.items) c.hear_notice.ensures.lasts in
     let p = c.in-Some.g in
     let x = item_at c.args.tables.now.lasts.items p c.in-Some.ensures.inside in
-    then_rest begun.done (noticed settings c.args.tables.now u before e g s body what c.begin.new.outs c.pay.new.outs c.in_ok-owed.owed rest st home starts owed.0 c.in_ok-pay.ensures.outs p x.0 c.show_opened.new.outs x.1 (c.in-Some.ensures.ready x.0 x.1) (c.in-Some.ensures.home settings before x.0 x.1 st)
+    then_rest begun.done (noticed settings c.args.tables.now u before e g s body what c.begin.new.outs c.pay.new.outs c.in_ok-owed.owed rest st home starts owed.0 c.in_ok-pay.ensures.outs p x.0 c.show_opened.new.tables c.show_opened.new.outs x.1 (c.in-Some.ensures.ready x.0 x.1) (c.in-Some.ensures.home settings before x.0 x.1 st)
     (λ z bodies at ready are. c.in_ok-pay.ensures.does settings base p z bodies at ready are)
     (λ z at ready. c.in_ok-show_opened-in-Some.ensures.does settings base body method params z read says at ready (meant_here before e body meant)))
 

@@ -50,9 +50,11 @@ returns-in_ok-resume-in-Some-clause-begun c = λ settings owed before body serve
     let offered = behind_offers.outs in
     let there = ap (λ ls. slice_get ls.items g) c.offer_live.ensures.lasts ∙ here in
     let ws = c.show_all.new.outs in
+    let q = c.show_all.new.tables in
     let shows = c.in_ok-show_all-in-Some.ensures.does settings owed base x.0 there ready (meant_here before e body can.meant) in
     let shown = (shows.done behind_offers.stands).outs in
-    all_begun settings t u owed before e body xs ys first served runs begins st ds g x.0 x.1 ready home can zs told vs offered ws shown w v restored offers shows
-    (c.in_ok-resume-in-Some.ensures.does settings base x.0 there ready (runs_late settings t u owed before e body xs ys first served runs begins st ds g x.0 x.1 ready home can zs told vs offered ws shown)
+    let still = ap (λ ls. slice_get ls.items g) c.show_all.ensures.lasts ∙ there in
+    all_begun settings t u owed before e body xs ys first served runs begins st ds g x.0 x.1 ready home can zs told vs offered ws shown w v q restored offers shows
+    (c.in_ok-resume-in-Some.ensures.does settings base x.0 still ready (runs_late settings t u owed before e body xs ys first served runs begins st ds g x.0 x.1 ready home can zs told vs offered ws shown)
     (home_late settings t u owed before e body xs ys first served runs begins st ds g x.0 x.1 ready home can zs told vs offered ws shown) (works_late settings t u owed before e body xs ys first served runs begins st ds g x.0 x.1 ready home can zs told vs offered ws shown))
     (λ d. c.in_ok-resume-in-Some.ensures.documents settings owed base d)

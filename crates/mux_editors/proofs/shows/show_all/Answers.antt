@@ -11,14 +11,12 @@ use Rattle.mux_editors.specs.Shows.{show_at}
 use Rattle.mux_editors.proofs.Showing.{lists_behind}
 use Rattle.mux_editors.proofs.shows.show_all.Goals as goal
 
-pub returns : goal.returns
-returns c = record {
-  does = λ settings owed base x here ready meant.
-      let t = c.args.tables.now in
-      let s = x.life.start in
-      let xs = c.args.outs.now in
-      does_knowing (λ k.
-      let those = c.deref.ensures.value ∙ (c.in_ok-numbers.ensures settings (behind base xs) x here ready k.0 ∙ ap nonempty (lists_behind s base xs)) in
-      subst (λ ns. Does (λ k events. AllStand settings k events) (each (show_at c.args.e (lists_of s base)) ns) base (t, owed) xs (t, owed) c.show_each.new.outs) those
-      (c.in_ok-show_each.ensures.does settings owed base x here ready meant));
-}
+pub returns-clause-does : goal.returns-clause-does
+returns-clause-does c = λ settings owed base x here ready meant.
+    let t = c.args.tables.now in
+    let s = x.life.start in
+    let xs = c.args.outs.now in
+    does_knowing (λ k.
+    let those = c.deref.ensures.value ∙ (c.in_ok-numbers.ensures settings (behind base xs) x here ready k.0 ∙ ap nonempty (lists_behind s base xs)) in
+    subst (λ ns. Does (λ k events. AllStand settings k events) (each (show_at c.args.e (lists_of s base)) ns) base (t, owed) xs (c.show_each.new.tables, owed) c.show_each.new.outs) those
+    (c.in_ok-show_each.ensures.does settings owed base x here ready meant))
