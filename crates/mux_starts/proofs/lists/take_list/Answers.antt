@@ -70,7 +70,7 @@ returns-in_ok-tell_each-in-Some-clause-does c = λ settings before body method p
     let given = given_one settings s before body place counted l one in
     let moved = c.in_ok-publish-in-Some.ensures.stands settings before body method params s x here ready at says class given st in
     let docs = c.in_ok-publish-in-Some.ensures.documents settings nothing_owed before body method params s x here ready at says st ds in
-    let uri = c.bytes.ensures ∙ ap (λ w. w) c.in_ok-uri-in-Some.ensures in
+    let uri = c.bytes.ensures ∙ c.in_ok-uri-in-Some.ensures in
     let alone = subst (λ b. published place b ≡ Some l) (sym is_body) one in
     let listed = subst (λ ts. AllByRecursion (IsListed l.uri l.empty) ts) (sym so) (all_listed settings before s l meant method params place note class alone c.deref.result.now) in
     whole_entry (λ k events. AllStand settings k events) (list_row settings s before body) base (u, nothing_owed) (c.tell_each.new.tables, nothing_owed) xs ys first (moved, docs)
