@@ -38,7 +38,7 @@ use Rattle.mux_turns.specs.group_facts.specs.Facts.{IsMeant, Meant}
 use Rattle.mux_turns.specs.mux_facts.proofs.Lists.{all_join}
 use Rattle.mux_turns.specs.group_facts.specs.Why.{IsQuestion, has_method}
 use Rattle.mux_turns.proofs.Called.{Quiet, each_quiet, quiet_none}
-use Rattle.mux_turns.proofs.Listed.{Notes, meant_same, noted_quiet, own_list, plain_list, plain_notes}
+use Rattle.mux_turns.proofs.Listed.{Notes, meant_same, noted_quiet, own_listed, plain_listed, plain_notes}
 use Rattle.mux_editors.specs.Shows.{all_plain, full_text, last_text, show_at, show_plain}
 
 -- A list of a document that isn't open fits, and is shown without a version
@@ -214,7 +214,7 @@ module _ (settings : Settings) (s e : ℕ) (events : List Event) where
           let k : IsKept l = found_one IsKept (is_of u) l (lists_of s events) (are_kept s events meant) at in
           let same : text_of l ≡ text = cc in
           subst (λ w. IsListOf u false w) same (subst (λ v. IsListOf v false (text_of l)) (named u (lists_of s events) l at)
-          (subst (λ b. IsListOf l.uri b (text_of l)) none (own_list l.body k.method k.params k.place l k.says k.publishes k.given settings s e events l.uri meant)))
+          (subst (λ b. IsListOf l.uri b (text_of l)) none (own_listed settings s e events l.uri l.body k.method k.params k.place l meant k.says k.publishes k.given)))
       one l at true b none h = absurd (cc)
       one l at false false none h = absurd (cc)
 
@@ -226,4 +226,4 @@ module _ (settings : Settings) (s e : ℕ) (events : List Event) where
 pub plain_shown : (s : ℕ) (events : List Event) (n : ℕ) (l : LastList) → Meant events → slice_get (lists_of s events) n ≡ Some l → IsListOf l.uri l.empty (shown_text None l.body)
 plain_shown s events n l meant at =
     let k : IsKept l = kept_at (lists_of s events) n l (are_kept s events meant) at in
-    plain_list l.body k.method k.params k.place l k.says k.publishes k.given
+    plain_listed l.body k.method k.params k.place l k.says k.publishes k.given

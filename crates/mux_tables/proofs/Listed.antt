@@ -12,7 +12,6 @@ use Rattle.event_model.specs.Requests.{answered_id}
 use Rattle.event_model.specs.Settings.{Settings}
 use Rattle.event_model.specs.Stages.{Life, is_first_result, is_initializing, life_of}
 use Rattle.diagnostics_route.specs.declared.last_list.LastList.{LastList}
-use Rattle.diagnostics_route.specs.Lists.{Table, taken}
 use Rattle.diagnostics_route.specs.Published.{published}
 use Rattle.diagnostics_route.specs.Rows.{is_of, number_from, number_in, with_list}
 use Rattle.focus_switch.specs.Documents.{Documents}
@@ -35,13 +34,13 @@ use Rattle.mux_tables.proofs.Starts.{read_here, read_same, start_at_place}
 use Rattle.mux_tables.proofs.TokenMoves.{heard_all, origins_stay}
 
 -- what is kept of a start that is ready
-pub lists_seen : (settings : Settings) (t : Tables) (events : List Event) (g : ℕ) (x z : Start) → slice_get t.lasts.items g ≡ Some x → g < length t.lasts.items → z ≡ get_or t.lasts.items g z → x.life.stage ≡ Ready → Stands settings t events → z.lists.lists ≡ lists_of x.life.start events
+pub lists_seen : (settings : Settings) (t : Tables) (events : List Event) (g : ℕ) (x z : Start) → slice_get t.lasts.items g ≡ Some x → g < length t.lasts.items → z ≡ get_or t.lasts.items g z → x.life.stage ≡ Ready → Stands settings t events → z.lists ≡ lists_of x.life.start events
 lists_seen settings t events g x z at within read ready st =
-    ap (λ (w : Start). w.lists.lists) (read_same t.lasts.items g z x within read at) ∙ ready_lists x.life.stage (lists_of x.life.start events) x.lists.lists ready ((st.lasts.each g x at).parts of_lists)
+    ap (λ (w : Start). w.lists) (read_same t.lasts.items g z x within read at) ∙ ready_lists x.life.stage (lists_of x.life.start events) x.lists ready ((st.lasts.each g x at).parts of_lists)
 
 -- S15
-module _ (settings : Settings) (t u : Tables) (events : List Event) (g s : ℕ) (x z : Start) (body method : List ℕ) (params : Option Json) (list : LastList) (kept : Table) (is : slice_get t.lasts.items g ≡ Some x) (at : slice_get (map start_in t.lasts.items) g ≡ Some s) (within : g < length t.lasts.items) (read : z ≡ get_or t.lasts.items g z)
-    (stage : x.life.stage ≡ Ready) (says : message_of body ≡ notification method params) (class : is_publishing method ≡ true) (gives : published (sayings_of s events) body ≡ Some list) (puts : kept ≡ taken list z.lists)
+module _ (settings : Settings) (t u : Tables) (events : List Event) (g s : ℕ) (x z : Start) (body method : List ℕ) (params : Option Json) (list : LastList) (kept : List LastList) (is : slice_get t.lasts.items g ≡ Some x) (at : slice_get (map start_in t.lasts.items) g ≡ Some s) (within : g < length t.lasts.items) (read : z ≡ get_or t.lasts.items g z)
+    (stage : x.life.stage ≡ Ready) (says : message_of body ≡ notification method params) (class : is_publishing method ≡ true) (gives : published (sayings_of s events) body ≡ Some list) (puts : kept ≡ with_list list z.lists)
     (set : u.lasts.items ≡ slice_set t.lasts.items g (record z { lists = kept })) (es : u.editors ≡ t.editors) (gs : u.groups ≡ t.groups) (now : u.course ≡ t.course) (os : u.origins ≡ t.origins) (r : u.requests ≡ t.requests) where
   abbrev ev : Event
   ev = took (FromServer z.life.start body) (message_of body)
@@ -55,11 +54,11 @@ module _ (settings : Settings) (t u : Tables) (events : List Event) (g s : ℕ) 
   ready : z.life.stage ≡ Ready
   ready = ap (λ (w : Start). w.life.stage) (read_same t.lasts.items g z x within read is) ∙ stage
 
-  publishes : Stands settings t events → ListsAt z.life.stage (lists_of z.life.start (events ++ ev ∷ [])) kept.lists
+  publishes : Stands settings t events → ListsAt z.life.stage (lists_of z.life.start (events ++ ev ∷ [])) kept
   publishes st =
       let runs : (life_of z.life.start events).stage ≡ Ready = ap (λ (l : Life). l.stage) ((st.lasts.each g z here).parts of_life) ∙ ready in
-      subst (λ k. ListsAt k (lists_of z.life.start (events ++ ev ∷ [])) kept.lists) (sym ready)
-      (ap (λ (w : Table). w.lists) puts ∙ (ap (with_list list) (lists_seen settings t events g z z here within read ready st)
+      subst (λ k. ListsAt k (lists_of z.life.start (events ++ ev ∷ [])) kept) (sym ready)
+      (puts ∙ (ap (with_list list) (lists_seen settings t events g z z here within read ready st)
       ∙ sym (listed z.life.start z.life.start events body method (message_of body) params says list refl runs class (ap (λ n. published (sayings_of n events) body) own ∙ gives))))
 
   no_result : (b : Bool) → (is_first_result (message_of body) && b) ≡ false

@@ -34,7 +34,7 @@ ready_lists stage lists kept is s = subst (λ k. ListsAt k lists kept) is s
 
 -- the event leaves them
 pub lists_by_stay : (settings : Settings) (limit : ℕ) (x : Start) (events : List Event) (ev : Event) → ListsStay x.life.start events ev → PartStands of_lists settings limit x events → PartStands of_lists settings limit x (events ++ ev ∷ [])
-lists_by_stay settings limit x events ev same h = subst (λ ls. ListsAt x.life.stage ls x.lists.lists) (sym (lists_more x.life.start events ev ∙ same)) h
+lists_by_stay settings limit x events ev same h = subst (λ ls. ListsAt x.life.stage ls x.lists) (sym (lists_more x.life.start events ev ∙ same)) h
 
 -- where a start goes on
 pub begun_lists : (g : Stage) (l : Standing) (lists : ℕ → List LastList) (kept : List LastList) → l.stage ≡ g → ListsAt l.stage (lists l.start) kept → ListsAt (begun_at g l).stage (lists (begun_at g l).start) kept

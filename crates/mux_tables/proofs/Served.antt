@@ -26,7 +26,7 @@ use Rattle.mux_tables.specs.declared.tables.Tables.{Tables}
 use Rattle.ask_route.specs.declared.ask.Ask as route
 use Rattle.group_laws.specs.group_rows.specs.Forwarded.{Forwarding, forwarding_behind, forwarding_of, is_under}
 use Rattle.group_laws.specs.group_rows.specs.Asks.{Ask, asks_of, parked_of}
-use Rattle.diagnostics_route.specs.Lists.{Table as ListTable}
+use Rattle.diagnostics_route.specs.declared.last_list.LastList.{LastList}
 use Rattle.group_laws.specs.group_rows.specs.Lists.{lists_of}
 use Rattle.group_laws.specs.group_rows.specs.Live.{live_of}
 use Rattle.group_laws.specs.registrations.specs.declared.registration.Registration.{Registration}
@@ -110,8 +110,8 @@ started_moves settings t u events g s z life at within read is set es gs now os 
         (begun_parked z.life.stage z.life (λ n. asks_of settings n (events ++ took (Started z.life.start) not_message ∷ [])) (λ n. parked_of settings n (events ++ took (Started z.life.start) not_message ∷ [])) z.parked refl (part_quiet of_parked settings t.requests z events (took (Started z.life.start) not_message) refl h))
     part own of_live h = subst (λ (l : Standing). LiveAt l.stage (live_of settings l.start (events ++ took (Started z.life.start) not_message ∷ [])) z.live) (sym is)
         (begun_live z.life.stage z.life (λ n. live_of settings n (events ++ took (Started z.life.start) not_message ∷ [])) z.live refl (part_quiet of_live settings t.requests z events (took (Started z.life.start) not_message) refl h))
-    part own of_lists h = subst (λ (l : Standing). ListsAt l.stage (lists_of l.start (events ++ took (Started z.life.start) not_message ∷ [])) z.lists.lists) (sym is)
-        (begun_lists z.life.stage z.life (λ n. lists_of n (events ++ took (Started z.life.start) not_message ∷ [])) z.lists.lists refl (part_quiet of_lists settings t.requests z events (took (Started z.life.start) not_message) refl h))
+    part own of_lists h = subst (λ (l : Standing). ListsAt l.stage (lists_of l.start (events ++ took (Started z.life.start) not_message ∷ [])) z.lists) (sym is)
+        (begun_lists z.life.stage z.life (λ n. lists_of n (events ++ took (Started z.life.start) not_message ∷ [])) z.lists refl (part_quiet of_lists settings t.requests z events (took (Started z.life.start) not_message) refl h))
 
 -- the start answers a request, or none
 same_table : (limit : ℕ) (x : Forwarding) (t u : Table) → u.requests ≡ t.requests → u.next ≡ t.next → u.limit ≡ t.limit → (IsInOrder t → IsInOrder u) → IdsAt limit x t → IdsAt limit x u
@@ -137,14 +137,14 @@ heard_stops : (t u : Tables) (events : List Event) (s : ℕ) (body : List ℕ) �
 heard_stops t u events s body os = stops_kept t u events (took (FromServer s body) (message_of body)) os refl
     (λ m. same_either (nat_eq s m) (record { stage = stage_hears (life_of m events).stage (message_of body); started = (life_of m events).started }) (life_of m events) (hears_same (life_of m events).stage (message_of body)))
 
-module _ (settings : Settings) (t u : Tables) (events : List Event) (g s : ℕ) (z : Start) (body : List ℕ) (n : Option ℕ) (life : Standing) (ids : Table) (shown : Option (List ℕ)) (parked : List route.Ask) (live : List Registration) (lists : ListTable) (at : slice_get (map number_in t.lasts.items) g ≡ Some s) (within : g < length t.lasts.items) (read : z ≡ get_or t.lasts.items g z)
+module _ (settings : Settings) (t u : Tables) (events : List Event) (g s : ℕ) (z : Start) (body : List ℕ) (n : Option ℕ) (life : Standing) (ids : Table) (shown : Option (List ℕ)) (parked : List route.Ask) (live : List Registration) (lists : List LastList) (at : slice_get (map number_in t.lasts.items) g ≡ Some s) (within : g < length t.lasts.items) (read : z ≡ get_or t.lasts.items g z)
     (awaits : StopAt z.life.stage z.life.stopping (stop_of z.life.start events) → StopAt life.stage life.stopping (stop_of z.life.start events))
     (gives : ShownAt z.life.stage z.shown (result_of z.life.start events) → ShownAt life.stage shown (result_behind z.life.start (result_of z.life.start events) (took (FromServer z.life.start body) (message_of body))))
     (goes_on : (later : List Event) (asked : List Ask) → AsksAt z.life.stage later asked z.asks → AsksAt life.stage later asked z.asks)
     (waits : Stands settings t events → PartStands of_parked settings t.requests z events
     → ParkedAt life.stage (asks_of settings z.life.start (events ++ took (FromServer z.life.start body) (message_of body) ∷ [])) (parked_of settings z.life.start (events ++ took (FromServer z.life.start body) (message_of body) ∷ [])) parked)
     (registers : Stands settings t events → PartStands of_live settings t.requests z events → LiveAt life.stage (live_of settings z.life.start (events ++ took (FromServer z.life.start body) (message_of body) ∷ [])) live)
-    (publishes : Stands settings t events → PartStands of_lists settings t.requests z events → ListsAt life.stage (lists_of z.life.start (events ++ took (FromServer z.life.start body) (message_of body) ∷ [])) lists.lists)
+    (publishes : Stands settings t events → PartStands of_lists settings t.requests z events → ListsAt life.stage (lists_of z.life.start (events ++ took (FromServer z.life.start body) (message_of body) ∷ [])) lists)
     (own : life.start ≡ z.life.start) (group : life.group ≡ z.life.group) (hears : stage_hears z.life.stage (message_of body) ≡ life.stage) (refuses : (is_first_error (message_of body) && is_initializing z.life.stage) ≡ false) (named : NamesAt (answered_id (message_of body)) n)
     (taken : MatchOption n (ids.requests ≡ z.ids.requests) (λ k. ids.requests ≡ without k z.ids.requests)) (next : ids.next ≡ z.ids.next) (limit : ids.limit ≡ z.ids.limit) (order : IsInOrder z.ids → IsInOrder ids)
     (set : u.lasts.items ≡ slice_set t.lasts.items g (record z { life = life; ids = ids; shown = shown; parked = parked; live = live; lists = lists })) (es : u.editors ≡ t.editors) (gs : u.groups ≡ t.groups) (now : u.course ≡ t.course) (os : OriginsMove settings t.origins u.origins events (took (FromServer s body) (message_of body))) (r : u.requests ≡ t.requests) where
@@ -170,7 +170,7 @@ module _ (settings : Settings) (t u : Tables) (events : List Event) (g s : ℕ) 
           (goes_on (events ++ took (FromServer z.life.start body) (message_of body) ∷ []) (asks_of settings z.life.start (events ++ took (FromServer z.life.start body) (message_of body) ∷ [])) (part_quiet of_asks settings t.requests z events (took (FromServer z.life.start body) (message_of body)) refl h))
       part st of_parked h = subst (λ k. ParkedAt life.stage (asks_of settings k (events ++ took (FromServer z.life.start body) (message_of body) ∷ [])) (parked_of settings k (events ++ took (FromServer z.life.start body) (message_of body) ∷ [])) parked) (sym own) (waits st h)
       part st of_live h = subst (λ k. LiveAt life.stage (live_of settings k (events ++ took (FromServer z.life.start body) (message_of body) ∷ [])) live) (sym own) (registers st h)
-      part st of_lists h = subst (λ k. ListsAt life.stage (lists_of k (events ++ took (FromServer z.life.start body) (message_of body) ∷ [])) lists.lists) (sym own) (publishes st h)
+      part st of_lists h = subst (λ k. ListsAt life.stage (lists_of k (events ++ took (FromServer z.life.start body) (message_of body) ∷ [])) lists) (sym own) (publishes st h)
 
 -- what was given stays; one that is late keeps nothing
 later_given : (n : ℕ) (o : Option (List ℕ)) (body : List ℕ) (m : Message) → is_first_result m ≡ false → result_behind n o (took (FromServer n body) m) ≡ o
@@ -255,7 +255,7 @@ result_moves settings t u events g s z body n life ids shown at within read stag
     (part_quiet of_parked settings t.requests z events (took (FromServer z.life.start body) (message_of body)) (result_asks (message_of body) first) h))
     (λ st h. first_live z.life.stage life z.life (live_of settings z.life.start (events ++ took (FromServer z.life.start body) (message_of body) ∷ [])) z.live is stage
     (part_quiet of_live settings t.requests z events (took (FromServer z.life.start body) (message_of body)) (result_asks (message_of body) first) h))
-    (λ st h. first_lists z.life.stage life z.life (lists_of z.life.start (events ++ took (FromServer z.life.start body) (message_of body) ∷ [])) z.lists.lists is stage
+    (λ st h. first_lists z.life.stage life z.life (lists_of z.life.start (events ++ took (FromServer z.life.start body) (message_of body) ∷ [])) z.lists is stage
     (part_quiet of_lists settings t.requests z events (took (FromServer z.life.start body) (message_of body)) (result_tells (message_of body) first) h))
     (ap (λ (l : Standing). l.start) is) (ap (λ (l : Standing). l.group) is)
     (rw (stage, first) refl ∙ ap (λ (l : Standing). l.stage) (sym is)) (no_error (message_of body) first (is_initializing z.life.stage)) named taken next limit order set es gs now (origins_stay settings t.origins u.origins events (took (FromServer s body) (message_of body)) os (λ m. first_result_tokens settings m s events (created_of settings m events) body (message_of body) first)) r

@@ -26,7 +26,6 @@ use Rattle.mux_tables.specs.declared.tables.Tables.{Tables}
 use Rattle.group_laws.specs.group_rows.specs.Forwarded.{forwarding_behind}
 use Rattle.group_laws.specs.group_rows.specs.Ticks.{is_stopping}
 use Rattle.group_laws.specs.group_rows.specs.Asks.{asks_of, parked_of}
-use Rattle.diagnostics_route.specs.Lists.{Table, nothing}
 use Rattle.group_laws.specs.group_rows.specs.Lists.{lists_of}
 use Rattle.group_laws.specs.group_rows.specs.Live.{live_of}
 use Rattle.mux_tables.specs.Stands.{AsksAt, IsLost, IsNew, Lost, OriginsStand, Rise, IdsAt, IdsStand, Part, of_life, of_ids, of_shown, of_stop, of_asks, of_parked, of_live, of_lists, ListsAt, LiveAt, ParkedAt, PartStands, ShownAt, blank, LastStands, LastsStand, Stands}
@@ -55,7 +54,7 @@ spawned_origins origins after events n g last is s = record {
 
 -- the tables of a start that was just spawned
 abbrev pub IsFresh : ℕ → ℕ → ℕ → Start → Type 0
-IsFresh limit n g y = (y.life ≡ spawned n g) × (y.started ≡ false) × (y.ids.requests ≡ []) × (y.ids.next ≡ 2) × (y.ids.limit ≡ limit) × IsInOrder y.ids × (y.shown ≡ None) × (y.asks ≡ []) × (y.parked ≡ []) × (y.live ≡ []) × (y.lists ≡ nothing)
+IsFresh limit n g y = (y.life ≡ spawned n g) × (y.started ≡ false) × (y.ids.requests ≡ []) × (y.ids.next ≡ 2) × (y.ids.limit ≡ limit) × IsInOrder y.ids × (y.shown ≡ None) × (y.asks ≡ []) × (y.parked ≡ []) × (y.live ≡ []) × (y.lists ≡ [])
 
 spawned_last : (settings : Settings) (limit : ℕ) (events : List Event) (n g : ℕ) (y : Start) → ((p : Part) → PartStands p settings limit (blank limit n) events) → IsFresh limit n g y → LastStands settings limit (events ++ did (Spawn n g) not_message ∷ []) g y
 spawned_last settings limit events n g y f new =
@@ -88,8 +87,8 @@ spawned_last settings limit events n g y f new =
         (parked_more settings n events (did (Spawn n g) not_message) refl ∙ (f of_parked).0, new.8)
     part of_live = subst (λ (l : Standing). LiveAt l.stage (live_of settings l.start (events ++ did (Spawn n g) not_message ∷ [])) y.live) (sym new.0)
         (live_more settings n events (did (Spawn n g) not_message) ∙ (f of_live).0, new.9)
-    part of_lists = subst (λ (l : Standing). ListsAt l.stage (lists_of l.start (events ++ did (Spawn n g) not_message ∷ [])) y.lists.lists) (sym new.0)
-        (lists_more n events (did (Spawn n g) not_message) ∙ (f of_lists).0, ap (λ (kept : Table). kept.lists) new.10)
+    part of_lists = subst (λ (l : Standing). ListsAt l.stage (lists_of l.start (events ++ did (Spawn n g) not_message ∷ [])) y.lists) (sym new.0)
+        (lists_more n events (did (Spawn n g) not_message) ∙ (f of_lists).0, new.10)
 
 -- the other groups
 untouched : (settings : Settings) (limit : ℕ) (origins : List ℕ) (events : List Event) (n g j : ℕ) (z : Start) → n ≡ length origins → OriginsStand origins events → (j ≡ g → ⊥) → LastStands settings limit events j z → LastStands settings limit (events ++ did (Spawn n g) not_message ∷ []) j z
@@ -198,11 +197,11 @@ spawn_does settings t u xs ys base n g last is go =
     does_look {Stands = λ t events. Stands settings t events} {f = λ events. send (Spawn (starts_of events) g)} (λ s. ap (λ k. send (Spawn k g)) (s.origins.count ∙ sym last)) (does_send settings (Spawn n g) base t u xs ys is go)
 
 pub found_gives : (settings : Settings) (t u : Tables) (xs ys : List Out) (base : List Event) (n g : ℕ) (y : Start) → n ≡ length t.origins.groups.items → IsNew g (behind base xs) → u.editors ≡ t.editors → u.groups ≡ t.groups → u.course ≡ t.course → u.origins.groups.items ≡ t.origins.groups.items ++ g ∷ [] → u.origins.stopping ≡ t.origins.stopping → u.origins.created ≡ t.origins.created → u.lasts.items ≡ t.lasts.items ++ y ∷ [] → u.requests ≡ t.requests
-    → y.life ≡ spawned n g → y.started ≡ false → y.ids.requests ≡ [] → y.ids.next ≡ 2 → y.ids.limit ≡ t.requests → IsInOrder y.ids → y.shown ≡ None → y.asks ≡ [] → y.parked ≡ [] → y.live ≡ [] → y.lists ≡ nothing → ys ≡ xs ++ Spawn n g ∷ [] → Does (λ t events. Stands settings t events) (spawn g) base t xs u ys
+    → y.life ≡ spawned n g → y.started ≡ false → y.ids.requests ≡ [] → y.ids.next ≡ 2 → y.ids.limit ≡ t.requests → IsInOrder y.ids → y.shown ≡ None → y.asks ≡ [] → y.parked ≡ [] → y.live ≡ [] → y.lists ≡ [] → ys ≡ xs ++ Spawn n g ∷ [] → Does (λ t events. Stands settings t events) (spawn g) base t xs u ys
 found_gives settings t u xs ys base n g y last unfounded es gs now os sk cr ls r life started requests next ends order blank_shown blank_asks blank_parked blank_live blank_lists is =
     spawn_does settings t u xs ys base n g last is (found_moves settings t u (behind base xs) n g y last es gs now os sk cr r (life, started, requests, next, ends, order, blank_shown, blank_asks, blank_parked, blank_live, blank_lists) unfounded ls)
 
 pub respawn_gives : (settings : Settings) (t u : Tables) (xs ys : List Out) (base : List Event) (n g i : ℕ) (x y : Start) → n ≡ length t.origins.groups.items → slice_get t.lasts.items i ≡ Some x → x.life.group ≡ g → x.life.stage ≡ Ended → u.editors ≡ t.editors → u.groups ≡ t.groups → u.course ≡ t.course → u.origins.groups.items ≡ t.origins.groups.items ++ g ∷ [] → u.origins.stopping ≡ t.origins.stopping → u.origins.created ≡ t.origins.created → u.lasts.items ≡ slice_set t.lasts.items i y → u.requests ≡ t.requests
-    → y.life ≡ spawned n g → y.started ≡ false → y.ids.requests ≡ [] → y.ids.next ≡ 2 → y.ids.limit ≡ t.requests → IsInOrder y.ids → y.shown ≡ None → y.asks ≡ [] → y.parked ≡ [] → y.live ≡ [] → y.lists ≡ nothing → ys ≡ xs ++ Spawn n g ∷ [] → Does (λ t events. Stands settings t events) (spawn x.life.group) base t xs u ys
+    → y.life ≡ spawned n g → y.started ≡ false → y.ids.requests ≡ [] → y.ids.next ≡ 2 → y.ids.limit ≡ t.requests → IsInOrder y.ids → y.shown ≡ None → y.asks ≡ [] → y.parked ≡ [] → y.live ≡ [] → y.lists ≡ [] → ys ≡ xs ++ Spawn n g ∷ [] → Does (λ t events. Stands settings t events) (spawn x.life.group) base t xs u ys
 respawn_gives settings t u xs ys base n g i x y last at mine ended es gs now os sk cr ls r life started requests next ends order blank_shown blank_asks blank_parked blank_live blank_lists is =
     subst (λ k. Does (λ t events. Stands settings t events) (spawn k) base t xs u ys) (sym mine) (spawn_does settings t u xs ys base n g last is (respawn_moves settings t u (behind base xs) n g y last es gs now os sk cr r (life, started, requests, next, ends, order, blank_shown, blank_asks, blank_parked, blank_live, blank_lists) i x at mine ended ls))

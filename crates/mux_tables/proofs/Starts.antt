@@ -23,7 +23,6 @@ use Rattle.group_laws.specs.group_rows.specs.Ticks.{is_stopping, stop_of}
 use Rattle.ask_route.specs.declared.ask.Ask as route
 use Rattle.group_laws.specs.group_rows.specs.Asks.{Ask, Parked, asks_of, parked_of}
 use Rattle.diagnostics_route.specs.declared.last_list.LastList.{LastList}
-use Rattle.diagnostics_route.specs.Lists.{Table}
 use Rattle.group_laws.specs.group_rows.specs.Lists.{lists_of}
 use Rattle.group_laws.specs.group_rows.specs.Live.{live_of}
 use Rattle.group_laws.specs.registrations.specs.declared.registration.Registration.{Registration}
@@ -130,8 +129,8 @@ still_live settings limit events ev x y l k q s =
 
 pub still_lists : (settings : Settings) (limit : ℕ) (events : List Event) (ev : Event) (x y : Start) → y.life ≡ x.life → y.lists ≡ x.lists → touches of_lists ev ≡ false → PartStands of_lists settings limit x events → PartStands of_lists settings limit y (events ++ ev ∷ [])
 still_lists settings limit events ev x y l k q s =
-    subst (λ (kept : Table). ListsAt y.life.stage (lists_of y.life.start (events ++ ev ∷ [])) kept.lists) (sym k)
-    (subst (λ (z : Standing). ListsAt z.stage (lists_of z.start (events ++ ev ∷ [])) x.lists.lists) (sym l) (part_quiet of_lists settings limit x events ev q s))
+    subst (λ (kept : List LastList). ListsAt y.life.stage (lists_of y.life.start (events ++ ev ∷ [])) kept) (sym k)
+    (subst (λ (z : Standing). ListsAt z.stage (lists_of z.start (events ++ ev ∷ [])) x.lists) (sym l) (part_quiet of_lists settings limit x events ev q s))
 
 -- one whose answer to `shutdown` isn't awaited
 stop_at : (stage : Stage) (kept : Option (ℕ × ℕ)) (since : Option ℕ) → is_stopping stage ≡ false → StopAt stage kept since
@@ -206,7 +205,7 @@ lists_late Initializing lists kept h = never (sym h)
 lists_late Ready lists kept h = never (sym h)
 
 pub late_lists : (settings : Settings) (limit : ℕ) (events : List Event) (y : Start) → is_late y.life.stage ≡ true → PartStands of_lists settings limit y events
-late_lists settings limit events y h = lists_late y.life.stage (lists_of y.life.start events) y.lists.lists h
+late_lists settings limit events y h = lists_late y.life.stage (lists_of y.life.start events) y.lists h
 
 -- the event `ev n` names start n alone, and start s is the last one of group g, which goes from z to y
 module _ (settings : Settings) (t u : Tables) (events : List Event) (ev : ℕ → Event) (g s : ℕ) (z y : Start) (at : slice_get (map number_in t.lasts.items) g ≡ Some s) (within : g < length t.lasts.items) (read : z ≡ get_or t.lasts.items g z)

@@ -21,7 +21,6 @@ use Rattle.event_model.specs.Settings.{Settings}
 use Rattle.event_model.specs.Spawns.{starts_of, start_of, group_of}
 use Rattle.event_model.specs.Stages.{life_of}
 use Rattle.diagnostics_route.specs.declared.last_list.LastList.{LastList}
-use Rattle.diagnostics_route.specs.Lists.{nothing}
 use Rattle.diagnostics_route.specs.Published.{published}
 use Rattle.editor_session.specs.number_index.specs.Numbers.{numbers_under}
 use Rattle.editor_session.specs.declared.session.Session.{Session}
@@ -245,7 +244,7 @@ PartStands of_stop settings limit x events = StopAt x.life.stage x.life.stopping
 PartStands of_asks settings limit x events = AsksAt x.life.stage events (asks_of settings x.life.start events) x.asks
 PartStands of_parked settings limit x events = ParkedAt x.life.stage (asks_of settings x.life.start events) (parked_of settings x.life.start events) x.parked
 PartStands of_live settings limit x events = LiveAt x.life.stage (live_of settings x.life.start events) x.live
-PartStands of_lists settings limit x events = ListsAt x.life.stage (lists_of x.life.start events) x.lists.lists
+PartStands of_lists settings limit x events = ListsAt x.life.stage (lists_of x.life.start events) x.lists
 
 -- what is kept of the last start of group g stands for what the events say of it
 pub record LastStands (settings : Settings) (limit : ℕ) (events : List Event) (g : ℕ) (x : Start) : Type 0 where
@@ -256,7 +255,7 @@ pub record LastStands (settings : Settings) (limit : ℕ) (events : List Event) 
 
 -- the tables of a start that wasn't spawned
 abbrev pub blank : ℕ → ℕ → Start
-blank limit s = record { life = record { start = s; group = 0; stage = Unspawned; stopping = None }; started = false; ids = record { requests = []; next = 2; limit = limit; spare = 0 }; shown = None; asks = []; parked = []; live = []; lists = nothing }
+blank limit s = record { life = record { start = s; group = 0; stage = Unspawned; stopping = None }; started = false; ids = record { requests = []; next = 2; limit = limit; spare = 0 }; shown = None; asks = []; parked = []; live = []; lists = [] }
 
 -- its number
 abbrev pub number_in : Start → ℕ

@@ -103,6 +103,15 @@ impl Tables {
         self.lasts[g].lists.nonempty()
     }
 
+    /// X2: how many documents the group's last start, which is ready, has published a list of. It takes no memory.
+    pub fn list_count(&self, g: usize) -> u64
+        requires { g < length self.now.lasts.items }
+        ensures { (settings : Settings) (events : List Event) (x : Start) → slice_get self.now.lasts.items g ≡ Some x → x.life.stage ≡ Ready
+            → Stands settings self.now events → result ≡ length (lists_of x.life.start events) }
+    {
+        self.lasts[g].lists.count()
+    }
+
     /// L2: the last list of the document of a number, of the group's last start, which is ready. It takes no memory.
     pub fn list_at(&self, g: usize, n: u64) -> Option<&LastList>
         requires { g < length self.now.lasts.items }

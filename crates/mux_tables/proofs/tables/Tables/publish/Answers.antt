@@ -18,7 +18,7 @@ returns-clause-stages c = stages_stay c.args.self.now.lasts.items c.args.g c.ind
 pub returns-clause-stands : goal.returns-clause-stands
 returns-clause-stands c = λ settings events body method params s x is ready at says class gives st.
     publish_by settings c.args.self.now _ events c.args.g s x c.index_mut-last.result.now body method params c.args.list c.take.new.self is at c.requires c.index_mut-last.ensures.value ready says class gives
-    c.in_ok-_number.ensures.table refl refl refl refl refl refl st
+    c.in_ok-_number.ensures.lists refl refl refl refl refl refl st
 
 pub returns-clause-documents : goal.returns-clause-documents
 returns-clause-documents c = λ settings owed events body method params s x is ready at says st ds.
