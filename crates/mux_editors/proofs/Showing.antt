@@ -199,11 +199,11 @@ module _ (settings : Settings) (s e : ℕ) (events : List Event) where
 
   named : (u : List ℕ) (ls : List LastList) (l : LastList) → find (is_of u) ls ≡ Some l → l.uri ≡ u
   named u [] l h = absurd (cc)
-  named u (k ∷ ls) l h = go (is_of u k) refl h
+  named u (k ∷ ls) l h = go (is_of u k) refl h (named u ls l)
     where
-      go : (b : Bool) → is_of u k ≡ b → (if b then Some k else find (is_of u) ls) ≡ Some l → l.uri ≡ u
-      go true is h = let same : k ≡ l = cc in ap (λ (x : LastList). x.uri) (sym same) ∙ sym ((bytes_eq-Decides u k.uri).0 is)
-      go false is h = named u ls l h
+      go : (b : Bool) → is_of u k ≡ b → (if b then Some k else find (is_of u) ls) ≡ Some l → (find (is_of u) ls ≡ Some l → l.uri ≡ u) → l.uri ≡ u
+      go true is h rest = let same : k ≡ l = cc in ap (λ (x : LastList). x.uri) (sym same) ∙ sym ((bytes_eq-Decides u k.uri).0 is)
+      go false is h rest = rest h
 
   -- it is a list of the document that the message opened, and isn't empty
   pub last_listed : (u text : List ℕ) → Meant events → last_text settings s e events u ≡ Some text → IsListOf u false text

@@ -1,9 +1,9 @@
 -- X1 to X3: a whole entry.
-use Rattle.std.proofs.Common.{◌≡◌, ℕ, ◌<◌, ◌^◌, Bool, true, false, not, ◌&&◌, List, [], ◌∷◌, ◌++◌, append-nil, codes, filter, flat_map, if◌then◌else◌, length, map, refl, ap, sym, subst, ◌∙◌}
+use Rattle.std.proofs.Common.{◌≡◌, ℕ, ◌<◌, ◌^◌, Bool, true, false, not, List, [], ◌∷◌, ◌++◌, append-nil, codes, filter, flat_map, if◌then◌else◌, length, map, refl, ap, sym, subst, ◌∙◌}
 use Rattle.std.specs.Prelude.{Some, slice_get}
-use Rattle.std.specs.List.{AllByRecursion, range_with_len}
+use Rattle.std.specs.List.{AllByRecursion}
 use Rattle.std.specs.Option.{option_map_or}
-use Rattle.std.proofs.lemmas.Bool.{and_parts}
+use Rattle.lsp_method.specs.Class.{server_notification}
 use Rattle.mux_history.specs.declared.cause.Cause.{Cause}
 use Rattle.mux_history.specs.declared.out.Out.{Out}
 use Rattle.rpc_message.specs.Message.{message_of}
@@ -11,7 +11,7 @@ use Rattle.rpc_message.specs.Texts.{request_failed}
 use Rattle.rpc_message.proofs.Fixed.{error_law, id_as_response}
 use Rattle.event_model.specs.Does.{Does, Done}
 use Rattle.event_model.specs.Event.{Event, behind, with_cause}
-use Rattle.event_model.specs.Phases.{Desk, desk_of, editors_of, is_running, needs_server}
+use Rattle.event_model.specs.Phases.{Desk, is_running, needs_server}
 use Rattle.event_model.specs.Row.{Row, choose, each, nothing, outs, ◌⨾◌}
 use Rattle.event_model.specs.Settings.{Settings}
 use Rattle.event_model.specs.Spawns.{group_of}
@@ -21,8 +21,10 @@ use Rattle.event_model.proofs.Places.{get_set_same, same_item}
 use Rattle.event_model.proofs.Turns.{does_knowing, does_then}
 use Rattle.group_rows.specs.Asks.{Ask, asks_of, members_in, running_in}
 use Rattle.group_rows.specs.Created.{Taking, created_of}
-use Rattle.group_rows.specs.ExitRows.{begins_again, ends_group, lose_sent, lose_start, turn_out}
+use Rattle.group_rows.specs.diagnostics_route.specs.declared.last_list.LastList.{LastList}
+use Rattle.group_rows.specs.ExitRows.{begins_again, ends_group, is_full, lose_sent, lose_start, turn_out}
 use Rattle.group_rows.specs.Forwarded.{forwarding_of}
+use Rattle.group_rows.specs.Lists.{is_publishing, lists_of}
 use Rattle.group_rows.specs.Live.{live_of}
 use Rattle.group_rows.specs.LiveTexts.{AreWritten}
 use Rattle.group_rows.specs.Rows.{row_of}
@@ -30,13 +32,15 @@ use Rattle.group_rows.specs.StopRows.{stopped}
 use Rattle.group_rows.specs.registrations.specs.declared.registration.Registration.{Registration}
 use Rattle.group_rows.proofs.Cancels.{cancel_says}
 use Rattle.group_rows.proofs.ExitTexts.{end_says}
+use Rattle.group_rows.proofs.ListsKept.{IsList, lists_kept}
 use Rattle.group_rows.proofs.LiveTexts.{live_written}
-use Rattle.group_words.specs.Houses.{groups_of, home_of, is_home}
-use Rattle.mux_exits.specs.declared.losses.Loss.TheVariants.{Unregistered}
+use Rattle.group_words.specs.Houses.{groups_of}
+use Rattle.mux_exits.specs.declared.losses.Loss.{Loss}
+use Rattle.mux_exits.specs.declared.losses.Loss.TheVariants.{Emptied, Unregistered}
 use Rattle.mux_exits.specs.declared.partings.Parting.{Parting}
-use Rattle.mux_exits.specs.Losses.{CanLose, cancelled, ended, is_mild, live_at, loss_row, lost_at, lost_sent, lost_start, refused}
+use Rattle.mux_exits.specs.Losses.{CanLose, Runs, cancelled, emptied, ended, is_mild, live_at, loss_row, lost_at, lost_sent, lost_start, refused}
 use Rattle.mux_exits.specs.Partings.{AreHome, CanPart, IsOver, IsParting, parting_row}
-use Rattle.mux_exits.proofs.Gathering.{all_join}
+use Rattle.mux_exits.proofs.Gathering.{all_join, all_run, any_of}
 use Rattle.mux_exits.proofs.Rows.{parting_alike}
 use Rattle.mux_exits.proofs.Turning.{adds_row, asking_on, housed_on}
 use Rattle.mux_starts.specs.Refusing.{IsUnready}
@@ -46,7 +50,6 @@ use Rattle.mux_starts.specs.group_facts.specs.Lively.{lives_at}
 use Rattle.mux_starts.specs.group_facts.specs.Settled.{Settled}
 use Rattle.mux_starts.specs.group_facts.proofs.ExitEntry.{Exit}
 use Rattle.mux_starts.specs.group_facts.proofs.Exits.{EndsGroup, ends_live, ends_parts, lost_outs}
-use Rattle.mux_starts.specs.mux_facts.proofs.Lists.{all_filtered}
 use Rattle.mux_starts.proofs.PutOut.{all_at_home, same_home, unready_at}
 use Rattle.mux_tables.specs.declared.tables.Start.{Start}
 use Rattle.mux_tables.specs.declared.tables.Tables.{Tables}
@@ -60,6 +63,7 @@ use Rattle.mux_turns.specs.Welcomes.{AllAsking}
 use Rattle.mux_turns.proofs.Called.{unregister_call}
 use Rattle.mux_turns.proofs.Departing.{behind_first}
 use Rattle.mux_turns.proofs.Failing.{named_all}
+use Rattle.mux_turns.proofs.Listed.{meant_same}
 use Rattle.mux_turns.proofs.Matched.{whole_entry}
 
 -- The last start in this place, as it is kept behind the end of its program
@@ -99,10 +103,6 @@ all_flat : {A B : Type 0} (P : B → Type 0) (Q : A → Type 0) (f : A → List 
 all_flat P Q f one [] h = tt
 all_flat P Q f one (x ∷ xs) h = all_join P (f x) (flat_map f xs) (one x h.0) (all_flat P Q f one xs h.1)
 
-any_of : (xs : List ℕ) → AllByRecursion (λ e. Unit {0}) xs
-any_of [] = tt
-any_of (x ∷ xs) = (tt, any_of xs)
-
 -- numbers that are small
 small_numbers : {A : Type 0} (P : A → Type 0) (number : A → ℕ) (test : A → Bool) → ((a : A) → P a → number a < 2 ^ 64) → (xs : List A) → AllByRecursion P xs → AllByRecursion (λ n. n < 2 ^ 64) (map number (filter test xs))
 small_numbers P number test small [] h = tt
@@ -112,6 +112,15 @@ small_numbers P number test small (x ∷ xs) h = go (test x) (small_numbers P nu
     go true rest = (small x h.0, rest)
     go false rest = rest
 
+-- what ends or is cancelled is no list of diagnostics
+progress_plain : is_publishing (codes "$/progress") ≡ false
+unfolding server_notification
+progress_plain = refl
+
+cancel_plain : is_publishing (codes "$/cancelRequest") ≡ false
+unfolding server_notification
+cancel_plain = refl
+
 module _ (now : List Event) (e : ℕ) where
   refused_can : (ids : List (List ℕ)) → AllByRecursion IsNamed ids → AllByRecursion (CanLose now) (refused e ids)
   refused_can [] h = tt
@@ -119,11 +128,25 @@ module _ (now : List Event) (e : ℕ) where
 
   ended_can : (s : ℕ) (ks : List ℕ) → AllByRecursion (CanLose now) (ended s e ks)
   ended_can s [] = tt
-  ended_can s (k ∷ ks) = (ap is_mild (end_says s k), ended_can s ks)
+  ended_can s (k ∷ ks) = (ap is_mild (end_says s k) ∙ ap not progress_plain, ended_can s ks)
 
   cancelled_can : (ns : List ℕ) → AllByRecursion (λ n. n < 2 ^ 64) ns → AllByRecursion (CanLose now) (cancelled e ns)
   cancelled_can [] h = tt
-  cancelled_can (n ∷ ns) h = (ap is_mild (cancel_says n h.0), cancelled_can ns h.1)
+  cancelled_can (n ∷ ns) h = (ap is_mild (cancel_says n h.0) ∙ ap not cancel_plain, cancelled_can ns h.1)
+
+  lists_can : (before : List Event) (ls : List LastList) → AllByRecursion IsList ls → AllByRecursion (CanLose now) (emptied before e ls)
+  lists_can before [] h = tt
+  lists_can before (l ∷ ls) h = go (is_full e l.uri before) (lists_can before ls h.1)
+    where
+      told : List LastList → List Loss
+      told ks = map (λ (k : LastList). Emptied e k.uri) ks
+
+      rest : List LastList
+      rest = filter (λ (k : LastList). is_full e k.uri before) ls
+
+      go : (b : Bool) → AllByRecursion (CanLose now) (told rest) → AllByRecursion (CanLose now) (told (if b then l ∷ rest else rest))
+      go true more = ((h.0).spelt, more)
+      go false more = more
 
 module _ (settings : Settings) (before : List Event) (cause : Cause) (s : ℕ) (exit : Exit settings before cause s) (h : ℕ) (home : group_of s before ≡ Some h) (live : lives_at h (groups_of settings before) ≡ true) (known : Known settings before) (settled : Settled settings before) where
   abbrev now : List Event
@@ -140,24 +163,21 @@ module _ (settings : Settings) (before : List Event) (cause : Cause) (s : ℕ) (
   sent_can : (e : ℕ) → AllByRecursion (CanLose now) (lost_sent before s e)
   sent_can e = refused_can now e (ids_at e (forwarding_of s before).open_requests) (named_all before e (forwarding_of s before).open_requests (forwarded s))
 
-  abbrev Runs : ℕ → Type 0
-  Runs e = is_running (desk_of e before).phase ≡ true
+  -- lists are kept of documents whose URIs are UTF-8
+  emptied_can : (e : ℕ) → AllByRecursion (CanLose now) (emptied before e (lists_of s before))
+  emptied_can e = lists_can now e before (lists_of s before) (lists_kept s before (meant_same before known.meant))
 
-  start_can : (e : ℕ) → Runs e → AllByRecursion (CanLose now) (lost_start settings before s e)
+  start_can : (e : ℕ) → Runs before e → AllByRecursion (CanLose now) (lost_start settings before s e)
   start_can e runs =
       let P = CanLose now in
       let tokens = begun_tokens e (created_of settings s before) in
       let takes = unanswered_takes e (created_of settings s before) in
       let asks = open_asks e (asks_of settings s before) in
-      let last : AllByRecursion P (Unregistered e ∷ []) = (ap (λ (d : Desk). is_running d.phase) (exit.desk e) ∙ runs, tt) in
-      all_join P (ended s e tokens) (cancelled e takes ++ (cancelled e asks ++ Unregistered e ∷ [])) (ended_can now e s tokens)
-      (all_join P (cancelled e takes) (cancelled e asks ++ Unregistered e ∷ [])
+      let last : AllByRecursion P (Unregistered e ∷ emptied before e (lists_of s before)) = (ap (λ (d : Desk). is_running d.phase) (exit.desk e) ∙ runs, emptied_can e) in
+      all_join P (ended s e tokens) (cancelled e takes ++ (cancelled e asks ++ Unregistered e ∷ emptied before e (lists_of s before))) (ended_can now e s tokens)
+      (all_join P (cancelled e takes) (cancelled e asks ++ Unregistered e ∷ emptied before e (lists_of s before))
       (cancelled_can now e takes (small_numbers (IsTake before) (λ (c : Taking). c.number) _ (λ c k. k.small) (created_of settings s before).takings (known.takes s)))
-      (all_join P (cancelled e asks) (Unregistered e ∷ []) (cancelled_can now e asks (small_numbers (IsAsked s before) (λ (a : Ask). a.number) _ (λ a k. k.small) (asks_of settings s before) (known.asks s).asked)) last))
-
-  all_run : AllByRecursion Runs (running_in settings h before)
-  all_run = all_filtered (λ e. Unit {0}) Runs (λ e. is_running (desk_of e before).phase && is_home h (home_of settings e before)) (λ e is u. (and_parts (is_running (desk_of e before).phase) (is_home h (home_of settings e before)) is).0)
-      (range_with_len 0 (editors_of before)) (any_of (range_with_len 0 (editors_of before)))
+      (all_join P (cancelled e asks) (Unregistered e ∷ emptied before e (lists_of s before)) (cancelled_can now e asks (small_numbers (IsAsked s before) (λ (a : Ask). a.number) _ (λ a k. k.small) (asks_of settings s before) (known.asks s).asked)) last))
 
   lost_can : AllByRecursion (CanLose now) (lost_at settings before s h)
   lost_can = all_join (CanLose now) (flat_map (lost_sent before s) (members_in settings h before)) _
@@ -165,7 +185,7 @@ module _ (settings : Settings) (before : List Event) (cause : Cause) (s : ℕ) (
       (by_stage (is_ready (life_of s before).stage))
     where
       by_stage : (b : Bool) → AllByRecursion (CanLose now) (if b then flat_map (lost_start settings before s) (running_in settings h before) else [])
-      by_stage true = all_flat (CanLose now) Runs (lost_start settings before s) start_can (running_in settings h before) all_run
+      by_stage true = all_flat (CanLose now) (Runs before) (lost_start settings before s) start_can (running_in settings h before) (all_run settings before h)
       by_stage false = tt
 
   all_written : AreWritten (live_at settings before s)

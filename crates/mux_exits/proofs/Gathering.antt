@@ -1,10 +1,21 @@
 -- What editors lose, gathered one after the other.
-use Rattle.std.proofs.Common.{◌≡◌, ℕ, ◌+◌, ◌<◌, ◌≤◌, List, [], ◌∷◌, ◌++◌, append-nil, append_assoc, flat_map, get_or, length, map, take, ap, sym, subst, ◌∙◌}
-use Rattle.std.specs.List.{AllByRecursion}
+use Rattle.std.proofs.Common.{◌≡◌, ℕ, zero, suc, ◌+◌, ◌<◌, ◌≤◌, Bool, true, false, ◌&&◌, List, [], ◌∷◌, ◌++◌, append-nil, append_assoc, filter, flat_map, get_or, if◌then◌else◌, length, map, Option, Some, take, refl, ap, sym, subst, ◌∙◌}
+use Rattle.std.specs.Prelude.{slice_get}
+use Rattle.std.specs.List.{All, AllByRecursion, range_with_len}
+use Rattle.std.proofs.lemmas.Bool.{and_parts}
 use Rattle.std.proofs.lemmas.List.{map-append, take_all, take_more}
+use Rattle.std.proofs.lemmas.List.Elements.{All-from_recursion}
+use Rattle.event_model.specs.Event.{Event}
+use Rattle.event_model.specs.Phases.{desk_of, editors_of, is_running}
+use Rattle.event_model.specs.Settings.{Settings}
+use Rattle.group_rows.specs.Asks.{running_in}
+use Rattle.group_rows.specs.diagnostics_route.specs.declared.last_list.LastList.{LastList}
+use Rattle.group_rows.specs.ExitRows.{is_full}
+use Rattle.group_words.specs.Houses.{home_of, is_home}
 use Rattle.mux_exits.specs.declared.losses.Loss.{Loss}
-use Rattle.mux_exits.specs.declared.losses.Loss.TheVariants.{Told}
-use Rattle.mux_exits.specs.Losses.{IsInside}
+use Rattle.mux_exits.specs.declared.losses.Loss.TheVariants.{Emptied, Told}
+use Rattle.mux_exits.specs.Losses.{IsInside, Runs, emptied, emptied_at}
+use Rattle.mux_starts.specs.mux_facts.proofs.Lists.{all_filtered}
 
 -- one more of a list that is mapped, and the last
 pub map_next : {A B : Type 0} (f : A → B) (items : List A) (i : ℕ) (d : A) (first xs ys : List B) → i < length items → xs ≡ first ++ map f (take i items) → ys ≡ xs ++ f (get_or items i d) ∷ [] → ys ≡ first ++ map f (take (i + 1) items)
@@ -30,6 +41,40 @@ flat_next f items i d first xs ys less so is =
 pub flat_whole : {A B : Type 0} (f : A → List B) (items : List A) (i : ℕ) (first xs : List B) → length items ≤ i → xs ≡ first ++ flat_map f (take i items) → xs ≡ first ++ flat_map f items
 flat_whole f items i first xs past so = so ∙ ap (λ ws. first ++ flat_map f ws) (take_all i items past)
 
+-- one list more of those that are walked, and the last
+pub emptied_more : (before : List Event) (e : ℕ) (ls : List LastList) (n : ℕ) → emptied before e (take (n + 1) ls) ≡ emptied before e (take n ls) ++ emptied_at before e (slice_get ls n)
+emptied_more before e [] zero = refl
+emptied_more before e [] (suc n) = refl
+emptied_more before e (l ∷ ls) zero = refl
+emptied_more before e (l ∷ ls) (suc n) = go (is_full e l.uri before) (emptied_more before e ls n)
+  where
+    those : List LastList → List LastList
+    those ks = filter (λ (k : LastList). is_full e k.uri before) ks
+
+    told : List LastList → List Loss
+    told ks = map (λ (k : LastList). Emptied e k.uri) ks
+
+    go : (b : Bool) → told (those (take (n + 1) ls)) ≡ told (those (take n ls)) ++ emptied_at before e (slice_get ls n)
+        → told (if b then l ∷ those (take (n + 1) ls) else those (take (n + 1) ls)) ≡ told (if b then l ∷ those (take n ls) else those (take n ls)) ++ emptied_at before e (slice_get ls n)
+    go true same = ap (λ ws. Emptied e l.uri ∷ ws) same
+    go false same = same
+
+pub emptied_next : (before : List Event) (e : ℕ) (ls : List LastList) (n : ℕ) (first xs ys : List Loss) → xs ≡ first ++ emptied before e (take n ls) → ys ≡ xs ++ emptied_at before e (slice_get ls n) → ys ≡ first ++ emptied before e (take (n + 1) ls)
+emptied_next before e ls n first xs ys so is =
+    is ∙ (ap (λ ws. ws ++ emptied_at before e (slice_get ls n)) so
+    ∙ (append_assoc first (emptied before e (take n ls)) (emptied_at before e (slice_get ls n))
+    ∙ ap (λ ws. first ++ ws) (sym (emptied_more before e ls n))))
+
+pub emptied_whole : (before : List Event) (e : ℕ) (ls : List LastList) (n : ℕ) (first xs : List Loss) → length ls ≤ n → xs ≡ first ++ emptied before e (take n ls) → xs ≡ first ++ emptied before e ls
+emptied_whole before e ls n first xs past so = so ∙ ap (λ ws. first ++ emptied before e ws) (take_all ls n past)
+
+-- whether the one that is found isn't empty
+pub emptied_off : (before : List Event) (e : ℕ) (l : LastList) (o : Option LastList) (xs : List Loss) → o ≡ Some l → is_full e l.uri before ≡ false → xs ≡ xs ++ emptied_at before e o
+emptied_off before e l o xs found off = sym (append-nil xs) ∙ ap (λ ws. xs ++ ws) (sym (ap (emptied_at before e) found ∙ ap (λ b. map (λ (k : LastList). Emptied e k.uri) (if b then l ∷ [] else [])) off))
+
+pub emptied_on : (before : List Event) (e : ℕ) (l : LastList) (u : List ℕ) (o : Option LastList) (xs ys : List Loss) → o ≡ Some l → is_full e l.uri before ≡ true → u ≡ l.uri → ys ≡ xs ++ Emptied e u ∷ [] → ys ≡ xs ++ emptied_at before e o
+emptied_on before e l u o xs ys found on own is = is ∙ ap (λ ws. xs ++ ws) (ap (λ w. Emptied e w ∷ []) own ∙ sym (ap (emptied_at before e) found ∙ ap (λ b. map (λ (k : LastList). Emptied e k.uri) (if b then l ∷ [] else [])) on))
+
 -- four, one behind the other
 pub four_joined : {B : Type 0} (first p q r s u v w x : List B) → u ≡ first ++ p → v ≡ u ++ q → w ≡ v ++ r → x ≡ w ++ s → x ≡ first ++ (p ++ (q ++ (r ++ s)))
 four_joined first p q r s u v w x a b d e =
@@ -54,3 +99,17 @@ one_inside n l xs ys is k h = subst (AllByRecursion (IsInside n)) (sym is) (all_
 
 pub none_inside : (n : ℕ) (xs : List Loss) → xs ≡ [] → AllByRecursion (IsInside n) xs
 none_inside n xs none = subst (AllByRecursion (IsInside n)) (sym none) tt
+
+-- Those that run
+
+pub any_of : (xs : List ℕ) → AllByRecursion (λ e. Unit {0}) xs
+any_of [] = tt
+any_of (x ∷ xs) = (tt, any_of xs)
+
+pub all_run : (settings : Settings) (before : List Event) (h : ℕ) → AllByRecursion (Runs before) (running_in settings h before)
+all_run settings before h = all_filtered (λ e. Unit {0}) (Runs before) (λ e. is_running (desk_of e before).phase && is_home h (home_of settings e before)) (λ e is u. (and_parts (is_running (desk_of e before).phase) (is_home h (home_of settings e before)) is).0)
+    (range_with_len 0 (editors_of before)) (any_of (range_with_len 0 (editors_of before)))
+
+-- those that were gathered
+pub those_run : (settings : Settings) (before : List Event) (h : ℕ) (xs : List ℕ) → xs ≡ running_in settings h before → All (Runs before) xs
+those_run settings before h xs is = All-from_recursion (Runs before) xs (subst (AllByRecursion (Runs before)) (sym is) (all_run settings before h))

@@ -11,7 +11,8 @@ use Rattle.event_model.specs.Stages.{is_ready, life_of}
 use Rattle.event_model.proofs.Turns.{alike, alike_false, alike_then, alike_true, behind_more}
 use Rattle.group_rows.specs.Asks.{Ask, asks_of, is_with, members_in, running_in}
 use Rattle.group_rows.specs.Created.{Created, Taking, Token, created_of, created_text}
-use Rattle.group_rows.specs.ExitRows.{empty_list, end_text, end_token, has_begun, lose_sent, lose_start, turn_out, unanswered_at}
+use Rattle.group_rows.specs.diagnostics_route.specs.declared.last_list.LastList.{LastList}
+use Rattle.group_rows.specs.ExitRows.{empty_list, empty_text, end_text, end_token, has_begun, is_full, lose_sent, lose_start, turn_out, unanswered_at}
 use Rattle.group_rows.specs.Forwarded.{forwarding_of}
 use Rattle.group_rows.specs.Leaves.{cancel_text}
 use Rattle.group_rows.specs.Lists.{lists_of}
@@ -19,9 +20,9 @@ use Rattle.group_rows.specs.Live.{live_of}
 use Rattle.group_rows.specs.LiveRows.{unregister_any}
 use Rattle.group_rows.specs.registrations.specs.declared.registration.Registration.{Registration}
 use Rattle.mux_exits.specs.declared.losses.Loss.{Loss}
-use Rattle.mux_exits.specs.declared.losses.Loss.TheVariants.{Told, Unregistered}
+use Rattle.mux_exits.specs.declared.losses.Loss.TheVariants.{Emptied, Told, Unregistered}
 use Rattle.mux_exits.specs.declared.partings.Parting.{Parting}
-use Rattle.mux_exits.specs.Losses.{cancelled, ended, live_at, loss_row, lost_at, lost_sent, lost_start}
+use Rattle.mux_exits.specs.Losses.{cancelled, emptied, ended, live_at, loss_row, lost_at, lost_sent, lost_start}
 use Rattle.mux_exits.specs.Partings.{IsParting, parting_row}
 use Rattle.mux_tables.specs.Halts.{ids_at}
 use Rattle.mux_tables.specs.Losses.{open_asks}
@@ -84,9 +85,21 @@ tokens_alike live s e x (t ∷ ts) = go (has_begun e t.number x) (tokens_alike l
 numbers_alike : {A : Type 0} (live : List Registration) (e : ℕ) (number : A → ℕ) (cs : List A) → Alike (each (λ (c : A). send (ToEditor e (cancel_text (number c)))) cs) (each (loss_row live) (cancelled e (map number cs)))
 numbers_alike live e number cs = alike (sym (each_map (loss_row live) (λ n. Told e (cancel_text n)) (map number cs) ∙ each_map (λ n. send (ToEditor e (cancel_text n))) number cs))
 
--- the empty lists, which aren't gathered yet
-empties_alike : (before : List Event) (s e : ℕ) → Alike (each (empty_list before e) (lists_of s before)) nothing
-empties_alike before s e = ?
+empties_alike : (before : List Event) (live : List Registration) (e : ℕ) (ls : List LastList) → Alike (each (empty_list before e) ls) (each (loss_row live) (emptied before e ls))
+empties_alike before live e [] = alike refl
+empties_alike before live e (l ∷ ls) = go (is_full e l.uri before) (empties_alike before live e ls)
+  where
+    told : Out
+    told = ToEditor e (empty_text l.uri)
+
+    rest : List LastList
+    rest = filter (λ (k : LastList). is_full e k.uri before) ls
+
+    go : (b : Bool) → Alike (each (empty_list before e) ls) (each (loss_row live) (map (λ (k : LastList). Emptied e k.uri) rest))
+        → Alike (choose b (send (ToEditor e (empty_text l.uri))) nothing ⨾ each (empty_list before e) ls)
+        (each (loss_row live) (map (λ (k : LastList). Emptied e k.uri) (if b then l ∷ rest else rest)))
+    go true d = record { sends = λ events. ap (λ xs. told ∷ xs) (d.sends (behind events (told ∷ []))) }
+    go false d = record { sends = λ events. ap (outs (each (empty_list before e) ls)) (append-nil events) ∙ d.sends events }
 
 module _ (settings : Settings) (before : List Event) (s : ℕ) where
   abbrev live : List Registration
@@ -104,11 +117,11 @@ module _ (settings : Settings) (before : List Event) (s : ℕ) where
   start_alike : (e : ℕ) → Alike (lose_start settings before s e) (each (loss_row live) (lost_start settings before s e))
   start_alike e =
       let row = loss_row live in
-      let last = Unregistered e ∷ [] in
+      let last = Unregistered e ∷ emptied before e (lists_of s before) in
       alike_then (after_alike (tokens_alike live s e (created_of settings s before) (created_of settings s before).tokens)
       (after_alike (numbers_alike live e (λ (c : Taking). c.number) (filter (unanswered_at e) (created_of settings s before).takings))
       (after_alike (numbers_alike live e (λ (a : Ask). a.number) (filter (is_with e) (asks_of settings s before)))
-      (after_alike (alike {r = unregister_any live e} refl) (empties_alike before s e)))))
+      (after_alike (alike {r = unregister_any live e} refl) (empties_alike before live e (lists_of s before))))))
       (alike_back (alike_then (each_join row (tokens e) (takes e ++ (questions e ++ last)))
       (after_alike (alike {r = each row (tokens e)} refl) (alike_then (each_join row (takes e) (questions e ++ last))
       (after_alike (alike {r = each row (takes e)} refl) (each_join row (questions e) last))))))

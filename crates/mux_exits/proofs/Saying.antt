@@ -1,6 +1,7 @@
 -- X1 and X2: what editors are told in turn, and what that leaves as it is.
-use Rattle.std.proofs.Common.{◌≡◌, ℕ, Bool, true, false, List, [], ◌∷◌, ◌++◌, length, nat_eq, if◌then◌else◌, refl, ap, sym, subst, ◌∙◌, arith}
+use Rattle.std.proofs.Common.{◌≡◌, ℕ, Bool, true, false, not, List, [], ◌∷◌, ◌++◌, IsUtf8, Some, codes, length, nat_eq, if◌then◌else◌, refl, ap, sym, subst, ◌∙◌, arith}
 use Rattle.std.specs.List.{AllByRecursion}
+use Rattle.lsp_method.specs.Class.{server_notification}
 use Rattle.mux_history.specs.declared.out.Out.{Out}
 use Rattle.mux_history.specs.declared.out.Out.TheVariants.{ToEditor}
 use Rattle.rpc_message.specs.Message.{Message, error, message_of, notification}
@@ -12,23 +13,27 @@ use Rattle.event_model.specs.Row.{each, outs, send}
 use Rattle.event_model.specs.Settings.{Settings}
 use Rattle.event_model.proofs.Frames.{never, one_more}
 use Rattle.group_rows.specs.Asks.{asking_next, asking_of}
+use Rattle.group_rows.specs.ExitRows.{empty_text}
+use Rattle.group_rows.specs.Lists.{is_publishing}
 use Rattle.group_rows.specs.Live.{unregister_text}
 use Rattle.group_rows.specs.LiveRows.{has_some, unregister_any}
 use Rattle.group_rows.specs.registrations.specs.declared.registration.Registration.{Registration}
+use Rattle.group_rows.proofs.ExitTexts.{empty_published, empty_says, empty_tree}
 use Rattle.group_words.proofs.Frames.{home_more}
 use Rattle.mux_exits.specs.declared.losses.Loss.{Loss}
-use Rattle.mux_exits.specs.declared.losses.Loss.TheVariants.{Told, Unregistered}
+use Rattle.mux_exits.specs.declared.losses.Loss.TheVariants.{Emptied, Told, Unregistered}
 use Rattle.mux_exits.specs.Losses.{CanLose, is_mild, loss_row}
 use Rattle.mux_tables.specs.declared.tables.Tables.{Tables}
 use Rattle.mux_tables.specs.Documents.{AllStand, DocumentsStand, nothing_owed}
-use Rattle.mux_tables.specs.Stands.{Keeps, Stands}
+use Rattle.mux_tables.specs.Stands.{IsListOf, Keeps, Stands}
 use Rattle.mux_tables.proofs.Asking.{asking_more}
 use Rattle.mux_tables.proofs.DocumentOwed.{all_does}
 use Rattle.mux_turns.specs.Calls.{IsCall}
 use Rattle.mux_turns.proofs.Called.{Quiet, after_quiet, any_quiet, quiet_none, runs_on}
 use Rattle.mux_turns.proofs.Keeping.{error_told, keeps_error, keeps_notice, notice_told}
+use Rattle.mux_turns.proofs.Listed.{noted_quiet}
 
--- A body that is neither a request nor a result
+-- A body that is neither a request, nor a result, nor a list of diagnostics
 
 mild_told : (p : Phase) (i : List ℕ) (m : Message) → is_mild m ≡ true → phase_told p i m ≡ p
 mild_told p i (error id x) h = error_told p i id x
@@ -38,9 +43,13 @@ mild_told p i other h = never (sym h)
 keeps_mild : (e : ℕ) (text : List ℕ) (events : List Event) → is_mild (message_of text) ≡ true → Keeps e text events
 keeps_mild e text events mild = go (message_of text) refl mild
   where
+    plain : (b : Bool) → not b ≡ true → b ≡ false
+    plain true h = never (sym h)
+    plain false h = refl
+
     go : (m : Message) → message_of text ≡ m → is_mild m ≡ true → Keeps e text events
     go (error id x) says h = keeps_error e text events id x says
-    go (notification method params) says h = keeps_notice e text events method params says
+    go (notification method params) says h = keeps_notice e text events method params (plain (is_publishing method) h) says
     go other says h = never (sym h)
 
 module _ (settings : Settings) where
@@ -60,21 +69,28 @@ module _ (settings : Settings) where
       same s (notification method params) h = refl
       same s other h = never (sym h)
 
+  -- nor does a list of diagnostics
+  quiet_empty : (e : ℕ) (uri : List ℕ) (events : List Event) → IsUtf8 uri → Quiet settings events (behind events (ToEditor e (empty_text uri) ∷ []))
+  quiet_empty e uri events spelt = noted_quiet settings e (empty_text uri) events (codes "textDocument/publishDiagnostics") (Some (empty_tree uri), empty_says uri spelt)
+
   -- Several, one after the other
 
   abbrev IsMild : Loss → Type 0
   IsMild (Told e text) = is_mild (message_of text) ≡ true
   IsMild (Unregistered e) = Unit {0}
+  IsMild (Emptied e uri) = IsUtf8 uri
 
   pub milds : (now : List Event) (losses : List Loss) → AllByRecursion (CanLose now) losses → AllByRecursion IsMild losses
   milds now [] h = tt
   milds now (Told e text ∷ losses) h = (h.0, milds now losses h.1)
   milds now (Unregistered e ∷ losses) h = (tt, milds now losses h.1)
+  milds now (Emptied e uri ∷ losses) h = (h.0, milds now losses h.1)
 
   module _ (live : List Registration) (call : IsCall (unregister_text live)) where
     loss_quiet : (l : Loss) (events : List Event) → IsMild l → Quiet settings events (behind events (outs (loss_row live l) events))
     loss_quiet (Told e text) events mild = quiet_mild e text events mild
     loss_quiet (Unregistered e) events mild = any_quiet settings (unregister_text live) call (has_some live) e events
+    loss_quiet (Emptied e uri) events mild = quiet_empty e uri events mild
 
     pub losses_quiet : (losses : List Loss) (events : List Event) → AllByRecursion IsMild losses → Quiet settings events (behind events (outs (each (loss_row live) losses) events))
     losses_quiet [] events h = quiet_none settings events
@@ -84,8 +100,27 @@ module _ (settings : Settings) where
   pub can_on : (old new : List Event) → Quiet settings old new → (l : Loss) → CanLose old l → CanLose new l
   can_on old new q (Told e text) h = h
   can_on old new q (Unregistered e) h = runs_on settings old new q e h
+  can_on old new q (Emptied e uri) h = h
 
 -- One is told
+
+publishes : is_publishing (codes "textDocument/publishDiagnostics") ≡ true
+unfolding server_notification
+publishes = refl
+
+empty_list : (uri : List ℕ) → IsUtf8 uri → IsListOf uri true (empty_text uri)
+empty_list uri spelt =
+    let given = empty_published uri spelt in
+    record {
+      method = codes "textDocument/publishDiagnostics";
+      params = Some (empty_tree uri);
+      list = given.list;
+      says = empty_says uri spelt;
+      publishes = publishes;
+      given = given.is;
+      document = given.document;
+      none = given.none;
+    }
 
 module _ (settings : Settings) (t u : Tables) (base : List Event) (xs ys : List Out) (live : List Registration) (loss : Loss) (can : CanLose (behind base xs) loss) where
   pub tells_text : (e : ℕ) (text : List ℕ) → loss ≡ Told e text → (Keeps e text (behind base xs) → Does (λ t events. Stands settings t events) (send (ToEditor e text)) base t xs t ys)
@@ -97,6 +132,17 @@ module _ (settings : Settings) (t u : Tables) (base : List Event) (xs ys : List 
   pub tells_call : (e : ℕ) → loss ≡ Unregistered e → (is_running (desk_of e (behind base xs)).phase ≡ true → Does (λ k events. AllStand settings k events) (unregister_any live e) base (t, nothing_owed) xs (u, nothing_owed) ys)
       → Does (λ k events. AllStand settings k events) (loss_row live loss) base (t, nothing_owed) xs (u, nothing_owed) ys
   tells_call e is calls = subst (λ l. Does (λ k events. AllStand settings k events) (loss_row live l) base (t, nothing_owed) xs (u, nothing_owed) ys) (sym is) (calls (subst (CanLose (behind base xs)) is can))
+
+  pub tells_empty : (e : ℕ) (uri w text : List ℕ) → loss ≡ Emptied e uri → w ≡ uri → (IsUtf8 uri → text ≡ empty_text uri)
+      → (IsListOf w true text → Does (λ t events. Stands settings t events) (send (ToEditor e text)) base t xs u ys)
+      → (DocumentsStand settings nothing_owed t (behind base xs) → DocumentsStand settings nothing_owed u (behind base ys)) → Does (λ k events. AllStand settings k events) (loss_row live loss) base (t, nothing_owed) xs (u, nothing_owed) ys
+  tells_empty e uri w text is own writes tells docs =
+      let spelt : IsUtf8 uri = subst (CanLose (behind base xs)) is can in
+      let written = writes spelt in
+      let list : IsListOf w true text = subst (λ b. IsListOf w true b) (sym written) (subst (λ v. IsListOf v true (empty_text uri)) (sym own) (empty_list uri spelt)) in
+      let shown : Does (λ t events. Stands settings t events) (send (ToEditor e (empty_text uri))) base t xs u ys = subst (λ b. Does (λ t events. Stands settings t events) (send (ToEditor e b)) base t xs u ys) written (tells list) in
+      subst (λ l. Does (λ k events. AllStand settings k events) (loss_row live l) base (t, nothing_owed) xs (u, nothing_owed) ys) (sym is)
+      (all_does settings t u nothing_owed nothing_owed base xs ys shown (λ _ d. docs d))
 
 -- Parts of a list
 

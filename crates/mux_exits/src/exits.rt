@@ -233,6 +233,7 @@ fn failure_at(
 
 /// X1 to X3: the program of a start ended. Where its group lives, each editor of it is told that its requests fail, and each that runs, where
 /// the start is ready, what ends with it; then the group goes on with a new start, or each editor of it is turned out. Else nothing is sent.
+/// It takes time n log n in what is sent, and, for each editor that runs, in how many documents the start has lists of.
 pub fn take_exit(
     tables: &mut Tables,
     alloc: Global,

@@ -6,7 +6,8 @@ ghost use Rattle.event_model.specs.Event.{Event};
 ghost use Rattle.event_model.specs.Settings.{Settings};
 ghost use Rattle.group_rows.specs.Created.{created_text};
 ghost use Rattle.group_rows.specs.ExitRows.{end_text};
-ghost use Rattle.mux_exits.specs.Losses.{IsInside, cancelled, ended, lost_sent, lost_start, refused};
+ghost use Rattle.group_rows.specs.Lists.{lists_of};
+ghost use Rattle.mux_exits.specs.Losses.{IsInside, Runs, cancelled, emptied, emptied_at, ended, lost_sent, lost_start, refused};
 ghost use Rattle.mux_tables.specs.declared.tables.Start.{Start};
 ghost use Rattle.mux_tables.specs.Stands.{Stands, number_in};
 
@@ -19,10 +20,12 @@ use std::alloc::Global;
 /// What an editor is told.
 #[derive(Drop)]
 pub enum Loss {
-    /// This body, which is neither a request nor a result.
+    /// This body, which is neither a request, nor a result, nor a list of diagnostics.
     Told(u64, Body),
     /// That what the start registered is taken back, where there is any.
     Unregistered(u64),
+    /// That of the document of this URI there are no diagnostics.
+    Emptied(u64, Body),
 }
 
 // The notification that the token of number k, which start s created, ends (LSP 3.17, Work Done Progress).
@@ -99,7 +102,57 @@ fn lose_requests(
     Ok(())
 }
 
-// X2: an editor that runs loses the tokens of the group's last start, which is ready, what that asked of it, and what it registered.
+// X2: the last list of the document of a number at the group's last start, which is ready, is to be empty at an editor that runs, where there
+// is one, and it isn't.
+fn empty_at(
+    tables: &Tables,
+    alloc: Global,
+    losses: &mut Vec<Loss>,
+    g: usize,
+    e: u64,
+    n: u64,
+) -> Result<(), Memory>
+    requires group { g < length tables.now.lasts.items }
+    requires editor { e < length tables.now.editors }
+    ensures inside { (m : ℕ) → e < m → AllByRecursion (IsInside m) losses.old.items → OnOk result (AllByRecursion (IsInside m) losses.new.items) }
+    ensures lost { (settings : Settings) (before : List Event) (x : Start) → slice_get tables.now.lasts.items g ≡ Some x → x.life.stage ≡ Ready
+        → Runs before e → Stands settings tables.now before
+        → OnOk result (losses.new.items ≡ losses.old.items ++ emptied_at before e (slice_get (lists_of x.life.start before) n)) }
+{
+    let Some(list) = tables.list_at(g, n) else {
+        return Ok(());
+    };
+    if !tables.is_full(e, list.uri.bytes()) {
+        return Ok(());
+    }
+    let uri = list.uri.copy(alloc)?;
+    losses.push(Loss::Emptied(e, uri))?;
+    Ok(())
+}
+
+// The same of each of them, in this order.
+fn empty_each(
+    tables: &Tables,
+    alloc: Global,
+    losses: &mut Vec<Loss>,
+    g: usize,
+    e: u64,
+) -> Result<(), Memory>
+    requires group { g < length tables.now.lasts.items }
+    requires editor { e < length tables.now.editors }
+    ensures inside { (n : ℕ) → e < n → AllByRecursion (IsInside n) losses.old.items → OnOk result (AllByRecursion (IsInside n) losses.new.items) }
+    ensures lost { (settings : Settings) (before : List Event) (x : Start) → slice_get tables.now.lasts.items g ≡ Some x → x.life.stage ≡ Ready
+        → Runs before e → Stands settings tables.now before
+        → OnOk result (losses.new.items ≡ losses.old.items ++ emptied before e (lists_of x.life.start before)) }
+{
+    for n in 0..tables.list_count(g) {
+        empty_at(tables, alloc, losses, g, e, n)?;
+    }
+    Ok(())
+}
+
+// X2: an editor that runs loses the tokens of the group's last start, which is ready, what that asked of it, what it registered, and its
+// lists of diagnostics.
 fn lose_start(
     tables: &Tables,
     alloc: Global,
@@ -107,10 +160,12 @@ fn lose_start(
     g: usize,
     e: u64,
 ) -> Result<(), Memory>
-    requires { g < length tables.now.lasts.items }
+    requires group { g < length tables.now.lasts.items }
+    requires editor { e < length tables.now.editors }
     ensures inside { (n : ℕ) → e < n → AllByRecursion (IsInside n) losses.old.items → OnOk result (AllByRecursion (IsInside n) losses.new.items) }
     ensures lost { (settings : Settings) (before : List Event) (x : Start) → slice_get tables.now.lasts.items g ≡ Some x → x.life.stage ≡ Ready
-        → Stands settings tables.now before → OnOk result (losses.new.items ≡ losses.old.items ++ lost_start settings before x.life.start e) }
+        → Runs before e → Stands settings tables.now before
+        → OnOk result (losses.new.items ≡ losses.old.items ++ lost_start settings before x.life.start e) }
 {
     let s = tables.start_number(g);
     let tokens = tables.begun(g, e)?;
@@ -120,6 +175,7 @@ fn lose_start(
     let asks = tables.open_asks(g, e)?;
     cancel_each(alloc, losses, e, &asks)?;
     losses.push(Loss::Unregistered(e))?;
+    empty_each(tables, alloc, losses, g, e)?;
     Ok(())
 }
 
@@ -155,7 +211,7 @@ pub fn lose_all_starts(
     ensures inside { AllByRecursion (IsInside (length tables.now.editors)) losses.old.items
         → OnOk result (AllByRecursion (IsInside (length tables.now.editors)) losses.new.items) }
     ensures lost { (settings : Settings) (before : List Event) (x : Start) → slice_get tables.now.lasts.items g ≡ Some x → x.life.stage ≡ Ready
-        → Stands settings tables.now before
+        → All (Runs before) editors.now → Stands settings tables.now before
         → OnOk result (losses.new.items ≡ losses.old.items ++ flat_map (lost_start settings before x.life.start) editors.now) }
 {
     for e in editors {

@@ -27,7 +27,8 @@ pub struct Parting {
     pub live: Vec<Registration>,
 }
 
-/// X1 to X3: what is said as the group in this place ends. It takes time in what is open at its last start, for each of its editors.
+/// X1 to X3: what is said as the group in this place ends. It takes time in what is open at its last start, and in how many documents that
+/// has lists of, for each of its editors.
 pub fn gather(tables: &Tables, alloc: Global, g: usize) -> Result<Parting, Memory>
     requires { g < length tables.now.lasts.items }
     ensures members { IfOk result (λ p. All (λ e. e < length tables.now.editors) p.members.items) }

@@ -1,11 +1,12 @@
 //! X1 and X2: editors are told what they lose.
-ghost use Rattle.std.specs.Prelude.{◌≡◌, ◌<◌, ℕ, List, None, length, OnOk};
+ghost use Rattle.std.specs.Prelude.{◌≡◌, ◌<◌, ℕ, List, None, length, IfOk, IsUtf8, OnOk};
 ghost use Rattle.std.specs.List.{AllByRecursion};
 ghost use Rattle.event_model.specs.Does.{Does};
 ghost use Rattle.event_model.specs.Event.{Event, behind};
 ghost use Rattle.event_model.specs.Row.{each};
 ghost use Rattle.event_model.specs.Settings.{Settings};
 ghost use Rattle.group_rows.specs.Asks.{asking_of};
+ghost use Rattle.group_rows.specs.ExitRows.{empty_text};
 ghost use Rattle.group_rows.specs.Live.{unregister_text};
 ghost use Rattle.mux_exits.specs.Losses.{CanLose, IsInside, loss_row};
 ghost use Rattle.mux_tables.specs.Documents.{AllStand, nothing_owed};
@@ -13,11 +14,28 @@ ghost use Rattle.mux_turns.specs.Calls.{IsCall};
 
 use crate::losses::Loss;
 use group_rows::registrations::Registration;
-use message_body::Memory;
+use message_body::{Body, Memory};
 use mux_history::Outs;
 use mux_tables::Tables;
-use mux_turns::call_unregistered_any;
+use mux_turns::{call_unregistered_any, quoted};
+use rpc_message::notification;
 use std::alloc::Global;
+
+// The notification that of the document of this URI there are no diagnostics (LSP 3.17, Publish Diagnostics).
+fn empty_text(alloc: Global, uri: &[u8]) -> Result<Body, Memory>
+    ensures { IsUtf8 uri.now → IfOk result (λ body. body ≡ empty_text uri.now) }
+{
+    let uri = quoted(alloc, uri)?;
+    let mut params = Vec::new(alloc);
+    params.extend_from_slice("{\"uri\":".as_bytes())?;
+    params.extend_from_slice(uri.bytes())?;
+    params.extend_from_slice(",\"diagnostics\":[]}".as_bytes())?;
+    notification(
+        alloc,
+        "textDocument/publishDiagnostics",
+        Some(params.as_slice()),
+    )
+}
 
 // One is told what it loses.
 fn tell_loss(
@@ -44,6 +62,11 @@ fn tell_loss(
         }
         Loss::Unregistered(e) => {
             call_unregistered_any(tables, alloc, outs, e, live)?;
+            Ok(())
+        }
+        Loss::Emptied(e, uri) => {
+            let text = empty_text(alloc, uri.bytes())?;
+            tables.show(outs, e, uri.bytes(), true, text)?;
             Ok(())
         }
     }

@@ -1,34 +1,29 @@
--- S15: what editors are shown of a list, and that they are told it.
+-- S15: what editors are shown of a list, and that it is that list.
 use Rattle.std.proofs.Common.{◌≡◌, ℕ, zero, suc, ◌+◌, ◌<◌, ◌≤◌, Bool, true, false, List, [], ◌∷◌, ◌++◌, append-nil, append_assoc, get_or, length, map, take, if◌then◌else◌, refl, ap, sym, subst, ◌∙◌, arith}
 use Rattle.std.proofs.lemmas.List.{take_more}
+use Rattle.std.proofs.lemmas.List.Elements.{All-get_or}
 use Rattle.std.specs.Prelude.{Option, None, Some}
-use Rattle.std.specs.List.{AllByRecursion}
+use Rattle.std.specs.List.{All, AllByRecursion}
 use Rattle.json_text.specs.Json.{Json}
-use Rattle.mux_history.specs.declared.out.Out.{Out}
 use Rattle.mux_history.specs.declared.out.Out.TheVariants.{ToEditor}
 use Rattle.rpc_message.specs.Message.{message_of, notification}
-use Rattle.event_model.specs.Does.{Alike, Does}
+use Rattle.event_model.specs.Does.{Alike}
 use Rattle.event_model.specs.Event.{Event, behind}
 use Rattle.event_model.specs.Row.{Row, choose, each, nothing, on, outs, send}
 use Rattle.event_model.specs.Settings.{Settings}
 use Rattle.event_model.specs.Spawns.{group_of}
-use Rattle.event_model.proofs.Turns.{alike, alike_then, does_nothing, does_then}
+use Rattle.event_model.proofs.Turns.{alike, alike_then}
 use Rattle.group_rows.specs.Asks.{running_in}
 use Rattle.group_rows.specs.diagnostics_route.specs.declared.last_list.LastList.{LastList}
 use Rattle.group_rows.specs.diagnostics_route.specs.Published.{published}
 use Rattle.group_rows.specs.diagnostics_route.specs.Shown.{fits, shown_text}
 use Rattle.group_rows.specs.ListRows.{list_row, show}
-use Rattle.group_rows.specs.Lists.{agreement_at, sayings_of, version_at}
+use Rattle.group_rows.specs.Lists.{agreement_at, is_publishing, sayings_of, version_at}
 use Rattle.mux_starts.specs.declared.progress.Telling.{Telling}
 use Rattle.mux_starts.specs.group_facts.specs.Facts.{Meant}
-use Rattle.mux_starts.specs.Lists.{all_shown, shown_to, told}
-use Rattle.mux_tables.specs.declared.tables.Tables.{Tables}
-use Rattle.mux_tables.specs.Documents.{AllStand, nothing_owed}
-use Rattle.mux_tables.proofs.DocumentOwed.{all_does}
-use Rattle.mux_tables.proofs.DocumentSaid.{told_documents}
-use Rattle.mux_tables.proofs.Said.{told_does}
-use Rattle.mux_turns.proofs.Keeping.{keeps_notice}
-use Rattle.mux_turns.proofs.Listed.{Notes, own_notes}
+use Rattle.mux_starts.specs.Lists.{IsInside, IsListed, all_shown, shown_to, tell, told}
+use Rattle.mux_turns.specs.mux_facts.proofs.Lists.{all_join}
+use Rattle.mux_turns.proofs.Listed.{own_listed}
 
 -- What they are shown, one by one
 
@@ -67,14 +62,14 @@ module _ (settings : Settings) (before : List Event) (s : ℕ) (l : LastList) wh
   pub whole_shown : (es : List ℕ) (i : ℕ) (ts : List Telling) → length es ≤ i → ts ≡ shown (take i es) → ts ≡ shown es
   whole_shown es i ts past so = so ∙ ap shown (take_past es i past)
 
-  -- They are notifications
-  module _ (meant : Meant before) (method : List ℕ) (params : Option Json) (says : message_of l.body ≡ notification method params) where
-    pub all_notes : (es : List ℕ) → AllByRecursion (λ (t : Telling). Notes method t.text) (shown es)
-    all_notes [] = tt
-    all_notes (e ∷ es) = go (fits l (agreement_at settings s e before l.uri)) (all_notes es)
+  -- They are the list
+  module _ (meant : Meant before) (method : List ℕ) (params : Option Json) (place : ℕ) (says : message_of l.body ≡ notification method params) (publishes : is_publishing method ≡ true) (one : published place l.body ≡ Some l) where
+    pub all_listed : (es : List ℕ) → AllByRecursion (IsListed l.uri l.empty) (shown es)
+    all_listed [] = tt
+    all_listed (e ∷ es) = go (fits l (agreement_at settings s e before l.uri)) (all_listed es)
       where
-        go : (b : Bool) → AllByRecursion (λ (t : Telling). Notes method t.text) (shown es) → AllByRecursion (λ (t : Telling). Notes method t.text) ((if b then record { editor = e; text = shown_text (version_at settings s e before l.uri) l.body } ∷ [] else []) ++ shown es)
-        go true rest = (own_notes settings s e before l.uri l.body method params meant says, rest)
+        go : (b : Bool) → AllByRecursion (IsListed l.uri l.empty) (shown es) → AllByRecursion (IsListed l.uri l.empty) ((if b then record { editor = e; text = shown_text (version_at settings s e before l.uri) l.body } ∷ [] else []) ++ shown es)
+        go true rest = (own_listed settings s e before l.uri l.body method params place l meant says publishes one, rest)
         go false rest = rest
 
   -- The row sends just them
@@ -88,33 +83,19 @@ module _ (settings : Settings) (before : List Event) (s : ℕ) (l : LastList) wh
       go true rest = ap (λ xs. ToEditor e (shown_text (version_at settings s e before l.uri) l.body) ∷ xs) (rest (behind events (ToEditor e (shown_text (version_at settings s e before l.uri) l.body) ∷ [])))
       go false rest = rest (behind events [])
 
--- Each is told so
-
-abbrev tell : Telling → Row
-tell t = send (told t)
-
 each_sends : (ts : List Telling) (events : List Event) → outs (each tell ts) events ≡ map told ts
 each_sends [] events = refl
 each_sends (t ∷ ts) events = ap (λ xs. told t ∷ xs) (each_sends ts (behind events (told t ∷ [])))
 
-module _ (settings : Settings) (t : Tables) (base : List Event) where
-  abbrev Tells : Row → List Out → List Out → Type 0
-  Tells row xs ys = Does (λ k events. AllStand settings k events) row base (t, nothing_owed) xs (t, nothing_owed) ys
+-- Those that are shown it are among these editors
 
-  one_told : (method : List ℕ) (x : Telling) (xs : List Out) → Notes method x.text → Tells (tell x) xs (xs ++ told x ∷ [])
-  one_told method x xs note =
-      let ys = xs ++ told x ∷ [] in
-      all_does settings t t nothing_owed nothing_owed base xs ys
-      (told_does settings t xs ys base x.editor x.text (keeps_notice x.editor x.text (behind base xs) method note.0 note.1) refl)
-      (λ _ d. told_documents settings nothing_owed t t base xs ys x.editor x.text refl refl refl refl d)
+pub one_inside : (n : ℕ) (es : List ℕ) (i : ℕ) (ts us : List Telling) (text : List ℕ) → i < length es → All (λ e. e < n) es → AllByRecursion (IsInside n) ts → us ≡ ts ++ record { editor = get_or es i 0; text = text } ∷ [] → AllByRecursion (IsInside n) us
+one_inside n es i ts us text less all so now = subst (AllByRecursion (IsInside n)) (sym now) (all_join (IsInside n) ts (record { editor = get_or es i 0; text = text } ∷ []) so (All-get_or (λ e. e < n) es i 0 less all, tt))
 
-  all_told : (method : List ℕ) (ts : List Telling) (xs : List Out) → AllByRecursion (λ (t : Telling). Notes method t.text) ts → Tells (each tell ts) xs (xs ++ map told ts)
-  all_told method [] xs h = subst (Tells nothing xs) (sym (append-nil xs)) does_nothing
-  all_told method (x ∷ ts) xs h =
-      subst (Tells (each tell (x ∷ ts)) xs) (append_assoc xs (told x ∷ []) (map told ts)) (does_then (one_told method x xs h.0) (all_told method ts (xs ++ told x ∷ []) h.1))
-
-  pub each_told : (method : List ℕ) (ts : List Telling) (xs ys : List Out) → AllByRecursion (λ (t : Telling). Notes method t.text) ts → ys ≡ xs ++ map told ts → Tells (each tell ts) xs ys
-  each_told method ts xs ys h is = subst (Tells (each tell ts) xs) (sym is) (all_told method ts xs h)
+-- Nothing is left of what has no length
+pub none_left : (ts : List Telling) → length ts ≡ 0 → ts ≡ []
+none_left [] h = refl
+none_left (t ∷ ts) h = absurd (omega (arith, h))
 
 -- The row, by what the body gives
 

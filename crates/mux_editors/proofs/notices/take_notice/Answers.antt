@@ -54,7 +54,7 @@ returns-in-None-clause-does c = λ settings before body method params g s read s
     let rest = c.in_ok-begin.ensures.rest ∙ ap (λ ls. map unasked ls.items) c.hear_notice.ensures.lasts in
     then_rest begun.done (unnoticed settings c.args.tables.now u before e g s body what c.begin.new.outs c.pay.new.outs c.in_ok-owed.owed rest st home starts owed.0 c.in_ok-pay.ensures.outs (λ n start. c.in-None.ensures.unready settings before n st start))
 
-pub show_opened-requires : goal.show_opened-requires
-show_opened-requires c =
+pub show_opened-requires-clause-group : goal.show_opened-requires-clause-group
+show_opened-requires-clause-group c =
     let kept = c.in_ok-begin.ensures.rest ∙ ap (λ ls. map unasked ls.items) c.hear_notice.ensures.lasts in
     subst (λ n. c.in-Some.g < n) (sym (same_length unasked c.args.tables.now.lasts.items c.begin.new.tables.lasts.items kept)) c.in-Some.ensures.inside

@@ -1,5 +1,5 @@
 -- Each of them is shown.
-use Rattle.std.proofs.Common.{ℕ, ◌<◌, length, ap, subst, sym, ◌∙◌}
+use Rattle.std.proofs.Common.{ap, ◌∙◌}
 use Rattle.std.specs.Prelude.{slice_get}
 use Rattle.event_model.proofs.Turns.{does_next, does_whole}
 use Rattle.group_rows.specs.Lists.{lists_of}

@@ -1,5 +1,5 @@
 -- An editor that opened a document is shown the last list of it.
-use Rattle.std.proofs.Common.{ap, refl, sym, subst, ◌∙◌}
+use Rattle.std.proofs.Common.{false, ap, refl, sym, subst, ◌∙◌}
 use Rattle.document_model.specs.Sayings.{saying_by, saying_of}
 use Rattle.mux_history.specs.declared.out.Out.TheVariants.{ToEditor}
 use Rattle.event_model.specs.Event.{behind}
@@ -45,6 +45,6 @@ returns-clause-does c = λ settings base body method params x read says here rea
     does_alike (λ _. alike (shows_last settings s e (saying_by method params) u one))
     (does_look (λ _. refl) (does_knowing (λ k.
     let is = ap (last_text settings s e now) (sym c.bytes.ensures) ∙ (sym (c.in_ok-shown.ensures settings now x here ready k) ∙ c.in-Some-shown.is) in
-    let listed = subst (λ w. IsListOf w _ text) (sym c.bytes-2.ensures) (last_listed settings s e now u text (meant_behind base xs meant) is) in
+    let listed = subst (λ w. IsListOf w false text) (sym c.bytes-in-Some-shown.ensures) (last_listed settings s e now u text (meant_behind base xs meant) is) in
     does_alike (λ _. alike_then (text_row settings s e now u) (alike (ap (λ o. on o nothing (λ w. send (ToEditor e w))) is)))
     (all_does settings t v nothing_owed nothing_owed base xs c.show.new.outs (c.in_ok-show-in-Some-shown.ensures.does settings base listed) (λ _ d. c.in_ok-show-in-Some-shown.ensures.documents settings nothing_owed base d)))))

@@ -2,7 +2,7 @@
 use Rattle.std.proofs.Common.{◌≡◌, true, false, length, ap, sym, ◌∙◌}
 use Rattle.event_model.specs.Stages.{Life, is_ready, life_of}
 use Rattle.group_rows.specs.Asks.{members_in, running_in}
-use Rattle.mux_exits.proofs.Gathering.{none_inside}
+use Rattle.mux_exits.proofs.Gathering.{none_inside, those_run}
 use Rattle.mux_exits.proofs.Rows.{live_ready, live_unready, parts_ready, parts_unready}
 use Rattle.mux_starts.specs.mux_facts.proofs.DocumentRow.{ready_is}
 use Rattle.mux_starts.proofs.Stopped.{last_life}
@@ -43,7 +43,7 @@ returns-clause-parts c = λ settings before x here st.
       members = those;
       losses = parts_ready settings before s h c.deref.result.now c.new-losses.result.items c.lose_all_requests.new.losses.items (c.deref.ensures.value ∙ those) c.new-losses.ensures.items
           (c.in_ok-lose_all_requests.ensures.lost settings before s at st) c.deref-2.result.now c.lose_all_starts.new.losses.items on (c.deref-2.ensures.value ∙ these)
-          (c.in_ok-lose_all_starts.ensures.lost settings before x here ready st);
+          (c.in_ok-lose_all_starts.ensures.lost settings before x here ready (those_run settings before h c.deref-2.result.now (c.deref-2.ensures.value ∙ these)) st);
       live = live_ready settings before s c.in_ok-live.live.items on (c.in_ok-live.ensures ∙ c.live.ensures settings before x here ready st);
     }
 

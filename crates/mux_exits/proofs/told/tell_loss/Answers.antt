@@ -1,7 +1,8 @@
 -- One is told what it loses.
-use Rattle.std.proofs.Common.{length, subst}
+use Rattle.std.proofs.Common.{IsUtf8, ap, length, subst, sym, ◌∙◌}
+use Rattle.group_rows.specs.ExitRows.{empty_text}
 use Rattle.mux_exits.specs.Losses.{IsInside}
-use Rattle.mux_exits.proofs.Saying.{tells_call, tells_text}
+use Rattle.mux_exits.proofs.Saying.{tells_call, tells_empty, tells_text}
 use Rattle.mux_tables.specs.Documents.{nothing_owed}
 use Rattle.mux_exits.proofs.told.tell_loss.Goals as goal
 
@@ -17,3 +18,12 @@ pub returns-in_ok-call_unregistered_any-in-Unregistered-clause-does : goal.retur
 returns-in_ok-call_unregistered_any-in-Unregistered-clause-does c = λ settings base call can idle.
     tells_call settings c.args.tables.now c.call_unregistered_any.new.tables base c.args.outs.now c.call_unregistered_any.new.outs c.args.live.now c.args.loss can c.in-Unregistered.e c.in-Unregistered.is
     (λ runs. c.in_ok-call_unregistered_any-in-Unregistered.ensures.does settings nothing_owed base call runs idle)
+
+pub show-requires : goal.show-requires
+show-requires c = subst (IsInside (length c.args.tables.now.editors)) c.in-Emptied.is c.requires
+
+pub returns-in_ok-show-in-Emptied-clause-does : goal.returns-in_ok-show-in-Emptied-clause-does
+returns-in_ok-show-in-Emptied-clause-does c = λ settings base call can idle.
+    tells_empty settings c.args.tables.now c.show.new.self base c.args.outs.now c.show.new.outs c.args.live.now c.args.loss can c.in-Emptied.e c.in-Emptied.uri c.bytes-2.result.now c.in_ok-text-in-Emptied.text c.in-Emptied.is c.bytes-2.ensures
+    (λ spelt. c.in_ok-text-in-Emptied.ensures (subst IsUtf8 (sym c.bytes.ensures) spelt) ∙ ap empty_text c.bytes.ensures)
+    (λ list. c.in_ok-show-in-Emptied.ensures.does settings base list) (λ ds. c.in_ok-show-in-Emptied.ensures.documents settings nothing_owed base ds)
