@@ -71,7 +71,7 @@ use Rattle.mux_turns.proofs.Matched.{whole_entry}
 -- The last start in this place, as it is kept behind the end of its program
 
 module _ (restarts : ℕ) (t u : Tables) (g : ℕ) (z : Start) (within : g < length t.lasts.items) (e : Exits restarts t g z u) where
-  here : slice_get u.lasts.items g ≡ Some e.start
+  pub here : slice_get u.lasts.items g ≡ Some e.start
   here = ap (λ ls. slice_get ls g) e.lasts ∙ get_set_same t.lasts.items g e.start within
 
   pub exit_over : IsOver g u.lasts.items
@@ -79,8 +79,11 @@ module _ (restarts : ℕ) (t u : Tables) (g : ℕ) (z : Start) (within : g < len
       let is : x ≡ e.start = same_item (sym at ∙ here) in
       (ap (λ (w : Start). w.life.stage) is ∙ ap (λ l. l.stage) e.life, ap (λ (w : Start). w.ids.requests) is ∙ e.requests_gone)
 
+  pub exit_group : e.start.life.group ≡ z.life.group
+  exit_group = ap (λ l. l.group) e.life
+
   pub exit_unready : (settings : Settings) (events : List Event) → Stands settings u events → IsUnready z.life.group u.lasts.items
-  exit_unready settings events st = subst (λ h. IsUnready h u.lasts.items) (ap (λ l. l.group) e.life)
+  exit_unready settings events st = subst (λ h. IsUnready h u.lasts.items) exit_group
       (unready_at g u.lasts.items e.start st.lasts.rise here (ap (λ l. is_ready l.stage) e.life))
 
 -- What was gathered is said

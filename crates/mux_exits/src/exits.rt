@@ -4,10 +4,11 @@ ghost use Rattle.std.specs.List.{All, AllByRecursion};
 ghost use Rattle.event_model.specs.Does.{Does, Done};
 ghost use Rattle.event_model.specs.Event.{Event, behind, with_cause};
 ghost use Rattle.event_model.specs.Settings.{Settings};
+ghost use Rattle.event_model.specs.declared.stage.Stage.TheVariants.{Ended};
 ghost use Rattle.group_rows.specs.Rows.{row_of};
 ghost use Rattle.group_words.specs.declared.kept.Kept.{Kept};
 ghost use Rattle.mux_exits.specs.Losses.{IsInside};
-ghost use Rattle.mux_exits.specs.Partings.{CanPart, IsOver, parting_row};
+ghost use Rattle.mux_exits.specs.Partings.{CanPart, IsOver, parting_row, renewing_row};
 ghost use Rattle.mux_history.specs.declared.cause.Cause.TheVariants.{ServerGone, StartFailed};
 ghost use Rattle.mux_starts.specs.Refusing.{IsUnready};
 ghost use Rattle.mux_starts.specs.group_facts.specs.Facts.{Known};
@@ -94,6 +95,10 @@ fn renew(
     requires inside { AllByRecursion (IsInside (length tables.old.editors)) parting.losses.items }
     ensures requests { tables.new.requests ≡ tables.old.requests }
     ensures versions { tables.new.versions ≡ tables.old.versions }
+    ensures does { (settings : Settings) (base : List Event) (x : Start) → slice_get tables.old.lasts.items g ≡ Some x
+        → CanPart settings (behind base outs.old) x.life.group parting
+        → OnOk result (Does (λ k events. AllStand settings k events)
+        (renewing_row x.life.group parting) base (tables.old, nothing_owed) outs.old (tables.new, nothing_owed) outs.new) }
 {
     let Parting { losses, live, .. } = parting;
     tell_losses(tables, alloc, outs, losses, &live)?;
