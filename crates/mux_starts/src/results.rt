@@ -1,5 +1,6 @@
 //! S2: the first result of a start.
-ghost use Rattle.std.specs.Prelude.{◌≡◌, ◌<◌, ℕ, List, [], Option, Some, true, length, map, OnOk, slice_get};
+ghost use Rattle.std.specs.Prelude.{◌≡◌, ◌<◌, ◌++◌, ℕ, List, [], None, Option, Some, true, length, map, filter, option_copied, IfOk, OnOk, slice_get};
+ghost use Rattle.std.specs.List.{All};
 ghost use Rattle.event_model.specs.declared.stage.Stage.TheVariants.{Initializing};
 ghost use Rattle.event_model.specs.Does.{Does, Done};
 ghost use Rattle.event_model.specs.Event.{Event, behind, with_cause};
@@ -7,14 +8,23 @@ ghost use Rattle.event_model.specs.Phases.{desk_of};
 ghost use Rattle.event_model.specs.Row.{each, look};
 ghost use Rattle.event_model.specs.Settings.{Settings};
 ghost use Rattle.event_model.specs.Stages.{is_first_result};
+ghost use Rattle.group_rows.specs.Earlier.{shown_in, was_shown};
 ghost use Rattle.group_rows.specs.Rows.{first_result, waiting_in, welcome};
+ghost use Rattle.group_rows.specs.StopRows.{close_each};
+ghost use Rattle.group_rows.specs.Texts.{worker_of};
+ghost use Rattle.group_words.specs.Houses.{groups_of};
 ghost use Rattle.group_words.specs.Rows.{shown_of};
 ghost use Rattle.json_text.specs.Json.{Json};
 ghost use Rattle.mux_history.specs.declared.cause.Cause.TheVariants.{FromServer};
+ghost use Rattle.mux_starts.specs.Parted.{IsConfigured, configured_row, parted};
+ghost use Rattle.mux_starts.specs.group_facts.specs.Facts.{Known};
+ghost use Rattle.mux_starts.specs.group_facts.specs.Lively.{lives_at};
+ghost use Rattle.mux_starts.specs.group_facts.specs.Settled.{Settled};
 ghost use Rattle.mux_tables.specs.declared.tables.Start.{Start};
-ghost use Rattle.mux_tables.specs.Documents.{AllStand, DocumentsStand, nothing_owed};
+ghost use Rattle.mux_tables.specs.Documents.{AheadStand, AllStand, DocumentsStand, Owed, closes, nothing_owed};
 ghost use Rattle.mux_tables.specs.Names.{id_in};
 ghost use Rattle.mux_tables.specs.Stands.{Stands, number_in};
+ghost use Rattle.mux_turns.specs.Carried.{CarriedStand};
 ghost use Rattle.mux_turns.specs.Welcomes.{AllAsking, IsGreeted, IsShown, Tells};
 ghost use Rattle.rpc_message.specs.Message.{Id, id_bytes, message_of, result as outcome, result_bytes};
 ghost use Rattle.rpc_message.specs.Parsed.{IsRead};
@@ -86,6 +96,22 @@ fn greet_all(
     Ok(())
 }
 
+// Those of these editors that were shown a result of their group, in this order.
+fn shown_among(tables: &Tables, alloc: Global, members: &[u64]) -> Result<Vec<u64>, Memory>
+    requires { All (λ e. e < length tables.now.editors) members.now }
+    ensures inside { IfOk result (λ numbers. All (λ e. e < length tables.now.editors) numbers.items) }
+    ensures those { (settings : Settings) (events : List Event) → Stands settings tables.now events
+        → IfOk result (λ numbers. numbers.items ≡ filter (λ e. was_shown (desk_of e events).phase) members.now) }
+{
+    let mut all = Vec::new(alloc);
+    for e in members {
+        if was_shown(tables.phase(*e)) {
+            all.push(*e)?;
+        }
+    }
+    Ok(all)
+}
+
 // S2: the editors of a group that were shown a result, rising.
 fn shown_in(tables: &Tables, alloc: Global, g: u64) -> Result<Vec<u64>, Memory>
     ensures inside { IfOk result (λ numbers. All (λ e. e < length tables.now.editors) numbers.items) }
@@ -93,13 +119,8 @@ fn shown_in(tables: &Tables, alloc: Global, g: u64) -> Result<Vec<u64>, Memory>
         → IfOk result (λ numbers. numbers.items ≡ shown_in settings g events) }
 {
     let members = tables.members(g)?;
-    let mut shown = Vec::new(alloc);
-    for e in &members {
-        if was_shown(tables.phase(*e)) {
-            shown.push(*e)?;
-        }
-    }
-    Ok(shown)
+    let all = shown_among(tables, alloc, &members)?;
+    Ok(all)
 }
 
 // S2: the editors whose links are to be ended: where they are shown other capabilities now than of an earlier start of their group, those
@@ -117,7 +138,8 @@ fn parted_in(
         → IfOk result (λ numbers. numbers.items ≡ parted settings before body g) }
 {
     if carries.differs(alloc, g, shown)? {
-        shown_in(tables, alloc, g)
+        let numbers = shown_in(tables, alloc, g)?;
+        Ok(numbers)
     } else {
         Ok(Vec::new(alloc))
     }
@@ -154,6 +176,10 @@ fn configure(
     configuration: Option<&Body>,
 ) -> Result<(), Memory>
     requires { g < length tables.now.lasts.items }
+    ensures does { (settings : Settings) (owed : Owed) (base : List Event) (s : ℕ) → slice_get (map number_in tables.now.lasts.items) g ≡ Some s
+        → IsConfigured (option_copied configuration) → worker_of (behind base outs.old) ≡ None
+        → OnOk result (Does (λ k events. AllStand settings k events)
+        (configured_row s (option_copied configuration)) base (tables.now, owed) outs.old (tables.now, owed) outs.new) }
 {
     match configuration {
         None => Ok(()),
@@ -183,7 +209,8 @@ pub fn take_result(
     ensures does { (settings : Settings) (before : List Event) (body : List ℕ) (id : Option Id) (value : Json) (s : ℕ) → IsRead message.now body
         → message_of body ≡ outcome id value → is_first_result (message_of body) ≡ true → slice_get (map number_in tables.old.lasts.items) g ≡ Some s
         → outs.old ≡ []
-        → IsShown body → AllAsking before → Stands settings tables.old before → DocumentsStand settings nothing_owed tables.old before
+        → IsShown body → AllAsking before → Known settings before → Settled settings before → CarriedStand settings carries.old before
+        → Stands settings tables.old before → DocumentsStand settings nothing_owed tables.old before
         → OnOk result (Done (λ k events. AllStand settings k events) (first_result settings before s body)
         (with_cause before (FromServer s body)) [] (tables.new, nothing_owed) outs.new) }
 {

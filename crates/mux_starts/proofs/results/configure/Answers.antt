@@ -1,0 +1,13 @@
+-- The start is told of the configuration.
+use Rattle.event_model.proofs.Turns.{does_nothing}
+use Rattle.mux_starts.proofs.Resulting.{configures_does}
+use Rattle.mux_starts.proofs.results.configure.Goals as goal
+
+pub returns-in-None-clause-does : goal.returns-in-None-clause-does
+returns-in-None-clause-does c = λ settings owed base s there is idle. does_nothing
+
+pub returns-in_ok-notify-in-Some-clause-does : goal.returns-in_ok-notify-in-Some-clause-does
+returns-in_ok-notify-in-Some-clause-does c = λ settings owed base s there is idle.
+    configures_does settings owed c.args.tables.now c.args.g base c.args.outs.now c.notify.new.outs s c.in_ok-text-in-Some.text c.in-Some.body.now c.in_ok-text-in-Some.ensures is idle
+    (c.in_ok-notify-in-Some.ensures.does settings base s there)
+    (λ method params says silent rest docs. c.in_ok-notify-in-Some.ensures.idle settings owed base method params says silent rest docs)
