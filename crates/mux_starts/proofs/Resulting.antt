@@ -1,11 +1,11 @@
 -- S2: a start's first result: with whom it parts, what the start is told, and the whole entry.
-use Rattle.std.proofs.Common.{◌≡◌, ℕ, ◌+◌, ◌<◌, ◌≤◌, Bool, true, false, List, [], ◌∷◌, ◌++◌, append_assoc, append-nil, codes, drop, get_or, length, map, take, refl, ap, sym, subst, ◌∙◌}
+use Rattle.std.proofs.Common.{◌≡◌, ℕ, ◌+◌, ◌<◌, ◌≤◌, Bool, true, false, ◌&&◌, List, [], ◌∷◌, ◌++◌, append_assoc, append-nil, codes, drop, get_or, length, map, take, nat_eq, refl, ap, ap₂, sym, if◌then◌else◌, subst, ◌∙◌}
 use Rattle.std.specs.Prelude.{Option, Some, None, option_map, slice_get}
 use Rattle.std.proofs.lemmas.List.{drop_all, take_all, take_more}
 use Rattle.json_text.specs.Json.{Json}
 use Rattle.mux_history.specs.declared.cause.Cause.TheVariants.{FromServer}
 use Rattle.mux_history.specs.declared.out.Out.{Out}
-use Rattle.mux_history.specs.declared.out.Out.TheVariants.{CloseEditor, ToServer}
+use Rattle.mux_history.specs.declared.out.Out.TheVariants.{CloseEditor, EndServer, Spawn, ToEditor, ToServer}
 use Rattle.rpc_message.specs.Message.{Message, message_of, notification, result_bytes}
 use Rattle.rpc_message.specs.Texts.{initialized_text}
 use Rattle.document_model.specs.Sayings.{saying_of}
@@ -19,7 +19,7 @@ use Rattle.event_model.specs.Row.{each, look, on, send, ◌⨾◌}
 use Rattle.event_model.specs.Row.{nothing as none_sent}
 use Rattle.event_model.specs.Settings.{Settings}
 use Rattle.event_model.specs.Spawns.{group_of, start_of}
-use Rattle.event_model.specs.Stages.{is_ready, life_of}
+use Rattle.event_model.specs.Stages.{is_first_result, is_initializing, is_ready, life_of}
 use Rattle.event_model.proofs.Frames.{never, one_more}
 use Rattle.event_model.proofs.Places.{item_at}
 use Rattle.event_model.proofs.Turns.{alike, behind_more, does_alike, does_knowing, does_look, does_then}
@@ -27,13 +27,13 @@ use Rattle.group_facts.specs.Facts.{is_up}
 use Rattle.group_facts.specs.Lively.{lives_at}
 use Rattle.group_facts.specs.Settled.{Settled}
 use Rattle.group_facts.proofs.Configured.{configured, configures_by}
-use Rattle.group_rows.specs.Earlier.{configuration_of, configure, differs, given_of}
+use Rattle.group_rows.specs.Earlier.{configuration_of, configure, differs, given_next, given_of}
 use Rattle.group_rows.specs.Forwarded.{moves_ids}
 use Rattle.group_rows.specs.Rows.{first_result, replay, replay_bodies, result_in, waiting_in, welcome}
 use Rattle.group_rows.specs.StopRows.{close_each}
 use Rattle.group_rows.specs.Texts.{worker_behind, worker_of}
 use Rattle.group_rows.proofs.Versions.{AllMeant}
-use Rattle.group_words.specs.Houses.{groups_of}
+use Rattle.group_words.specs.Houses.{groups_of, is_home}
 use Rattle.group_words.specs.Rows.{shown_of}
 use Rattle.mux_model.specs.Rows.{to_start}
 use Rattle.mux_tables.specs.declared.tables.Start.{Start}
@@ -108,7 +108,14 @@ configured_so settings before g (Some body) is meant = configured settings g bef
 
 idle_still : (events : List Event) (xs : List Out) → worker_of events ≡ None → worker_of (behind events xs) ≡ None
 idle_still events [] idle = ap worker_of (append-nil events) ∙ idle
-idle_still events (x ∷ xs) idle = ap worker_of (behind_more events (x ∷ []) xs) ∙ idle_still (events ++ said x ∷ []) xs (one_more worker_behind _ _ events (said x) refl ∙ idle)
+idle_still events (x ∷ xs) idle = ap worker_of (behind_more events (x ∷ []) xs) ∙ idle_still (events ++ said x ∷ []) xs (one_more worker_behind _ _ events (said x) refl ∙ (go x ∙ idle))
+  where
+    go : (x : Out) → worker_behind (worker_of events) (said x) ≡ worker_of events
+    go (ToEditor e body) = refl
+    go (ToServer n body) = refl
+    go (Spawn n g) = refl
+    go (CloseEditor e) = refl
+    go (EndServer n) = refl
 
 module _ (before : List Event) (s : ℕ) (body : List ℕ) where
   abbrev base : List Event
@@ -130,6 +137,16 @@ up_lives settings before g s settled last up = go (lives_at g (groups_of setting
     go : (b : Bool) → lives_at g (groups_of settings before) ≡ b → b ≡ true
     go true is = refl
     go false is = never (sym up ∙ settled.down g s is last)
+
+-- the result is the group's
+pub given_so : (before : List Event) (s h : ℕ) (body : List ℕ) → group_of s before ≡ Some h → is_initializing (life_of s before).stage ≡ true → is_first_result (message_of body) ≡ true → (g : ℕ) (o : Option (List ℕ))
+    → given_next g before o (heard (FromServer s body)) ≡ (if nat_eq h g then Some body else o)
+given_so before s h body home stage first g o = ap (λ b. if b then Some body else o)
+    (ap (λ k. is_home g k && (is_initializing (life_of s before).stage && is_first_result (message_of body))) home ∙ (ap₂ (λ a b. nat_eq h g && (a && b)) stage first ∙ both (nat_eq h g)))
+  where
+    both : (b : Bool) → (b && true) ≡ b
+    both true = refl
+    both false = refl
 
 -- The whole entry
 

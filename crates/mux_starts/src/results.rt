@@ -213,6 +213,12 @@ pub fn take_result(
         → Stands settings tables.old before → DocumentsStand settings nothing_owed tables.old before
         → OnOk result (Done (λ k events. AllStand settings k events) (first_result settings before s body)
         (with_cause before (FromServer s body)) [] (tables.new, nothing_owed) outs.new) }
+    ensures carried { (settings : Settings) (before : List Event) (body : List ℕ) (id : Option Id) (value : Json) (s : ℕ) → IsRead message.now body
+        → message_of body ≡ outcome id value → is_first_result (message_of body) ≡ true → slice_get (map number_in tables.old.lasts.items) g ≡ Some s
+        → outs.old ≡ []
+        → IsShown body → AllAsking before → Known settings before → Settled settings before → CarriedStand settings carries.old before
+        → Stands settings tables.old before → DocumentsStand settings nothing_owed tables.old before
+        → OnOk result (CarriedStand settings carries.new (behind (with_cause before (FromServer s body)) outs.new)) }
 {
     let group = tables.group_number(g);
     let n = answered_number(message);

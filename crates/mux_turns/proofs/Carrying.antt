@@ -1,5 +1,5 @@
 -- What groups carry from one of their starts to the next.
-use Rattle.std.proofs.Common.{◌≡◌, ℕ, ◌≤◌, Bool, true, false, not, List, [], ◌∷◌, codes, refl, ap, sym, ◌∙◌}
+use Rattle.std.proofs.Common.{◌≡◌, ℕ, Bool, false, List, [], codes, refl, ap, sym, ◌∙◌}
 use Rattle.std.specs.Prelude.{Option, Some, None, is_none}
 use Rattle.std.specs.Option.{option_and_then}
 use Rattle.std.specs.Str.{chars}
@@ -14,7 +14,7 @@ use Rattle.capability_meet.proofs.Letters.{capabilities_letters}
 use Rattle.event_model.specs.Members.{named_of}
 use Rattle.event_model.specs.Settings.{Settings}
 use Rattle.group_facts.specs.group_rows.specs.Earlier.{same_shown}
-use Rattle.mux_turns.specs.Carried.{Bare, CarriedStand, CarriesView, capabilities_in}
+use Rattle.mux_turns.specs.Carried.{CarriedStand, CarriesView, capabilities_in}
 use Rattle.mux_turns.proofs.Folders.{named_so}
 
 -- the capabilities of a text that was read, and of one that is none

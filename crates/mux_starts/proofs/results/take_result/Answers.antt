@@ -1,5 +1,5 @@
 -- The first result of a start.
-use Rattle.std.proofs.Common.{◌≡◌, ◌<◌, ◌++◌, [], length, map, refl, ap, sym, subst, ◌∙◌}
+use Rattle.std.proofs.Common.{◌≡◌, ◌<◌, ◌++◌, [], length, map, refl, ap, ap₂, sym, subst, ◌∙◌}
 use Rattle.std.specs.Prelude.{Some, slice_get}
 use Rattle.std.specs.List.{All, AllByRecursion}
 use Rattle.mux_history.specs.declared.cause.Cause.TheVariants.{FromServer}
@@ -9,10 +9,11 @@ use Rattle.event_model.specs.Does.{Does}
 use Rattle.event_model.specs.Event.{behind, heard, with_cause}
 use Rattle.event_model.specs.Row.{send}
 use Rattle.event_model.specs.Spawns.{group_behind, start_of}
-use Rattle.event_model.specs.Stages.{Life}
+use Rattle.event_model.specs.Stages.{Life, is_initializing, life_of}
 use Rattle.event_model.proofs.Frames.{one_more}
 use Rattle.event_model.proofs.Places.{item_at, same_item}
 use Rattle.group_facts.specs.Facts.{is_up}
+use Rattle.group_rows.specs.Earlier.{given_of}
 use Rattle.group_rows.specs.StopRows.{close_each}
 use Rattle.group_words.specs.Houses.{home_of}
 use Rattle.group_words.specs.Rows.{shown_of}
@@ -22,6 +23,9 @@ use Rattle.mux_tables.specs.Stands.{number_in, of_life}
 use Rattle.mux_tables.proofs.DocumentOwed.{all_does}
 use Rattle.mux_tables.proofs.Homes.{group_seen}
 use Rattle.mux_tables.proofs.Starts.{start_at_place}
+use Rattle.mux_turns.specs.declared.carried.Carried.{Carried}
+use Rattle.mux_turns.specs.Carried.{CarriedStand, CarriesView}
+use Rattle.mux_turns.proofs.CarriedOn.{gave}
 use Rattle.mux_turns.proofs.Listed.{meant_same}
 use Rattle.mux_turns.proofs.Ready.{start_from}
 use Rattle.mux_starts.specs.Parted.{configured_row, parted}
@@ -77,3 +81,21 @@ returns-clause-does c = λ settings before body id value s read says first at no
     let greets = c.in_ok-greet_all.ensures.does settings base body (c.bytes-3.ensures ∙ shows) shown (asking_behind before s body c.pay.new.outs asking) in
     result_entry settings before s g body es bodies v i x.0 home es_are refl x.1 mine u c.greet_all.new.tables c.args.outs.now c.part_each.new.outs c.notify.new.outs c.configure.new.outs c.pay.new.outs c.greet_all.new.outs
     none (c.in_ok-part_each.ensures.outs ∙ ap (λ ns. c.args.outs.now ++ closes ns) same) (stands, owed.1) parts begins configures pays greets
+
+pub returns-clause-carried : goal.returns-clause-carried
+returns-clause-carried c = λ settings before body id value s read says first at none shown asking known settled carried st ds.
+    let i = c.args.g in
+    let t = c.args.tables.now in
+    let g = c.group_number-group.result in
+    let z = item_at t.lasts.items i c.requires.group in
+    let number = sym (c.group_number-group.ensures z.0 z.1) in
+    let home = (group_seen settings t before i s z.0 st z.1 at).0 ∙ ap Some number in
+    let own = st.lasts.each i z.0 z.1 in
+    let same = start_at_place t.lasts.items i s z.0 z.1 at in
+    let initializes = ap (λ n. is_initializing (life_of n before).stage) (sym same) ∙ (ap (λ (l : Life). is_initializing l.stage) (own.parts of_life) ∙ ap is_initializing (c.requires.stage z.0 z.1)) in
+    let live = up_lives settings before g z.0.life.start settled (subst (λ n. start_of n before ≡ Some z.0.life.start) number own.start) (ap (λ (l : Life). is_up l.stage) (own.parts of_life) ∙ ap is_up (c.requires.stage z.0 z.1)) in
+    let done = returns-clause-does c settings before body id value s read says first at none shown asking known settled carried st ds in
+    let told = c.in_ok-told.ensures ∙ ap shown_of (c.result_bytes.ensures body read) in
+    subst (λ v. CarriedStand settings v (behind (with_cause before (FromServer s body)) c.greet_all.new.outs)) (ap₂ (λ (a b : List Carried). record { shown = a; configurations = b }) (sym c.in_ok-give.ensures.shown) (sym c.give.ensures.configurations))
+    (gave settings c.args.carries.now before (FromServer s body) c.greet_all.new.outs g c.greet_all.new.tables.groups.groups live carried c.in_ok-told.told body done.stands.0.house.groups.groups told
+    (λ h. given_so before s g body home initializes first h (given_of h before)) (λ h. refl))
