@@ -55,7 +55,7 @@ use Rattle.mux_tables.proofs.Lasts.{apart, known}
 use Rattle.mux_tables.proofs.Starts.{read_here, read_same, start_at_place}
 
 -- a group whose start gave its result, and was told nothing yet
-record Awaits (settings : Settings) (g s : ℕ) (code : Encoding) (d : Documents) (events : List Event) : Type 0 where
+pub record Awaits (settings : Settings) (g s : ℕ) (code : Encoding) (d : Documents) (events : List Event) : Type 0 where
   texts : texts_of settings g events ≡ texts_in d
   given : encoding_of g events ≡ Some code
   orderly : Orderly (texts_in d)

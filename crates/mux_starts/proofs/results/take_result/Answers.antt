@@ -24,14 +24,14 @@ use Rattle.mux_tables.proofs.DocumentOwed.{all_does}
 use Rattle.mux_tables.proofs.Homes.{group_seen}
 use Rattle.mux_tables.proofs.Starts.{start_at_place}
 use Rattle.mux_turns.specs.declared.carried.Carried.{Carried}
-use Rattle.mux_turns.specs.Carried.{CarriedStand, CarriesView}
+use Rattle.mux_turns.specs.Carried.{CarriedStand}
 use Rattle.mux_turns.proofs.CarriedOn.{gave}
 use Rattle.mux_turns.proofs.Listed.{meant_same}
 use Rattle.mux_turns.proofs.Ready.{start_from}
 use Rattle.mux_starts.specs.Parted.{configured_row, parted}
 use Rattle.mux_starts.proofs.Parting.{parted_home}
 use Rattle.mux_starts.proofs.Replies.{first_encoding, initialized_quiet, initialized_silent}
-use Rattle.mux_starts.proofs.Resulting.{asking_behind, configured_so, idle_behind, result_entry, up_lives}
+use Rattle.mux_starts.proofs.Resulting.{asking_behind, configured_so, given_so, idle_behind, result_entry, up_lives}
 use Rattle.mux_starts.proofs.results.take_result.Goals as goal
 
 pub part_each-requires : goal.part_each-requires
