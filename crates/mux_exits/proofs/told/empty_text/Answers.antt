@@ -10,5 +10,5 @@ returns c = λ spelt.
     let tail : c.as_bytes-2.result.now ≡ codes ",\"diagnostics\":[]}" = search rules in
     let most : c.extend_from_slice-2.new.self.items ≡ codes "{\"uri\":" ++ c.in_ok-uri.uri = c.in_ok-extend_from_slice-2.ensures.items ∙ ap₂ (λ xs ys. xs ++ ys) head c.bytes.ensures in
     let written : c.as_slice.result.now ≡ empty_params c.args.uri.now = c.as_slice.ensures.value ∙ (c.in_ok-extend_from_slice-3.ensures.items ∙ (ap₂ (λ xs ys. xs ++ ys) most tail
-        ∙ (append_assoc (codes "{\"uri\":") c.in_ok-uri.uri (codes ",\"diagnostics\":[]}") ∙ ap (λ w. codes "{\"uri\":" ++ (w ++ codes ",\"diagnostics\":[]}")) (c.in_ok-uri.ensures spelt)))) in
+    ∙ (append_assoc (codes "{\"uri\":") c.in_ok-uri.uri (codes ",\"diagnostics\":[]}") ∙ ap (λ w. codes "{\"uri\":" ++ (w ++ codes ",\"diagnostics\":[]}")) (c.in_ok-uri.ensures spelt)))) in
     subst (λ w. IfOk c.notification.result (λ body. body ≡ notification_text (codes "textDocument/publishDiagnostics") (Some w))) written c.notification.ensures
