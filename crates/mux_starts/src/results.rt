@@ -137,7 +137,8 @@ fn parted_in(
         → CarriedStand settings carries.now before → lives_at g (groups_of settings before) ≡ true → shown.now ≡ shown_of (result_bytes body)
         → IfOk result (λ numbers. numbers.items ≡ parted settings before body g) }
 {
-    if carries.differs(alloc, g, shown)? {
+    let differs = carries.differs(alloc, g, shown)?;
+    if differs {
         let numbers = shown_in(tables, alloc, g)?;
         Ok(numbers)
     } else {

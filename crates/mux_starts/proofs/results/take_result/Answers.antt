@@ -58,7 +58,7 @@ returns-clause-does c = λ settings before body id value s read says first at no
     let bodies = replaying settings (behind base (closes es)) g in
     let u = c.hear_result.new.self in
     let v = c.part_each.new.tables in
-    let stands = c.in_ok-owed.ensures.stands settings before s body at first (c.answered_number-n.ensures body read) (c.in_ok-kept.ensures ∙ (c.bytes-2.ensures ∙ shows)) st in
+    let stands = c.in_ok-owed.ensures.stands settings before s body at first (c.answered_number-n.ensures body read) (c.in_ok-kept.ensures ∙ shows) st in
     let homes : AllByRecursion (λ e. home_of settings e before ≡ Some z.0.life.group) es = subst (λ n. AllByRecursion (λ e. home_of settings e before ≡ Some n) es) (sym number) (subst (AllByRecursion (λ e. home_of settings e before ≡ Some g)) (sym es_are) (parted_home settings before body g)) in
     let owed = subst (λ n. (c.in_ok-owed.owed ≡ to s (replaying settings (behind base (closes es)) n)) × DocumentsStand settings (owes n (replaying settings (behind base (closes es)) n)) u (behind base (closes es))) number
         (c.in_ok-owed.ensures.documents settings before s body at (first_encoding (message_of body) id value c.encoding.result says first (c.encoding.ensures body id value read says)) st ds z.0 z.1 homes) in
@@ -78,7 +78,7 @@ returns-clause-does c = λ settings before body id value s read says first at no
     let pays = subst (λ n. Does (λ k events. AllStand settings k events) (to_start n bodies) base (v, due) c.configure.new.outs (v, nothing_owed) c.pay.new.outs) own
         (subst (λ m. Does (λ k events. AllStand settings k events) (to_start x.0.life.start bodies) base (v, owes m bodies) c.configure.new.outs (v, nothing_owed) c.pay.new.outs) mine
         (c.in_ok-pay.ensures.does settings base i x.0 bodies x.1 (c.in_ok-owed.ensures.ready x.0 x_at) (owed.0 ∙ ap (λ n. to n bodies) (sym own)))) in
-    let greets = c.in_ok-greet_all.ensures.does settings base body (c.bytes-3.ensures ∙ shows) shown (asking_behind before s body c.pay.new.outs asking) in
+    let greets = c.in_ok-greet_all.ensures.does settings base body (c.bytes-2.ensures ∙ shows) shown (asking_behind before s body c.pay.new.outs asking) in
     result_entry settings before s g body es bodies v i x.0 home es_are refl x.1 mine u c.greet_all.new.tables c.args.outs.now c.part_each.new.outs c.notify.new.outs c.configure.new.outs c.pay.new.outs c.greet_all.new.outs
     none (c.in_ok-part_each.ensures.outs ∙ ap (λ ns. c.args.outs.now ++ closes ns) same) (stands, owed.1) parts begins configures pays greets
 
