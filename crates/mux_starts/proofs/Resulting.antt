@@ -62,9 +62,9 @@ differs_so settings carries before g body shown stand live is = ap (differs_show
 
 -- The links of a list are to be ended
 
-closes_join : (as bs : List ℕ) → closes (as ++ bs) ≡ closes as ++ closes bs
-closes_join [] bs = refl
-closes_join (a ∷ as) bs = ap (λ ws. CloseEditor a ∷ ws) (closes_join as bs)
+closes_join : (ms ns : List ℕ) → closes (ms ++ ns) ≡ closes ms ++ closes ns
+closes_join [] ns = refl
+closes_join (m ∷ ms) ns = ap (λ ws. CloseEditor m ∷ ws) (closes_join ms ns)
 
 pub closes_more : (items : List ℕ) (i : ℕ) (xs ys zs : List Out) → i < length items → ys ≡ xs ++ closes (take i items) → zs ≡ ys ++ CloseEditor (get_or items i 0) ∷ [] → zs ≡ xs ++ closes (take (i + 1) items)
 closes_more items i xs ys zs less so is =
