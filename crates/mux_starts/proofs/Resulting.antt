@@ -73,7 +73,7 @@ closes_more items i xs ys zs less so is =
     ∙ ap (λ ws. xs ++ ws) (sym (closes_join (take i items) (e ∷ [])) ∙ ap closes (sym (take_more items i 0 less)))))
 
 pub closes_all : (items : List ℕ) (i : ℕ) (xs ys : List Out) → length items ≤ i → ys ≡ xs ++ closes (take i items) → ys ≡ xs ++ closes items
-closes_all items i xs ys over so = so ∙ ap (λ ns. xs ++ closes ns) (take_all items i over)
+closes_all items i xs ys over so = so ∙ ap (λ ns. xs ++ closes ns) (take_all i items over)
 
 pub none_more : (settings : Settings) (owed : Owed) (t u : Tables) (items : List ℕ) (i : ℕ) (base : List Event) (xs ys : List Out) → length items ≤ i
     → Does (λ k events. AheadStand settings k events) (close_each items) base (t, (owed, closes items)) xs (u, (owed, closes (drop i items))) ys

@@ -177,7 +177,7 @@ fn configure(
     configuration: Option<&Body>,
 ) -> Result<(), Memory>
     requires { g < length tables.now.lasts.items }
-    ensures does { (settings : Settings) (owed : Owed) (base : List Event) (s : ℕ) → slice_get (map number_in tables.now.lasts.items) g ≡ Some s
+    ensures { (settings : Settings) (owed : Owed) (base : List Event) (s : ℕ) → slice_get (map number_in tables.now.lasts.items) g ≡ Some s
         → IsConfigured (option_copied configuration.entry) → worker_of (behind base outs.old) ≡ None
         → OnOk result (Does (λ k events. AllStand settings k events)
         (configured_row s (option_copied configuration.entry)) base (tables.now, owed) outs.old (tables.now, owed) outs.new) }

@@ -11,4 +11,4 @@ returns-in_ok-numbers-clause-those c = λ settings before body st carried live i
 
 pub returns-else-differs-clause-those : goal.returns-else-differs-clause-those
 returns-else-differs-clause-those c = λ settings before body st carried live is.
-    ap (λ (b : Bool). if b then shown_in settings c.args.g before else []) (sym c.if-differs.false ∙ (c.in_ok-differs.ensures ∙ differs_so settings c.args.carries.now before c.args.g body c.args.shown.now carried live is))
+    c.new.ensures.items ∙ ap (λ (b : Bool). if b then shown_in settings c.args.g before else []) (sym c.if-differs.false ∙ (c.in_ok-differs.ensures ∙ differs_so settings c.args.carries.now before c.args.g body c.args.shown.now carried live is))

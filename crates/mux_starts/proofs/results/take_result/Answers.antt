@@ -1,5 +1,5 @@
 -- The first result of a start.
-use Rattle.std.proofs.Common.{◌≡◌, ◌<◌, ◌++◌, [], length, map, refl, ap, ap₂, sym, subst, ◌∙◌}
+use Rattle.std.proofs.Common.{◌≡◌, ◌<◌, ◌++◌, List, [], length, map, refl, ap, ap₂, sym, subst, ◌∙◌}
 use Rattle.std.specs.Prelude.{Some, slice_get}
 use Rattle.std.specs.List.{All, AllByRecursion}
 use Rattle.mux_history.specs.declared.cause.Cause.TheVariants.{FromServer}
@@ -70,7 +70,7 @@ returns-clause-does c = λ settings before body id value s read says first at no
         (all_does settings v v due due base c.part_each.new.outs c.notify.new.outs (c.in_ok-notify.ensures.does settings base s there q.runs q.counts (λ _ _ _. initialized_silent c.in_ok-text.text c.in_ok-text.ensures)) (λ _ d. c.in_ok-notify.ensures.documents settings due base q.says q.aside d)) in
     let kept = c.configuration.ensures ∙ carried.configuration g live in
     let configures = subst (λ o. Does (λ k events. AllStand settings k events) (configured_row s o) base (v, due) c.notify.new.outs (v, due) c.configure.new.outs) kept
-        (c.in_ok-configure.ensures.does settings due base s there (configured_so settings before g _ kept (meant_same before known.meant)) (idle_behind before s body c.notify.new.outs)) in
+        (c.in_ok-configure.ensures settings due base s there (configured_so settings before g _ kept (meant_same before known.meant)) (idle_behind before s body c.notify.new.outs)) in
     let x = start_from v.lasts.items i s there in
     let own = start_at_place v.lasts.items i s x.0 x.1 there in
     let x_at = ap (λ ls. slice_get ls.items i) (sym c.part_each.ensures.lasts) ∙ x.1 in
