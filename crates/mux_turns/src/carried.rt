@@ -1,11 +1,12 @@
 //! What groups carry from one of their starts to the next: what editors were shown of the last result of `initialize` (S2), and the
 //! configuration (E16; LSP 3.17, Initialize Request and DidChangeConfiguration Notification).
-ghost use Rattle.std.specs.Prelude.{◌≡◌, ◌<◌, ℕ, List, [], length, IfOk, MatchOption, OnOk, option_copied};
+ghost use Rattle.std.specs.Prelude.{◌≡◌, ◌<◌, ℕ, List, [], Some, length, IfOk, MatchOption, OnOk, is_none, option_copied};
 ghost use Rattle.capability_meet.specs.Answers.{IsRead};
 ghost use Rattle.event_model.specs.Settings.{Settings};
 ghost use Rattle.group_facts.specs.Lively.{lives_at};
 ghost use Rattle.group_facts.specs.group_rows.specs.Earlier.{same_shown};
-ghost use Rattle.json_nodes.specs.At.{Found};
+ghost use Rattle.json_nodes.specs.At.{At, Found};
+ghost use Rattle.json_text.specs.Json.{Json};
 ghost use Rattle.mux_turns.specs.Carried.{CarriedStand, ReadsTo, capabilities_in, carried, differs_shown, with_carried};
 
 use json_span::{JsonFault, Tape, same};
@@ -60,34 +61,63 @@ fn capabilities(tape: &Tape) -> Option<u32>
     tape.maybe_member(Some(tape.root()), "capabilities")
 }
 
+// Whether these capabilities of one text are the same value as those of another.
+fn same_at(left: &Tape, one: u32, right: &Tape) -> bool
+    requires { one < length left.now.nodes }
+    ensures { (t : Json) (b : List ℕ) → At left.now one t → IsRead right.now b → result ≡ same_shown (Some t) (capabilities_in b) }
+{
+    match capabilities(right) {
+        None => false,
+        Some(other) => same(left, one, right, other),
+    }
+}
+
 // Whether those of two texts are the same value, or neither has them.
 fn same_in(left: &Tape, right: &Tape) -> bool
     ensures { (a b : List ℕ) → IsRead left.now a → IsRead right.now b → result ≡ same_shown (capabilities_in a) (capabilities_in b) }
 {
     match capabilities(left) {
         None => capabilities(right).is_none(),
-        Some(one) => match capabilities(right) {
-            None => false,
-            Some(other) => same(left, one, right, other),
-        },
+        Some(one) => same_at(left, one, right),
     }
 }
 
-// The same of bytes; what is no JSON text has none.
+// Whether bytes have none; what is no JSON text has none.
+fn lacks(alloc: Global, bytes: &[u8]) -> Result<bool, Memory>
+    ensures { IfOk result (λ answer. answer ≡ is_none (capabilities_in bytes.now)) }
+{
+    let found = read(alloc, bytes)?;
+    match found {
+        None => Ok(true),
+        Some(tape) => Ok(capabilities(&tape).is_none()),
+    }
+}
+
+// Whether those of a text are the same value as those of bytes, or neither has them.
+fn same_read(alloc: Global, left: &Tape, bytes: &[u8]) -> Result<bool, Memory>
+    ensures { (a : List ℕ) → IsRead left.now a → IfOk result (λ answer. answer ≡ same_shown (capabilities_in a) (capabilities_in bytes.now)) }
+{
+    let found = read(alloc, bytes)?;
+    match found {
+        None => Ok(capabilities(left).is_none()),
+        Some(right) => Ok(same_in(left, &right)),
+    }
+}
+
+// Whether those of two bytes are the same value, or neither has them.
 fn same_capabilities(alloc: Global, a: &[u8], b: &[u8]) -> Result<bool, Memory>
     ensures { IfOk result (λ answer. answer ≡ same_shown (capabilities_in a.now) (capabilities_in b.now)) }
 {
-    let left = read(alloc, a)?;
-    let right = read(alloc, b)?;
-    match left {
-        None => match right {
-            None => Ok(true),
-            Some(right) => Ok(capabilities(&right).is_none()),
-        },
-        Some(left) => match right {
-            None => Ok(capabilities(&left).is_none()),
-            Some(right) => Ok(same_in(&left, &right)),
-        },
+    let found = read(alloc, a)?;
+    match found {
+        None => {
+            let answer = lacks(alloc, b)?;
+            Ok(answer)
+        }
+        Some(left) => {
+            let answer = same_read(alloc, &left, b)?;
+            Ok(answer)
+        }
     }
 }
 

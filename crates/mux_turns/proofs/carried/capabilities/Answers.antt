@@ -2,5 +2,5 @@
 use Rattle.mux_turns.proofs.Carrying.{capabilities_found}
 use Rattle.mux_turns.proofs.carried.capabilities.Goals as goal
 
-pub returns-found : goal.returns-found
-returns-found c bytes read = capabilities_found c.args.tape.now bytes c.root.result c.maybe_member.result read c.root.ensures.value c.maybe_member.ensures.member
+pub returns-clause-found : goal.returns-clause-found
+returns-clause-found c bytes read = capabilities_found c.args.tape.now bytes c.root.result c.maybe_member.result read c.root.ensures.value c.maybe_member.ensures.member

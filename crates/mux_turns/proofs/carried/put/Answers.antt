@@ -6,4 +6,4 @@ use Rattle.mux_turns.proofs.carried.put.Goals as goal
 
 pub returns : goal.returns
 returns c =
-    c.in_ok.ensures ∙ ap (λ cs. cs ++ record { group = c.args.g; body = c.args.body } ∷ []) (filter_same _ (stays c.args.tables.now.groups.groups c.args.g) _ (λ x b f k. search rules) _ _ c.retain.ensures.filtered)
+    c.in_ok-push.ensures.items ∙ ap (λ cs. cs ++ record { group = c.args.g; body = c.args.body } ∷ []) (filter_same _ (stays c.args.tables.now.groups.groups c.args.g) _ (λ x b f k. search rules) _ _ c.retain.ensures.filtered)

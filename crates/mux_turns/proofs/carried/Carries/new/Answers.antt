@@ -3,4 +3,4 @@ use Rattle.mux_turns.proofs.Carrying.{none_carried}
 use Rattle.mux_turns.proofs.carried.Carries.new.Goals as goal
 
 pub returns : goal.returns
-returns c settings = none_carried settings _ c.new-shown.ensures c.new-configurations.ensures
+returns c = λ settings. none_carried settings _ c.new.ensures.items c.new-2.ensures.items
