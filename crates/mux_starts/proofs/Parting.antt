@@ -11,7 +11,7 @@ use Rattle.event_model.specs.declared.phase.Phase.TheVariants.{Absent, New, Wait
 use Rattle.event_model.specs.Does.{Alike, Does}
 use Rattle.event_model.specs.Event.{Event, behind, said}
 use Rattle.event_model.specs.Phases.{Desk, desk_behind, desk_of, editors_of, is_begun, is_running, phase_closed}
-use Rattle.event_model.specs.Row.{choose, nothing, send}
+use Rattle.event_model.specs.Row.{Row, choose, nothing, send}
 use Rattle.event_model.specs.Settings.{Settings}
 use Rattle.event_model.proofs.Frames.{one_more}
 use Rattle.event_model.proofs.Turns.{behind_more}
@@ -129,8 +129,12 @@ closes_next settings owed t u base xs ys e es d docs = record { done = λ k. let
 
 -- Documents that are ahead by nothing
 
-pub ahead_none : (settings : Settings) (t : Tables) (owed : Owed) (events : List Event) → AllStand settings (t, owed) events → AheadStand settings (t, (owed, [])) events
+ahead_none : (settings : Settings) (t : Tables) (owed : Owed) (events : List Event) → AllStand settings (t, owed) events → AheadStand settings (t, (owed, [])) events
 ahead_none settings t owed events k = (k.0, subst (DocumentsStand settings owed t) (sym (append-nil events)) k.1)
 
 pub none_ahead : (settings : Settings) (t : Tables) (owed : Owed) (events : List Event) → AheadStand settings (t, (owed, [])) events → AllStand settings (t, owed) events
 none_ahead settings t owed events k = (k.0, subst (DocumentsStand settings owed t) (append-nil events) k.1)
+
+pub ahead_does : {row : Row} (settings : Settings) (t u : Tables) (owed after : Owed) (base : List Event) (xs ys : List Out) → Does (λ k events. AllStand settings k events) row base (t, owed) xs (u, after) ys
+    → Does (λ k events. AheadStand settings k events) row base (t, (owed, [])) xs (u, (after, [])) ys
+ahead_does {row} settings t u owed after base xs ys d = record { done = λ k. let one = d.done (none_ahead settings t owed (behind base xs) k) in record { outs = one.outs; stands = ahead_none settings u after (behind base ys) one.stands } }

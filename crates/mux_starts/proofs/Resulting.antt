@@ -1,5 +1,5 @@
 -- S2: a start's first result: with whom it parts, what the start is told, and the whole entry.
-use Rattle.std.proofs.Common.{◌≡◌, ℕ, ◌+◌, ◌<◌, ◌≤◌, Bool, true, false, ◌&&◌, List, [], ◌∷◌, ◌++◌, append_assoc, append-nil, codes, drop, get_or, length, map, take, nat_eq, refl, ap, ap₂, sym, if◌then◌else◌, subst, ◌∙◌}
+use Rattle.std.proofs.Common.{◌≡◌, ℕ, ◌+◌, ◌<◌, ◌≤◌, Bool, true, false, ◌&&◌, List, [], ◌∷◌, ◌++◌, append_assoc, append-nil, codes, drop, get_or, length, take, nat_eq, refl, ap, ap₂, sym, if◌then◌else◌, subst, ◌∙◌}
 use Rattle.std.specs.Prelude.{Option, Some, None, option_map, slice_get}
 use Rattle.std.proofs.lemmas.List.{drop_all, take_all, take_more}
 use Rattle.json_text.specs.Json.{Json}
@@ -21,7 +21,6 @@ use Rattle.event_model.specs.Settings.{Settings}
 use Rattle.event_model.specs.Spawns.{group_of, start_of}
 use Rattle.event_model.specs.Stages.{is_first_result, is_initializing, is_ready, life_of}
 use Rattle.event_model.proofs.Frames.{never, one_more}
-use Rattle.event_model.proofs.Places.{item_at}
 use Rattle.event_model.proofs.Turns.{alike, behind_more, does_alike, does_knowing, does_look, does_then}
 use Rattle.group_facts.specs.Facts.{is_up}
 use Rattle.group_facts.specs.Lively.{lives_at}
@@ -39,21 +38,18 @@ use Rattle.mux_model.specs.Rows.{to_start}
 use Rattle.mux_tables.specs.declared.tables.Start.{Start}
 use Rattle.mux_tables.specs.declared.tables.Tables.{Tables}
 use Rattle.mux_tables.specs.Documents.{AheadStand, AllStand, DocumentsStand, Owed, closes, nothing_owed, owes, replaying}
-use Rattle.mux_tables.specs.Stands.{Stands, is_answer, number_in}
+use Rattle.mux_tables.specs.Stands.{Stands, is_answer}
 use Rattle.mux_tables.proofs.DocumentMoves.{documents_at}
-use Rattle.mux_tables.proofs.DocumentOwed.{all_does, number_there}
+use Rattle.mux_tables.proofs.DocumentOwed.{all_does}
 use Rattle.mux_turns.specs.Carried.{CarriedStand, CarriesView, carried, differs_shown, shown_text}
 use Rattle.mux_turns.specs.Welcomes.{AllAsking}
 use Rattle.mux_turns.proofs.Failing.{waits_back}
 use Rattle.mux_turns.proofs.Matched.{whole_entry}
 use Rattle.mux_starts.specs.Parted.{IsConfigured, configured_row, parted}
 use Rattle.mux_starts.specs.Refusing.{Adds}
-use Rattle.mux_starts.proofs.Parting.{ahead_none, none_ahead, parted_alike}
+use Rattle.mux_starts.proofs.Parting.{ahead_does, none_ahead, parted_alike}
 use Rattle.mux_starts.proofs.PutOut.{asking_later}
 use Rattle.mux_starts.proofs.Replies.{still_asking}
-
-pub number_at : (xs : List Start) (g : ℕ) → g < length xs → (s : ℕ) × (slice_get (map number_in xs) g ≡ Some s)
-number_at xs g within = let x = item_at xs g within in (x.0.life.start, number_there xs g x.0 x.1)
 
 -- What a group carries says whether its editors are shown something else
 pub differs_so : (settings : Settings) (carries : CarriesView) (before : List Event) (g : ℕ) (body shown : List ℕ) → CarriedStand settings carries before → lives_at g (groups_of settings before) ≡ true → shown ≡ shown_of (result_bytes body)
@@ -66,9 +62,9 @@ differs_so settings carries before g body shown stand live is = ap (differs_show
 
 -- The links of a list are to be ended
 
-closes_join : (as bs : List ℕ) → closes (as ++ bs) ≡ closes as ++ closes bs
-closes_join [] bs = refl
-closes_join (a ∷ as) bs = ap (λ ws. CloseEditor a ∷ ws) (closes_join as bs)
+closes_join : (ms ns : List ℕ) → closes (ms ++ ns) ≡ closes ms ++ closes ns
+closes_join [] ns = refl
+closes_join (m ∷ ms) ns = ap (λ ws. CloseEditor m ∷ ws) (closes_join ms ns)
 
 pub closes_more : (items : List ℕ) (i : ℕ) (xs ys zs : List Out) → i < length items → ys ≡ xs ++ closes (take i items) → zs ≡ ys ++ CloseEditor (get_or items i 0) ∷ [] → zs ≡ xs ++ closes (take (i + 1) items)
 closes_more items i xs ys zs less so is =
@@ -77,7 +73,7 @@ closes_more items i xs ys zs less so is =
     ∙ ap (λ ws. xs ++ ws) (sym (closes_join (take i items) (e ∷ [])) ∙ ap closes (sym (take_more items i 0 less)))))
 
 pub closes_all : (items : List ℕ) (i : ℕ) (xs ys : List Out) → length items ≤ i → ys ≡ xs ++ closes (take i items) → ys ≡ xs ++ closes items
-closes_all items i xs ys over so = so ∙ ap (λ ns. xs ++ closes ns) (take_all items i over)
+closes_all items i xs ys over so = so ∙ ap (λ ns. xs ++ closes ns) (take_all i items over)
 
 pub none_more : (settings : Settings) (owed : Owed) (t u : Tables) (items : List ℕ) (i : ℕ) (base : List Event) (xs ys : List Out) → length items ≤ i
     → Does (λ k events. AheadStand settings k events) (close_each items) base (t, (owed, closes items)) xs (u, (owed, closes (drop i items))) ys
@@ -176,8 +172,8 @@ module _ (settings : Settings) (before : List Event) (s g : ℕ) (body : List �
       → Does All (send (ToServer s initialized_text) ⨾ (configure settings before s g ⨾ (replay settings s g ⨾ look (λ events. each (welcome body) (waiting_in settings g events))))) now (u, due) ys (w, nothing_owed) vs
   told w ys zs ws us vs first begins configures pays greets = does_knowing (λ k.
       let same : DocumentsStand settings due u (behind now ws) → replaying settings (behind now ws) g ≡ bodies = λ m.
-          subst (λ n. replaying settings (behind now ws) n ≡ replaying settings (behind now ys) n) mine (replays_same settings due u (behind now ys) (behind now ws) i x at k.1 m)
-          ∙ (ap (λ os. replaying settings (behind now os) g) first ∙ sym are) in
+      subst (λ n. replaying settings (behind now ws) n ≡ replaying settings (behind now ys) n) mine (replays_same settings due u (behind now ys) (behind now ws) i x at k.1 m)
+      ∙ (ap (λ os. replaying settings (behind now os) g) first ∙ sym are) in
       let replays : Does All (replay settings s g) now (u, due) ws (u, nothing_owed) us = does_look (λ m. ap (to_start s) (same m.1)) pays in
       does_then begins (does_then configures (does_then replays greets)))
 
@@ -187,7 +183,7 @@ module _ (settings : Settings) (before : List Event) (s g : ℕ) (body : List �
       → Done All (first_result settings before s body) now [] (w, nothing_owed) vs
   result_entry t w xs ys zs ws us vs first those_closed all parts begins configures pays greets =
       let rest = told w ys zs ws us vs (those_closed ∙ ap (λ os. os ++ closes es) first) begins configures pays greets in
-      let ahead = record { done = λ k. let one = rest.done (none_ahead settings u due (behind now ys) k) in record { outs = one.outs; stands = ahead_none settings w nothing_owed (behind now vs) one.stands } } in
+      let ahead = ahead_does settings u w due nothing_owed now ys vs rest in
       let done = whole_entry Ahead (first_result settings before s body) now (t, (due, closes es)) (w, (nothing_owed, [])) xs vs first all
-          (does_alike (λ _. alike (ap (λ o. on o none_sent (result_in settings before s body)) home)) (does_then (does_alike (λ _. parted_alike settings before body g es those) parts) ahead)) in
+      (does_alike (λ _. alike (ap (λ o. on o none_sent (result_in settings before s body)) home)) (does_then (does_alike (λ _. parted_alike settings before body g es those) parts) ahead)) in
       record { outs = done.outs; stands = none_ahead settings w nothing_owed (behind now vs) done.stands }

@@ -137,7 +137,8 @@ fn parted_in(
         → CarriedStand settings carries.now before → lives_at g (groups_of settings before) ≡ true → shown.now ≡ shown_of (result_bytes body)
         → IfOk result (λ numbers. numbers.items ≡ parted settings before body g) }
 {
-    if carries.differs(alloc, g, shown)? {
+    let differs = carries.differs(alloc, g, shown)?;
+    if differs {
         let numbers = shown_in(tables, alloc, g)?;
         Ok(numbers)
     } else {
@@ -176,10 +177,10 @@ fn configure(
     configuration: Option<&Body>,
 ) -> Result<(), Memory>
     requires { g < length tables.now.lasts.items }
-    ensures does { (settings : Settings) (owed : Owed) (base : List Event) (s : ℕ) → slice_get (map number_in tables.now.lasts.items) g ≡ Some s
-        → IsConfigured (option_copied configuration) → worker_of (behind base outs.old) ≡ None
+    ensures { (settings : Settings) (owed : Owed) (base : List Event) (s : ℕ) → slice_get (map number_in tables.now.lasts.items) g ≡ Some s
+        → IsConfigured (option_copied configuration.entry) → worker_of (behind base outs.old) ≡ None
         → OnOk result (Does (λ k events. AllStand settings k events)
-        (configured_row s (option_copied configuration)) base (tables.now, owed) outs.old (tables.now, owed) outs.new) }
+        (configured_row s (option_copied configuration.entry)) base (tables.now, owed) outs.old (tables.now, owed) outs.new) }
 {
     match configuration {
         None => Ok(()),

@@ -43,22 +43,22 @@ module _ (gs : List Kept) (h : ℕ) (body : List ℕ) where
     -- its own
     put_own : nat_eq h g ≡ true → (cs : List Carried) → carried g (left cs) ≡ Some body
     put_own same [] = ap (λ b. if b then Some body else None) same
-    put_own same (c ∷ cs) = go (nat_eq c.group g) refl
+    put_own same (c ∷ cs) = go (nat_eq c.group g) refl (put_own same cs)
       where
-        go : (b : Bool) → nat_eq c.group g ≡ b → carried g (left (c ∷ cs)) ≡ Some body
-        go false off = skipped c cs off ∙ put_own same cs
-        go true own =
+        go : (b : Bool) → nat_eq c.group g ≡ b → carried g (left cs) ≡ Some body → carried g (left (c ∷ cs)) ≡ Some body
+        go false off rest = skipped c cs off ∙ rest
+        go true own rest =
             let here : nat_eq c.group h ≡ true = grind (arith, nat_tests) in
-            ap (λ b. carried g ((if not b && lives_at c.group gs then c ∷ filter (stays gs h) cs else filter (stays gs h) cs) ++ record { group = h; body = body } ∷ [])) here ∙ put_own same cs
+            ap (λ b. carried g ((if not b && lives_at c.group gs then c ∷ filter (stays gs h) cs else filter (stays gs h) cs) ++ record { group = h; body = body } ∷ [])) here ∙ rest
 
     -- another one, of a group that lives
     put_other : nat_eq h g ≡ false → lives_at g gs ≡ true → (cs : List Carried) → carried g (left cs) ≡ carried g cs
     put_other off live [] = ap (λ b. if b then Some body else None) off
-    put_other off live (c ∷ cs) = go (nat_eq c.group g) refl
+    put_other off live (c ∷ cs) = go (nat_eq c.group g) refl (put_other off live cs)
       where
-        go : (b : Bool) → nat_eq c.group g ≡ b → carried g (left (c ∷ cs)) ≡ carried g (c ∷ cs)
-        go false away = skipped c cs away ∙ (put_other off live cs ∙ sym (ap (λ b. if b then Some c.body else carried g cs) away))
-        go true own =
+        go : (b : Bool) → nat_eq c.group g ≡ b → carried g (left cs) ≡ carried g cs → carried g (left (c ∷ cs)) ≡ carried g (c ∷ cs)
+        go false away rest = skipped c cs away ∙ (rest ∙ sym (ap (λ b. if b then Some c.body else carried g cs) away))
+        go true own rest =
             let is : c.group ≡ g = grind (arith, nat_tests) in
             let there : nat_eq c.group h ≡ false = grind (arith, nat_tests) in
             let kept : stays gs h c ≡ true = ap (λ b. not b && lives_at c.group gs) there ∙ (ap (λ n. lives_at n gs) is ∙ live) in
@@ -68,11 +68,11 @@ module _ (gs : List Kept) (h : ℕ) (body : List ℕ) where
     -- where there is none
     put_none : nat_eq h g ≡ false → (cs : List Carried) → carried g cs ≡ None → carried g (left cs) ≡ None
     put_none off [] none = ap (λ b. if b then Some body else None) off
-    put_none off (c ∷ cs) none = go (nat_eq c.group g) refl none
+    put_none off (c ∷ cs) none = go (nat_eq c.group g) refl none (put_none off cs)
       where
-        go : (b : Bool) → nat_eq c.group g ≡ b → (if b then Some c.body else carried g cs) ≡ None → carried g (left (c ∷ cs)) ≡ None
-        go false away k = skipped c cs away ∙ put_none off cs k
-        go true own k = absurd (cc)
+        go : (b : Bool) → nat_eq c.group g ≡ b → (if b then Some c.body else carried g cs) ≡ None → (carried g cs ≡ None → carried g (left cs) ≡ None) → carried g (left (c ∷ cs)) ≡ None
+        go false away k rest = skipped c cs away ∙ rest k
+        go true own k rest = absurd (cc)
 
     put_live : lives_at g gs ≡ true → (cs : List Carried) → carried g (with_carried gs h body cs) ≡ (if nat_eq h g then Some body else carried g cs)
     put_live live cs = go (nat_eq h g) refl
