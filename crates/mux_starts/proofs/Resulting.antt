@@ -172,8 +172,8 @@ module _ (settings : Settings) (before : List Event) (s g : ℕ) (body : List �
       → Does All (send (ToServer s initialized_text) ⨾ (configure settings before s g ⨾ (replay settings s g ⨾ look (λ events. each (welcome body) (waiting_in settings g events))))) now (u, due) ys (w, nothing_owed) vs
   told w ys zs ws us vs first begins configures pays greets = does_knowing (λ k.
       let same : DocumentsStand settings due u (behind now ws) → replaying settings (behind now ws) g ≡ bodies = λ m.
-          subst (λ n. replaying settings (behind now ws) n ≡ replaying settings (behind now ys) n) mine (replays_same settings due u (behind now ys) (behind now ws) i x at k.1 m)
-          ∙ (ap (λ os. replaying settings (behind now os) g) first ∙ sym are) in
+      subst (λ n. replaying settings (behind now ws) n ≡ replaying settings (behind now ys) n) mine (replays_same settings due u (behind now ys) (behind now ws) i x at k.1 m)
+      ∙ (ap (λ os. replaying settings (behind now os) g) first ∙ sym are) in
       let replays : Does All (replay settings s g) now (u, due) ws (u, nothing_owed) us = does_look (λ m. ap (to_start s) (same m.1)) pays in
       does_then begins (does_then configures (does_then replays greets)))
 
@@ -185,5 +185,5 @@ module _ (settings : Settings) (before : List Event) (s g : ℕ) (body : List �
       let rest = told w ys zs ws us vs (those_closed ∙ ap (λ os. os ++ closes es) first) begins configures pays greets in
       let ahead = ahead_does settings u w due nothing_owed now ys vs rest in
       let done = whole_entry Ahead (first_result settings before s body) now (t, (due, closes es)) (w, (nothing_owed, [])) xs vs first all
-          (does_alike (λ _. alike (ap (λ o. on o none_sent (result_in settings before s body)) home)) (does_then (does_alike (λ _. parted_alike settings before body g es those) parts) ahead)) in
+      (does_alike (λ _. alike (ap (λ o. on o none_sent (result_in settings before s body)) home)) (does_then (does_alike (λ _. parted_alike settings before body g es those) parts) ahead)) in
       record { outs = done.outs; stands = none_ahead settings w nothing_owed (behind now vs) done.stands }

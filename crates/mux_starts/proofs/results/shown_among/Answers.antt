@@ -15,12 +15,12 @@ loop-e-preserved c = record {
     | else-was_shown w ↦ subst (All (λ e. e < length c.args.tables.now.editors)) (sym (ap (λ v. v.items) w.all-is)) c.loop-e.invariant.inside
   ];
   those = λ settings events st.
-    let keep = λ (e : ℕ). was_shown (desk_of e events).phase in
-    let is = c.was_shown.ensures ∙ ap was_shown (c.phase.ensures settings events st) in
-    elim c.if-was_shown.branch [
-      | then-was_shown+in_ok-push w ↦ one_kept keep c.args.members.now c.loop-e.e-index c.was_shown.result c.loop-e.all.items c.if-was_shown.all.items c.loop-e-test.true (c.loop-e.invariant.those settings events st) is w.if-was_shown.true (ap (λ v. v.items) w.all-is ∙ w.in_ok-push.ensures.items)
-      | else-was_shown w ↦ one_left keep c.args.members.now c.loop-e.e-index c.was_shown.result c.loop-e.all.items c.if-was_shown.all.items c.loop-e-test.true (c.loop-e.invariant.those settings events st) is w.if-was_shown.false (ap (λ v. v.items) w.all-is)
-    ];
+      let keep = λ (e : ℕ). was_shown (desk_of e events).phase in
+      let is = c.was_shown.ensures ∙ ap was_shown (c.phase.ensures settings events st) in
+      elim c.if-was_shown.branch [
+        | then-was_shown+in_ok-push w ↦ one_kept keep c.args.members.now c.loop-e.e-index c.was_shown.result c.loop-e.all.items c.if-was_shown.all.items c.loop-e-test.true (c.loop-e.invariant.those settings events st) is w.if-was_shown.true (ap (λ v. v.items) w.all-is ∙ w.in_ok-push.ensures.items)
+        | else-was_shown w ↦ one_left keep c.args.members.now c.loop-e.e-index c.was_shown.result c.loop-e.all.items c.if-was_shown.all.items c.loop-e-test.true (c.loop-e.invariant.those settings events st) is w.if-was_shown.false (ap (λ v. v.items) w.all-is)
+      ];
 }
 
 pub returns-clause-inside : goal.returns-clause-inside

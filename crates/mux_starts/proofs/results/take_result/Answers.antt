@@ -61,23 +61,23 @@ returns-clause-does c = λ settings before body id value s read says first at no
     let stands = c.in_ok-owed.ensures.stands settings before s body at first (c.answered_number-n.ensures body read) (c.in_ok-kept.ensures ∙ shows) st in
     let homes : AllByRecursion (λ e. home_of settings e before ≡ Some z.0.life.group) es = subst (λ n. AllByRecursion (λ e. home_of settings e before ≡ Some n) es) (sym number) (subst (AllByRecursion (λ e. home_of settings e before ≡ Some g)) (sym es_are) (parted_home settings before body g)) in
     let owed = subst (λ n. (c.in_ok-owed.owed ≡ to s (replaying settings (behind base (closes es)) n)) × DocumentsStand settings (owes n (replaying settings (behind base (closes es)) n)) u (behind base (closes es))) number
-        (c.in_ok-owed.ensures.documents settings before s body at (first_encoding (message_of body) id value c.encoding.result says first (c.encoding.ensures body id value read says)) st ds z.0 z.1 homes) in
+    (c.in_ok-owed.ensures.documents settings before s body at (first_encoding (message_of body) id value c.encoding.result says first (c.encoding.ensures body id value read says)) st ds z.0 z.1 homes) in
     let due = owes g bodies in
     let parts = subst (λ ns. Does (λ k events. AheadStand settings k events) (close_each ns) base (u, (due, closes ns)) c.args.outs.now (v, (due, [])) c.part_each.new.outs) same (c.in_ok-part_each.ensures.does settings due base) in
     let there = ap (λ ls. slice_get (map number_in ls.items) i) c.part_each.ensures.lasts ∙ (ap (λ ns. slice_get ns i) c.in_ok-owed.ensures.starts ∙ at) in
     let q = initialized_quiet c.in_ok-text.text c.in_ok-text.ensures in
     let begins = subst (λ w. Does (λ k events. AllStand settings k events) (send (ToServer s w)) base (v, due) c.part_each.new.outs (v, due) c.notify.new.outs) c.in_ok-text.ensures
-        (all_does settings v v due due base c.part_each.new.outs c.notify.new.outs (c.in_ok-notify.ensures.does settings base s there q.runs q.counts (λ _ _ _. initialized_silent c.in_ok-text.text c.in_ok-text.ensures)) (λ _ d. c.in_ok-notify.ensures.documents settings due base q.says q.aside d)) in
+    (all_does settings v v due due base c.part_each.new.outs c.notify.new.outs (c.in_ok-notify.ensures.does settings base s there q.runs q.counts (λ _ _ _. initialized_silent c.in_ok-text.text c.in_ok-text.ensures)) (λ _ d. c.in_ok-notify.ensures.documents settings due base q.says q.aside d)) in
     let kept = c.configuration.ensures ∙ carried.configuration g live in
     let configures = subst (λ o. Does (λ k events. AllStand settings k events) (configured_row s o) base (v, due) c.notify.new.outs (v, due) c.configure.new.outs) kept
-        (c.in_ok-configure.ensures settings due base s there (configured_so settings before g _ kept (meant_same before known.meant)) (idle_behind before s body c.notify.new.outs)) in
+    (c.in_ok-configure.ensures settings due base s there (configured_so settings before g _ kept (meant_same before known.meant)) (idle_behind before s body c.notify.new.outs)) in
     let x = start_from v.lasts.items i s there in
     let own = start_at_place v.lasts.items i s x.0 x.1 there in
     let x_at = ap (λ ls. slice_get ls.items i) (sym c.part_each.ensures.lasts) ∙ x.1 in
     let mine : x.0.life.group ≡ g = same_item (sym (group_seen settings u base i s x.0 stands x_at (ap (λ ns. slice_get ns i) c.in_ok-owed.ensures.starts ∙ at)).0 ∙ (one_more (group_behind s) _ _ before (heard (FromServer s body)) refl ∙ home)) in
     let pays = subst (λ n. Does (λ k events. AllStand settings k events) (to_start n bodies) base (v, due) c.configure.new.outs (v, nothing_owed) c.pay.new.outs) own
-        (subst (λ m. Does (λ k events. AllStand settings k events) (to_start x.0.life.start bodies) base (v, owes m bodies) c.configure.new.outs (v, nothing_owed) c.pay.new.outs) mine
-        (c.in_ok-pay.ensures.does settings base i x.0 bodies x.1 (c.in_ok-owed.ensures.ready x.0 x_at) (owed.0 ∙ ap (λ n. to n bodies) (sym own)))) in
+    (subst (λ m. Does (λ k events. AllStand settings k events) (to_start x.0.life.start bodies) base (v, owes m bodies) c.configure.new.outs (v, nothing_owed) c.pay.new.outs) mine
+    (c.in_ok-pay.ensures.does settings base i x.0 bodies x.1 (c.in_ok-owed.ensures.ready x.0 x_at) (owed.0 ∙ ap (λ n. to n bodies) (sym own)))) in
     let greets = c.in_ok-greet_all.ensures.does settings base body (c.bytes-2.ensures ∙ shows) shown (asking_behind before s body c.pay.new.outs asking) in
     result_entry settings before s g body es bodies v i x.0 home es_are refl x.1 mine u c.greet_all.new.tables c.args.outs.now c.part_each.new.outs c.notify.new.outs c.configure.new.outs c.pay.new.outs c.greet_all.new.outs
     none (c.in_ok-part_each.ensures.outs ∙ ap (λ ns. c.args.outs.now ++ closes ns) same) (stands, owed.1) parts begins configures pays greets
