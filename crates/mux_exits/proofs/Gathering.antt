@@ -1,5 +1,5 @@
 -- What editors lose, gathered one after the other.
-use Rattle.std.proofs.Common.{◌≡◌, ℕ, zero, suc, ◌+◌, ◌<◌, ◌≤◌, Bool, true, false, ◌&&◌, List, [], ◌∷◌, ◌++◌, append-nil, append_assoc, filter, flat_map, get_or, if◌then◌else◌, length, map, Option, Some, take, refl, ap, sym, subst, ◌∙◌}
+use Rattle.std.proofs.Common.{◌≡◌, ℕ, zero, suc, ◌+◌, ◌<◌, ◌≤◌, Bool, true, false, ◌&&◌, List, [], ◌∷◌, ◌++◌, append-nil, append_assoc, filter, flat_map, get_or, if◌then◌else◌, length, map, Option, Some, take, refl, ap, sym, subst, ◌∙◌, arith}
 use Rattle.std.specs.Prelude.{slice_get}
 use Rattle.std.specs.List.{All, AllByRecursion, range_with_len}
 use Rattle.std.proofs.lemmas.Bool.{and_parts}
@@ -42,7 +42,7 @@ pub flat_whole : {A B : Type 0} (f : A → List B) (items : List A) (i : ℕ) (f
 flat_whole f items i first xs past so = so ∙ ap (λ ws. first ++ flat_map f ws) (take_all i items past)
 
 -- one list more of those that are walked, and the last
-pub emptied_more : (before : List Event) (e : ℕ) (ls : List LastList) (n : ℕ) → emptied before e (take (n + 1) ls) ≡ emptied before e (take n ls) ++ emptied_at before e (slice_get ls n)
+emptied_more : (before : List Event) (e : ℕ) (ls : List LastList) (n : ℕ) → emptied before e (take (suc n) ls) ≡ emptied before e (take n ls) ++ emptied_at before e (slice_get ls n)
 emptied_more before e [] zero = refl
 emptied_more before e [] (suc n) = refl
 emptied_more before e (l ∷ ls) zero = refl
@@ -54,19 +54,20 @@ emptied_more before e (l ∷ ls) (suc n) = go (is_full e l.uri before) (emptied_
     told : List LastList → List Loss
     told ks = map (λ (k : LastList). Emptied e k.uri) ks
 
-    go : (b : Bool) → told (those (take (n + 1) ls)) ≡ told (those (take n ls)) ++ emptied_at before e (slice_get ls n)
-        → told (if b then l ∷ those (take (n + 1) ls) else those (take (n + 1) ls)) ≡ told (if b then l ∷ those (take n ls) else those (take n ls)) ++ emptied_at before e (slice_get ls n)
+    go : (b : Bool) → told (those (take (suc n) ls)) ≡ told (those (take n ls)) ++ emptied_at before e (slice_get ls n)
+        → told (if b then l ∷ those (take (suc n) ls) else those (take (suc n) ls)) ≡ told (if b then l ∷ those (take n ls) else those (take n ls)) ++ emptied_at before e (slice_get ls n)
     go true same = ap (λ ws. Emptied e l.uri ∷ ws) same
     go false same = same
 
 pub emptied_next : (before : List Event) (e : ℕ) (ls : List LastList) (n : ℕ) (first xs ys : List Loss) → xs ≡ first ++ emptied before e (take n ls) → ys ≡ xs ++ emptied_at before e (slice_get ls n) → ys ≡ first ++ emptied before e (take (n + 1) ls)
 emptied_next before e ls n first xs ys so is =
+    let next : suc n ≡ n + 1 = omega arith in
     is ∙ (ap (λ ws. ws ++ emptied_at before e (slice_get ls n)) so
     ∙ (append_assoc first (emptied before e (take n ls)) (emptied_at before e (slice_get ls n))
-    ∙ ap (λ ws. first ++ ws) (sym (emptied_more before e ls n))))
+    ∙ ap (λ ws. first ++ ws) (sym (emptied_more before e ls n) ∙ ap (λ k. emptied before e (take k ls)) next)))
 
 pub emptied_whole : (before : List Event) (e : ℕ) (ls : List LastList) (n : ℕ) (first xs : List Loss) → length ls ≤ n → xs ≡ first ++ emptied before e (take n ls) → xs ≡ first ++ emptied before e ls
-emptied_whole before e ls n first xs past so = so ∙ ap (λ ws. first ++ emptied before e ws) (take_all ls n past)
+emptied_whole before e ls n first xs past so = so ∙ ap (λ ws. first ++ emptied before e ws) (take_all n ls past)
 
 -- whether the one that is found isn't empty
 pub emptied_off : (before : List Event) (e : ℕ) (l : LastList) (o : Option LastList) (xs : List Loss) → o ≡ Some l → is_full e l.uri before ≡ false → xs ≡ xs ++ emptied_at before e o

@@ -1,5 +1,5 @@
 -- The list of a number is to be empty.
-use Rattle.std.proofs.Common.{append-nil, ap, sym, ◌∙◌}
+use Rattle.std.proofs.Common.{◌++◌, append-nil, ap, sym, ◌∙◌}
 use Rattle.std.specs.Prelude.{slice_get}
 use Rattle.group_rows.specs.ExitRows.{is_full}
 use Rattle.group_rows.specs.Lists.{lists_of}
