@@ -78,7 +78,7 @@ fn read_line<J: Journal>(
     hub: &Hub<J>,
 ) -> Result<Result<Cause, Refusal>, Memory>
     requires ready { hub.now.spent ≡ false }
-    ensures reads { (history : List Entry) → HubStands J.told hub.now history → IfOk result (λ read. read ≡ reading_bytes hub.now.settings history line.items) }
+    ensures reads { (history : List Entry) → HubStands J.told hub.now history → IfOk result (λ read. read ≡ reading_bytes history line.items) }
     ensures fits { (history : List Entry) → HubStands J.told hub.now history → IfOk result (λ read. IfOk read (λ cause. IsTrue (fits history cause))) }
     ensures small { IfOk result (λ read. IfOk read (λ cause. body_length cause ≤ 67108864)) }
 {
@@ -104,8 +104,8 @@ pub fn take_line<J: Journal, O: Sink>(
     ensures taken { (history : List Entry) → HubStands J.told hub.old history
         → OnOk result (LineTaken J.told history line.items hub.old hub.new (O.written output.old) (O.written output.new)) }
     ensures refused { (history : List Entry) (r : Refusal) → HubStands J.told hub.old history → IsErrOf result (TakeFault.Refused r)
-        → reading_bytes hub.old.settings history line.items ≡ Err r }
-    ensures entry { (history : List Entry) → HubStands J.told hub.old history → IsErrOf result TakeFault.Journal → IsTaken hub.old.settings history line.items }
+        → reading_bytes history line.items ≡ Err r }
+    ensures entry { (history : List Entry) → HubStands J.told hub.old history → IsErrOf result TakeFault.Journal → IsTaken history line.items }
     ensures numbers { (history : List Entry) → HubStands J.told hub.old history → IsErrOf result TakeFault.Numbers → IsTooMany hub.old.settings history line.items }
     ensures left { (history : List Entry) → HubStands J.told hub.old history
         → OnErr result (LineLeft J.told history line.items hub.old hub.new (O.written output.old) (O.written output.new)) }

@@ -2,7 +2,8 @@
 ghost use Rattle.std.specs.Prelude.{◌≡◌, ◌<◌, ◌≤◌, ℕ, List, [], map, Option, Some, false, true, length, OnOk, slice_get};
 ghost use Rattle.event_model.specs.declared.stage.Stage.TheVariants.{Initializing, Ready};
 ghost use Rattle.event_model.specs.Does.{Alike, Done};
-ghost use Rattle.event_model.specs.Event.{Event, heard, with_cause};
+ghost use Rattle.event_model.specs.Event.{Event, behind, heard, with_cause};
+ghost use Rattle.event_model.specs.Phases.{is_malformed};
 ghost use Rattle.event_model.specs.Requests.{answered_id};
 ghost use Rattle.event_model.specs.Row.{nothing};
 ghost use Rattle.event_model.specs.Settings.{Settings};
@@ -21,6 +22,7 @@ ghost use Rattle.mux_model.specs.Fits.{fits_behind};
 ghost use Rattle.mux_starts.specs.mux_tables.specs.declared.tables.Start.{Start};
 ghost use Rattle.mux_starts.specs.mux_tables.specs.Documents.{AllStand, DocumentsStand, nothing_owed};
 ghost use Rattle.mux_starts.specs.mux_tables.specs.Stands.{ListsStay, NamesAt, Stands, is_request, number_in};
+ghost use Rattle.mux_turns.specs.Carried.{CarriedStand};
 ghost use Rattle.rpc_message.specs.Message.{Id, message_of, notification, request};
 ghost use Rattle.rpc_message.specs.Parsed.{IsRead};
 ghost use Rattle.rpc_message.specs.Sorts.{Refuses};
@@ -33,11 +35,12 @@ use mux_history::Outs;
 use mux_starts::mux_members::{asked_class, is_first_result, told_class};
 use mux_starts::mux_tables::Tables;
 use mux_starts::{
-    Carries, answered_number, is_first_error, stage_at, take_answer, take_broadcast, take_create,
+    answered_number, is_first_error, stage_at, take_answer, take_broadcast, take_create,
     take_ending, take_focused, take_folders, take_hasty, take_list, take_lowest, take_progress,
     take_recall, take_refresh, take_refused, take_register, take_repeated, take_result,
     take_stopping, take_unregister,
 };
+use mux_turns::Carries;
 use rpc_message::{Malformed, Message, Sort};
 use std::alloc::Global;
 
@@ -64,6 +67,7 @@ fn ignore(tables: &mut Tables, g: usize, fault: Malformed) -> Result<(), Memory>
     requires { g < length tables.old.lasts.items }
     ensures same_limit { tables.new.requests ≡ tables.old.requests }
     ensures same_versions { tables.new.versions ≡ tables.old.versions }
+    ensures malformed { (body : List ℕ) → Refuses fault (message_of body) → OnOk result (is_malformed (message_of body) ≡ true) }
     ensures does { (settings : Settings) (before : List Event) (body : List ℕ) (s : ℕ) → Refuses fault (message_of body)
         → slice_get (map number_in tables.old.lasts.items) g ≡ Some s → runs (life_of s before) ≡ true → Stands settings tables.old before
         → DocumentsStand settings nothing_owed tables.old before
@@ -123,10 +127,15 @@ fn take_first(
     ensures same_limit { tables.new.requests ≡ tables.old.requests }
     ensures same_versions { tables.new.versions ≡ tables.old.versions }
     ensures does { (settings : Settings) (before : List Event) (body : List ℕ) (s : ℕ) → IsRead message.now body → outs.old ≡ []
-        → slice_get (map number_in tables.old.lasts.items) g ≡ Some s → Known settings before → runs (life_of s before) ≡ true
+        → slice_get (map number_in tables.old.lasts.items) g ≡ Some s → Known settings before → Settled settings before
+        → CarriedStand settings carries.old before → runs (life_of s before) ≡ true
         → Stands settings tables.old before → DocumentsStand settings nothing_owed tables.old before
         → OnOk result (Done (λ k events. AllStand settings k events) (row_of settings before (FromServer s body))
         (with_cause before (FromServer s body)) [] (tables.new, nothing_owed) outs.new) }
+    ensures carried { (settings : Settings) (before : List Event) (body : List ℕ) (s : ℕ) → IsRead message.now body → outs.old ≡ []
+        → slice_get (map number_in tables.old.lasts.items) g ≡ Some s → Known settings before → Settled settings before
+        → CarriedStand settings carries.old before → Stands settings tables.old before → DocumentsStand settings nothing_owed tables.old before
+        → OnOk result (CarriedStand settings carries.new (behind (with_cause before (FromServer s body)) outs.new)) }
 {
     if is_first_result(message) {
         take_result(tables, carries, alloc, outs, g, message)?;
@@ -308,10 +317,15 @@ fn take_message(
     ensures same_limit { tables.new.requests ≡ tables.old.requests }
     ensures same_versions { tables.new.versions ≡ tables.old.versions }
     ensures does { (settings : Settings) (before : List Event) (body : List ℕ) (s : ℕ) → IsRead message.now body → outs.old ≡ []
-        → slice_get (map number_in tables.old.lasts.items) g ≡ Some s → Known settings before → Settled settings before → runs (life_of s before) ≡ true
+        → slice_get (map number_in tables.old.lasts.items) g ≡ Some s → Known settings before → Settled settings before
+        → CarriedStand settings carries.old before → runs (life_of s before) ≡ true
         → Stands settings tables.old before → DocumentsStand settings nothing_owed tables.old before
         → OnOk result (Done (λ k events. AllStand settings k events) (row_of settings before (FromServer s body))
         (with_cause before (FromServer s body)) [] (tables.new, nothing_owed) outs.new) }
+    ensures carried { (settings : Settings) (before : List Event) (body : List ℕ) (s : ℕ) → IsRead message.now body → outs.old ≡ []
+        → slice_get (map number_in tables.old.lasts.items) g ≡ Some s → Known settings before → Settled settings before
+        → CarriedStand settings carries.old before → Stands settings tables.old before → DocumentsStand settings nothing_owed tables.old before
+        → OnOk result (CarriedStand settings carries.new (behind (with_cause before (FromServer s body)) outs.new)) }
 {
     let stage = stage_at(tables, g);
     match stage {
@@ -349,10 +363,15 @@ fn take_body(
     ensures same_limit { tables.new.requests ≡ tables.old.requests }
     ensures same_versions { tables.new.versions ≡ tables.old.versions }
     ensures does { (settings : Settings) (before : List Event) (s : ℕ) → outs.old ≡ []
-        → slice_get (map number_in tables.old.lasts.items) g ≡ Some s → Known settings before → Settled settings before → runs (life_of s before) ≡ true
+        → slice_get (map number_in tables.old.lasts.items) g ≡ Some s → Known settings before → Settled settings before
+        → CarriedStand settings carries.old before → runs (life_of s before) ≡ true
         → Stands settings tables.old before → DocumentsStand settings nothing_owed tables.old before
         → OnOk result (Done (λ k events. AllStand settings k events) (row_of settings before (FromServer s body.now))
         (with_cause before (FromServer s body.now)) [] (tables.new, nothing_owed) outs.new) }
+    ensures carried { (settings : Settings) (before : List Event) (s : ℕ) → outs.old ≡ []
+        → slice_get (map number_in tables.old.lasts.items) g ≡ Some s → Known settings before → Settled settings before
+        → CarriedStand settings carries.old before → Stands settings tables.old before → DocumentsStand settings nothing_owed tables.old before
+        → OnOk result (CarriedStand settings carries.new (behind (with_cause before (FromServer s body.now)) outs.new)) }
 {
     match Message::read(alloc, body.bytes()) {
         Ok(message) => {
@@ -382,10 +401,14 @@ pub fn from_server(
     ensures same_limit { tables.new.requests ≡ tables.old.requests }
     ensures same_versions { tables.new.versions ≡ tables.old.versions }
     ensures does { (settings : Settings) (before : List Event) → outs.old ≡ [] → Known settings before → Settled settings before
-        → fits_behind before (FromServer s body.now) ≡ true
+        → fits_behind before (FromServer s body.now) ≡ true → CarriedStand settings carries.old before
         → Stands settings tables.old before → DocumentsStand settings nothing_owed tables.old before
         → OnOk result (Done (λ k events. AllStand settings k events) (row_of settings before (FromServer s body.now))
         (with_cause before (FromServer s body.now)) [] (tables.new, nothing_owed) outs.new) }
+    ensures carried { (settings : Settings) (before : List Event) → outs.old ≡ [] → Known settings before → Settled settings before
+        → fits_behind before (FromServer s body.now) ≡ true → CarriedStand settings carries.old before
+        → Stands settings tables.old before → DocumentsStand settings nothing_owed tables.old before
+        → OnOk result (CarriedStand settings carries.new (behind (with_cause before (FromServer s body.now)) outs.new)) }
 {
     match tables.last(s) {
         None => Ok(()),

@@ -25,7 +25,7 @@ use mux_history::{Cause, Entry, Journal, Outs, StepFault as CoreFault, Steps};
 use std::alloc::Global;
 use std::marker::Model;
 
-// The outs of a cause, behind them those of editors that are slow there, and the tables and the counts behind all of these. Where the
+// The outs of a cause, behind them those of editors that are slow there, and the tables, what groups carry, and the counts behind all of these. Where the
 // answer is an error they stand for nothing any more.
 fn turn(
     alloc: Global,
@@ -47,9 +47,9 @@ fn turn(
     ensures takes { (settings : Settings) (before : List Event) → settings.limits ≡ limits.now → settings.servers ≡ servers.now → settings.default ≡ default
         → Known settings before → Settled settings before
         → fits_behind before cause.now ≡ true
-        → TablesStand settings tables.old backlogs.old starts.old.items before
+        → TablesStand settings tables.old carries.old backlogs.old starts.old.items before
         → IfOk result (λ outs. (outs ≡ entry_outs settings before cause.now)
-        × TablesStand settings tables.new backlogs.new starts.new.items (behind (with_cause before cause.now) outs)) }
+        × TablesStand settings tables.new carries.new backlogs.new starts.new.items (behind (with_cause before cause.now) outs)) }
 {
     let mut outs = mux_entries::take(tables, carries, alloc, limits, servers, default, cause)?;
     backlogs.take(cause, &outs)?;
@@ -92,7 +92,7 @@ impl<J: Journal> Model for Hub<J> {
 
     ghost Value = { HubView J };
 
-    ghost view = { λ h. record { settings = record { limits = h.limits; servers = h.servers.items; default = h.default }; tables = h.tables; backlogs = h.backlogs; starts = h.starts.items; events = h.events; spent = h.spent; journal = h.journal } };
+    ghost view = { λ h. record { settings = record { limits = h.limits; servers = h.servers.items; default = h.default }; tables = h.tables; carries = h.carries; backlogs = h.backlogs; starts = h.starts.items; events = h.events; spent = h.spent; journal = h.journal } };
 
     ghost invariant = { λ h. IsSound (record { limits = h.limits; servers = h.servers.items; default = h.default }) h.tables };
 }
