@@ -22,10 +22,10 @@ use Rattle.event_model.specs.Spawns.{group_of, start_of}
 use Rattle.event_model.specs.Stages.{is_first_result, is_initializing, is_ready, life_of}
 use Rattle.event_model.proofs.Frames.{never, one_more}
 use Rattle.event_model.proofs.Turns.{alike, behind_more, does_alike, does_knowing, does_look, does_then}
-use Rattle.group_facts.specs.Facts.{is_up}
-use Rattle.group_facts.specs.Lively.{lives_at}
-use Rattle.group_facts.specs.Settled.{Settled}
-use Rattle.group_facts.proofs.Configured.{configured, configures_by}
+use Rattle.mux_starts.specs.group_facts.specs.Facts.{is_up}
+use Rattle.mux_starts.specs.group_facts.specs.Lively.{lives_at}
+use Rattle.mux_starts.specs.group_facts.specs.Settled.{Settled}
+use Rattle.mux_starts.specs.group_facts.proofs.Configured.{configured, configures_by}
 use Rattle.group_rows.specs.Earlier.{configuration_of, configure, differs, given_next, given_of}
 use Rattle.group_rows.specs.Forwarded.{moves_ids}
 use Rattle.group_rows.specs.Rows.{first_result, replay, replay_bodies, result_in, waiting_in, welcome}

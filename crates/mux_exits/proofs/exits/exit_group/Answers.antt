@@ -33,6 +33,13 @@ pub hear_exit-requires-clause-room : goal.hear_exit-requires-clause-room
 hear_exit-requires-clause-room c = λ z x here at.
     ltb-true x.exits (2 ^ 63) (sym (c.is_counted.ensures x (ap (λ h. slice_get c.args.tables.now.groups.groups h) (c.group_number.ensures z here) ∙ at)) ∙ c.if-not-is_counted.false)
 
+pub group_number-requires-2 : goal.group_number-requires-2
+group_number-requires-2 c =
+    let lasts = c.args.tables.now.lasts.items in
+    let z = item_at lasts c.args.g c.requires.group in
+    let e = c.in_ok-hear_exit.ensures.exits z.0 z.1 in
+    subst (λ n. c.args.g < n) (sym (ap length e.lasts ∙ length-set lasts c.args.g e.start)) c.requires.group
+
 pub renew-requires-clause-group : goal.renew-requires-clause-group
 renew-requires-clause-group c =
     let lasts = c.args.tables.now.lasts.items in

@@ -12,7 +12,7 @@ use Rattle.event_model.specs.Spawns.{group_behind, start_of}
 use Rattle.event_model.specs.Stages.{Life, is_initializing, life_of}
 use Rattle.event_model.proofs.Frames.{one_more}
 use Rattle.event_model.proofs.Places.{item_at, same_item}
-use Rattle.group_facts.specs.Facts.{is_up}
+use Rattle.mux_starts.specs.group_facts.specs.Facts.{is_up}
 use Rattle.group_rows.specs.Earlier.{given_of}
 use Rattle.group_rows.specs.StopRows.{close_each}
 use Rattle.group_words.specs.Houses.{home_of}
