@@ -65,3 +65,6 @@ pub mod ListsLost
 pub mod EndTexts
 pub mod DueCut
 pub mod WorkedLost
+pub mod ExitOuts
+pub mod ExitsRefused
+pub mod ExitsOver

@@ -8,6 +8,7 @@ ghost use Rattle.event_model.specs.Spawns.{starts_of};
 ghost use Rattle.mux_facts.specs.Ranges.{InRange};
 ghost use Rattle.group_facts.specs.Legal.{Legal};
 ghost use Rattle.group_sessions.specs.Due.{KeepsDue};
+ghost use Rattle.group_sessions.specs.ExitReplay.{KeepsGroups, KeepsRefused};
 ghost use Rattle.group_sessions.specs.LastLists.{KeepsLists};
 ghost use Rattle.session_laws.specs.ClientRules.{KeepsClient1, KeepsClient2, KeepsClient3, KeepsClient4, KeepsClient5, KeepsClient6, KeepsClient7};
 ghost use Rattle.session_laws.specs.ServerRules.{KeepsServer1, KeepsServer2, KeepsServer3, KeepsServer4, KeepsServer5, KeepsServer6, KeepsServer7, KeepsServer8};
@@ -111,6 +112,18 @@ pub fn progress_due()
 /// open there (LSP 3.17, Publish Diagnostics).
 pub fn last_lists()
     ensures { (settings : Settings) → InRange settings → (history : List Entry) → Legal settings history → KeepsLists settings history }
+{}
+
+/// A law: where a start exits whose group lives, each request that an editor of the group sent on to it is answered by an error in that entry, and
+/// behind the entry none that was sent on to it is open at an editor that is there (LSP 3.17, Response Message).
+pub fn exits_refused()
+    ensures { (settings : Settings) → InRange settings → (history : List Entry) → Legal settings history → KeepsRefused settings history }
+{}
+
+/// A law: where a start exits whose group lives, that entry spawns a new one for the group, as long as an editor needs it and starts of the group
+/// ended no more often than they may; else the link of each editor of the group is ordered to be ended, and the group lives no more.
+pub fn exits_renew()
+    ensures { (settings : Settings) → InRange settings → (history : List Entry) → Legal settings history → KeepsGroups settings history }
 {}
 
 /// A law: no start is spawned twice, whatever group it is for. It is no rule of a session; that each lane of a server

@@ -1,0 +1,78 @@
+-- What the exit of a start leaves, whose group lives (X1 to X3): its requests are answered, and its group goes on with a new start, or ends (LSP 3.17, Lifecycle Messages).
+use Rattle.std.specs.Prelude.{◌≡◌, ℕ, Bool, true, false, ◌&&◌, List, ◌∷◌, ◌++◌, bytes_eq, nat_eq}
+use Rattle.std.specs.Prelude.{Option, Some}
+use Rattle.std.specs.List.{AllByRecursion, list_any}
+use Rattle.mux_history.specs.declared.entry.Entry.{Entry}
+use Rattle.mux_history.specs.declared.out.Out.{Out}
+use Rattle.mux_history.specs.declared.out.Out.TheVariants.{CloseEditor, Spawn, ToEditor}
+use Rattle.rpc_message.specs.Message.{Id}
+use Rattle.rpc_message.specs.Texts.{error_text, request_failed}
+use Rattle.rpc_message.specs.ValueTexts.{IsIdText}
+use Rattle.event_model.specs.Event.{Event, behind, events_of, with_cause}
+use Rattle.event_model.specs.Phases.{desk_of, is_begun, is_there}
+use Rattle.event_model.specs.Requests.{is_open, open_of}
+use Rattle.event_model.specs.Settings.{Settings}
+use Rattle.event_model.specs.Spawns.{group_of}
+use Rattle.group_words.specs.Houses.{groups_of}
+use Rattle.group_rows.specs.ExitRows.{begins_again, of_group}
+use Rattle.group_rows.specs.Forwarded.{Forwarded, forwarding_of}
+use Rattle.group_facts.specs.Facts.{is_exit, is_in}
+use Rattle.group_facts.specs.Lively.{lives_at}
+
+-- the group of the start lives
+abbrev pub is_housed : Settings → List Event → ℕ → Bool
+is_housed settings before s = of_group settings before s (λ g x. x.live)
+
+-- the editor is in it, and its link isn't to be ended
+abbrev pub is_member : Settings → List Event → ℕ → ℕ → Bool
+is_member settings before s e = is_begun (desk_of e before).phase && is_in settings before s e
+
+-- an out sends editor e this body
+abbrev pub sends : ℕ → List ℕ → Out → Bool
+sends e text (ToEditor n body) = nat_eq n e && bytes_eq body text
+sends e text other = false
+
+-- X1: a request that an editor of the group sent on to the start is answered in the entry, by the error RequestFailed under its id (LSP 3.17, Response Message, ErrorCodes)
+abbrev pub IsRefused : Settings → List Event → ℕ → List Out → Forwarded → Type 0
+IsRefused settings before s outs f = is_member settings before s f.editor ≡ true → list_any (sends f.editor (error_text f.id request_failed)) outs ≡ true
+
+-- and none that was sent on to it is open at an editor that is there behind the entry
+abbrev pub IsClosed : List Event → Forwarded → Type 0
+IsClosed after f = (id : Id) → IsIdText id f.id → is_there (desk_of f.editor after).phase ≡ true → is_open id (open_of f.editor after) ≡ false
+
+pub record Refuses (settings : Settings) (before : List Event) (s : ℕ) (outs : List Out) (after : List Event) : Type 0 where
+  pub refused : AllByRecursion (IsRefused settings before s outs) (forwarding_of s before).open_requests
+  pub closed : AllByRecursion (IsClosed after) (forwarding_of s before).open_requests
+
+-- X3: an out spawns a start for the group, and one orders the link of editor e to be ended
+abbrev pub spawns_for : Option ℕ → Out → Bool
+spawns_for (Some g) (Spawn s h) = nat_eq h g
+spawns_for o other = false
+
+abbrev pub closes : ℕ → Out → Bool
+closes e (CloseEditor n) = nat_eq n e
+closes e other = false
+
+-- the link of each editor of the group was ordered to be ended, and the group lives no more
+pub record IsOver (settings : Settings) (before : List Event) (s : ℕ) (outs : List Out) (after : List Event) : Type 0 where
+  pub closed : (e : ℕ) → is_member settings before s e ≡ true → list_any (closes e) outs ≡ true
+  pub over : (g : ℕ) → group_of s before ≡ Some g → lives_at g (groups_of settings after) ≡ false
+
+-- there is a new start for the group, where an editor needs it and its starts ended no more often than they may, and else the group is over
+abbrev pub Chosen : Settings → List Event → ℕ → List Out → List Event → Bool → Type 0
+Chosen settings before s outs after true = list_any (spawns_for (group_of s before)) outs ≡ true
+Chosen settings before s outs after false = IsOver settings before s outs after
+
+abbrev pub GoesOn : Settings → List Event → ℕ → List Out → List Event → Type 0
+GoesOn settings before s outs after = Chosen settings before s outs after (begins_again settings before s)
+
+-- what holds of each entry in which a start exits whose group lives before it, by the events before the entry, its outs, and the events behind these
+abbrev pub AtExits : (Settings → List Event → ℕ → List Out → List Event → Type 0) → Settings → List Entry → Type 0
+AtExits R settings history = (before later : List Entry) (entry : Entry) → history ≡ before ++ entry ∷ later → (s : ℕ) → is_exit entry.cause s ≡ true → is_housed settings (events_of before) s ≡ true
+    → R settings (events_of before) s entry.outs (behind (with_cause (events_of before) entry.cause) entry.outs)
+
+abbrev pub KeepsRefused : Settings → List Entry → Type 0
+KeepsRefused settings history = AtExits Refuses settings history
+
+abbrev pub KeepsGroups : Settings → List Entry → Type 0
+KeepsGroups settings history = AtExits GoesOn settings history
