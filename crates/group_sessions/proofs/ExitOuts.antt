@@ -58,6 +58,12 @@ module _ {X : Type 0} where
   all_of_one P x (y ∷ xs) all (inl same) = subst P same all.0
   all_of_one P x (y ∷ xs) all (inr one) = all_of_one P x xs all.1 one
 
+module _ {X : Type 0} where
+  pub one_has : (P : X → Type 0) (x : X) → P x → (xs : List X) → OneOf (λ (y : X). y ≡ x) xs → OneOf P xs
+  one_has P x p [] k = k
+  one_has P x p (y ∷ xs) (inl same) = inl (subst P (sym same) p)
+  one_has P x p (y ∷ xs) (inr k) = inr (one_has P x p xs k)
+
 -- the row of one sends such an out, so those of all do
 pub any_each : {X : Type 0} (test : Out → Bool) (row : X → Row) (P : X → Type 0) → ((x : X) (events : List Event) → P x → list_any test (outs (row x) events) ≡ true) → (xs : List X) → OneOf P xs → (events : List Event) → list_any test (outs (each row xs) events) ≡ true
 any_each test row P sends [] one events = absurd one

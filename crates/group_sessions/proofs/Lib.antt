@@ -67,4 +67,6 @@ pub mod DueCut
 pub mod WorkedLost
 pub mod ExitOuts
 pub mod ExitsRefused
+pub mod ListsEmpty
+pub mod ExitsCleared
 pub mod ExitsOver

@@ -1,5 +1,5 @@
 -- What the exit of a start leaves, whose group lives (X1 to X3): its requests are answered, and its group goes on with a new start, or ends (LSP 3.17, Lifecycle Messages).
-use Rattle.std.specs.Prelude.{◌≡◌, ℕ, Bool, true, false, ◌&&◌, List, ◌∷◌, ◌++◌, bytes_eq, nat_eq}
+use Rattle.std.specs.Prelude.{◌≡◌, ℕ, Bool, true, false, ◌&&◌, List, [], ◌∷◌, ◌++◌, bytes_eq, nat_eq}
 use Rattle.std.specs.Prelude.{Option, Some}
 use Rattle.std.specs.List.{AllByRecursion, list_any}
 use Rattle.mux_history.specs.declared.entry.Entry.{Entry}
@@ -9,15 +9,23 @@ use Rattle.rpc_message.specs.Message.{Id}
 use Rattle.rpc_message.specs.Texts.{error_text, request_failed}
 use Rattle.rpc_message.specs.ValueTexts.{IsIdText}
 use Rattle.event_model.specs.Event.{Event, behind, events_of, with_cause}
-use Rattle.event_model.specs.Phases.{desk_of, is_begun, is_there}
+use Rattle.event_model.specs.Parts.{editor_part}
+use Rattle.event_model.specs.Phases.{desk_of, is_begun, is_running, is_there}
 use Rattle.event_model.specs.Requests.{is_open, open_of}
 use Rattle.event_model.specs.Settings.{Settings}
 use Rattle.event_model.specs.Spawns.{group_of}
 use Rattle.group_words.specs.Houses.{groups_of}
-use Rattle.group_rows.specs.ExitRows.{begins_again, of_group}
+use Rattle.session_laws.specs.ClientRules.{registered_of}
+use Rattle.group_rows.specs.diagnostics_route.specs.declared.last_list.LastList.{LastList}
+use Rattle.group_rows.specs.Asks.{Ask, asks_of, has_number, is_with}
+use Rattle.group_rows.specs.Created.{Taking, Token, created_of, created_text}
+use Rattle.group_rows.specs.ExitRows.{begins_again, end_text, has_begun, is_full, of_group, unanswered_at}
 use Rattle.group_rows.specs.Forwarded.{Forwarded, forwarding_of}
+use Rattle.group_rows.specs.Leaves.{cancel_text}
+use Rattle.group_rows.specs.Lists.{lists_of}
 use Rattle.group_facts.specs.Facts.{is_exit, is_in}
 use Rattle.group_facts.specs.Lively.{lives_at}
+use Rattle.group_sessions.specs.LastLists.{is_hearing}
 
 -- the group of the start lives
 abbrev pub is_housed : Settings → List Event → ℕ → Bool
@@ -43,6 +51,32 @@ IsClosed after f = (id : Id) → IsIdText id f.id → is_there (desk_of f.editor
 pub record Refuses (settings : Settings) (before : List Event) (s : ℕ) (outs : List Out) (after : List Event) : Type 0 where
   pub refused : AllByRecursion (IsRefused settings before s outs) (forwarding_of s before).open_requests
   pub closed : AllByRecursion (IsClosed after) (forwarding_of s before).open_requests
+
+-- X2: of an editor that runs in the group of the start, which is ready: each token that lives, that it accepted and of which it was told a `begin`, ends there (LSP 3.17, Work Done Progress)
+abbrev pub IsEnded : Settings → List Event → ℕ → List Out → ℕ → Token → Type 0
+IsEnded settings before s outs e t = has_begun e t.number (created_of settings s before) ≡ true → list_any (sends e (end_text (created_text s t.number))) outs ≡ true
+
+-- whether it takes a token, and what the start asked it alone, is cancelled where it didn't answer (LSP 3.17, Cancellation Support)
+abbrev pub IsTakeBack : ℕ → List Out → Taking → Type 0
+IsTakeBack e outs c = unanswered_at e c ≡ true → list_any (sends e (cancel_text c.number)) outs ≡ true
+
+abbrev pub IsAskBack : ℕ → List Out → Ask → Type 0
+IsAskBack e outs a = is_with e a ≡ true → list_any (sends e (cancel_text a.number)) outs ≡ true
+
+-- of no document of which the start gave a list isn't the last one that it was sent empty (LSP 3.17, Publish Diagnostics)
+abbrev pub IsEmpty : List Event → ℕ → LastList → Type 0
+IsEmpty after e l = is_full e l.uri after ≡ false
+
+-- and nothing is registered there, as long as it runs and a number for a request is left (LSP 3.17, Unregister Capability)
+pub record Clears (settings : Settings) (before : List Event) (s : ℕ) (outs : List Out) (after : List Event) (e : ℕ) : Type 0 where
+  pub ended : AllByRecursion (IsEnded settings before s outs e) (created_of settings s before).tokens
+  pub takes : AllByRecursion (IsTakeBack e outs) (created_of settings s before).takings
+  pub asks : AllByRecursion (IsAskBack e outs) (asks_of settings s before)
+  pub lists : AllByRecursion (IsEmpty after e) (lists_of s before)
+  pub registered : is_running (desk_of e after).phase ≡ true → has_number e after ≡ true → registered_of (editor_part e after) ≡ []
+
+abbrev pub ClearsAll : Settings → List Event → ℕ → List Out → List Event → Type 0
+ClearsAll settings before s outs after = (e : ℕ) → is_hearing settings s e before ≡ true → Clears settings before s outs after e
 
 -- X3: an out spawns a start for the group, and one orders the link of editor e to be ended
 abbrev pub spawns_for : Option ℕ → Out → Bool
@@ -76,3 +110,6 @@ KeepsRefused settings history = AtExits Refuses settings history
 
 abbrev pub KeepsGroups : Settings → List Entry → Type 0
 KeepsGroups settings history = AtExits GoesOn settings history
+
+abbrev pub KeepsCleared : Settings → List Entry → Type 0
+KeepsCleared settings history = AtExits ClearsAll settings history

@@ -8,7 +8,7 @@ ghost use Rattle.event_model.specs.Spawns.{starts_of};
 ghost use Rattle.mux_facts.specs.Ranges.{InRange};
 ghost use Rattle.group_facts.specs.Legal.{Legal};
 ghost use Rattle.group_sessions.specs.Due.{KeepsDue};
-ghost use Rattle.group_sessions.specs.ExitReplay.{KeepsGroups, KeepsRefused};
+ghost use Rattle.group_sessions.specs.ExitReplay.{KeepsCleared, KeepsGroups, KeepsRefused};
 ghost use Rattle.group_sessions.specs.LastLists.{KeepsLists};
 ghost use Rattle.session_laws.specs.ClientRules.{KeepsClient1, KeepsClient2, KeepsClient3, KeepsClient4, KeepsClient5, KeepsClient6, KeepsClient7};
 ghost use Rattle.session_laws.specs.ServerRules.{KeepsServer1, KeepsServer2, KeepsServer3, KeepsServer4, KeepsServer5, KeepsServer6, KeepsServer7, KeepsServer8};
@@ -118,6 +118,13 @@ pub fn last_lists()
 /// behind the entry none that was sent on to it is open at an editor that is there (LSP 3.17, Response Message).
 pub fn exits_refused()
     ensures { (settings : Settings) → InRange settings → (history : List Entry) → Legal settings history → KeepsRefused settings history }
+{}
+
+/// A law: where a start exits that is ready and whose group lives, of each editor that runs there each token that it accepted and that began is
+/// ended, what the start asked it is cancelled, the last list of each document that it was sent is an empty one, and nothing is registered
+/// (LSP 3.17, Work Done Progress, Cancellation Support, Publish Diagnostics and Unregister Capability).
+pub fn exits_cleared()
+    ensures { (settings : Settings) → InRange settings → (history : List Entry) → Legal settings history → KeepsCleared settings history }
 {}
 
 /// A law: where a start exits whose group lives, that entry spawns a new one for the group, as long as an editor needs it and starts of the group
