@@ -70,3 +70,6 @@ pub mod ExitsRefused
 pub mod ListsEmpty
 pub mod ExitsCleared
 pub mod ExitsOver
+pub mod Replayed
+pub mod ReplayLaw
+pub mod WorkedExits

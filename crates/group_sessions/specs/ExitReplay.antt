@@ -1,11 +1,16 @@
 -- What the exit of a start leaves, whose group lives (X1 to X3): its requests are answered, and its group goes on with a new start, or ends (LSP 3.17, Lifecycle Messages).
-use Rattle.std.specs.Prelude.{◌≡◌, ℕ, Bool, true, false, ◌&&◌, List, [], ◌∷◌, ◌++◌, bytes_eq, nat_eq}
-use Rattle.std.specs.Prelude.{Option, Some}
+use Rattle.std.specs.Prelude.{◌≡◌, ℕ, Bool, true, false, ◌&&◌, List, [], ◌∷◌, ◌++◌, bytes_eq, flat_map, nat_eq, if◌then◌else◌}
+use Rattle.std.specs.Prelude.{Option, Some, None}
 use Rattle.std.specs.List.{AllByRecursion, list_any}
+use Rattle.std.specs.Option.{option_map}
+use Rattle.document_model.specs.Helds.{HeldText}
+use Rattle.document_model.specs.Opens.{Open, holder}
+use Rattle.document_model.specs.Sayings.{saying_of, speaks}
+use Rattle.mux_history.specs.declared.cause.Cause.TheVariants.{FromServer}
 use Rattle.mux_history.specs.declared.entry.Entry.{Entry}
 use Rattle.mux_history.specs.declared.out.Out.{Out}
-use Rattle.mux_history.specs.declared.out.Out.TheVariants.{CloseEditor, Spawn, ToEditor}
-use Rattle.rpc_message.specs.Message.{Id}
+use Rattle.mux_history.specs.declared.out.Out.TheVariants.{CloseEditor, Spawn, ToEditor, ToServer}
+use Rattle.rpc_message.specs.Message.{Id, message_of}
 use Rattle.rpc_message.specs.Texts.{error_text, request_failed}
 use Rattle.rpc_message.specs.ValueTexts.{IsIdText}
 use Rattle.event_model.specs.Event.{Event, behind, events_of, with_cause}
@@ -14,6 +19,8 @@ use Rattle.event_model.specs.Phases.{desk_of, is_begun, is_running, is_there}
 use Rattle.event_model.specs.Requests.{is_open, open_of}
 use Rattle.event_model.specs.Settings.{Settings}
 use Rattle.event_model.specs.Spawns.{group_of}
+use Rattle.event_model.specs.Stages.{is_first_result, is_initializing, life_of}
+use Rattle.mux_model.specs.Documents.{held_at}
 use Rattle.group_words.specs.Houses.{groups_of}
 use Rattle.session_laws.specs.ClientRules.{registered_of}
 use Rattle.group_rows.specs.diagnostics_route.specs.declared.last_list.LastList.{LastList}
@@ -23,6 +30,8 @@ use Rattle.group_rows.specs.ExitRows.{begins_again, end_text, has_begun, is_full
 use Rattle.group_rows.specs.Forwarded.{Forwarded, forwarding_of}
 use Rattle.group_rows.specs.Leaves.{cancel_text}
 use Rattle.group_rows.specs.Lists.{lists_of}
+use Rattle.group_rows.specs.Rows.{outs_of, replay_bodies}
+use Rattle.group_rows.specs.Texts.{texts_of}
 use Rattle.group_facts.specs.Facts.{is_exit, is_in}
 use Rattle.group_facts.specs.Lively.{lives_at}
 use Rattle.group_sessions.specs.LastLists.{is_hearing}
@@ -113,3 +122,32 @@ KeepsGroups settings history = AtExits GoesOn settings history
 
 abbrev pub KeepsCleared : Settings → List Entry → Type 0
 KeepsCleared settings history = AtExits ClearsAll settings history
+
+-- S2: the first result of start s
+abbrev pub gives_result : ℕ → List Event → List ℕ → Bool
+gives_result s before body = is_initializing (life_of s before).stage && is_first_result (message_of body)
+
+-- X4: a document that is open at an editor of the group is held under version 1, in the holder's language and with its text, and no other one is (LSP 3.17, Text Document Synchronization)
+abbrev pub opened_first : Open → HeldText
+opened_first o = record { version = 1; language = o.language; text = o.text }
+
+abbrev pub is_among : List ℕ → List Open → Bool
+is_among u os = list_any (λ (o : Open). bytes_eq u o.uri) os
+
+abbrev pub held_of : List ℕ → List Open → Option HeldText
+held_of u os = if is_among u os then option_map opened_first (holder u os) else None
+
+-- what outs say to start s of documents
+abbrev pub spoken_to : ℕ → Out → List (List ℕ)
+spoken_to s (ToServer n body) = if nat_eq n s && speaks (saying_of (message_of body)) then body ∷ [] else []
+spoken_to s other = []
+
+-- each is opened once, in the order of the earliest opening
+pub record IsReplayed (s : ℕ) (os : List Open) (outs : List Out) (after : List Event) : Type 0 where
+  pub bodies : flat_map (spoken_to s) outs ≡ replay_bodies [] os os
+  pub held : (u : List ℕ) → held_at s u after ≡ held_of u os
+
+-- by what is open behind the cause's row, where editors that are slow didn't leave yet
+abbrev pub KeepsReplayed : Settings → List Entry → Type 0
+KeepsReplayed settings history = (before later : List Entry) (entry : Entry) → history ≡ before ++ entry ∷ later → (s g : ℕ) (body : List ℕ) → entry.cause ≡ FromServer s body → gives_result s (events_of before) body ≡ true → group_of s (events_of before) ≡ Some g
+    → IsReplayed s (texts_of settings g (behind (with_cause (events_of before) entry.cause) (outs_of settings (events_of before) entry.cause))).opens (outs_of settings (events_of before) entry.cause) (behind (with_cause (events_of before) entry.cause) (outs_of settings (events_of before) entry.cause))

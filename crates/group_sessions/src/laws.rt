@@ -8,7 +8,7 @@ ghost use Rattle.event_model.specs.Spawns.{starts_of};
 ghost use Rattle.mux_facts.specs.Ranges.{InRange};
 ghost use Rattle.group_facts.specs.Legal.{Legal};
 ghost use Rattle.group_sessions.specs.Due.{KeepsDue};
-ghost use Rattle.group_sessions.specs.ExitReplay.{KeepsCleared, KeepsGroups, KeepsRefused};
+ghost use Rattle.group_sessions.specs.ExitReplay.{KeepsCleared, KeepsGroups, KeepsRefused, KeepsReplayed};
 ghost use Rattle.group_sessions.specs.LastLists.{KeepsLists};
 ghost use Rattle.session_laws.specs.ClientRules.{KeepsClient1, KeepsClient2, KeepsClient3, KeepsClient4, KeepsClient5, KeepsClient6, KeepsClient7};
 ghost use Rattle.session_laws.specs.ServerRules.{KeepsServer1, KeepsServer2, KeepsServer3, KeepsServer4, KeepsServer5, KeepsServer6, KeepsServer7, KeepsServer8};
@@ -131,6 +131,12 @@ pub fn exits_cleared()
 /// ended no more often than they may; else the link of each editor of the group is ordered to be ended, and the group lives no more.
 pub fn exits_renew()
     ensures { (settings : Settings) → InRange settings → (history : List Entry) → Legal settings history → KeepsGroups settings history }
+{}
+
+/// A law: behind the row of a start's first result the start has just the documents that are open at an editor of its group, each opened once, under
+/// version 1, in the holder's language and with its text, in the order of the earliest opening (LSP 3.17, Text Document Synchronization).
+pub fn replays()
+    ensures { (settings : Settings) → InRange settings → (history : List Entry) → Legal settings history → KeepsReplayed settings history }
 {}
 
 /// A law: no start is spawned twice, whatever group it is for. It is no rule of a session; that each lane of a server
