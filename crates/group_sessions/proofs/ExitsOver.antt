@@ -1,4 +1,4 @@
--- X3 of every exit: the group of the start gets a new one, or each editor of it is closed and it lives no more.
+-- X3 of every exit: the group of the start gets a new one, or each editor of it is closed and it lives no more; and X1 to X3 of every legal history.
 use Rattle.std.proofs.Common.{◌≡◌, ℕ, ◌+◌, ◌<◌, ◌≤◌, Bool, true, false, not, ◌&&◌, ◌||◌, List, [], ◌∷◌, ◌++◌, flat_map, nat_eq, if◌then◌else◌, append-nil, append_assoc, Some, None, Option, inl, inr, refl, sym, ◌∙◌, ap, ap₂, subst, arith}
 use Rattle.std.specs.Prelude.{slice_get}
 use Rattle.std.specs.List.{AllByRecursion, list_any}
@@ -56,7 +56,7 @@ use Rattle.group_sessions.proofs.ListsLaw.{legal_parts, lists_law}
 use Rattle.group_sessions.proofs.Registered.{ids, none_has}
 use Rattle.group_sessions.proofs.TellingPlaces.{last_starts}
 use Rattle.group_sessions.proofs.Tied.{All, IsTied, live_rests, live_took}
-use Rattle.group_sessions.specs.ExitReplay.{Chosen, Clears, IsAskBack, IsEnded, IsTakeBack, KeepsCleared, GoesOn, KeepsGroups, KeepsRefused, Refuses, closes, is_housed, is_member, spawns_for}
+use Rattle.group_sessions.specs.ExitReplay.{Chosen, Clears, ExitsEnd, IsAskBack, IsEnded, IsTakeBack, KeepsCleared, GoesOn, KeepsGroups, KeepsRefused, Refuses, closes, is_housed, is_member, spawns_for}
 use Rattle.group_sessions.specs.LastLists.{due_ending, emptied, is_hearing, lists_due, lists_to}
 
 module _ (settings : Settings) (before : List Event) (facts : Facts settings before) (cause : Cause) (s : ℕ) (exit : Exit settings before cause s) (k : Lives settings before s) (slow : List Out) where
@@ -269,12 +269,15 @@ module _ (settings : Settings) (range : InRange settings) (history : List Entry)
   at_entry : (before later : List Entry) (entry : Entry) → history ≡ before ++ entry ∷ later → LegalFrom settings [] before × LegalFrom settings before (entry ∷ later)
   at_entry before later entry is = legal_parts settings [] before (entry ∷ later) (subst (Legal settings) is legal)
 
-  pub refused_law : KeepsRefused settings history
+  refused_law : KeepsRefused settings history
   refused_law before later entry is s exits housed = let parts = at_entry before later entry is in refused_there settings range before later entry parts.0 parts.1 s exits housed
 
-  pub groups_law : KeepsGroups settings history
+  groups_law : KeepsGroups settings history
   groups_law before later entry is s exits housed = let parts = at_entry before later entry is in goes_on_there settings range before later entry parts.0 parts.1 s exits housed
 
-  pub cleared_law : KeepsCleared settings history
+  cleared_law : KeepsCleared settings history
   cleared_law before later entry is s exits housed e hears = let parts = at_entry before later entry is in
       cleared_there settings range before later entry parts.0 parts.1 s exits housed e hears (lists_law settings range history legal before later entry is e)
+
+  pub exits_law : ExitsEnd settings history
+  exits_law = record { refused = refused_law; cleared = cleared_law; groups = groups_law }

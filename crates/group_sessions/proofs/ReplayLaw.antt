@@ -41,7 +41,7 @@ use Rattle.group_facts.proofs.Reached.{facts_at, reached}
 use Rattle.group_sessions.proofs.DueWords.{flat_join}
 use Rattle.group_sessions.proofs.ListsLaw.{legal_parts}
 use Rattle.group_sessions.proofs.Replayed.{IsSilent, all_spoken, replay_speaks, replayed_all, silent_outs, silent_spoken, texts_spoken, to}
-use Rattle.group_sessions.specs.ExitReplay.{IsReplayed, KeepsReplayed, gives_result, held_of, spoken_to}
+use Rattle.group_sessions.specs.ExitReplay.{IsReplayed, Replays, gives_result, held_of, spoken_to}
 
 initializing_is : (stage : Stage) → is_initializing stage ≡ true → stage ≡ Initializing
 initializing_is Initializing h = refl
@@ -177,7 +177,7 @@ module _ (settings : Settings) (before : List Event) (facts : Facts settings bef
   replayed_there = subst (λ (x : Texts). IsReplayed s x.opens (outs_of settings before (FromServer s body)) (behind now (outs_of settings before (FromServer s body)))) (sym texts_still) (record { bodies = spoken; held = held_there })
 
 module _ (settings : Settings) (range : InRange settings) (history : List Entry) (legal : Legal settings history) where
-  pub replayed_law : KeepsReplayed settings history
+  pub replayed_law : Replays settings history
   replayed_law before later entry is s g body from gives home =
       let parts : LegalFrom settings [] before × LegalFrom settings before (entry ∷ later) = legal_parts settings [] before (entry ∷ later) (subst (Legal settings) is legal) in
       subst (λ c. IsReplayed s (texts_of settings g (behind (with_cause (events_of before) c) (outs_of settings (events_of before) c))).opens (outs_of settings (events_of before) c) (behind (with_cause (events_of before) c) (outs_of settings (events_of before) c))) (sym from)

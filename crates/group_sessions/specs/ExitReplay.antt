@@ -1,4 +1,4 @@
--- What the exit of a start leaves, whose group lives (X1 to X3): its requests are answered, and its group goes on with a new start, or ends (LSP 3.17, Lifecycle Messages).
+-- What the exit of a start leaves, whose group lives (X1 to X3): its requests are answered, nothing of it is left open at editors, and its group goes on with a new start, or ends; and what a start's first result brings it (S2, X4; LSP 3.17, Lifecycle Messages).
 use Rattle.std.specs.Prelude.{◌≡◌, ℕ, Bool, true, false, ◌&&◌, List, [], ◌∷◌, ◌++◌, bytes_eq, flat_map, nat_eq, if◌then◌else◌}
 use Rattle.std.specs.Prelude.{Option, Some, None}
 use Rattle.std.specs.List.{AllByRecursion, list_any}
@@ -123,6 +123,12 @@ KeepsGroups settings history = AtExits GoesOn settings history
 abbrev pub KeepsCleared : Settings → List Entry → Type 0
 KeepsCleared settings history = AtExits ClearsAll settings history
 
+-- X1 to X3 of each exit
+pub record ExitsEnd (settings : Settings) (history : List Entry) : Type 0 where
+  pub refused : KeepsRefused settings history
+  pub cleared : KeepsCleared settings history
+  pub groups : KeepsGroups settings history
+
 -- S2: the first result of start s
 abbrev pub gives_result : ℕ → List Event → List ℕ → Bool
 gives_result s before body = is_initializing (life_of s before).stage && is_first_result (message_of body)
@@ -148,6 +154,6 @@ pub record IsReplayed (s : ℕ) (os : List Open) (outs : List Out) (after : List
   pub held : (u : List ℕ) → held_at s u after ≡ held_of u os
 
 -- by what is open behind the cause's row, where editors that are slow didn't leave yet
-abbrev pub KeepsReplayed : Settings → List Entry → Type 0
-KeepsReplayed settings history = (before later : List Entry) (entry : Entry) → history ≡ before ++ entry ∷ later → (s g : ℕ) (body : List ℕ) → entry.cause ≡ FromServer s body → gives_result s (events_of before) body ≡ true → group_of s (events_of before) ≡ Some g
+abbrev pub Replays : Settings → List Entry → Type 0
+Replays settings history = (before later : List Entry) (entry : Entry) → history ≡ before ++ entry ∷ later → (s g : ℕ) (body : List ℕ) → entry.cause ≡ FromServer s body → gives_result s (events_of before) body ≡ true → group_of s (events_of before) ≡ Some g
     → IsReplayed s (texts_of settings g (behind (with_cause (events_of before) entry.cause) (outs_of settings (events_of before) entry.cause))).opens (outs_of settings (events_of before) entry.cause) (behind (with_cause (events_of before) entry.cause) (outs_of settings (events_of before) entry.cause))
