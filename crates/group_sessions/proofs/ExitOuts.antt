@@ -1,23 +1,28 @@
 -- What the row of an exit sends: an out that a part of it sends is among its outs.
-use Rattle.std.proofs.Common.{◌≡◌, ℕ, Bool, true, false, cond, ◌||◌, List, [], ◌∷◌, ◌++◌, filter, nat_eq, Option, Some, None, ◌⊎◌, inl, inr, refl, sym, subst}
+use Rattle.std.proofs.Common.{◌≡◌, ℕ, ◌+◌, ◌<◌, ◌≤◌, ap, ap₂, arith, ◌∙◌, Bool, true, false, cond, ◌&&◌, ◌||◌, List, [], ◌∷◌, ◌++◌, filter, nat_eq, Option, Some, None, ◌⊎◌, inl, inr, refl, sym, subst}
 use Rattle.std.specs.Prelude.{slice_get}
 use Rattle.std.specs.List.{AllByRecursion, list_any}
 use Rattle.std.specs.Option.{option_map_or}
+use Rattle.std.proofs.lemmas.Bool.{and_parts}
 use Rattle.mux_history.specs.declared.out.Out.{Out}
 use Rattle.event_model.specs.Event.{Event, behind}
+use Rattle.event_model.specs.Phases.{desk_of, editors_of, is_begun}
 use Rattle.event_model.specs.Row.{Row, choose, each, nothing, outs}
 use Rattle.event_model.specs.Settings.{Settings}
 use Rattle.event_model.specs.Spawns.{group_of}
 use Rattle.event_model.specs.Stages.{is_ready, life_of}
 use Rattle.event_model.proofs.Frames.{never}
+use Rattle.mux_facts.proofs.Editors.{Editors}
 use Rattle.mux_facts.proofs.Words.{number_same}
 use Rattle.group_words.specs.declared.kept.Kept.{Kept}
-use Rattle.group_words.specs.Houses.{groups_of}
+use Rattle.group_words.specs.Houses.{groups_of, home_of, is_home}
 use Rattle.group_words.specs.Rows.{spawn}
 use Rattle.group_rows.specs.Asks.{members_in, running_in}
 use Rattle.group_rows.specs.ExitRows.{lose_sent, lose_start, lost_row, starts_again, turn_out}
+use Rattle.group_facts.specs.Facts.{is_in}
+use Rattle.group_facts.proofs.PutOut.{named_in}
 use Rattle.group_facts.proofs.Sent.{OneOf}
-use Rattle.group_sessions.specs.ExitReplay.{is_housed}
+use Rattle.group_sessions.specs.ExitReplay.{is_housed, is_member}
 
 -- One of a list
 
@@ -97,6 +102,17 @@ lives_parts settings before s h = go (group_of s before) refl h
     go : (o : Option ℕ) → group_of s before ≡ o → option_map_or (λ g. option_map_or (λ (x : Kept). x.live) (slice_get (groups_of settings before) g) false) o false ≡ true → Lives settings before s
     go None none h = never (sym h)
     go (Some g) home h = at_kept g home (slice_get (groups_of settings before) g) refl h
+
+-- an editor of it is among its editors
+pub member_named : (settings : Settings) (before : List Event) (s : ℕ) (k : Lives settings before s) → Editors before → (e : ℕ) → is_member settings before s e ≡ true → list_any (λ n. nat_eq n e) (members_in settings k.group before) ≡ true
+member_named settings before s k editors e member = named_in (λ n. is_begun (desk_of n before).phase && is_home k.group (home_of settings n before)) 0 (editors_of before) e (omega arith) joined
+    (ap₂ (λ a b. a && b) p.0 (sym (ap (λ o. option_map_or (λ g. is_home g (home_of settings e before)) o false) k.home) ∙ p.1))
+  where
+    p : (is_begun (desk_of e before).phase ≡ true) × (is_in settings before s e ≡ true)
+    p = and_parts (is_begun (desk_of e before).phase) (is_in settings before s e) member
+
+    joined : e < 0 + editors_of before
+    joined = let known : editors_of before ≤ e → ⊥ = λ le. never (sym p.0 ∙ ap is_begun (editors e le)) in omega (arith, known)
 
 -- X1, then X2 and X3
 module _ (settings : Settings) (before : List Event) (s : ℕ) (k : Lives settings before s) (now : List Event) where

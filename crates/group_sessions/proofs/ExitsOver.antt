@@ -1,9 +1,8 @@
 -- X3 of every exit: the group of the start gets a new one, or each editor of it is closed and it lives no more; and X1 to X3 of every legal history.
-use Rattle.std.proofs.Common.{◌≡◌, ℕ, ◌+◌, ◌<◌, ◌≤◌, Bool, true, false, not, ◌&&◌, ◌||◌, List, [], ◌∷◌, ◌++◌, flat_map, nat_eq, if◌then◌else◌, append-nil, append_assoc, Some, None, Option, inl, inr, refl, sym, ◌∙◌, ap, ap₂, subst, arith}
+use Rattle.std.proofs.Common.{◌≡◌, ℕ, ◌+◌, Bool, true, false, not, ◌&&◌, ◌||◌, List, [], ◌∷◌, ◌++◌, flat_map, nat_eq, if◌then◌else◌, append-nil, append_assoc, Some, None, Option, inl, inr, refl, sym, ◌∙◌, ap, subst, arith}
 use Rattle.std.specs.Prelude.{slice_get}
 use Rattle.std.specs.List.{AllByRecursion, list_any}
 use Rattle.std.specs.Option.{option_map_or}
-use Rattle.std.proofs.lemmas.Bool.{and_parts}
 use Rattle.mux_history.specs.declared.cause.Cause.{Cause}
 use Rattle.mux_history.specs.declared.cause.Cause.TheVariants.{Joined, FromEditor, EditorGone, Started, StartFailed, FromServer, ServerGone, Drained, Tick}
 use Rattle.mux_history.specs.declared.entry.Entry.{Entry}
@@ -12,7 +11,7 @@ use Rattle.mux_history.specs.declared.out.Out.TheVariants.{CloseEditor, Spawn}
 use Rattle.event_model.specs.declared.phase.Phase.TheVariants.{Running}
 use Rattle.event_model.specs.Event.{Event, behind, events_of, heard, with_cause}
 use Rattle.event_model.specs.Parts.{editor_part}
-use Rattle.event_model.specs.Phases.{desk_of, editors_of, is_begun, is_running}
+use Rattle.event_model.specs.Phases.{desk_of, is_running}
 use Rattle.event_model.specs.Row.{choose, each, outs}
 use Rattle.event_model.specs.Settings.{Settings}
 use Rattle.event_model.specs.Spawns.{group_of, start_of, starts_of}
@@ -31,7 +30,7 @@ use Rattle.group_rows.specs.Live.{live_next, live_of}
 use Rattle.group_rows.specs.Rows.{outs_of}
 use Rattle.session_laws.specs.ClientRules.{has_id, registered_of}
 use Rattle.group_rows.specs.StopRows.{refuse_initialize}
-use Rattle.group_facts.specs.Facts.{is_exit, is_in, is_unready}
+use Rattle.group_facts.specs.Facts.{is_exit, is_unready}
 use Rattle.group_facts.specs.Legal.{Legal, LegalFrom}
 use Rattle.group_facts.specs.Lively.{lives_at}
 use Rattle.group_facts.specs.Settled.{Settled, is_answered}
@@ -44,12 +43,12 @@ use Rattle.group_facts.proofs.Downs.{lives_outs}
 use Rattle.group_facts.proofs.ExitEntry.{Exit, exit_by}
 use Rattle.group_facts.proofs.Exits.{failed_groups, gone_groups, lost_over}
 use Rattle.group_facts.proofs.Facts.{Facts}
-use Rattle.group_facts.proofs.PutOut.{homes_stay, named_in}
+use Rattle.group_facts.proofs.PutOut.{homes_stay}
 use Rattle.group_facts.proofs.SlowRow.{slow_all}
 use Rattle.group_facts.proofs.Reached.{Reached, facts_at, reached, settled_at}
 use Rattle.group_sessions.proofs.Client7Law.{all_at}
 use Rattle.group_sessions.proofs.Enrolled.{names}
-use Rattle.group_sessions.proofs.ExitOuts.{Lives, any_each, any_first, any_second, ending, errors, exit_parts, lives_parts, losses, one_named, told}
+use Rattle.group_sessions.proofs.ExitOuts.{Lives, any_each, any_first, any_second, ending, errors, exit_parts, lives_parts, losses, member_named, one_named, told}
 use Rattle.group_sessions.proofs.ExitsCleared.{asks_back, home, lists_emptied, takes_back, tokens_ended}
 use Rattle.group_sessions.proofs.ExitsRefused.{refuses_all}
 use Rattle.group_sessions.proofs.ListsLaw.{legal_parts, lists_law}
@@ -87,19 +86,9 @@ module _ (settings : Settings) (before : List Event) (facts : Facts settings bef
   turned : (e n : ℕ) (events : List Event) → n ≡ e → list_any (closes e) (outs (turn_out n) events) ≡ true
   turned e n events is = any_second (closes e) (outs (refuse_initialize n) events) (CloseEditor n ∷ []) (ap (λ z. nat_eq z e || false) is ∙ ap (λ b. b || false) (same_number e))
 
-  named : (e : ℕ) → is_member settings before s e ≡ true → list_any (λ n. nat_eq n e) (members_in settings k.group before) ≡ true
-  named e member = named_in (λ n. is_begun (desk_of n before).phase && is_home k.group (home_of settings n before)) 0 (editors_of before) e (omega arith) joined
-      (ap₂ (λ a b. a && b) p.0 (sym (ap (λ o. option_map_or (λ g. is_home g (home_of settings e before)) o false) k.home) ∙ p.1))
-    where
-      p : (is_begun (desk_of e before).phase ≡ true) × (is_in settings before s e ≡ true)
-      p = and_parts (is_begun (desk_of e before).phase) (is_in settings before s e) member
-
-      joined : e < 0 + editors_of before
-      joined = let known : editors_of before ≤ e → ⊥ = λ le. never (sym p.0 ∙ ap is_begun ((facts.steady).editors e le)) in omega (arith, known)
-
   shut : starts_again settings before k.group k.kept ≡ false → (e : ℕ) → is_member settings before s e ≡ true → list_any (closes e) (row ++ slow) ≡ true
   shut over e member = among (closes e) (ap (λ b. list_any (closes e) (outs (choose b (spawn k.group) (each turn_out (members_in settings k.group before))) last)) over
-      ∙ any_each (closes e) turn_out (λ (n : ℕ). n ≡ e) (turned e) (members_in settings k.group before) (one_named e (members_in settings k.group before) (named e member)) last)
+      ∙ any_each (closes e) turn_out (λ (n : ℕ). n ≡ e) (turned e) (members_in settings k.group before) (one_named e (members_in settings k.group before) (member_named settings before s k (facts.steady).editors e member)) last)
 
   -- the group lives no more
   over_now : not (begins_again settings before s) ≡ true → (g : ℕ) → group_of s before ≡ Some g → lives_at g (groups_of settings now) ≡ false

@@ -1,8 +1,6 @@
 -- X1 of every exit: the requests that the start had to answer are answered by an error, and behind the entry none of them is open.
-use Rattle.std.proofs.Common.{◌≡◌, ℕ, ◌+◌, ◌<◌, ◌≤◌, Bool, true, false, ◌&&◌, ◌||◌, if◌then◌else◌, List, [], ◌∷◌, ◌++◌, filter, map, nat_eq, append-nil, append_assoc, None, refl, sym, ◌∙◌, ap, ap₂, subst, arith}
+use Rattle.std.proofs.Common.{◌≡◌, ℕ, ◌+◌, Bool, true, false, ◌&&◌, ◌||◌, if◌then◌else◌, List, [], ◌∷◌, ◌++◌, filter, map, nat_eq, append-nil, append_assoc, None, refl, sym, ◌∙◌, ap, ap₂, subst}
 use Rattle.std.specs.List.{AllByRecursion, list_any}
-use Rattle.std.specs.Option.{option_map_or}
-use Rattle.std.proofs.lemmas.Bool.{and_parts}
 use Rattle.std.proofs.lemmas.Slice.Eq.{bytes_eq-Decides}
 use Rattle.mux_history.specs.declared.cause.Cause.{Cause}
 use Rattle.mux_history.specs.declared.cause.Cause.TheVariants.{Joined, FromEditor, EditorGone, Started, StartFailed, FromServer, ServerGone, Drained, Tick}
@@ -14,29 +12,28 @@ use Rattle.rpc_message.specs.ValueTexts.{IsIdText}
 use Rattle.event_model.specs.declared.phase.Phase.{Phase}
 use Rattle.event_model.specs.declared.phase.Phase.TheVariants.{Absent, New, Waiting, Answered, Running, Down, Closed, Gone}
 use Rattle.event_model.specs.Event.{Event, behind, heard, said, with_cause}
-use Rattle.event_model.specs.Phases.{Desk, desk_of, editors_of, is_begun, is_there, phase_closed, phase_told}
+use Rattle.event_model.specs.Phases.{Desk, desk_of, is_there, phase_closed, phase_told}
 use Rattle.event_model.specs.Requests.{is_open, is_own, open_of}
 use Rattle.event_model.specs.Row.{outs}
 use Rattle.event_model.specs.Settings.{Settings}
 use Rattle.event_model.proofs.Frames.{never}
 use Rattle.mux_facts.proofs.Lists.{all_of}
 use Rattle.mux_facts.proofs.Words.{same_number}
-use Rattle.group_words.specs.Houses.{home_of, is_home}
 use Rattle.group_rows.specs.Asks.{members_in}
 use Rattle.group_rows.specs.ExitRows.{lose_sent, lost_row}
 use Rattle.group_rows.specs.Forwarded.{Forwarded, Forwarding, forwarding_of, forwards, is_of, no_forwarding, numbered}
 use Rattle.group_rows.specs.StopRows.{lose_request}
-use Rattle.group_facts.specs.Facts.{IsForwarded, OneRequest, is_early, is_exit, is_in}
+use Rattle.group_facts.specs.Facts.{IsForwarded, OneRequest, is_early, is_exit}
 use Rattle.group_facts.specs.Settled.{IsSent, Settled, is_answered}
 use Rattle.group_facts.proofs.ExitEntry.{Exit}
 use Rattle.group_facts.proofs.Facts.{Facts}
 use Rattle.group_facts.proofs.Forwards.{forwarding_more, get_all, notified_all, notified_sender}
-use Rattle.group_facts.proofs.PutOut.{named_in, outs_tested}
+use Rattle.group_facts.proofs.PutOut.{outs_tested}
 use Rattle.group_facts.proofs.Quits.{not_stopped}
 use Rattle.group_facts.proofs.Sent.{OneOf}
 use Rattle.group_facts.proofs.StopEntry.{there_outs}
-use Rattle.group_sessions.proofs.ExitOuts.{Lives, all_of_one, all_ones, any_each, any_first, errors, exit_parts, losses, ending, one_kept, one_named, told}
-use Rattle.group_sessions.specs.ExitReplay.{IsClosed, IsRefused, Refuses, is_member, sends}
+use Rattle.group_sessions.proofs.ExitOuts.{Lives, all_of_one, all_ones, any_each, any_first, errors, exit_parts, losses, ending, member_named, one_kept, one_named, told}
+use Rattle.group_sessions.specs.ExitReplay.{IsClosed, IsRefused, Refuses, sends}
 
 -- Behind outs, where no request is at work, a start has no more requests to answer
 
@@ -161,20 +158,10 @@ module _ (settings : Settings) (before : List Event) (facts : Facts settings bef
         (any_each answers lose_request (λ (g : Forwarded). g ≡ f) its_own (filter (is_of f.editor) fs)
         (one_kept (is_of f.editor) (λ (g : Forwarded). g ≡ f) (λ g same. ap (λ (z : Forwarded). nat_eq z.editor f.editor) same ∙ same_number f.editor) fs among) events)
 
-    named : is_member settings before s f.editor ≡ true → list_any (λ n. nat_eq n f.editor) (members_in settings k.group before) ≡ true
-    named member = named_in (λ n. is_begun (desk_of n before).phase && is_home k.group (home_of settings n before)) 0 (editors_of before) f.editor (omega arith) joined
-        (ap₂ (λ a b. a && b) p.0 (sym (ap (λ o. option_map_or (λ g. is_home g (home_of settings f.editor before)) o false) k.home) ∙ p.1))
-      where
-        p : (is_begun (desk_of f.editor before).phase ≡ true) × (is_in settings before s f.editor ≡ true)
-        p = and_parts (is_begun (desk_of f.editor before).phase) (is_in settings before s f.editor) member
-
-        joined : f.editor < 0 + editors_of before
-        joined = let known : editors_of before ≤ f.editor → ⊥ = λ le. never (sym p.0 ∙ ap is_begun ((facts.steady).editors f.editor le)) in omega (arith, known)
-
     its_answer : IsRefused settings before s sent f
     its_answer member = any_first answers (outs (lost_row settings before s) now) slow (subst (λ z. list_any answers z ≡ true) (sym (exit_parts settings before s k now))
         (any_first answers (errors settings before s k now) (losses settings before s k now ++ outs (ending settings before s k now) (behind (told settings before s k now) (losses settings before s k now)))
-        (any_each answers (lose_sent before s) (λ (n : ℕ). n ≡ f.editor) its_editor (members_in settings k.group before) (one_named f.editor (members_in settings k.group before) (named member)) now)))
+        (any_each answers (lose_sent before s) (λ (n : ℕ). n ≡ f.editor) its_editor (members_in settings k.group before) (one_named f.editor (members_in settings k.group before) (member_named settings before s k (facts.steady).editors f.editor member)) now)))
 
   -- and is open no more
 
