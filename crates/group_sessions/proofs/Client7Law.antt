@@ -41,7 +41,7 @@ use Rattle.group_facts.proofs.Known.{Here, here_did, here_took}
 use Rattle.group_facts.proofs.Levels.{Fresh, falls_back, unready_falls}
 use Rattle.group_facts.proofs.Numbers.{spawn_fresh}
 use Rattle.group_facts.proofs.LastStarts.{AllLast}
-use Rattle.group_facts.proofs.Reached.{facts_at, reached, rests_at, settled_at}
+use Rattle.group_facts.proofs.Reached.{Reached, facts_at, reached, rests_at, settled_at}
 use Rattle.group_facts.proofs.SlowRow.{parting, parting_calm, parting_keeps}
 use Rattle.group_facts.proofs.Table.{reasons}
 use Rattle.group_sessions.proofs.Begins.{begun_outcome}
@@ -317,5 +317,8 @@ module _ (settings : Settings) (range : InRange settings) where
   none : All settings []
   none = record { always = λ e. tt; early = λ e h. refl; tied = λ e g s at home start. absurd (cc); unready = λ s h. refl }
 
+  pub all_at : (events : List Event) → Reached settings events → All settings events
+  all_at = walk settings (All settings) entry slow none
+
   pub client_7_law : (history : List Entry) → Legal settings history → KeepsClient7 history
-  client_7_law history legal e = (walk settings (All settings) entry slow none (events_of history) (reached settings history legal)).always e
+  client_7_law history legal e = (all_at (events_of history) (reached settings history legal)).always e

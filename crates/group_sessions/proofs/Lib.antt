@@ -65,3 +65,11 @@ pub mod ListsLost
 pub mod EndTexts
 pub mod DueCut
 pub mod WorkedLost
+pub mod ExitOuts
+pub mod ExitsRefused
+pub mod ListsEmpty
+pub mod ExitsCleared
+pub mod ExitsOver
+pub mod Replayed
+pub mod ReplayLaw
+pub mod WorkedExits

@@ -379,7 +379,7 @@ module _ (settings : Settings) (range : InRange settings) (before : List Event) 
 
 -- A whole history
 
-legal_parts : (settings : Settings) (before xs ys : List Entry) → LegalFrom settings before (xs ++ ys) → LegalFrom settings before xs × LegalFrom settings (before ++ xs) ys
+pub legal_parts : (settings : Settings) (before xs ys : List Entry) → LegalFrom settings before (xs ++ ys) → LegalFrom settings before xs × LegalFrom settings (before ++ xs) ys
 legal_parts settings before [] ys legal = (tt, subst (λ z. LegalFrom settings z ys) (sym (append-nil before)) legal)
 legal_parts settings before (x ∷ xs) ys legal =
     let rest = legal_parts settings (before ++ x ∷ []) xs ys legal.2 in
