@@ -92,8 +92,8 @@ returns-in_ok-renew-clause-exit c = λ settings before x at_g live restarts firs
     let stands = c.in_ok-hear_exit.ensures.stands settings before s restarts at st in
     let parting = c.in_ok-parting.parting in
     let can : CanPart settings (behind now c.args.outs.now) h parting → Does (λ k events. AllStand settings k events) (renewing_row h parting) now (u, nothing_owed) c.args.outs.now (c.renew.new.tables, nothing_owed) c.renew.new.outs =
-        subst (λ n. CanPart settings (behind now c.args.outs.now) n parting → Does (λ k events. AllStand settings k events) (renewing_row n parting) now (u, nothing_owed) c.args.outs.now (c.renew.new.tables, nothing_owed) c.renew.new.outs) same
-        (λ may. c.in_ok-renew.ensures.does settings now e.start there may) in
+    subst (λ n. CanPart settings (behind now c.args.outs.now) n parting → Does (λ k events. AllStand settings k events) (renewing_row n parting) now (u, nothing_owed) c.args.outs.now (c.renew.new.tables, nothing_owed) c.renew.new.outs) same
+    (λ may. c.in_ok-renew.ensures.does settings now e.start there may) in
     entry_renewed settings before (ServerGone s) s (gone_exit settings before s) h (group_seen settings t before g s x st at_g at).0 (ap (lives_at h) st.house.groups.groups ∙ live) known settled
     parting (c.in_ok-parting.ensures.parts settings before x at_g st) u stands (groups_more settings before (heard (ServerGone s))) c.renew.new.tables c.args.outs.now c.renew.new.outs
     (ap (λ n. lives_at n u.groups.groups) (sym (c.group_number-2.ensures e.start there ∙ same)) ∙ (sym c.lives.ensures ∙ c.if-lives.true)) first (c.in_ok-hear_exit.ensures.documents settings nothing_owed before s ds) can

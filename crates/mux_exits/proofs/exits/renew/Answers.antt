@@ -2,7 +2,6 @@
 use Rattle.std.proofs.Common.{◌<◌, length, sym, subst, ap, ◌∙◌}
 use Rattle.std.specs.Prelude.{slice_get}
 use Rattle.group_rows.specs.Live.{unregister_text}
-use Rattle.event_model.specs.Event.{behind}
 use Rattle.mux_exits.proofs.Ending.{renew_does}
 use Rattle.mux_tables.specs.Documents.{nothing_owed}
 use Rattle.mux_turns.specs.Calls.{IsCall}
