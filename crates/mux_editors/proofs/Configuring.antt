@@ -1,6 +1,6 @@
 -- E16: the configuration of a group is kept.
-use Rattle.std.proofs.Common.{◌≡◌, ℕ, Bool, true, false, ◌&&◌, List, codes, ◌⊎◌, inl, inr, encode_utf8_all, bytes_eq, if◌then◌else◌, refl, ap, ap₂, sym, ◌∙◌}
-use Rattle.std.specs.Prelude.{Option, Some, None}
+use Rattle.std.proofs.Common.{◌≡◌, ℕ, Bool, true, false, ◌&&◌, List, codes, ◌⊎◌, inl, inr, encode_utf8_all, bytes_eq, if◌then◌else◌, refl, ap, sym, ◌∙◌}
+use Rattle.std.specs.Prelude.{Some, None}
 use Rattle.rpc_message.specs.declared.sort.Sort.{Sort}
 use Rattle.rpc_message.specs.declared.sort.Sort.TheVariants as sort
 use Rattle.rpc_message.specs.Message.{Message, error, message_of, not_json, not_message, notification, request, result}

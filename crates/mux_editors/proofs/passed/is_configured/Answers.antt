@@ -11,4 +11,4 @@ returns-then-is_served c = λ settings before body read st.
 
 pub returns-else-is_served : goal.returns-else-is_served
 returns-else-is_served c = λ settings before body read st.
-    sym (ap (λ b. b && notifies (codes "workspace/didChangeConfiguration") (message_of body)) (ap is_served (sym (c.phase.ensures settings before st)) ∙ (sym c.is_served.ensures ∙ c.if-is_served.false)))
+    c.if-is_served.false ∙ sym (ap (λ b. b && notifies (codes "workspace/didChangeConfiguration") (message_of body)) (ap is_served (sym (c.phase.ensures settings before st)) ∙ (sym c.is_served.ensures ∙ c.if-is_served.false)))
