@@ -31,10 +31,10 @@ use event_model::{Phase, Server};
 use lsp_method::Class;
 use message_body::{Body, Memory};
 use mux_editors::{
-    asks_lspmux, doubles, keep_configuration, take_cancel, take_closed, take_doubled, take_doubled_own, take_down,
-    take_early, take_exit, take_gone, take_initialize, take_malformed, take_notice, take_open,
-    take_passed, take_quiet, take_reply, take_request, take_shutdown, take_status, take_stop,
-    take_work_cancel, take_wrong,
+    asks_lspmux, doubles, keep_configuration, take_cancel, take_closed, take_doubled,
+    take_doubled_own, take_down, take_early, take_exit, take_gone, take_initialize, take_malformed,
+    take_notice, take_open, take_passed, take_quiet, take_reply, take_request, take_shutdown,
+    take_status, take_stop, take_work_cancel, take_wrong,
 };
 use mux_history::Outs;
 use mux_starts::mux_members::{

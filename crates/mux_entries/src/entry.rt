@@ -117,6 +117,8 @@ pub fn take(
         → IfOk result (λ outs. CarriedStand settings carries.new (behind (with_cause before cause.now) outs)) }
 {
     let mut outs = Outs::new(alloc);
-    follow(tables, carries, alloc, limits, servers, default, &mut outs, cause)?;
+    follow(
+        tables, carries, alloc, limits, servers, default, &mut outs, cause,
+    )?;
     Ok(outs)
 }

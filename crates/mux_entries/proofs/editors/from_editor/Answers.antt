@@ -35,7 +35,7 @@ returns-then-e-count-clause-carried c = λ settings before known settled fits ke
 pub returns-in_ok-from_message-in-Ok-clause-carried : goal.returns-in_ok-from_message-in-Ok-clause-carried
 returns-in_ok-from_message-in-Ok-clause-carried c = λ settings before known settled fits kept st.
     let read = subst (λ b. IsRead c.in-Ok.message b) c.bytes.ensures c.in-Ok.ensures.ok in
-    c.in_ok-keep_configuration.ensures.kept settings before c.args.body.now c.from_message.new.outs read settled st kept
+    c.in_ok-keep_configuration-in-Ok.ensures.kept settings before c.args.body.now c.from_message.new.outs read settled st kept
 
 pub returns-in_ok-from_malformed-in-Err-clause-carried : goal.returns-in_ok-from_malformed-in-Err-clause-carried
 returns-in_ok-from_malformed-in-Err-clause-carried c = λ settings before known settled fits kept st.
