@@ -1,5 +1,6 @@
 -- S2 to S5 and the start of a program: what an entry of a start sends.
-use Rattle.std.proofs.Common.{◌≡◌, ℕ, true, false, cond, ◌&&◌, List, [], ◌∷◌, ◌++◌, filter, find, nat_eq, codes, if◌then◌else◌, Some, None, refl, sym, ◌∙◌, ap, ap₂, subst, append_assoc, Bool, bytes_eq, Option}
+use Rattle.std.proofs.Common.{◌≡◌, ℕ, true, false, cond, ◌&&◌, List, [], ◌∷◌, ◌++◌, filter, find, nat_eq, codes, if◌then◌else◌, Some, None, refl, sym, ◌∙◌, ap, ap₂, subst, append-nil, append_assoc, Bool, bytes_eq, Option}
+use Rattle.std.specs.Option.{option_map_or}
 use Rattle.std.proofs.lemmas.Bool.{and_parts}
 use Rattle.std.proofs.lemmas.List.Elements.{filter-append}
 use Rattle.json_text.specs.Bare.{nowhere}
@@ -9,19 +10,21 @@ use Rattle.document_model.specs.Opens.{Open}
 use Rattle.document_model.specs.Sayings.{saying_of}
 use Rattle.mux_history.specs.declared.cause.Cause.TheVariants.{FromServer, Started}
 use Rattle.mux_history.specs.declared.out.Out.{Out}
-use Rattle.mux_history.specs.declared.out.Out.TheVariants.{ToEditor, ToServer}
+use Rattle.mux_history.specs.declared.out.Out.TheVariants.{ToEditor, ToServer, Spawn, CloseEditor, EndServer}
 use Rattle.rpc_message.specs.Message.{Message, request, notification, result, error, not_json, not_message, Id, message_of, id_bytes, result_bytes}
 use Rattle.rpc_message.specs.Texts.{ok_text, initialized_text, error_text, invalid_request}
 use Rattle.rpc_message.proofs.Fixed.{initialized_law}
 use Rattle.event_model.specs.declared.stage.Stage.{Stage}
 use Rattle.event_model.specs.declared.stage.Stage.TheVariants.{Unspawned, Spawning, Initializing, Ready, Stopping, Ending, Ended}
-use Rattle.event_model.specs.declared.phase.Phase.TheVariants.{Waiting}
+use Rattle.event_model.specs.declared.phase.Phase.{Phase}
+use Rattle.event_model.specs.declared.phase.Phase.TheVariants.{Absent, New, Waiting, Answered, Running, Down, Closed, Gone}
 use Rattle.event_model.specs.Event.{Event, heard, said, behind, with_cause}
 use Rattle.event_model.specs.Parts.{server_part, is_of_server}
-use Rattle.event_model.specs.Phases.{Desk, desk_of, editors_of, is_there, is_waiting}
+use Rattle.event_model.specs.Phases.{Desk, desk_of, editors_of, is_there, is_waiting, phase_closed}
 use Rattle.event_model.specs.Requests.{answered_id, open_of, is_open, with_request, without}
-use Rattle.event_model.specs.Row.{each, outs}
+use Rattle.event_model.specs.Row.{each, nothing, on, outs, send}
 use Rattle.event_model.specs.Settings.{Settings}
+use Rattle.event_model.specs.Spawns.{group_of}
 use Rattle.event_model.specs.Stages.{Life, life_of, is_first_result, stage_hears, is_initializing, stage_told}
 use Rattle.mux_model.specs.Documents.{Sent, held_at, sent_of}
 use Rattle.mux_model.specs.Rows.{to_start}
@@ -32,7 +35,7 @@ use Rattle.mux_facts.specs.Ranges.{InRange}
 use Rattle.mux_facts.proofs.Bodies.{IsResponseTo, is_result, is_error, refusal_says}
 use Rattle.mux_facts.proofs.Folds.{desk_more, life_more, opens_more}
 use Rattle.mux_facts.proofs.Lists.{found_is}
-use Rattle.mux_facts.proofs.Reasons.{Because, by_nothing, by_send, by_then, by_choose, by_look, by_on}
+use Rattle.mux_facts.proofs.Reasons.{Because, by_nothing, by_send, by_then, by_choose, by_look, by_on, reasons_keep}
 use Rattle.mux_facts.proofs.Rising.{by_rising}
 use Rattle.mux_facts.proofs.Table.{desk_untold, waiting_is}
 use Rattle.mux_facts.proofs.Tellings.{sent_more}
@@ -42,23 +45,28 @@ use Rattle.mux_facts.proofs.Words.{open_last, same_number}
 use Rattle.group_words.specs.Houses.{groups_of, home_of, is_home}
 use Rattle.group_words.specs.Rows.{shown_of}
 use Rattle.group_rows.specs.Answers.{answer_row, own_version}
+use Rattle.group_rows.specs.Earlier.{configuration_of, configure, differs, given_of, part_row, shown_in, was_shown}
 use Rattle.group_rows.specs.Ends.{answers_shutdown, exit_server, exit_text}
 use Rattle.group_rows.specs.Forwarded.{Forwarded, answered_by, forwarding_of}
 use Rattle.group_rows.specs.Rows.{first_result, from_server, ready_row, replay_bodies, result_in, started, waiting_in, welcome, hasty_answer, hasty_row}
+use Rattle.group_rows.specs.StopRows.{close_each}
 use Rattle.group_rows.specs.Texts.{texts_of}
-use Rattle.group_facts.specs.Facts.{AllForwarded, Apart, Asks, asked_by, IsAsker, IsForwarded, IsWaiting, IsWritten, Opened, Untold, Written}
+use Rattle.group_facts.specs.Facts.{AllForwarded, Apart, Asks, asked_by, IsAsker, IsForwarded, IsWaiting, IsWritten, Opened, Untold, Written, is_parted, is_put_out, is_refused}
 use Rattle.group_facts.proofs.Asks.{asked_by_more}
 use Rattle.group_facts.proofs.AskingRows.{notified_why, question_why}
 use Rattle.group_facts.proofs.Apart.{alone_answered}
 use Rattle.group_rows.proofs.Versions.{AllMeant, own_flat}
 use Rattle.group_facts.proofs.Answered.{answer_says}
+use Rattle.group_facts.proofs.Configured.{configured, configures_by}
 use Rattle.group_facts.proofs.Forwards.{Still, get_all, still_notified, still_now}
 use Rattle.group_rows.proofs.Stops.{range_below}
+use Rattle.group_facts.proofs.Opened.{opened_did, opened_took}
+use Rattle.group_facts.proofs.PartingRows.{or_second}
 use Rattle.group_facts.proofs.RefusedRow.{refused_why}
 use Rattle.group_facts.proofs.SharedRows.{AllTold, replay_told}
 use Rattle.group_facts.proofs.ShownResult.{shown_says}
 use Rattle.group_facts.proofs.Tellings.{Calm, tells_row}
-use Rattle.group_facts.specs.Why.{IsPassing, Why, begins, greeted, greets, passes, welcomes, responds, exits, stopped}
+use Rattle.group_facts.specs.Why.{IsPassing, Why, begins, greeted, greets, conveys, passes, welcomes, responds, exits, stopped}
 use Rattle.json_text.specs.declared.kind.Word.TheVariants.{Null}
 use Rattle.group_facts.proofs.Nulls.{null_said}
 use Rattle.group_rows.proofs.Exits.{exit_says}
@@ -79,6 +87,25 @@ answers_only not_message f fs h = absurd (nobody_found fs f h)
 pub response_is : (id : Id) (m : Message) → IsResponseTo id m → (is_response m ≡ true) × (answered_id m ≡ Some id)
 response_is id m (is_result r e) = (ap is_response e, ap answered_id e)
 response_is id m (is_error x e) = (ap is_response e, ap answered_id e)
+
+-- S2: a link that is to be ended
+abbrev IsClosing : Out → Type 0
+IsClosing (CloseEditor e) = Unit {0}
+IsClosing other = ⊥
+
+closed_waits : (phase : Phase) → phase_closed phase ≡ Waiting → ⊥
+closed_waits Gone h = absurd (let clash : Gone ≡ Waiting = h in cc)
+closed_waits other h = absurd (let clash : Closed ≡ Waiting = h in cc)
+
+shown_there : (phase : Phase) → was_shown phase ≡ true → is_there phase ≡ true
+shown_there Answered h = refl
+shown_there Running h = refl
+shown_there Down h = refl
+shown_there Absent h = absurd (cc)
+shown_there New h = refl
+shown_there Waiting h = refl
+shown_there Closed h = absurd (cc)
+shown_there Gone h = absurd (cc)
 
 module _ (settings : Settings) (range : InRange settings) (before : List Event) (s : ℕ) (body : List ℕ) where
   abbrev now : List Event
@@ -166,51 +193,179 @@ module _ (settings : Settings) (range : InRange settings) (before : List Event) 
         (by_rising (welcome body) IsToWait welcomed still_waits events (λ e. is_waiting (desk_of e events).phase && is_home g (home_of settings e events))
         (λ k t. all k (waiting_is (desk_of k events).phase (and_parts (is_waiting (desk_of k events).phase) (is_home g (home_of settings k events)) t).0)) (editors_of events))
 
-    module _ (stage : (life_of s before).stage ≡ Initializing) (opened : Opened settings before) (untold : Untold before) (waiting : AllWaiting before) (g : ℕ) where
-      ready : (life_of s now).stage ≡ Ready
-      ready = ap (λ (l : Life). l.stage) (life_more s before (heard (FromServer s body)))
+    module _ (stage : (life_of s before).stage ≡ Initializing) (opened : Opened settings before) (untold : Untold before) (waiting : AllWaiting before) (meant : AllMeant before) (g : ℕ) (home : group_of s before ≡ Some g) where
+      -- The editors with which it parts
+
+      record IsLeaving (e : ℕ) (events : List Event) : Type 0 where
+        out : is_put_out settings before (FromServer s body) e ≡ true
+        there : is_there (desk_of e events).phase ≡ true
+
+      leaving_still : (n k : ℕ) (events : List Event) → nat_eq n k ≡ false → IsLeaving k events → IsLeaving k (events ++ said (CloseEditor n) ∷ [])
+      leaving_still n k events other w = record {
+        out = w.out;
+        there = ap (λ (d : Desk). is_there d.phase) (desk_more k events (said (CloseEditor n)))
+            ∙ ap (λ b. is_there (if b then record { phase = phase_closed (desk_of k events).phase; initialize = (desk_of k events).initialize } else desk_of k events).phase) other ∙ w.there;
+      }
+
+      abbrev is_shown : ℕ → Bool
+      is_shown e = was_shown (desk_of e before).phase && is_home g (home_of settings e before)
+
+      to_part : differs (given_of g before) body ≡ true → (k : ℕ) → is_shown k ≡ true → IsLeaving k now
+      to_part other k t =
+          let p = and_parts (was_shown (desk_of k before).phase) (is_home g (home_of settings k before)) t in
+          record {
+            out = or_second (is_refused settings before s body k) (is_parted settings before s body k) (ap₂ (λ a b. a && b)
+                (ap₂ (λ a b. a && b) (ap is_initializing stage) (ap₂ (λ a b. a && b) first (ap (λ o. option_map_or (λ i. differs (given_of i before) body) o false) home ∙ other)))
+                (ap₂ (λ a b. a && b) p.0 (ap (λ o. option_map_or (λ i. is_home i (home_of settings k before)) o false) home ∙ p.1)));
+            there = ap (λ (d : Desk). is_there d.phase) (desk_more k before (heard (FromServer s body))) ∙ shown_there (desk_of k before).phase p.0;
+          }
+
+      part_why : Because R now (part_row settings before body g)
+      part_why = by_choose (λ other. subst (λ ns. Because R now (close_each (filter is_shown ns))) (sym (range_below (editors_of before)))
+          (by_rising (λ e. send (CloseEditor e)) IsLeaving (λ n events w. by_send (w.out, w.there)) leaving_still now is_shown (to_part other) (editors_of before))) (λ same. by_nothing)
+
+      abbrev mid : List Event
+      mid = behind now (outs (part_row settings before body g) now)
+
+      -- what that leaves alone
+      record Stands (events : List Event) : Type 0 where
+        life : life_of s events ≡ life_of s now
+        part : server_part s events ≡ server_part s now
+        held : (u : List ℕ) → held_at s u events ≡ held_at s u now
+        texts : Opened settings events
+        waits : (k : ℕ) → (desk_of k events).phase ≡ Waiting → desk_of k events ≡ desk_of k now
+        opens : (k : ℕ) → open_of k events ≡ open_of k now
+
+      stands_still : (events : List Event) (out : Out) → IsClosing out → Stands events → Stands (events ++ said out ∷ [])
+      stands_still events (CloseEditor e) closing h = record {
+        life = life_more s events (said (CloseEditor e)) ∙ h.life;
+        part = filter-append (is_of_server s) events (said (CloseEditor e) ∷ []) ∙ (append-nil (server_part s events) ∙ h.part);
+        held = λ u. ap (λ (x : Sent). x.held) (sent_more s u events (said (CloseEditor e))) ∙ h.held u;
+        texts = opened_did settings events (CloseEditor e) h.texts;
+        waits = λ k at. waits_by k (nat_eq e k) (desk_more k events (said (CloseEditor e))) at;
+        opens = λ k. opens_more k events (said (CloseEditor e)) ∙ h.opens k;
+      }
+        where
+          waits_by : (k : ℕ) (b : Bool) → desk_of k (events ++ said (CloseEditor e) ∷ []) ≡ (if b then record { phase = phase_closed (desk_of k events).phase; initialize = (desk_of k events).initialize } else desk_of k events)
+              → (desk_of k (events ++ said (CloseEditor e) ∷ [])).phase ≡ Waiting → desk_of k (events ++ said (CloseEditor e) ∷ []) ≡ desk_of k now
+          waits_by k true is at = absurd (closed_waits (desk_of k events).phase (sym (ap (λ (d : Desk). d.phase) is) ∙ at))
+          waits_by k false is at = is ∙ h.waits k (sym (ap (λ (d : Desk). d.phase) is) ∙ at)
+      stands_still events (ToEditor e text) closing h = absurd closing
+      stands_still events (ToServer n text) closing h = absurd closing
+      stands_still events (Spawn n i) closing h = absurd closing
+      stands_still events (EndServer n) closing h = absurd closing
+
+      stands_now : Stands now
+      stands_now = record { life = refl; part = refl; held = λ u. refl; texts = opened_took settings before (FromServer s body) opened; waits = λ k at. refl; opens = λ k. refl }
+
+      closings : (es : List ℕ) (events : List Event) → Because (λ places out. IsClosing out) events (close_each es)
+      closings [] events = by_nothing
+      closings (e ∷ es) events = by_then (by_send tt) (closings es (behind events (CloseEditor e ∷ [])))
+
+      part_closes : Because (λ places out. IsClosing out) now (part_row settings before body g)
+      part_closes = by_choose (λ other. closings (shown_in settings g before) now) (λ same. by_nothing)
+
+      stands : Stands mid
+      stands = reasons_keep (λ places out. IsClosing out) Stands stands_still now (outs (part_row settings before body g) now) part_closes.why stands_now
+
+      -- The session begins
+
+      ready_now : (life_of s now).stage ≡ Ready
+      ready_now = ap (λ (l : Life). l.stage) (life_more s before (heard (FromServer s body)))
           ∙ ap (λ b. (if b then record { stage = stage_hears (life_of s before).stage (message_of body); started = (life_of s before).started } else life_of s before).stage) (same_number s)
           ∙ ap (λ z. stage_hears z (message_of body)) stage ∙ ap (λ b. if b then Ready else Initializing) first
 
-      part : server_part s now ≡ server_part s before ++ heard (FromServer s body) ∷ []
-      part = filter-append (is_of_server s) before (heard (FromServer s body) ∷ []) ∙ ap (λ b. server_part s before ++ cond b (heard (FromServer s body) ∷ []) []) (same_number s)
+      ready : (life_of s mid).stage ≡ Ready
+      ready = ap (λ (l : Life). l.stage) stands.life ∙ ready_now
+
+      part : server_part s mid ≡ server_part s before ++ heard (FromServer s body) ∷ []
+      part = stands.part ∙ (filter-append (is_of_server s) before (heard (FromServer s body) ∷ []) ∙ ap (λ b. server_part s before ++ cond b (heard (FromServer s body) ∷ []) []) (same_number s))
+
+      -- behind a notification more to the start
+      notified_part : (events : List Event) (text : List ℕ) → server_part s (events ++ said (ToServer s text) ∷ []) ≡ server_part s events ++ said (ToServer s text) ∷ []
+      notified_part events text = filter-append (is_of_server s) events (said (ToServer s text) ∷ []) ∙ ap (λ b. server_part s events ++ cond b (said (ToServer s text) ∷ []) []) (same_number s)
 
       abbrev greeted_now : List Event
-      greeted_now = now ++ said (ToServer s initialized_text) ∷ []
+      greeted_now = mid ++ said (ToServer s initialized_text) ∷ []
 
-      calm : Calm settings range before (FromServer s body) now s greeted_now
-      calm = record {
-        still = still_notified now s now initialized_text (codes "initialized") (Some (object nowhere no_members)) initialized_law (still_now now s ready);
-        turn = greeted [] (filter-append (is_of_server s) now (said (ToServer s initialized_text) ∷ []) ∙ ap (λ b. server_part s now ++ cond b (said (ToServer s initialized_text) ∷ []) []) (same_number s)
-            ∙ ap (λ z. z ++ said (ToServer s initialized_text) ∷ []) part ∙ append_assoc (server_part s before) (heard (FromServer s body) ∷ []) (said (ToServer s initialized_text) ∷ []));
+      greeted_part : server_part s greeted_now ≡ server_part s before ++ heard (FromServer s body) ∷ said (ToServer s initialized_text) ∷ []
+      greeted_part = notified_part mid initialized_text ∙ (ap (λ z. z ++ said (ToServer s initialized_text) ∷ []) part ∙ append_assoc (server_part s before) (heard (FromServer s body) ∷ []) (said (ToServer s initialized_text) ∷ []))
+
+      -- at a place behind that it is told of nothing but what it may be told
+      record Greeted (events : List Event) : Type 0 where
+        calm : Calm settings range before (FromServer s body) mid s events
+        texts : Opened settings events
+        none : (u : List ℕ) → held_at s u events ≡ None
+
+      greeted_here : Greeted greeted_now
+      greeted_here = record {
+        calm = record { still = still_notified mid s mid initialized_text (codes "initialized") (Some (object nowhere no_members)) initialized_law (still_now mid s ready); turn = greeted [] greeted_part };
+        texts = opened_did settings mid (ToServer s initialized_text) stands.texts;
+        none = λ u. ap (λ (x : Sent). x.held) (sent_more s u mid (said (ToServer s initialized_text)))
+            ∙ (ap₂ (λ b m. cond b (told (sent_of s u mid).encoding u (held_at s u mid) (saying_of m)) (held_at s u mid)) (same_number s) initialized_law
+            ∙ (stands.held u ∙ (ap (λ (x : Sent). x.held) (sent_more s u before (heard (FromServer s body))) ∙ untold s (rw stage refl) u)));
       }
 
-      none_held : (u : List ℕ) → held_at s u greeted_now ≡ None
-      none_held u = ap (λ (x : Sent). x.held) (sent_more s u now (said (ToServer s initialized_text)))
-          ∙ ap₂ (λ b m. cond b (told (sent_of s u now).encoding u (held_at s u now) (saying_of m)) (held_at s u now)) (same_number s) initialized_law
-          ∙ ap (λ (x : Sent). x.held) (sent_more s u before (heard (FromServer s body)))
-          ∙ untold s (rw stage refl) u
+      -- E16
+      abbrev Says : List ℕ → Type 0
+      Says text = (params : Option Json) × (message_of text ≡ notification (codes "workspace/didChangeConfiguration") params)
 
+      kept_says : (text : List ℕ) → configuration_of settings g before ≡ Some text → Says text
+      kept_says text kept = configures_by (message_of text) (configured settings g before meant text kept)
+
+      configure_why : Because R greeted_now (configure settings before s g)
+      configure_why = by_on (λ none. by_nothing) (λ text kept. by_send (conveys (record {
+        group = g;
+        answer = body;
+        params = (kept_says text kept).0;
+        from = refl;
+        home = home;
+        kept = kept;
+        ready = ((greeted_here.calm).still).ready;
+        turn = (greeted_here.calm).turn;
+        says = (kept_says text kept).1;
+      })))
+
+      abbrev told_now : List Event
+      told_now = behind greeted_now (outs (configure settings before s g) greeted_now)
+
+      told_here : Greeted told_now
+      told_here = go (configuration_of settings g before) refl
+        where
+          go : (o : Option (List ℕ)) → configuration_of settings g before ≡ o → Greeted (behind greeted_now (outs (on o nothing (λ text. send (ToServer s text))) greeted_now))
+          go None kept = subst Greeted (sym (append-nil greeted_now)) greeted_here
+          go (Some text) kept = let k : Says text = kept_says text kept in record {
+            calm = record {
+              still = still_notified mid s greeted_now text (codes "workspace/didChangeConfiguration") k.0 k.1 (greeted_here.calm).still;
+              turn = greeted (said (ToServer s text) ∷ []) (notified_part greeted_now text ∙ (ap (λ z. z ++ said (ToServer s text) ∷ []) greeted_part
+                  ∙ append_assoc (server_part s before) (heard (FromServer s body) ∷ said (ToServer s initialized_text) ∷ []) (said (ToServer s text) ∷ [])));
+            };
+            texts = opened_did settings greeted_now (ToServer s text) greeted_here.texts;
+            none = λ u. ap (λ (x : Sent). x.held) (sent_more s u greeted_now (said (ToServer s text)))
+                ∙ (ap₂ (λ b m. cond b (told (sent_of s u greeted_now).encoding u (held_at s u greeted_now) (saying_of m)) (held_at s u greeted_now)) (same_number s) k.1 ∙ greeted_here.none u);
+          }
+
+      -- X4
       abbrev opens : List Open
-      opens = (texts_of settings g before).opens
+      opens = (texts_of settings g told_now).opens
 
-      replayed : AllTold settings range before (FromServer s body) now s greeted_now (replay_bodies [] opens opens)
-      replayed = replay_told settings range before (FromServer s body) now s opens (opened g).spelt [] opens greeted_now calm (λ w k. none_held w)
+      replayed : AllTold settings range before (FromServer s body) mid s told_now (replay_bodies [] opens opens)
+      replayed = replay_told settings range before (FromServer s body) mid s opens (told_here.texts g).spelt [] opens told_now told_here.calm (λ w k. told_here.none w)
 
-      waits_still : (events : List Event) → Still now s events → (k : ℕ) → (desk_of k events).phase ≡ Waiting → IsToWait k events
+      waits_still : (events : List Event) → Still mid s events → (k : ℕ) → (desk_of k events).phase ≡ Waiting → IsToWait k events
       waits_still events still k at =
-          let desk : desk_of k events ≡ desk_of k before = still.desks k ∙ desk_more k before (heard (FromServer s body)) in
+          let desk : desk_of k events ≡ desk_of k before = still.desks k ∙ (stands.waits k (sym (ap (λ (d : Desk). d.phase) (still.desks k)) ∙ at) ∙ desk_more k before (heard (FromServer s body))) in
           let w : Waits (desk_of k before).initialize (open_of k before) = waits_at before k (sym (ap (λ (d : Desk). d.phase) desk) ∙ at) waiting in
           record {
             id = w.id;
-            waiting = record { params = w.params; phase = at; asks = ap (λ (d : Desk). message_of d.initialize) desk ∙ w.asks; waits = ap (is_open w.id) (still.opens k ∙ opens_more k before (heard (FromServer s body))) ∙ w.waits };
+            waiting = record { params = w.params; phase = at; asks = ap (λ (d : Desk). message_of d.initialize) desk ∙ w.asks; waits = ap (is_open w.id) (still.opens k ∙ (stands.opens k ∙ opens_more k before (heard (FromServer s body)))) ∙ w.waits };
           }
 
       greet_why : Because R now (result_in settings before s body g)
-      greet_why = by_then (by_send (greets (record { params = Some (object nowhere no_members); answer = body; stage = stage; ready = ready; from = refl; first = first; place = refl; part = part; says = initialized_law })))
-          (by_then (tells_row settings range before (FromServer s body) now s greeted_now (replay_bodies [] opens opens) replayed)
-          (by_look (all_welcomed g (behind greeted_now (outs (to_start s (replay_bodies [] opens opens)) greeted_now))
-          (waits_still _ (subst (λ z. Still now s (behind greeted_now z)) (sym (outs_to_start s (replay_bodies [] opens opens) greeted_now)) ((replayed.calm).still))))))
+      greet_why = by_then part_why (by_then (by_send (greets (record { params = Some (object nowhere no_members); answer = body; stage = stage; ready = ready; from = refl; first = first; part = part; says = initialized_law })))
+          (by_then configure_why (by_then (by_look (tells_row settings range before (FromServer s body) mid s told_now (replay_bodies [] opens opens) replayed))
+          (by_look (all_welcomed g (behind told_now (outs (to_start s (replay_bodies [] opens opens)) told_now))
+          (waits_still _ (subst (λ z. Still mid s (behind told_now z)) (sym (outs_to_start s (replay_bodies [] opens opens) told_now)) ((replayed.calm).still))))))))
 
   -- S4
 
@@ -248,7 +403,7 @@ module _ (settings : Settings) (range : InRange settings) (before : List Event) 
 
   module _ (opened : Opened settings before) (untold : Untold before) (waiting : AllWaiting before) (all : (e : ℕ) → is_there (desk_of e before).phase ≡ true → AllForwarded before) (apart : Apart before) (meant : AllMeant before) (asks : Asks settings before) (written : Written settings before) where
     result_why : (life_of s before).stage ≡ Initializing → is_first_result (message_of body) ≡ true → Because R now (first_result settings before s body)
-    result_why at first = by_on (λ none. by_nothing) (λ g home. greet_why first at opened untold waiting g)
+    result_why at first = by_on (λ none. by_nothing) (λ g home. greet_why first at opened untold waiting meant g home)
 
     -- S5, and what it asks and tells
     ready_why : (life_of s before).stage ≡ Ready → (m : Message) → message_of body ≡ m → Because R now (ready_row settings s before body m)

@@ -19,9 +19,8 @@ use Rattle.event_model.proofs.Frames.{never}
 use Rattle.mux_facts.proofs.Lists.{all_filtered, all_join, all_of, found_is}
 use Rattle.mux_facts.proofs.Words.{same_number}
 use Rattle.group_rows.specs.Forwarded.{Forwarded, Forwarding, answered_by, forwarding_behind, forwarding_of, names, no_forwarding, numbered}
-use Rattle.group_facts.specs.Built.{built_behind}
 use Rattle.group_facts.specs.Facts.{AllForwarded, Apart, IsAlone, IsForwarded, OneRequest, is_early}
-use Rattle.group_facts.specs.Why.{IsForward, WhyToServer, begins, greets, forwarded, notes, tells, shuts, cancels, responds, exits, resolves, cancels_work}
+use Rattle.group_facts.specs.Why.{IsForward, WhyToServer, begins, greets, conveys, forwarded, notes, tells, shuts, cancels, responds, exits, resolves, cancels_work}
 use Rattle.group_facts.proofs.Forwards.{Fewer, fewer_notified, forwarding_more, more_requests, zip_all}
 use Rattle.group_facts.proofs.Levels.{each_start}
 use Rattle.group_facts.proofs.Numbers.{forwarding_other, forwarding_sent, response_forwards}
@@ -71,16 +70,16 @@ ended_fewer : (Q : ℕ → ℕ → List ℕ → Type 0) (b : Bool) (x : Forwardi
 ended_fewer Q true x h = tt
 ended_fewer Q false x h = h
 
-pub fewer_took : (settings : Settings) (events : List Event) (cause : Cause) → built_behind settings events cause ≡ true → Fewer events (with_cause events cause)
-fewer_took settings events (Joined e) built = fewer_by events (heard (Joined e)) (λ t Q h. h)
-fewer_took settings events (FromEditor e body) built = fewer_by events (heard (FromEditor e body)) (λ t Q h. h)
-fewer_took settings events (Started n) built = fewer_by events (heard (Started n)) (λ t Q h. h)
-fewer_took settings events (FromServer n body) built = fewer_by events (heard (FromServer n body)) (λ t Q h. answered_fewer Q (nat_eq n t) (λ f. not (answered_by (answered_id (message_of body)) f)) (forwarding_of t events).open_requests h)
-fewer_took settings events (Drained e k) built = fewer_by events (heard (Drained e k)) (λ t Q h. h)
-fewer_took settings events (Tick t) built = fewer_by events (heard (Tick t)) (λ s Q h. h)
-fewer_took settings events (EditorGone e why) built = fewer_by events (heard (EditorGone e why)) (λ t Q h. h)
-fewer_took settings events (StartFailed n) built = fewer_by events (heard (StartFailed n)) (λ t Q h. ended_fewer Q (nat_eq n t) (forwarding_of t events) h)
-fewer_took settings events (ServerGone n) built = fewer_by events (heard (ServerGone n)) (λ t Q h. ended_fewer Q (nat_eq n t) (forwarding_of t events) h)
+pub fewer_took : (settings : Settings) (events : List Event) (cause : Cause) → Fewer events (with_cause events cause)
+fewer_took settings events (Joined e) = fewer_by events (heard (Joined e)) (λ t Q h. h)
+fewer_took settings events (FromEditor e body) = fewer_by events (heard (FromEditor e body)) (λ t Q h. h)
+fewer_took settings events (Started n) = fewer_by events (heard (Started n)) (λ t Q h. h)
+fewer_took settings events (FromServer n body) = fewer_by events (heard (FromServer n body)) (λ t Q h. answered_fewer Q (nat_eq n t) (λ f. not (answered_by (answered_id (message_of body)) f)) (forwarding_of t events).open_requests h)
+fewer_took settings events (Drained e k) = fewer_by events (heard (Drained e k)) (λ t Q h. h)
+fewer_took settings events (Tick t) = fewer_by events (heard (Tick t)) (λ s Q h. h)
+fewer_took settings events (EditorGone e why) = fewer_by events (heard (EditorGone e why)) (λ t Q h. h)
+fewer_took settings events (StartFailed n) = fewer_by events (heard (StartFailed n)) (λ t Q h. ended_fewer Q (nat_eq n t) (forwarding_of t events) h)
+fewer_took settings events (ServerGone n) = fewer_by events (heard (ServerGone n)) (λ t Q h. ended_fewer Q (nat_eq n t) (forwarding_of t events) h)
 
 pub asks_fewer : (events : List Event) (e : ℕ) (body : List ℕ) → Fewer events (with_cause events (FromEditor e body))
 asks_fewer events e body = fewer_by events (heard (FromEditor e body)) (λ t Q h. h)
@@ -142,6 +141,7 @@ module _ (settings : Settings) (before : List Event) (cause : Cause) (events : L
   pub apart_sent : WhyToServer settings before cause events n body → Apart events → Apart sent
   apart_sent (begins k) h = apart_fewer events sent (own_fewer (integer (codes "1")) (codes "initialize") k.params k.says refl) h
   apart_sent (greets k) h = apart_fewer events sent (fewer_notified n events body (codes "initialized") k.params k.says) h
+  apart_sent (conveys k) h = apart_fewer events sent (fewer_notified n events body (codes "workspace/didChangeConfiguration") k.params k.says) h
   apart_sent (forwarded k) h = forwarded_apart k h
   apart_sent (notes k) h = apart_fewer events sent (fewer_notified n events body k.method k.params k.says) h
   apart_sent (tells k) h = let m : Spoken (message_of body) = spoken (message_of body) k.spoken in apart_fewer events sent (fewer_notified n events body m.method m.params m.is) h

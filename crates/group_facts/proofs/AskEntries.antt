@@ -13,7 +13,7 @@ use Rattle.event_model.specs.declared.stage.Stage.TheVariants.{Unspawned, Spawni
 use Rattle.event_model.specs.Event.{Event, behind, heard, requests, said, with_cause}
 use Rattle.event_model.specs.Phases.{Desk, desk_hears, desk_of, editors_of, is_new, phase_closed}
 use Rattle.event_model.specs.Settings.{Settings}
-use Rattle.event_model.specs.Stages.{Life, life_of}
+use Rattle.event_model.specs.Stages.{Life, is_ended, life_of}
 use Rattle.event_model.proofs.Frames.{never}
 use Rattle.mux_model.specs.Fits.{fits_behind}
 use Rattle.mux_facts.specs.Ranges.{InRange}
@@ -26,7 +26,6 @@ use Rattle.mux_facts.proofs.Words.{number_same}
 use Rattle.group_rows.specs.Asks.{Ask, Asker, Asking, asker_of, asks_of, next_ask, put}
 use Rattle.group_rows.specs.Rows.{outs_of}
 use Rattle.group_facts.specs.SlowRows.{is_slow}
-use Rattle.group_facts.specs.Built.{built_behind}
 use Rattle.group_facts.specs.Facts.{ends_link, is_unready, is_up, leaves, shuts}
 use Rattle.group_facts.specs.Settled.{HasSeat}
 use Rattle.group_facts.specs.Why.{IsAsk, IsResumed, Why, WhyToEditor, answers, asks, passes, recalls, refuses, calls, rejects, resumes, spreads, turns_away, welcomes, progresses, shows, loses, winds_up, quitting}
@@ -37,8 +36,8 @@ use Rattle.group_facts.proofs.Facts.{Facts}
 use Rattle.group_facts.proofs.Known.{Here, here_did, here_slow, here_took}
 use Rattle.group_facts.proofs.Levels.{Fresh, falls_back, unready_falls}
 use Rattle.group_facts.proofs.Numbers.{spawn_fresh}
-use Rattle.group_facts.proofs.OneStart.{OneStart}
-use Rattle.group_facts.proofs.SlowRow.{parting, parting_why, quit_built}
+use Rattle.group_facts.proofs.LastStarts.{AllLast}
+use Rattle.group_facts.proofs.SlowRow.{parting, parting_why}
 use Rattle.group_facts.proofs.Table.{reasons}
 
 abbrev pub AllSeats : Settings → List Event → Type 0
@@ -110,7 +109,7 @@ module _ (settings : Settings) (before : List Event) (facts : Facts settings bef
   }
 
 -- a start that was ready or past it stays so
-module _ (settings : Settings) (range : InRange settings) (before : List Event) (facts : Facts settings before) (cause : Cause) (built : built_behind settings before cause ≡ true) where
+module _ (settings : Settings) (range : InRange settings) (before : List Event) (facts : Facts settings before) (cause : Cause) where
   not_back : (s : ℕ) (events : List Event) (event : Event) → Fresh is_unready unready_falls s (life_of s events) event → is_unready (life_of s events).stage ≡ false → is_unready (life_of s (events ++ event ∷ [])).stage ≡ false
   not_back s events event fresh begun = go (is_unready (life_of s (events ++ event ∷ [])).stage) refl
     where
@@ -135,20 +134,20 @@ module _ (settings : Settings) (range : InRange settings) (before : List Event) 
 
   onward_did : (events : List Event) (out : Out) → Why settings before cause events out → Onward events → Onward (events ++ said out ∷ [])
   onward_did events out why i = record {
-    here = here_did settings range before cause facts built events out why i.here;
+    here = here_did settings range before cause facts events out why i.here;
     begun = λ s h. not_back s events (said out) (fresh_out events out why (((i.here).mid).steady).starts s) (i.begun s h);
   }
 
   pub onward_rests : fits_behind before cause ≡ true → (s : ℕ) → is_unready (life_of s before).stage ≡ false → is_unready (life_of s (behind (with_cause before cause) (outs_of settings before cause))).stage ≡ false
-  onward_rests fits = (reasons_keep (λ events out. Why settings before cause events out) Onward onward_did (with_cause before cause) (outs_of settings before cause) (reasons settings range before facts cause built).why
-      (record { here = here_took settings range before cause fits built facts; begun = λ s h. not_back s before (heard cause) (fresh_cause cause s) h })).begun
+  onward_rests fits = (reasons_keep (λ events out. Why settings before cause events out) Onward onward_did (with_cause before cause) (outs_of settings before cause) (reasons settings range before facts cause).why
+      (record { here = here_took settings range before cause fits facts; begun = λ s h. not_back s before (heard cause) (fresh_cause cause s) h })).begun
 
 -- also where an editor that is slow leaves
 pub onward_slow : (settings : Settings) (range : InRange settings) (place : List Event) → Facts settings place → (e : ℕ) → is_slow settings e place ≡ true → (s : ℕ) → is_unready (life_of s place).stage ≡ false → is_unready (life_of s (behind place (parting settings place e))).stage ≡ false
-onward_slow settings range place facts e slow = (reasons_keep (Why settings place (quitting e)) (Onward settings range place facts (quitting e) (quit_built settings place e)) (onward_did settings range place facts (quitting e) (quit_built settings place e))
+onward_slow settings range place facts e slow = (reasons_keep (Why settings place (quitting e)) (Onward settings range place facts (quitting e)) (onward_did settings range place facts (quitting e))
     place (parting settings place e) (parting_why settings range place facts e slow) (record { here = here_slow settings range place e facts; begun = λ s h. h })).begun
 
-module _ (settings : Settings) (range : InRange settings) (before : List Event) (facts : Facts settings before) (one : OneStart before) (seats : AllSeats settings before) (cause : Cause) (built : built_behind settings before cause ≡ true) where
+module _ (settings : Settings) (range : InRange settings) (before : List Event) (facts : Facts settings before) (lasts : AllLast before) (seats : AllSeats settings before) (cause : Cause) where
   abbrev Seat : ℕ → Ask → Type 0
   Seat s a = MidSeat settings before cause s a
 
@@ -161,9 +160,9 @@ module _ (settings : Settings) (range : InRange settings) (before : List Event) 
 
   inner_took : fits_behind before cause ≡ true → Inner (with_cause before cause)
   inner_took fits = record {
-    here = here_took settings range before cause fits built facts;
+    here = here_took settings range before cause fits facts;
     seated = λ s. took_all settings (Seat s) s before cause (all_of (HasSeat settings before s) (Seat s) (λ a k. seat_now settings before facts cause fits s a k) (asks_of settings s before) (seats s));
-    begun = λ s h. not_back settings range before facts cause built s before (heard cause) (fresh_cause settings range before facts cause built cause s) h;
+    begun = λ s h. not_back settings range before facts cause s before (heard cause) (fresh_cause settings range before facts cause cause s) h;
     runs = λ e stays at. at;
   }
 
@@ -175,7 +174,7 @@ module _ (settings : Settings) (range : InRange settings) (before : List Event) 
     old = ap is_new k.ran;
     group = k.group;
     home = k.home;
-    last = one k.start k.group k.kept;
+    last = lasts k.start k.group k.kept (ap is_ended (k.source).ready);
     ready = (k.source).ready;
   }
 
@@ -246,11 +245,11 @@ module _ (settings : Settings) (range : InRange settings) (before : List Event) 
 
   inner_did : (events : List Event) (out : Out) → Why settings before cause events out → Inner events → Inner (events ++ said out ∷ [])
   inner_did events out why i = record {
-    here = here_did settings range before cause facts built events out why i.here;
+    here = here_did settings range before cause facts events out why i.here;
     seated = λ s. did_seated events out why s (i.seated s);
-    begun = λ s h. not_back settings range before facts cause built s events (said out) (fresh_out settings range before facts cause built events out why (((i.here).mid).steady).starts s) (i.begun s h);
+    begun = λ s h. not_back settings range before facts cause s events (said out) (fresh_out settings range before facts cause events out why (((i.here).mid).steady).starts s) (i.begun s h);
     runs = λ e stays at. did_runs events out why e stays (i.runs e stays at);
   }
 
   pub inner_rests : fits_behind before cause ≡ true → Inner (behind (with_cause before cause) (outs_of settings before cause))
-  inner_rests fits = reasons_keep (λ events out. Why settings before cause events out) Inner inner_did (with_cause before cause) (outs_of settings before cause) (reasons settings range before facts cause built).why (inner_took fits)
+  inner_rests fits = reasons_keep (λ events out. Why settings before cause events out) Inner inner_did (with_cause before cause) (outs_of settings before cause) (reasons settings range before facts cause).why (inner_took fits)

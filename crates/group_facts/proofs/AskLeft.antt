@@ -29,11 +29,11 @@ use Rattle.mux_facts.proofs.Reasons.{reasons_keep}
 use Rattle.mux_facts.proofs.Words.{number_same, same_number}
 use Rattle.group_words.specs.Houses.{groups_of, home_of, is_doubled, is_first_error, is_home, placed_for, places, stops}
 use Rattle.group_rows.specs.Asks.{Ask, Asking, asks_of, is_with}
+use Rattle.group_rows.specs.Earlier.{was_shown}
 use Rattle.group_rows.specs.ExitRows.{ends_group}
 use Rattle.group_rows.specs.Leaves.{leave_row}
 use Rattle.group_rows.specs.Rows.{closing_row, from_editor, gone_row, outs_of, shutdown_row}
-use Rattle.group_facts.specs.Built.{built_behind}
-use Rattle.group_facts.specs.Facts.{ends_with, is_exit, is_in, is_parting, is_refusing, is_too_many, is_unready, ends_link, leaves, shuts, turned_away, is_crowded, is_put_out}
+use Rattle.group_facts.specs.Facts.{ends_with, is_exit, is_in, is_other, is_parted, is_parting, is_refused, is_refusing, is_too_many, is_unready, ends_link, leaves, shuts, turned_away, is_crowded, is_put_out}
 use Rattle.group_facts.specs.Lively.{Lively}
 use Rattle.group_facts.specs.Settled.{HasSeat, is_answered}
 use Rattle.group_facts.specs.Why.{Why, WhyToEditor, answers, asks, calls, loses, winds_up, passes, progresses, recalls, refuses, rejects, resumes, shows, spreads, turns_away, welcomes}
@@ -43,13 +43,13 @@ use Rattle.group_facts.proofs.AskRest.{all_pending, leave_clean, none_with, seat
 use Rattle.group_facts.proofs.AskSeats.{Away, MidSeat, Pending, Unsaid, asks_more, did_all, took_all}
 use Rattle.group_facts.proofs.AskingRows.{running_is}
 use Rattle.group_facts.proofs.Begun.{Begun}
-use Rattle.group_facts.proofs.ExitEntry.{Exit, failed_exit, gone_exit}
+use Rattle.group_facts.proofs.ExitEntry.{Exit, exit_by, failed_exit, gone_exit}
 use Rattle.group_facts.proofs.Facts.{Facts}
 use Rattle.group_facts.proofs.Forwards.{zip_all}
 use Rattle.group_facts.proofs.Homes.{took_home}
 use Rattle.group_facts.proofs.Lively.{up_of}
 use Rattle.group_facts.proofs.Nulls.{null_said}
-use Rattle.group_facts.proofs.OneStart.{OneStart, start_kept}
+use Rattle.group_facts.proofs.LastStarts.{AllLast, alive_exit, alive_initializing, start_kept}
 use Rattle.group_facts.proofs.PutOut.{homes_stay}
 use Rattle.group_facts.proofs.Table.{reasons}
 use Rattle.group_rows.specs.StopRows.{stopped}
@@ -88,7 +88,7 @@ module _ (settings : Settings) (before : List Event) (n : ℕ) (body : List ℕ)
   shut_outs : (id : Id) (method : List ℕ) (params : Option Json) → bytes_eq (codes "shutdown") method ≡ true → is_open id (open_of n before) ≡ false → outs (from_editor settings before n body (request id method params) Running) now ≡ outs (shutdown_row settings before n body) now
   shut_outs id method params is fresh = subst (λ z. outs (from_editor settings before n body (request id z params) Running) now ≡ outs (shutdown_row settings before n body) now) ((bytes_eq-Decides (codes "shutdown") method).0 is) (named_outs id params fresh)
 
-module _ (settings : Settings) (range : InRange settings) (before : List Event) (facts : Facts settings before) (one : OneStart before) (seats : AllSeats settings before) where
+module _ (settings : Settings) (range : InRange settings) (before : List Event) (facts : Facts settings before) (lasts : AllLast before) (seats : AllSeats settings before) where
   abbrev later : Cause → List Event
   later cause = behind (with_cause before cause) (outs_of settings before cause)
 
@@ -187,7 +187,7 @@ module _ (settings : Settings) (range : InRange settings) (before : List Event) 
       (leave_clean settings before (EditorGone n why) (facts.steady).asks n (with_cause before (EditorGone n why)) (λ t. took_all settings (MidSeat settings before (EditorGone n why) t) t before (EditorGone n why) (seats_in (EditorGone n why) fits t))
       (λ t. took_all settings (Pending n (filter (is_with n) (asks_of settings t before))) t before (EditorGone n why) (all_pending n (asks_of settings t before))) s)
 
-  -- S3: no start that gave no result asked
+  -- S2 and S3: no start that gave no result asked
   refused_none : (t : ℕ) (body : List ℕ) (e : ℕ) → leaves settings before (FromServer t body) e ≡ true → (s : ℕ) (a : Ask) → MidSeat settings before (FromServer t body) s a → a.editor ≡ e → ⊥
   refused_none t body e h s a k same = go (on_either (ends_link settings before (FromServer t body) e) false h)
     where
@@ -195,25 +195,33 @@ module _ (settings : Settings) (range : InRange settings) (before : List Event) 
       in_group None none is = never (sym is)
       in_group (Some g) at is = at ∙ ap (λ i. Some i) (sym (number_same k.group g (sym (ap (is_home g) (seat_home settings before (FromServer t body) s a k e same)) ∙ is)))
 
+      asked_none : is_initializing (life_of t before).stage ≡ true → is_in settings before t e ≡ true → ⊥
+      asked_none waits member =
+          let is : s ≡ t = the (sym k.last ∙ lasts t k.group (in_group (group_of t before) refl member) (alive_initializing (life_of t before).stage waits)) in
+          never (sym waits ∙ (ap (λ i. is_initializing (life_of i before).stage) (sym is) ∙ ap is_initializing k.ready))
+
+      refused_or_parted : (is_refused settings before t body e ≡ true) ⊎ (is_parted settings before t body e ≡ true) → ⊥
+      refused_or_parted (inl out) =
+          let p = and_parts (is_refusing before t (message_of body)) (is_begun (desk_of e before).phase && is_in settings before t e) out in
+          asked_none (and_parts (is_first_error (message_of body)) (is_initializing (life_of t before).stage) p.0).1 (and_parts (is_begun (desk_of e before).phase) (is_in settings before t e) p.1).1
+      refused_or_parted (inr out) =
+          let p = and_parts (is_other before t body) (was_shown (desk_of e before).phase && is_in settings before t e) out in
+          asked_none (and_parts (is_initializing (life_of t before).stage) _ p.0).0 (and_parts (was_shown (desk_of e before).phase) (is_in settings before t e) p.1).1
+
       go : (ends_link settings before (FromServer t body) e ≡ true) ⊎ (false ≡ true) → ⊥
-      go (inl ends) =
-          let p = and_parts (is_refusing before t (message_of body)) (is_begun (desk_of e before).phase && is_in settings before t e) ends in
-          let q = and_parts (is_begun (desk_of e before).phase) (is_in settings before t e) p.1 in
-          let r = and_parts (is_first_error (message_of body)) (is_initializing (life_of t before).stage) p.0 in
-          let is : s ≡ t = the (sym k.last ∙ one t k.group (in_group (group_of t before) refl q.1)) in
-          never (sym r.1 ∙ (ap (λ i. is_initializing (life_of i before).stage) (sym is) ∙ ap is_initializing k.ready))
+      go (inl ends) = refused_or_parted (on_either (is_refused settings before t body e) (is_parted settings before t body e) ends)
       go (inr off) = never (sym off)
 
   abbrev None_at : Ask → Type 0
   None_at a = ⊥
 
   -- X3: an editor of the group of a start that ends was asked by that start alone, whose asks are over
-  module _ (cause : Cause) (t : ℕ) (exit : Exit settings before cause t) where
+  module _ (cause : Cause) (t : ℕ) (exit : Exit settings before cause t) (fits : fits_behind before cause ≡ true) where
     the_start : (e s : ℕ) (a : Ask) → is_put_out settings before cause e ≡ true → MidSeat settings before cause s a → a.editor ≡ e → s ≡ t
     the_start e s a out k same =
         let p = and_parts (ends_with settings before t e) (is_begun (desk_of e before).phase) (sym (exit.out e) ∙ out) in
         let q = and_parts (ends_group settings before t) (is_in settings before t e) p.0 in
-        the (sym k.last ∙ one t k.group (in_group (group_of t before) refl q.1))
+        the (sym k.last ∙ lasts t k.group (in_group (group_of t before) refl q.1) (alive_exit before cause t exit.is fits))
       where
         in_group : (o : Option ℕ) → group_of t before ≡ o → option_map_or (λ g. is_home g (home_of settings e before)) o false ≡ true → group_of t before ≡ Some k.group
         in_group None none is = never (sym is)
@@ -244,13 +252,13 @@ module _ (settings : Settings) (range : InRange settings) (before : List Event) 
     none_did events (CloseEditor n) why h = did_all settings None_at t events (CloseEditor n) tt h
     none_did events (EndServer n) why h = did_all settings None_at t events (EndServer n) tt h
 
-    none_later : built_behind settings before cause ≡ true → AllByRecursion None_at (asks_of settings t (later cause))
-    none_later built = reasons_keep (λ events out. Why settings before cause events out) (λ events. AllByRecursion None_at (asks_of settings t events)) none_did (with_cause before cause) (outs_of settings before cause) (reasons settings range before facts cause built).why
+    none_later : AllByRecursion None_at (asks_of settings t (later cause))
+    none_later = reasons_keep (λ events out. Why settings before cause events out) (λ events. AllByRecursion None_at (asks_of settings t events)) none_did (with_cause before cause) (outs_of settings before cause) (reasons settings range before facts cause).why
         (subst (AllByRecursion None_at) (sym exit.unasked) tt)
 
-  module _ (begun : Begun settings before) (cause : Cause) (built : built_behind settings before cause ≡ true) (fits : fits_behind before cause ≡ true) (goes_on : stopped (later cause) ≡ false) where
-    inside : Inner settings range before facts one seats cause built (later cause)
-    inside = inner_rests settings range before facts one seats cause built fits
+  module _ (begun : Begun settings before) (cause : Cause) (fits : fits_behind before cause ≡ true) (goes_on : stopped (later cause) ≡ false) where
+    inside : Inner settings range before facts lasts seats cause (later cause)
+    inside = inner_rests settings range before facts lasts seats cause fits
 
     abbrev AllAway : ℕ → Type 0
     AllAway e = (s : ℕ) → AllByRecursion (Away e) (asks_of settings s (later cause))
@@ -270,8 +278,8 @@ module _ (settings : Settings) (range : InRange settings) (before : List Event) 
     exit_away t exit e out s = go (nat_eq t s) refl
       where
         go : (b : Bool) → nat_eq t s ≡ b → AllByRecursion (Away e) (asks_of settings s (later cause))
-        go true same = subst (λ k. AllByRecursion (Away e) (asks_of settings k (later cause))) (number_same t s same) (all_of None_at (Away e) (λ a k. absurd k) (asks_of settings t (later cause)) (none_later cause t exit built))
-        go false other = none_with settings before cause e s (asks_of settings s (later cause)) (inside.seated s) (λ a k same. never (sym (ap (nat_eq t) (the_start cause t exit e s a out k same) ∙ same_number t) ∙ other))
+        go true same = subst (λ k. AllByRecursion (Away e) (asks_of settings k (later cause))) (number_same t s same) (all_of None_at (Away e) (λ a k. absurd k) (asks_of settings t (later cause)) (none_later cause t exit fits))
+        go false other = none_with settings before cause e s (asks_of settings s (later cause)) (inside.seated s) (λ a k same. never (sym (ap (nat_eq t) (the_start cause t exit fits e s a out k same) ∙ same_number t) ∙ other))
 
     by_cause : (c : Cause) → cause ≡ c → (e : ℕ) → leaves settings before c e ≡ true → is_running (desk_of e before).phase ≡ true → AllAway e
     by_cause (FromEditor n body) is e h runs = subst (λ c. (s : ℕ) → AllByRecursion (Away e) (asks_of settings s (later c))) (sym is)
@@ -299,12 +307,12 @@ module _ (settings : Settings) (range : InRange settings) (before : List Event) 
     all_stay [] = tt
     all_stay (a ∷ xs) = (λ h. never (sym (same_number a.editor) ∙ h.0), all_of (λ (b : Ask). AllByRecursion (Away b.editor) xs → ⊥) (λ (b : Ask). AllByRecursion (Away b.editor) (a ∷ xs) → ⊥) (λ b f h. f h.1) xs (all_stay xs))
 
-    one_seat : Lively settings (later cause) → (s : ℕ) (a : Ask) → MidSeat settings before cause s a → leaves settings before cause a.editor ≡ false → HasSeat settings (later cause) s a
-    one_seat lively s a k stays =
+    one_seat : Lively settings (later cause) → (s : ℕ) → is_exit cause s ≡ false → (a : Ask) → MidSeat settings before cause s a → leaves settings before cause a.editor ≡ false → HasSeat settings (later cause) s a
+    one_seat lively s goes_on a k stays =
         let running : (desk_of a.editor (later cause)).phase ≡ Running = inside.runs a.editor stays (k.running stays) in
         let home : home_of settings a.editor (later cause) ≡ Some k.group = homes_stay settings a.editor (with_cause before cause) (outs_of settings before cause)
         ∙ took_home settings before a.editor k.old cause (off_both (ends_link settings before cause a.editor) (shuts cause a.editor) stays).1 ∙ k.home in
-        let last : start_of k.group (later cause) ≡ Some s = start_kept settings before cause begun built k.group s k.last in
+        let last : start_of k.group (later cause) ≡ Some s = start_kept settings before cause begun fits lasts k.group s k.last goes_on in
         let kept : group_of s (later cause) ≡ Some k.group = (lively.last k.group s last).0 in
         record {
           running = running;
@@ -316,17 +324,22 @@ module _ (settings : Settings) (range : InRange settings) (before : List Event) 
         }
 
     pub seats_rest : Lively settings (later cause) → AllSeats settings (later cause)
-    seats_rest lively s = go (asks_of settings s (later cause)) (inside.seated s) (all_stay (asks_of settings s (later cause)))
+    seats_rest lively s = by_exit (is_exit cause s) refl
       where
         stays : (a : Ask) → (AllByRecursion (Away a.editor) (asks_of settings s (later cause)) → ⊥) → (b : Bool) → leaves settings before cause a.editor ≡ b → b ≡ false
         stays a here true h = absurd (here (left_away a.editor h s))
         stays a here false h = refl
 
-        seat : (a : Ask) → MidSeat settings before cause s a → (AllByRecursion (Away a.editor) (asks_of settings s (later cause)) → ⊥) → HasSeat settings (later cause) s a
-        seat a k here = one_seat lively s a k (stays a here (leaves settings before cause a.editor) refl)
+        seat : is_exit cause s ≡ false → (a : Ask) → MidSeat settings before cause s a → (AllByRecursion (Away a.editor) (asks_of settings s (later cause)) → ⊥) → HasSeat settings (later cause) s a
+        seat goes_on a k here = one_seat lively s goes_on a k (stays a here (leaves settings before cause a.editor) refl)
 
-        go : (xs : List Ask) → AllByRecursion (MidSeat settings before cause s) xs → AllByRecursion (λ (a : Ask). AllByRecursion (Away a.editor) (asks_of settings s (later cause)) → ⊥) xs → AllByRecursion (HasSeat settings (later cause) s) xs
-        go xs h f = zip_all (MidSeat settings before cause s) (λ (a : Ask). AllByRecursion (Away a.editor) (asks_of settings s (later cause)) → ⊥) (HasSeat settings (later cause) s) seat xs h f
+        go : is_exit cause s ≡ false → (xs : List Ask) → AllByRecursion (MidSeat settings before cause s) xs → AllByRecursion (λ (a : Ask). AllByRecursion (Away a.editor) (asks_of settings s (later cause)) → ⊥) xs → AllByRecursion (HasSeat settings (later cause) s) xs
+        go goes_on xs h f = zip_all (MidSeat settings before cause s) (λ (a : Ask). AllByRecursion (Away a.editor) (asks_of settings s (later cause)) → ⊥) (HasSeat settings (later cause) s) (seat goes_on) xs h f
+
+        -- a start that ends asks nothing more
+        by_exit : (b : Bool) → is_exit cause s ≡ b → AllByRecursion (HasSeat settings (later cause) s) (asks_of settings s (later cause))
+        by_exit true is = all_of None_at (HasSeat settings (later cause) s) (λ a k. absurd k) (asks_of settings s (later cause)) (none_later cause s (exit_by settings before cause s is) fits)
+        by_exit false goes_on = go goes_on (asks_of settings s (later cause)) (inside.seated s) (all_stay (asks_of settings s (later cause)))
 
 pub no_seats : (settings : Settings) → AllSeats settings []
 no_seats settings s = tt

@@ -28,12 +28,11 @@ use Rattle.mux_facts.proofs.Words.{id_same, number_same, still_open}
 use Rattle.group_rows.specs.Asks.{next_ask}
 use Rattle.group_rows.specs.Forwarded.{Forwarded, Forwarding, Sender, answered_by, forwarding_behind, forwarding_of, forwards, no_forwarding, numbered}
 use Rattle.group_rows.specs.StopRows.{stopped}
-use Rattle.group_facts.specs.Built.{built_behind}
 use Rattle.group_facts.specs.Facts.{AllForwarded, IsAlone, IsAsker, IsForwarded}
 use Rattle.group_facts.proofs.Forwards.{forwarding_more, more_requests, notified_all, zip_all}
 use Rattle.group_facts.proofs.Levels.{each_start}
 use Rattle.group_facts.proofs.Numbers.{forwarding_other, forwarding_sent, response_forwards}
-use Rattle.group_facts.specs.Why.{IsForward, WhyToEditor, WhyToServer, begins, greets, forwarded, notes, tells, shuts, cancels, calls, rejects, resumes, refuses, answers, turns_away, welcomes, passes, responds, exits, asks, loses, winds_up, recalls, resolves, spreads, cancels_work, progresses, shows}
+use Rattle.group_facts.specs.Why.{IsForward, WhyToEditor, WhyToServer, begins, greets, conveys, forwarded, notes, tells, shuts, cancels, calls, rejects, resumes, refuses, answers, turns_away, welcomes, passes, responds, exits, asks, loses, winds_up, recalls, resolves, spreads, cancels_work, progresses, shows}
 
 -- An editor that got its result stays one that did
 
@@ -100,18 +99,18 @@ ended_less : (later : List Event) (b : Bool) (x : Forwarding) → AllByRecursion
 ended_less later true x h = tt
 ended_less later false x h = h
 
-pub asked_took : (settings : Settings) (events : List Event) (cause : Cause) → built_behind settings events cause ≡ true → fits_behind events cause ≡ true → Editors events → AllForwarded events → AllForwarded (with_cause events cause)
-asked_took settings events (Joined e) built fits none h = asked_still events (heard (Joined e)) (asker_heard events (Joined e) fits none) (λ s. refl) h
-asked_took settings events (FromEditor e body) built fits none h = asked_still events (heard (FromEditor e body)) (asker_heard events (FromEditor e body) fits none) (λ s. refl) h
-asked_took settings events (Started n) built fits none h = asked_still events (heard (Started n)) (asker_heard events (Started n) fits none) (λ s. refl) h
-asked_took settings events (FromServer n body) built fits none h = λ s. asked_by_list events (heard (FromServer n body)) (asker_heard events (FromServer n body) fits none) s _ refl
+pub asked_took : (settings : Settings) (events : List Event) (cause : Cause) → fits_behind events cause ≡ true → Editors events → AllForwarded events → AllForwarded (with_cause events cause)
+asked_took settings events (Joined e) fits none h = asked_still events (heard (Joined e)) (asker_heard events (Joined e) fits none) (λ s. refl) h
+asked_took settings events (FromEditor e body) fits none h = asked_still events (heard (FromEditor e body)) (asker_heard events (FromEditor e body) fits none) (λ s. refl) h
+asked_took settings events (Started n) fits none h = asked_still events (heard (Started n)) (asker_heard events (Started n) fits none) (λ s. refl) h
+asked_took settings events (FromServer n body) fits none h = λ s. asked_by_list events (heard (FromServer n body)) (asker_heard events (FromServer n body) fits none) s _ refl
     (answered_less events (with_cause events (FromServer n body)) (asker_heard events (FromServer n body) fits none) (nat_eq n s) (λ f. not (answered_by (answered_id (message_of body)) f)) (forwarding_of s events).open_requests (h s))
-asked_took settings events (Drained e k) built fits none h = asked_still events (heard (Drained e k)) (asker_heard events (Drained e k) fits none) (λ s. refl) h
-asked_took settings events (Tick t) built fits none h = asked_still events (heard (Tick t)) (asker_heard events (Tick t) fits none) (λ s. refl) h
-asked_took settings events (EditorGone e why) built fits none h = asked_still events (heard (EditorGone e why)) (asker_heard events (EditorGone e why) fits none) (λ s. refl) h
-asked_took settings events (StartFailed n) built fits none h = λ s. asked_by_list events (heard (StartFailed n)) (asker_heard events (StartFailed n) fits none) s _ refl
+asked_took settings events (Drained e k) fits none h = asked_still events (heard (Drained e k)) (asker_heard events (Drained e k) fits none) (λ s. refl) h
+asked_took settings events (Tick t) fits none h = asked_still events (heard (Tick t)) (asker_heard events (Tick t) fits none) (λ s. refl) h
+asked_took settings events (EditorGone e why) fits none h = asked_still events (heard (EditorGone e why)) (asker_heard events (EditorGone e why) fits none) (λ s. refl) h
+asked_took settings events (StartFailed n) fits none h = λ s. asked_by_list events (heard (StartFailed n)) (asker_heard events (StartFailed n) fits none) s _ refl
     (ended_less (with_cause events (StartFailed n)) (nat_eq n s) (forwarding_of s events) (all_of (IsForwarded events) (IsForwarded (with_cause events (StartFailed n))) (asker_heard events (StartFailed n) fits none) (forwarding_of s events).open_requests (h s)))
-asked_took settings events (ServerGone n) built fits none h = λ s. asked_by_list events (heard (ServerGone n)) (asker_heard events (ServerGone n) fits none) s _ refl
+asked_took settings events (ServerGone n) fits none h = λ s. asked_by_list events (heard (ServerGone n)) (asker_heard events (ServerGone n) fits none) s _ refl
     (ended_less (with_cause events (ServerGone n)) (nat_eq n s) (forwarding_of s events) (all_of (IsForwarded events) (IsForwarded (with_cause events (ServerGone n))) (asker_heard events (ServerGone n) fits none) (forwarding_of s events).open_requests (h s)))
 
 -- A body to a start
@@ -150,6 +149,7 @@ module _ (settings : Settings) (before : List Event) (cause : Cause) (events : L
   one_asked : WhyToServer settings before cause events n body → Later n
   one_asked (begins k) h = own_request (integer (codes "1")) (codes "initialize") k.params k.says refl h
   one_asked (greets k) h = notified (codes "initialized") k.params k.says h
+  one_asked (conveys k) h = notified (codes "workspace/didChangeConfiguration") k.params k.says h
   one_asked (forwarded k) h = asked_on k h
   one_asked (notes k) h = notified k.method k.params k.says h
   one_asked (tells k) h = let m : Spoken (message_of body) = spoken (message_of body) k.spoken in notified m.method m.params m.is h

@@ -1,5 +1,5 @@
--- A group is founded in the entry that spawns its first start, and nothing else founds or spawns.
-use Rattle.std.proofs.Common.{◌≡◌, ℕ, max, ◌+◌, ◌≤◌, Bool, true, false, not, ◌&&◌, List, [], ◌∷◌, ◌++◌, filter, map, length, nat_eq, codes, decimal, if◌then◌else◌, Option, Some, None, refl, sym, ◌∙◌, ap, subst, arith, append-nil, append_assoc}
+-- A group is founded in the entry that spawns its first start, a later one is spawned as the one before it ends, and nothing else founds or spawns.
+use Rattle.std.proofs.Common.{◌≡◌, ℕ, zero, suc, max, ◌+◌, ◌<◌, ◌≤◌, Bool, true, false, not, ◌&&◌, List, [], ◌∷◌, ◌++◌, filter, map, length, nat_eq, codes, decimal, if◌then◌else◌, Option, Some, None, refl, sym, ◌∙◌, ap, subst, arith, append-nil, append_assoc}
 use Rattle.std.specs.Prelude.{◌↔◌}
 use Rattle.std.specs.List.{AllByRecursion}
 use Rattle.std.proofs.lemmas.Bool.{and_parts}
@@ -13,7 +13,7 @@ use Rattle.mux_history.specs.declared.out.Out.TheVariants.{ToEditor, ToServer, S
 use Rattle.document_model.specs.Sayings.{Saying, changes, closes, misshapen, opens, saying_by}
 use Rattle.document_model.specs.Sayings as saying
 use Rattle.rpc_message.specs.Message.{Message, request, notification, result, error, not_json, not_message, id_bytes, message_of}
-use Rattle.rpc_message.specs.Texts.{error_text, initialized_text, ok_text, request_failed, with_id_text}
+use Rattle.rpc_message.specs.Texts.{error_text, ok_text, request_failed, with_id_text}
 use Rattle.json_text.specs.Json.{Json}
 use Rattle.lsp_method.specs.Class.{class_of}
 use Rattle.lsp_method.specs.declared.variants.Class.{Class}
@@ -29,18 +29,20 @@ use Rattle.event_model.specs.Phases.{desk_of, is_new, makes_running}
 use Rattle.event_model.specs.Row.{Row, choose, each, look, nothing, on, outs, send, ◌⨾◌}
 use Rattle.event_model.specs.Settings.{Settings}
 use Rattle.event_model.specs.Spawns.{group_of, start_behind, start_of, starts_of}
-use Rattle.event_model.specs.Stages.{is_initializing, life_of}
+use Rattle.event_model.specs.Stages.{is_initializing, is_ready, life_of}
 use Rattle.event_model.proofs.Frames.{never}
 use Rattle.mux_model.specs.Documents.{held_at}
 use Rattle.mux_model.specs.Rows.{malformed_row, to_start}
+use Rattle.mux_facts.proofs.Folds.{starts_more}
 use Rattle.mux_facts.proofs.Keeps.{behind_both}
+use Rattle.mux_facts.proofs.Lists.{all_of}
 use Rattle.mux_facts.proofs.Reasons.{Because, Reasons, by_nothing, by_send, by_then, by_choose, by_look, by_on}
 use Rattle.mux_facts.proofs.Words.{number_same, same_number}
 use Rattle.group_rows.specs.response_route.specs.Asked.{asked_text}
 use Rattle.group_words.specs.declared.kept.Kept.{Kept}
 use Rattle.group_words.specs.declared.placed.Placed.{Placed}
 use Rattle.group_words.specs.declared.placed.Placed.TheVariants.{Joins, New as Founds, Evicts, TooMany}
-use Rattle.group_words.specs.Houses.{at_group, declared_for, emptied, groups_hear, groups_of, house_of, idle_if_live, is_first_error, key_for, placed_for, places, server_asked, stops, time_of}
+use Rattle.group_words.specs.Houses.{at_group, declared_for, emptied, groups_hear, groups_lose, groups_of, house_of, idle_if_live, is_first_error, key_for, placed_for, places, server_asked, stops, time_of}
 use Rattle.group_words.specs.Placing.{all_from, busy, changed, end_where, ended, founded, is_live, with_editor, is_due}
 use Rattle.group_words.specs.Rows.{end_group, end_start, initialize_row, placed_row}
 use Rattle.group_words.proofs.Frames.{changed_length, groups_more, groups_stay, touches_groups}
@@ -57,19 +59,20 @@ use Rattle.group_rows.specs.diagnostics_route.specs.Published.{published}
 use Rattle.group_rows.specs.Lists.{lists_of, sayings_of}
 use Rattle.group_rows.specs.Leaves.{cancel, cancel_text, cancels, closings, leave_bodies, leave_row, refusals, refuse, uncancelled_of}
 use Rattle.group_rows.specs.AskRows.{ask, ask_edit, asking_row, broadcast, current_version, edited, notified_row, response_at, response_row, run_at, run_row}
-use Rattle.group_rows.specs.Asks.{Ask, Parked, asks_of, is_with, next_ask, parked_of, running_in}
+use Rattle.group_rows.specs.Asks.{Ask, Parked, asks_of, is_with, members_in, next_ask, parked_of, running_in}
 use Rattle.group_rows.specs.Answers.{answer_row, hand_on}
 use Rattle.group_rows.specs.Created.{Token, created_of, created_text}
 use Rattle.group_rows.specs.CreatedRows.{create_text, created_row, created_work, offer, takers, taking_row, tell, tell_takers, work_at, work_row}
 use Rattle.group_rows.specs.Tokens.{marked_text, tell_progress}
-use Rattle.group_rows.specs.ExitRows.{begins_again, lost_row}
-use Rattle.group_rows.specs.Rows.{answer_error, begin_in, begun_row, closing_row, document_at, document_bodies, document_row, down_row, early_row, exit_row, first_result, from_server, gone_row, lspmux_row, message_row, named_row, notice_at, notice_row, open_row, outs_of, ready_row, replay_bodies, request_at, request_row, result_in, row_of, served_request, served_row, started, sync_bodies, taken_row, waiting_in, welcome, hasty_row, close_all, refusal, refused_row}
+use Rattle.group_rows.specs.Earlier.{shown_in}
+use Rattle.group_rows.specs.ExitRows.{begins_again, lose_sent, lose_start, lost_row}
+use Rattle.group_rows.specs.Rows.{answer_error, begin_in, begun_row, closing_row, document_at, document_bodies, document_row, down_row, early_row, exit_row, first_result, from_server, gone_row, lspmux_row, message_row, named_row, notice_at, notice_row, open_row, outs_of, ready_row, request_at, request_row, result_in, row_of, served_request, served_row, started, sync_bodies, taken_row, waiting_in, welcome, hasty_row, close_all, refusal, refused_row}
 use Rattle.group_rows.specs.Texts.{encoding_of, texts_of}
 use Rattle.group_rows.specs.Ticks.{due_of, overdue_of, tick_row}
-use Rattle.group_facts.specs.Built.{built_behind}
-use Rattle.group_facts.specs.Lively.{lives_at}
-use Rattle.group_facts.proofs.ExitOuts.{lost_by}
-use Rattle.group_facts.proofs.Exits.{failed_groups, gone_groups, lost_length}
+use Rattle.group_facts.specs.Facts.{is_exit}
+use Rattle.group_facts.specs.Lively.{lives, lives_at}
+use Rattle.group_facts.proofs.ExitOuts.{lost_by, told_by}
+use Rattle.group_facts.proofs.Exits.{RenewsGroup, lose_length, renewed_lives, renews_parts}
 use Rattle.group_facts.proofs.Housed.{ended_length}
 use Rattle.group_facts.proofs.LiveGroups.{lives_past}
 use Rattle.group_facts.proofs.PlacingRow.{IsNext, placed_next}
@@ -80,6 +83,21 @@ use Rattle.group_facts.proofs.Waiting.{first_unasked, new_is, whole_is}
 abbrev pub NoSpawn : Out → Type 0
 NoSpawn (Spawn s g) = ⊥
 NoSpawn out = Unit {0}
+
+-- and outs to editors
+abbrev pub IsTold : Out → Type 0
+IsTold (ToEditor e body) = Unit {0}
+IsTold out = ⊥
+
+pub told_quiet : (xs : List Out) → AllByRecursion IsTold xs → AllByRecursion NoSpawn xs
+told_quiet xs all = all_of IsTold NoSpawn one xs all
+  where
+    one : (out : Out) → IsTold out → NoSpawn out
+    one (ToEditor e body) h = tt
+    one (ToServer s body) h = absurd h
+    one (Spawn s g) h = absurd h
+    one (CloseEditor e) h = absurd h
+    one (EndServer s) h = absurd h
 
 abbrev pub Quiet : List Event → Row → Type 0
 Quiet events row = Because (λ events out. NoSpawn out) events row
@@ -108,6 +126,23 @@ start_took g events cause = start_more g events (heard cause)
 pub starts_stay : (g : ℕ) (events : List Event) (xs : List Out) → AllByRecursion NoSpawn xs → start_of g (behind events xs) ≡ start_of g events
 starts_stay g events [] h = ap (start_of g) (append-nil events)
 starts_stay g events (x ∷ xs) h = ap (start_of g) (sym (append_assoc events (said x ∷ []) (map said xs))) ∙ starts_stay g (events ++ said x ∷ []) xs h.1 ∙ start_did g events x h.0
+
+-- How many starts there are
+
+starts_took : (events : List Event) (cause : Cause) → starts_of (with_cause events cause) ≡ starts_of events
+starts_took events (Joined e) = starts_more events (heard (Joined e))
+starts_took events cause = starts_more events (heard cause)
+
+pub starts_quiet : (events : List Event) (xs : List Out) → AllByRecursion NoSpawn xs → starts_of (behind events xs) ≡ starts_of events
+starts_quiet events [] all = ap starts_of (append-nil events)
+starts_quiet events (x ∷ xs) all = ap starts_of (sym (append_assoc events (said x ∷ []) (map said xs))) ∙ (starts_quiet (events ++ said x ∷ []) xs all.1 ∙ one x all.0)
+  where
+    one : (out : Out) → NoSpawn out → starts_of (events ++ said out ∷ []) ≡ starts_of events
+    one (Spawn n g) h = absurd h
+    one (ToEditor e body) h = starts_more events (said (ToEditor e body))
+    one (ToServer n body) h = starts_more events (said (ToServer n body))
+    one (CloseEditor e) h = starts_more events (said (CloseEditor e))
+    one (EndServer n) h = starts_more events (said (EndServer n))
 
 -- Rows that spawn none
 
@@ -417,7 +452,8 @@ module _ (settings : Settings) (before : List Event) where
   quiet_waiting body g events = by_look (quiet_welcomes body (waiting_in settings g events) events)
 
   quiet_result : (s : ℕ) (body : List ℕ) (g : ℕ) (events : List Event) → Quiet events (result_in settings before s body g)
-  quiet_result s body g events = by_then (by_send tt) (by_then (quiet_bodies s (replay_bodies [] (texts_of settings g before).opens (texts_of settings g before).opens) (behind events (ToServer s initialized_text ∷ []))) (quiet_waiting body g _))
+  quiet_result s body g events = by_then (by_choose (λ other. quiet_links (shown_in settings g before) events) (λ same. by_nothing)) (by_then (by_send tt) (by_then (by_on (λ none. by_nothing) (λ kept found. by_send tt))
+      (by_then (by_look (quiet_bodies s _ _)) (quiet_waiting body g _))))
 
   quiet_first : (s : ℕ) (body : List ℕ) (events : List Event) → Quiet events (first_result settings before s body)
   quiet_first s body events = by_on (λ none. by_nothing) (λ g home. quiet_result s body g events)
@@ -515,7 +551,18 @@ module _ (settings : Settings) (before : List Event) where
 
 -- X1 to X3, of a group that gets no new start
 pub quiet_loss : (settings : Settings) (before : List Event) (s : ℕ) → not (begins_again settings before s) ≡ true → (events : List Event) → Quiet events (lost_row settings before s)
-quiet_loss settings before s built events = lost_by (λ places out. NoSpawn out) (λ e places body. tt) (λ places e. tt) settings before s built events
+quiet_loss settings before s ends events = lost_by (λ places out. NoSpawn out) (λ e places body. tt) (λ places e. tt) settings before s ends events
+
+-- X1 and X2
+told_lost : (settings : Settings) (before : List Event) (s g : ℕ) (events : List Event) → Because (λ places out. IsTold out) events (each (lose_sent before s) (members_in settings g before)
+    ⨾ choose (is_ready (life_of s before).stage) (each (lose_start settings before s) (running_in settings g before)) nothing)
+told_lost settings before s g events = told_by (λ places out. IsTold out) (λ e places body. tt) settings before s g events
+
+-- a group that lives is kept
+lives_inside : (g : ℕ) (xs : List Kept) → lives_at g xs ≡ true → g < length xs
+lives_inside g [] h = never (sym h)
+lives_inside zero (x ∷ xs) h = omega arith
+lives_inside (suc g) (x ∷ xs) h = let k : g < length xs = lives_inside g xs h in omega (arith, k)
 
 -- How many groups there are
 
@@ -558,11 +605,13 @@ module _ (settings : Settings) where
 
   -- What an entry founds
 
-  -- none, and nothing is spawned; or the next one, which lives, and its start is the last out
+  -- none, and nothing is spawned; or the next one, which lives, and its start is the last out; or none, and as a start ends its group, which lives, has a new one, which is the last out
   pub data Founding (before : List Event) (cause : Cause) : Type 0 where
     quiet : AllByRecursion NoSpawn (outs_of settings before cause) → count (with_cause before cause) ≡ count before → Founding before cause
     founds : (xs : List Out) (s : ℕ) → AllByRecursion NoSpawn xs → outs_of settings before cause ≡ xs ++ Spawn s (count before) ∷ [] → count (with_cause before cause) ≡ count before + 1
         → lives_at (count before) (groups_of settings (with_cause before cause)) ≡ true → Founding before cause
+    renews : (xs : List Out) (s g : ℕ) → AllByRecursion IsTold xs → outs_of settings before cause ≡ xs ++ Spawn (starts_of before) g ∷ [] → count (with_cause before cause) ≡ count before
+        → is_exit cause s ≡ true → group_of s before ≡ Some g → lives_at g (groups_of settings (with_cause before cause)) ≡ true → Founding before cause
 
   module _ (before : List Event) (e : ℕ) (body : List ℕ) (here : places (desk_of e before).phase (message_of body) ≡ true) where
     abbrev now : List Event
@@ -600,19 +649,62 @@ module _ (settings : Settings) where
       go false off = quiet (all_outs NoSpawn (with_cause before (FromEditor e body)) _ (quiet_editor settings before e body (with_cause before (FromEditor e body)) off).why)
           (ap length (groups_more settings before (heard (FromEditor e body))) ∙ hears_same before e body off)
 
-  pub founding_of : (before : List Event) (cause : Cause) → built_behind settings before cause ≡ true → Founding before cause
-  founding_of before (FromEditor e body) built = from_an_editor before e body
-  founding_of before (FromServer s body) built = quiet (all_outs NoSpawn _ _ (quiet_server settings before s body (message_of body) (life_of s before).stage (with_cause before (FromServer s body))).why)
+  -- X3
+  module _ (before : List Event) (cause : Cause) (s : ℕ) (is : is_exit cause s ≡ true) (row : outs_of settings before cause ≡ outs (lost_row settings before s) (with_cause before cause))
+      (groups : groups_of settings (with_cause before cause) ≡ groups_lose settings before s (house_of settings before)) where
+    abbrev exit_now : List Event
+    exit_now = with_cause before cause
+
+    same_count : count exit_now ≡ count before
+    same_count = ap length groups ∙ lose_length settings before s
+
+    pub renewed_outs : (k : RenewsGroup settings before s) → (xs : List Out) × (AllByRecursion IsTold xs × (outs_of settings before cause ≡ xs ++ Spawn (starts_of before) k.group ∷ []))
+    renewed_outs k = (first ++ second, (told_both, row ∙ (goes_on ∙ (ap (λ n. first ++ (second ++ Spawn n k.group ∷ [])) number ∙ sym (append_assoc first second (Spawn (starts_of before) k.group ∷ []))))))
+      where
+        first : List Out
+        first = outs (each (lose_sent before s) (members_in settings k.group before)) exit_now
+
+        second : List Out
+        second = outs (choose (is_ready (life_of s before).stage) (each (lose_start settings before s) (running_in settings k.group before)) nothing) (behind exit_now first)
+
+        told_both : AllByRecursion IsTold (first ++ second)
+        told_both = all_outs IsTold exit_now (first ++ second) (told_lost settings before s k.group exit_now).why
+
+        goes_on : outs (lost_row settings before s) exit_now ≡ first ++ (second ++ Spawn (starts_of (behind (behind exit_now first) second)) k.group ∷ [])
+        goes_on = rw (k.home, k.found, k.live, k.again) refl
+
+        number : starts_of (behind (behind exit_now first) second) ≡ starts_of before
+        number = ap starts_of (sym (behind_both exit_now first second)) ∙ (starts_quiet exit_now (first ++ second) (told_quiet (first ++ second) told_both) ∙ starts_took before cause)
+
+    renewing : RenewsGroup settings before s → Founding before cause
+    renewing k = let r = renewed_outs k in renews r.0 s k.group r.1.0 r.1.1 same_count is k.home (ap (lives_at k.group) groups ∙ (renewed_lives settings before s k k.group ∙ (ap lives k.found ∙ k.live)))
+
+    pub ended_outs : not (begins_again settings before s) ≡ true → AllByRecursion NoSpawn (outs_of settings before cause)
+    ended_outs ends = subst (AllByRecursion NoSpawn) (sym row) (all_outs NoSpawn _ _ (quiet_loss settings before s ends exit_now).why)
+
+    ending : not (begins_again settings before s) ≡ true → Founding before cause
+    ending ends = quiet (ended_outs ends) same_count
+
+    exit_founding : Founding before cause
+    exit_founding = go (begins_again settings before s) refl
+      where
+        go : (b : Bool) → begins_again settings before s ≡ b → Founding before cause
+        go true again = renewing (renews_parts settings before s again)
+        go false last = ending (ap not last)
+
+  pub founding_of : (before : List Event) (cause : Cause) → Founding before cause
+  founding_of before (FromEditor e body) = from_an_editor before e body
+  founding_of before (FromServer s body) = quiet (all_outs NoSpawn _ _ (quiet_server settings before s body (message_of body) (life_of s before).stage (with_cause before (FromServer s body))).why)
       (ap length (groups_more settings before (heard (FromServer s body))) ∙ at_same (group_of s before) (is_first_error (message_of body) && is_initializing (life_of s before).stage) (groups_of settings before))
-  founding_of before (Started s) built = quiet (all_outs NoSpawn _ _ (quiet_started settings before s (life_of s before).stage (with_cause before (Started s))).why) (counts_stay before (heard (Started s)) refl)
-  founding_of before (Joined e) built = quiet (all_outs NoSpawn _ _ (quiet_joined settings before e (with_cause before (Joined e))).why) (counts_stay before (heard (Joined e)) refl)
-  founding_of before (Drained e k) built = quiet tt (counts_stay before (heard (Drained e k)) refl)
-  founding_of before (Tick t) built = quiet (all_outs NoSpawn _ _ (quiet_tick settings before t (with_cause before (Tick t))).why)
+  founding_of before (Started s) = quiet (all_outs NoSpawn _ _ (quiet_started settings before s (life_of s before).stage (with_cause before (Started s))).why) (counts_stay before (heard (Started s)) refl)
+  founding_of before (Joined e) = quiet (all_outs NoSpawn _ _ (quiet_joined settings before e (with_cause before (Joined e))).why) (counts_stay before (heard (Joined e)) refl)
+  founding_of before (Drained e k) = quiet tt (counts_stay before (heard (Drained e k)) refl)
+  founding_of before (Tick t) = quiet (all_outs NoSpawn _ _ (quiet_tick settings before t (with_cause before (Tick t))).why)
       (ap length (groups_more settings before (heard (Tick t))) ∙ ended_length (is_due settings.limits.idle (max (time_of before) t)) (groups_of settings before))
-  founding_of before (EditorGone e why) built = quiet (all_outs NoSpawn _ _ (quiet_gone settings before e (desk_of e before).phase (with_cause before (EditorGone e why))).why)
+  founding_of before (EditorGone e why) = quiet (all_outs NoSpawn _ _ (quiet_gone settings before e (desk_of e before).phase (with_cause before (EditorGone e why))).why)
       (ap length (groups_more settings before (heard (EditorGone e why))) ∙ emptied_same ((house_of settings before).home e) _ _ _ (groups_of settings before))
-  founding_of before (StartFailed s) built = quiet (all_outs NoSpawn _ _ (quiet_loss settings before s built (with_cause before (StartFailed s))).why) (ap length (failed_groups settings before s built) ∙ lost_length settings before s)
-  founding_of before (ServerGone s) built = quiet (all_outs NoSpawn _ _ (quiet_loss settings before s built (with_cause before (ServerGone s))).why) (ap length (gone_groups settings before s built) ∙ lost_length settings before s)
+  founding_of before (StartFailed s) = exit_founding before (StartFailed s) s (same_number s) refl (groups_more settings before (heard (StartFailed s)))
+  founding_of before (ServerGone s) = exit_founding before (ServerGone s) s (same_number s) refl (groups_more settings before (heard (ServerGone s)))
 
   -- Each group has a start
 
@@ -628,6 +720,18 @@ module _ (settings : Settings) where
 
     begun_quiet : (xs : List Out) → AllByRecursion NoSpawn xs → count (with_cause before cause) ≡ count before → Begun (later xs)
     begun_quiet xs all same g = subst (λ k. (start_of g (later xs) ≡ None) ↔ (k ≤ g)) (sym (count_behind (with_cause before cause) xs ∙ same)) (subst (λ o. (o ≡ None) ↔ (count before ≤ g)) (sym (still xs g all)) (h g))
+
+    begun_renewed : (xs : List Out) (n i : ℕ) → AllByRecursion NoSpawn xs → count (with_cause before cause) ≡ count before → i < count before → Begun (later (xs ++ Spawn n i ∷ []))
+    begun_renewed xs n i all same inside g = subst (λ z. (start_of g z ≡ None) ↔ (count z ≤ g)) (sym (behind_both (with_cause before cause) xs (Spawn n i ∷ [])))
+        (subst (λ k. (start_of g last ≡ None) ↔ (k ≤ g)) (sym (count_did (later xs) (Spawn n i) ∙ count_behind (with_cause before cause) xs ∙ same))
+        (subst (λ o. (o ≡ None) ↔ (count before ≤ g)) (sym (start_more g (later xs) (said (Spawn n i)) ∙ ap (λ o. if nat_eq i g then Some n else o) (still xs g all))) (go (nat_eq i g) refl)))
+      where
+        last : List Event
+        last = later xs ++ said (Spawn n i) ∷ []
+
+        go : (b : Bool) → nat_eq i g ≡ b → ((if b then Some n else start_of g before) ≡ None) ↔ (count before ≤ g)
+        go true is = (λ none. absurd (cc), λ le. absurd (let it : i ≡ g = number_same i g is in omega (arith, it, le, inside)))
+        go false far = h g
 
     begun_spawned : (xs : List Out) (s : ℕ) → AllByRecursion NoSpawn xs → count (with_cause before cause) ≡ count before + 1 → Begun (later (xs ++ Spawn s (count before) ∷ []))
     begun_spawned xs s all more g = subst (λ z. (start_of g z ≡ None) ↔ (count z ≤ g)) (sym (behind_both (with_cause before cause) xs (Spawn s (count before) ∷ [])))
@@ -647,9 +751,11 @@ module _ (settings : Settings) where
         go true same = (λ none. absurd (cc), λ le. absurd (let is : count before ≡ g = number_same (count before) g same in omega (arith, is, le)))
         go false far = (λ none. other far ((h g).0 none), λ le. (h g).1 (omega (arith, le)))
 
-  pub begun_rests : (before : List Event) (cause : Cause) → built_behind settings before cause ≡ true → Begun before → Begun (behind (with_cause before cause) (outs_of settings before cause))
-  begun_rests before cause built h = go (founding_of before cause built)
+  pub begun_rests : (before : List Event) (cause : Cause) → Begun before → Begun (behind (with_cause before cause) (outs_of settings before cause))
+  begun_rests before cause h = go (founding_of before cause)
     where
       go : Founding before cause → Begun (behind (with_cause before cause) (outs_of settings before cause))
       go (quiet all same) = begun_quiet before cause h (outs_of settings before cause) all same
       go (founds xs s all sent more live) = subst (λ z. Begun (behind (with_cause before cause) z)) (sym sent) (begun_spawned before cause h xs s all more)
+      go (renews xs s g all sent same is home live) = subst (λ z. Begun (behind (with_cause before cause) z)) (sym sent)
+          (begun_renewed before cause h xs (starts_of before) g (told_quiet xs all) same (let below : g < count (with_cause before cause) = lives_inside g (groups_of settings (with_cause before cause)) live in omega (arith, below, same)))

@@ -1,4 +1,4 @@
--- Starts that aren't up: no out but a new start's changes that, and behind end(g) the last start of g is one of them.
+-- Starts that aren't up, and those that ended: no out but a new start's changes that, and behind end(g) the last start of g isn't up.
 use Rattle.std.proofs.Common.{◌≡◌, ℕ, ◌<◌, ◌^◌, Bool, true, false, List, [], ◌∷◌, ◌++◌, fold, map, nat_eq, codes, if◌then◌else◌, Option, None, Some, refl, sym, ◌∙◌, ap, subst, append-nil, append_assoc}
 use Rattle.std.specs.List.{AllByRecursion}
 use Rattle.mux_history.specs.declared.cause.Cause.{Cause}
@@ -13,7 +13,7 @@ use Rattle.event_model.specs.Event.{Event, behind, did, heard, requests, said, t
 use Rattle.event_model.specs.Requests.{next_number}
 use Rattle.event_model.specs.Row.{each, nothing, on, outs}
 use Rattle.event_model.specs.Spawns.{start_behind, start_of}
-use Rattle.event_model.specs.Stages.{Life, is_first_result, life_behind, life_of, no_life, stage_ending, stage_hears, stage_started, stage_told}
+use Rattle.event_model.specs.Stages.{Life, is_ended, is_first_result, life_behind, life_of, no_life, stage_ending, stage_hears, stage_started, stage_told}
 use Rattle.event_model.proofs.Frames.{never}
 use Rattle.mux_facts.proofs.Folds.{life_more, number_more}
 use Rattle.mux_facts.proofs.Keeps.{behind_both}
@@ -206,6 +206,60 @@ off_outs s events (x ∷ xs) all h = subst (IsOff s) (append_assoc events (said 
 pub off_ended : (s : ℕ) (events : List Event) → IsOff s (events ++ said (EndServer s) ∷ [])
 off_ended s events = ap (λ (l : Life). is_up l.stage) (life_more s events (said (EndServer s)))
     ∙ (ap (λ b. is_up (if b then record { stage = stage_ending (life_of s events).stage; started = (life_of s events).started } else life_of s events).stage) (same_number s) ∙ off_ending (life_of s events).stage)
+
+-- A start that ended
+
+ended_started : (stage : Stage) → is_ended stage ≡ true → is_ended (stage_started stage) ≡ true
+ended_started Spawning h = never (sym h)
+ended_started other h = h
+
+ended_hears : (stage : Stage) (m : Message) → is_ended stage ≡ true → is_ended (stage_hears stage m) ≡ true
+ended_hears Initializing m h = never (sym h)
+ended_hears other m h = h
+
+ended_told : (stage : Stage) (m : Message) → is_ended stage ≡ true → is_ended (stage_told stage m) ≡ true
+ended_told Ready m h = never (sym h)
+ended_told other m h = h
+
+ended_ending : (stage : Stage) → is_ended stage ≡ true → is_ended (stage_ending stage) ≡ true
+ended_ending Ended h = refl
+ended_ending Unspawned h = never (sym h)
+ended_ending Spawning h = never (sym h)
+ended_ending Initializing h = never (sym h)
+ended_ending Ready h = never (sym h)
+ended_ending Stopping h = never (sym h)
+ended_ending Ending h = never (sym h)
+
+ended_next : (s : ℕ) (life : Life) (event : Event) → IsApart s event → is_ended life.stage ≡ true → is_ended (life_behind s life event).stage ≡ true
+ended_next s life (took (Started n) m) apart h = by_test is_ended true (nat_eq n s) (record { stage = stage_started life.stage; started = true }) life (ended_started life.stage h) h
+ended_next s life (took (StartFailed n) m) apart h = by_test is_ended true (nat_eq n s) (record { stage = Ended; started = life.started }) life refl h
+ended_next s life (took (FromServer n body) m) apart h = by_test is_ended true (nat_eq n s) (record { stage = stage_hears life.stage m; started = life.started }) life (ended_hears life.stage m h) h
+ended_next s life (took (ServerGone n) m) apart h = by_test is_ended true (nat_eq n s) (record { stage = Ended; started = life.started }) life refl h
+ended_next s life (did (Spawn n g) m) apart h = ap (λ b. is_ended (if b then record { stage = Spawning; started = false } else life).stage) apart ∙ h
+ended_next s life (did (ToServer n body) m) apart h = by_test is_ended true (nat_eq n s) (record { stage = stage_told life.stage m; started = life.started }) life (ended_told life.stage m h) h
+ended_next s life (did (EndServer n) m) apart h = by_test is_ended true (nat_eq n s) (record { stage = stage_ending life.stage; started = life.started }) life (ended_ending life.stage h) h
+ended_next s life other apart h = h
+
+ended_more : (s : ℕ) (events : List Event) (event : Event) → IsApart s event → is_ended (life_of s events).stage ≡ true → is_ended (life_of s (events ++ event ∷ [])).stage ≡ true
+ended_more s events event apart h = ap (λ (l : Life). is_ended l.stage) (life_more s events event) ∙ ended_next s (life_of s events) event apart h
+
+ended_outs : (s : ℕ) (events : List Event) (xs : List Out) → AllByRecursion NoSpawn xs → is_ended (life_of s events).stage ≡ true → is_ended (life_of s (behind events xs)).stage ≡ true
+ended_outs s events [] all h = subst (λ z. is_ended (life_of s z).stage ≡ true) (sym (append-nil events)) h
+ended_outs s events (x ∷ xs) all h = subst (λ z. is_ended (life_of s z).stage ≡ true) (append_assoc events (said x ∷ []) (map said xs)) (ended_outs s (events ++ said x ∷ []) xs all.1 (ended_more s events (said x) (said_apart s x all.0) h))
+
+-- so one that hasn't ended behind these didn't before them
+unended : (before later : Bool) → (before ≡ true → later ≡ true) → later ≡ false → before ≡ false
+unended true later keeps off = never (sym (keeps refl) ∙ off)
+unended false later keeps off = refl
+
+pub unended_took : (s : ℕ) (events : List Event) (cause : Cause) → is_ended (life_of s (with_cause events cause)).stage ≡ false → is_ended (life_of s events).stage ≡ false
+unended_took s events cause off = unended (is_ended (life_of s events).stage) (is_ended (life_of s (with_cause events cause)).stage) (ended_more s events (heard cause) (heard_apart s cause)) off
+
+pub unended_outs : (s : ℕ) (events : List Event) (xs : List Out) → AllByRecursion NoSpawn xs → is_ended (life_of s (behind events xs)).stage ≡ false → is_ended (life_of s events).stage ≡ false
+unended_outs s events xs all off = unended (is_ended (life_of s events).stage) (is_ended (life_of s (behind events xs)).stage) (ended_outs s events xs all) off
+
+pub unended_spawn : (s n g : ℕ) (events : List Event) → nat_eq n s ≡ false → is_ended (life_of s (events ++ said (Spawn n g) ∷ [])).stage ≡ false → is_ended (life_of s events).stage ≡ false
+unended_spawn s n g events apart off = unended (is_ended (life_of s events).stage) (is_ended (life_of s (events ++ said (Spawn n g) ∷ [])).stage) (ended_more s events (said (Spawn n g)) apart) off
 
 -- The numbers of `shutdown`
 

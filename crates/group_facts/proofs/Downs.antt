@@ -1,5 +1,5 @@
 -- The last start of a group that lives no more isn't up, and behind a stop no group lives: behind every legal history.
-use Rattle.std.proofs.Common.{◌≡◌, ℕ, max, ◌<◌, ◌≤◌, ◌^◌, Bool, true, false, ◌&&◌, List, [], ◌∷◌, ◌++◌, map, nat_eq, codes, if◌then◌else◌, Option, None, Some, refl, sym, ◌∙◌, ap, ap₂, subst, append-nil, append_assoc, arith}
+use Rattle.std.proofs.Common.{◌≡◌, ℕ, max, ◌<◌, ◌≤◌, ◌^◌, Bool, true, false, not, ◌&&◌, List, [], ◌∷◌, ◌++◌, map, nat_eq, codes, if◌then◌else◌, Option, None, Some, refl, sym, ◌∙◌, ap, ap₂, subst, append-nil, append_assoc, arith}
 use Rattle.std.specs.List.{AllByRecursion}
 use Rattle.std.proofs.lemmas.Bool.{and_parts}
 use Rattle.mux_history.specs.declared.cause.Cause.{Cause}
@@ -16,8 +16,9 @@ use Rattle.event_model.specs.Requests.{next_number}
 use Rattle.event_model.specs.Row.{each, outs, send}
 use Rattle.event_model.specs.Settings.{Settings}
 use Rattle.event_model.specs.Spawns.{group_of, start_of, starts_of}
-use Rattle.event_model.specs.Stages.{Life, is_ready, life_of}
+use Rattle.event_model.specs.Stages.{Life, is_ended, is_initializing, is_ready, life_of}
 use Rattle.event_model.proofs.Frames.{never}
+use Rattle.mux_model.specs.Fits.{fits_behind}
 use Rattle.mux_facts.proofs.Folds.{life_more, number_more, starts_more}
 use Rattle.mux_facts.proofs.Keeps.{behind_both}
 use Rattle.mux_facts.proofs.Starts.{Starts}
@@ -25,24 +26,24 @@ use Rattle.mux_facts.proofs.Words.{number_same, same_number}
 use Rattle.group_words.specs.declared.kept.Kept.{Kept}
 use Rattle.group_words.specs.declared.placed.Placed.{Placed}
 use Rattle.group_words.specs.declared.placed.Placed.TheVariants.{Joins, New as Founds, Evicts, TooMany}
-use Rattle.group_words.specs.Houses.{at_group, declared_for, exit_of, groups_of, has_editor, home_of, house_of, key_for, placed_for, places, stops, time_of}
+use Rattle.group_words.specs.Houses.{at_group, declared_for, exit_of, groups_lose, groups_of, has_editor, home_of, house_of, is_first_error, key_for, placed_for, places, stops, time_of}
 use Rattle.group_words.specs.Keys.{Common}
 use Rattle.group_words.specs.Placing.{busy, changed, end_where, ended, founded, is_due, is_live, with_editor}
 use Rattle.group_words.specs.Rows.{end_group, placed_row}
 use Rattle.group_words.proofs.Frames.{groups_more, groups_stay}
 use Rattle.group_rows.specs.Asks.{members_in}
+use Rattle.group_rows.specs.ExitRows.{begins_again}
 use Rattle.group_rows.specs.Rows.{close_all, outs_of, refusal, waiting_in}
 use Rattle.group_rows.specs.StopRows.{stopped, stopped_next}
 use Rattle.group_rows.specs.Ticks.{due_of, overdue_of}
-use Rattle.group_facts.specs.Built.{built_behind}
-use Rattle.group_facts.specs.Facts.{Housed, IsHoused, Quit, is_refusing, is_up}
+use Rattle.group_facts.specs.Facts.{Housed, IsHoused, Quit, is_exit, is_refusing, is_up}
 use Rattle.group_facts.specs.Lively.{Lively, lives_at}
 use Rattle.group_facts.specs.Settled.{IsServing}
-use Rattle.group_facts.proofs.Begun.{Begun, NoSpawn, all_outs, founding_of, placed_outs, quiet_loss, start_took}
+use Rattle.group_facts.proofs.Begun.{Begun, NoSpawn, all_outs, founding_of, placed_outs, quiet_loss, start_took, starts_quiet}
 use Rattle.group_facts.proofs.Ceased.{IsOff, Low, Spawned, group_off, group_quiet, groups_off, is_spawned, off_ended, off_outs, off_spawn, off_took}
-use Rattle.group_facts.proofs.Exits.{end_live, exit_over, failed_groups, gone_groups, groups_lost}
+use Rattle.group_facts.proofs.Exits.{end_live, exit_over, groups_lost, lost_is, renewed_lives, renews_parts}
 use Rattle.group_facts.proofs.LiveGroups.{all_at, changed_lives, emptied_lives, lives_apart, lives_changed, lives_ended, lives_left}
-use Rattle.group_facts.proofs.OneStart.{N, OneStart, by_founding, group_last, kept_below, start_last, start_quiet}
+use Rattle.group_facts.proofs.LastStarts.{N, AllLast, alive_exit, alive_initializing, by_founding, group_last, kept_below, start_last, start_quiet}
 use Rattle.group_facts.proofs.PutOut.{refused_outs}
 use Rattle.group_facts.proofs.StopDown.{stop_off}
 use Rattle.group_facts.proofs.StopEntry.{stop_outs, stopped_outs}
@@ -69,17 +70,6 @@ pub lives_outs : (settings : Settings) (g : ℕ) (events : List Event) (xs : Lis
 lives_outs settings g events [] = ap (λ z. lives_at g (groups_of settings z)) (append-nil events)
 lives_outs settings g events (x ∷ xs) = ap (λ z. lives_at g (groups_of settings z)) (sym (append_assoc events (said x ∷ []) (map said xs))) ∙ (lives_outs settings g (events ++ said x ∷ []) xs ∙ lives_did settings g events x)
 
-starts_quiet : (events : List Event) (xs : List Out) → AllByRecursion NoSpawn xs → starts_of (behind events xs) ≡ starts_of events
-starts_quiet events [] all = ap starts_of (append-nil events)
-starts_quiet events (x ∷ xs) all = ap starts_of (sym (append_assoc events (said x ∷ []) (map said xs))) ∙ (starts_quiet (events ++ said x ∷ []) xs all.1 ∙ one x all.0)
-  where
-    one : (out : Out) → NoSpawn out → starts_of (events ++ said out ∷ []) ≡ starts_of events
-    one (Spawn n g) h = absurd h
-    one (ToEditor e body) h = starts_more events (said (ToEditor e body))
-    one (ToServer n body) h = starts_more events (said (ToServer n body))
-    one (CloseEditor e) h = starts_more events (said (CloseEditor e))
-    one (EndServer n) h = starts_more events (said (EndServer n))
-
 quiet_programs : (ss : List ℕ) (events : List Event) → AllByRecursion NoSpawn (outs (each (λ s. send (EndServer s)) ss) events)
 quiet_programs [] events = tt
 quiet_programs (s ∷ ss) events = (tt, quiet_programs ss (behind events (EndServer s ∷ [])))
@@ -89,7 +79,7 @@ quiet_programs (s ∷ ss) events = (tt, quiet_programs ss (behind events (EndSer
 the_same : {v w : ℕ} → ◌≡◌ {A = Option ℕ} (Some v) (Some w) → v ≡ w
 the_same e = cc
 
-module _ (settings : Settings) (before : List Event) (low : Low before) (spawned : Spawned before) (lively : Lively settings before) (one : OneStart before) where
+module _ (settings : Settings) (before : List Event) (low : Low before) (spawned : Spawned before) (lively : Lively settings before) (lasts : AllLast before) where
   abbrev groups : List Kept
   groups = groups_of settings before
 
@@ -202,7 +192,7 @@ module _ (settings : Settings) (before : List Event) (low : Low before) (spawned
         closes = outs (close_all (members_in settings g mid)) mid
 
     refused_off : is_refusing before n (message_of body) ≡ true → (g s : ℕ) → group_of n before ≡ Some g → start_of g before ≡ Some s → IsOff s (behind (with_cause before (FromServer n body)) (outs_of settings before (FromServer n body)))
-    refused_off refuses g s home at = subst (λ k. IsOff k (behind (with_cause before (FromServer n body)) (outs_of settings before (FromServer n body)))) (the_same (sym (one n g home) ∙ at)) (refused_last refuses g home)
+    refused_off refuses g s home at = subst (λ k. IsOff k (behind (with_cause before (FromServer n body)) (outs_of settings before (FromServer n body)))) (the_same (sym (lasts n g home (alive_initializing (life_of n before).stage (and_parts (is_first_error (message_of body)) (is_initializing (life_of n before).stage) refuses).1)) ∙ at)) (refused_last refuses g home)
 
     said_ends : (b : Bool) (o : Option ℕ) → is_refusing before n (message_of body) ≡ b → group_of n before ≡ o → Ends (FromServer n body)
     said_ends false o off home = none_ends (FromServer n body) (said_by false off)
@@ -217,48 +207,66 @@ module _ (settings : Settings) (before : List Event) (low : Low before) (spawned
   off_there : (n : ℕ) (cause : Cause) → life_of n (with_cause before cause) ≡ (if nat_eq n n then record { stage = Ended; started = (life_of n before).started } else life_of n before) → IsOff n (with_cause before cause)
   off_there n cause life = ap (λ (l : Life). is_up l.stage) (life ∙ ap (λ b. if b then record { stage = Ended; started = (life_of n before).started } else life_of n before) (same_number n))
 
-  lost_ends : (n : ℕ) (cause : Cause) → groups_of settings (with_cause before cause) ≡ groups_lost settings before n → IsOff n (with_cause before cause) → AllByRecursion NoSpawn (outs_of settings before cause) → Ends cause
-  lost_ends n cause same off calm g s live over at = go (group_of n before) refl
+  lost_ends : (n : ℕ) (cause : Cause) → is_ended (life_of n before).stage ≡ false → groups_of settings (with_cause before cause) ≡ groups_lost settings before n → IsOff n (with_cause before cause) → AllByRecursion NoSpawn (outs_of settings before cause) → Ends cause
+  lost_ends n cause alive same off calm g s live over at = go (group_of n before) refl
     where
       apart : (i : ℕ) → group_of n before ≡ Some i → (b : Bool) → nat_eq i g ≡ b → IsOff s (behind (with_cause before cause) (outs_of settings before cause))
-      apart i home true is = subst (λ k. IsOff k (behind (with_cause before cause) (outs_of settings before cause))) (the_same (sym (one n g (home ∙ ap (λ k. Some k) (number_same i g is))) ∙ at)) (off_outs n (with_cause before cause) (outs_of settings before cause) calm off)
+      apart i home true is = subst (λ k. IsOff k (behind (with_cause before cause) (outs_of settings before cause))) (the_same (sym (lasts n g (home ∙ ap (λ k. Some k) (number_same i g is)) alive) ∙ at)) (off_outs n (with_cause before cause) (outs_of settings before cause) calm off)
       apart i home false other = never (sym (ap (lives_at g) (same ∙ ap (λ o. at_group o (λ k. end_live) groups) home) ∙ (lives_apart i g end_live groups (λ is. never (sym (ap (nat_eq i) is ∙ same_number i) ∙ other)) ∙ live)) ∙ over)
 
       go : (o : Option ℕ) → group_of n before ≡ o → IsOff s (behind (with_cause before cause) (outs_of settings before cause))
       go None none = never (sym (ap (lives_at g) (same ∙ ap (λ o. at_group o (λ k. end_live) groups) none) ∙ live) ∙ over)
       go (Some i) home = apart i home (nat_eq i g) refl
 
-  cause_ends : (cause : Cause) → built_behind settings before cause ≡ true → Ends cause
-  cause_ends (Joined n) built = none_ends (Joined n) (groups_more settings before (heard (Joined n)))
-  cause_ends (Drained n k) built = none_ends (Drained n k) (groups_more settings before (heard (Drained n k)))
-  cause_ends (Started n) built = none_ends (Started n) (groups_more settings before (heard (Started n)))
-  cause_ends (StartFailed n) built = lost_ends n (StartFailed n) (failed_groups settings before n built) (off_there n (StartFailed n) (life_more n before (heard (StartFailed n)))) (all_outs NoSpawn _ _ (quiet_loss settings before n built (with_cause before (StartFailed n))).why)
-  cause_ends (ServerGone n) built = lost_ends n (ServerGone n) (gone_groups settings before n built) (off_there n (ServerGone n) (life_more n before (heard (ServerGone n)))) (all_outs NoSpawn _ _ (quiet_loss settings before n built (with_cause before (ServerGone n))).why)
-  cause_ends (EditorGone n why) built = λ g s live over at. never (sym live ∙ (sym (ap (lives_at g) (groups_more settings before (heard (EditorGone n why))) ∙ emptied_lives (home_of settings n before) _ _ _ g groups) ∙ over))
-  cause_ends (Tick t) built = tick_ends t
-  cause_ends (FromEditor e body) built = heard_ends e body (places (desk_of e before).phase (message_of body)) (stops before e (message_of body)) refl refl
-  cause_ends (FromServer n body) built = said_ends n body (is_refusing before n (message_of body)) (group_of n before) refl refl
+  exit_ends : (n : ℕ) (cause : Cause) → is_ended (life_of n before).stage ≡ false → groups_of settings (with_cause before cause) ≡ groups_lose settings before n (house_of settings before) → IsOff n (with_cause before cause)
+      → (not (begins_again settings before n) ≡ true → AllByRecursion NoSpawn (outs_of settings before cause)) → Ends cause
+  exit_ends n cause alive same off calm = go (begins_again settings before n) refl
+    where
+      go : (b : Bool) → begins_again settings before n ≡ b → Ends cause
+      go true again = λ g s live over at. never (sym live ∙ (sym (ap (lives_at g) same ∙ renewed_lives settings before n (renews_parts settings before n again) g) ∙ over))
+      go false last = lost_ends n cause alive (same ∙ lost_is settings before n (ap not last)) off (calm (ap not last))
+
+  cause_ends : (cause : Cause) → fits_behind before cause ≡ true → Ends cause
+  cause_ends (Joined n) fits = none_ends (Joined n) (groups_more settings before (heard (Joined n)))
+  cause_ends (Drained n k) fits = none_ends (Drained n k) (groups_more settings before (heard (Drained n k)))
+  cause_ends (Started n) fits = none_ends (Started n) (groups_more settings before (heard (Started n)))
+  cause_ends (StartFailed n) fits = exit_ends n (StartFailed n) (alive_exit before (StartFailed n) n (same_number n) fits) (groups_more settings before (heard (StartFailed n))) (off_there n (StartFailed n) (life_more n before (heard (StartFailed n))))
+      (λ ends. all_outs NoSpawn _ _ (quiet_loss settings before n ends (with_cause before (StartFailed n))).why)
+  cause_ends (ServerGone n) fits = exit_ends n (ServerGone n) (alive_exit before (ServerGone n) n (same_number n) fits) (groups_more settings before (heard (ServerGone n))) (off_there n (ServerGone n) (life_more n before (heard (ServerGone n))))
+      (λ ends. all_outs NoSpawn _ _ (quiet_loss settings before n ends (with_cause before (ServerGone n))).why)
+  cause_ends (EditorGone n why) fits = λ g s live over at. never (sym live ∙ (sym (ap (lives_at g) (groups_more settings before (heard (EditorGone n why))) ∙ emptied_lives (home_of settings n before) _ _ _ g groups) ∙ over))
+  cause_ends (Tick t) fits = tick_ends t
+  cause_ends (FromEditor e body) fits = heard_ends e body (places (desk_of e before).phase (message_of body)) (stops before e (message_of body)) refl refl
+  cause_ends (FromServer n body) fits = said_ends n body (is_refusing before n (message_of body)) (group_of n before) refl refl
 
 -- A whole entry
 
-module _ (settings : Settings) (before : List Event) (cause : Cause) (begun : Begun settings before) (built : built_behind settings before cause ≡ true) where
+module _ (settings : Settings) (before : List Event) (cause : Cause) (begun : Begun settings before) where
   abbrev after : List Event
   after = behind (with_cause before cause) (outs_of settings before cause)
 
   -- the last start of a group that lives no more was there before
   start_back : (g s : ℕ) → lives_at g (groups_of settings (with_cause before cause)) ≡ false → start_of g after ≡ Some s → start_of g before ≡ Some s
-  start_back g s over = by_founding settings before cause begun (λ xs. start_of g (behind (with_cause before cause) xs) ≡ Some s → start_of g before ≡ Some s) (λ xs all at. sym (start_quiet settings before cause begun g xs all) ∙ at) last (founding_of settings before cause built)
+  start_back g s over = by_founding settings before cause begun (λ xs. start_of g (behind (with_cause before cause) xs) ≡ Some s → start_of g before ≡ Some s) (λ xs all at. sym (start_quiet settings before cause begun g xs all) ∙ at) last renewed (founding_of settings before cause)
     where
       last : (xs : List Out) (n : ℕ) → AllByRecursion NoSpawn xs → lives_at (N settings before cause begun) (groups_of settings (with_cause before cause)) ≡ true → start_of g (behind (with_cause before cause) (xs ++ Spawn n (N settings before cause begun) ∷ [])) ≡ Some s → start_of g before ≡ Some s
-      last xs n all live at = go (nat_eq (N settings before cause begun) g) refl (sym (start_last settings before cause begun g n xs all) ∙ at)
+      last xs n all live at = go (nat_eq (N settings before cause begun) g) refl (sym (start_last settings before cause begun g n (N settings before cause begun) xs all) ∙ at)
         where
           go : (b : Bool) → nat_eq (N settings before cause begun) g ≡ b → (if b then Some n else start_of g before) ≡ Some s → start_of g before ≡ Some s
           go true same k = never (sym live ∙ (ap (λ i. lives_at i (groups_of settings (with_cause before cause))) (number_same (N settings before cause begun) g same) ∙ over))
           go false other k = k
 
+      renewed : (xs : List Out) (t i : ℕ) → AllByRecursion NoSpawn xs → is_exit cause t ≡ true → group_of t before ≡ Some i → lives_at i (groups_of settings (with_cause before cause)) ≡ true
+          → start_of g (behind (with_cause before cause) (xs ++ Spawn (starts_of before) i ∷ [])) ≡ Some s → start_of g before ≡ Some s
+      renewed xs t i all is home live at = go (nat_eq i g) refl (sym (start_last settings before cause begun g (starts_of before) i xs all) ∙ at)
+        where
+          go : (b : Bool) → nat_eq i g ≡ b → (if b then Some (starts_of before) else start_of g before) ≡ Some s → start_of g before ≡ Some s
+          go true same k = never (sym live ∙ (ap (λ k. lives_at k (groups_of settings (with_cause before cause))) (number_same i g same) ∙ over))
+          go false other k = k
+
   -- and if it wasn't up, it isn't
-  off_kept : (g s : ℕ) → start_of g before ≡ Some s → group_of s after ≡ Some g → IsOff s before → IsOff s after
-  off_kept g s at home off = by_founding settings before cause begun (λ xs. group_of s (behind (with_cause before cause) xs) ≡ Some g → IsOff s (behind (with_cause before cause) xs)) (λ xs all is. quiet xs all) last (founding_of settings before cause built) home
+  off_kept : (g s : ℕ) → start_of g before ≡ Some s → s < starts_of before → group_of s after ≡ Some g → IsOff s before → IsOff s after
+  off_kept g s at below home off = by_founding settings before cause begun (λ xs. group_of s (behind (with_cause before cause) xs) ≡ Some g → IsOff s (behind (with_cause before cause) xs)) (λ xs all is. quiet xs all) last renewed (founding_of settings before cause) home
     where
       quiet : (xs : List Out) → AllByRecursion NoSpawn xs → IsOff s (behind (with_cause before cause) xs)
       quiet xs all = off_outs s (with_cause before cause) xs all (off_took s before cause off)
@@ -266,32 +274,40 @@ module _ (settings : Settings) (before : List Event) (cause : Cause) (begun : Be
       last : (xs : List Out) (n : ℕ) → AllByRecursion NoSpawn xs → lives_at (N settings before cause begun) (groups_of settings (with_cause before cause)) ≡ true → group_of s (behind (with_cause before cause) (xs ++ Spawn n (N settings before cause begun) ∷ [])) ≡ Some g
           → IsOff s (behind (with_cause before cause) (xs ++ Spawn n (N settings before cause begun) ∷ []))
       last xs n all live is = subst (IsOff s) (sym (behind_both (with_cause before cause) xs (Spawn n (N settings before cause begun) ∷ [])))
-          (off_spawn s n (N settings before cause begun) (behind (with_cause before cause) xs) (fresh (nat_eq n s) refl (sym (group_last settings before cause begun s n xs all) ∙ is)) (quiet xs all))
+          (off_spawn s n (N settings before cause begun) (behind (with_cause before cause) xs) (fresh (nat_eq n s) refl (sym (group_last settings before cause begun s n (N settings before cause begun) xs all) ∙ is)) (quiet xs all))
         where
           fresh : (b : Bool) → nat_eq n s ≡ b → (if b then Some (N settings before cause begun) else group_of s before) ≡ Some g → b ≡ false
           fresh true same k = absurd (let its : N settings before cause begun ≡ g = the_same k in let below : g < N settings before cause begun = kept_below settings before cause begun g s at in omega (arith, its, below))
           fresh false other k = refl
 
-pub down_rests : (settings : Settings) (before : List Event) → Low before → Spawned before → Lively settings before → OneStart before → AllDown settings before → (cause : Cause) → Begun settings before → built_behind settings before cause ≡ true
-    → Lively settings (behind (with_cause before cause) (outs_of settings before cause)) → AllDown settings (behind (with_cause before cause) (outs_of settings before cause))
-down_rests settings before low spawned lively one down cause begun built later g s over at = go (lives_at g (groups_of settings before)) refl
+      renewed : (xs : List Out) (t i : ℕ) → AllByRecursion NoSpawn xs → is_exit cause t ≡ true → group_of t before ≡ Some i → lives_at i (groups_of settings (with_cause before cause)) ≡ true
+          → group_of s (behind (with_cause before cause) (xs ++ Spawn (starts_of before) i ∷ [])) ≡ Some g → IsOff s (behind (with_cause before cause) (xs ++ Spawn (starts_of before) i ∷ []))
+      renewed xs t i all e kept live is = subst (IsOff s) (sym (behind_both (with_cause before cause) xs (Spawn (starts_of before) i ∷ [])))
+          (off_spawn s (starts_of before) i (behind (with_cause before cause) xs) (apart (nat_eq (starts_of before) s) refl) (quiet xs all))
+        where
+          apart : (b : Bool) → nat_eq (starts_of before) s ≡ b → b ≡ false
+          apart true same = absurd (let it : starts_of before ≡ s = number_same (starts_of before) s same in omega (arith, it, below))
+          apart false other = refl
+
+pub down_rests : (settings : Settings) (before : List Event) → Low before → Spawned before → Lively settings before → AllLast before → AllDown settings before → (cause : Cause) → fits_behind before cause ≡ true → Begun settings before → Lively settings (behind (with_cause before cause) (outs_of settings before cause)) → AllDown settings (behind (with_cause before cause) (outs_of settings before cause))
+down_rests settings before low spawned lively lasts down cause fits begun later g s over at = go (lives_at g (groups_of settings before)) refl
   where
     over_now : lives_at g (groups_of settings (with_cause before cause)) ≡ false
     over_now = sym (lives_outs settings g (with_cause before cause) (outs_of settings before cause)) ∙ over
 
     was : start_of g before ≡ Some s
-    was = start_back settings before cause begun built g s over_now at
+    was = start_back settings before cause begun g s over_now at
 
     go : (b : Bool) → lives_at g (groups_of settings before) ≡ b → IsOff s (behind (with_cause before cause) (outs_of settings before cause))
-    go true live = cause_ends settings before low spawned lively one cause built g s live over_now was
-    go false dead = off_kept settings before cause begun built g s was (later.last g s at).0 (down g s dead was)
+    go true live = cause_ends settings before low spawned lively lasts cause fits g s live over_now was
+    go false dead = off_kept settings before cause begun g s was (lively.last g s was).1 (later.last g s at).0 (down g s dead was)
 
 pub down_none : (settings : Settings) → AllDown settings []
 down_none settings g s over at = absurd (cc)
 
 -- so a start that is ready is the last one of a group that lives
-pub serving : (settings : Settings) (events : List Event) → Starts events → Housed settings events → OneStart events → AllDown settings events → (s : ℕ) → (life_of s events).stage ≡ Ready → IsServing settings events s
-serving settings events starts housed one down s ready = record { group = home.group; home = home.is; last = last; live = live (lives_at home.group (groups_of settings events)) refl }
+pub serving : (settings : Settings) (events : List Event) → Starts events → Housed settings events → AllLast events → AllDown settings events → (s : ℕ) → (life_of s events).stage ≡ Ready → IsServing settings events s
+serving settings events starts housed lasts down s ready = record { group = home.group; home = home.is; last = last; live = live (lives_at home.group (groups_of settings events)) refl }
   where
     spawned : starts_of events ≤ s → ⊥
     spawned le = never (sym (ap is_ready ready) ∙ ap (λ (l : Life). is_ready l.stage) (starts s le))
@@ -303,7 +319,7 @@ serving settings events starts housed one down s ready = record { group = home.g
     home = housed s (below spawned)
 
     last : start_of home.group events ≡ Some s
-    last = one s home.group home.is
+    last = lasts s home.group home.is (ap is_ended ready)
 
     live : (b : Bool) → lives_at home.group (groups_of settings events) ≡ b → b ≡ true
     live true is = refl

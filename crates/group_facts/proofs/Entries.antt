@@ -1,9 +1,11 @@
 -- What is open at every editor, behind each sort of entry.
-use Rattle.std.proofs.Common.{◌≡◌, ℕ, ◌+◌, ◌<◌, ◌≤◌, ◌^◌, Bool, true, false, ◌&&◌, List, [], ◌∷◌, ◌++◌, find, nat_eq, if◌then◌else◌, Some, None, ◌⊎◌, inl, inr, refl, sym, ◌∙◌, ap, ap₂, subst, arith, append-nil, not, ◌||◌, codes}
+use Rattle.std.proofs.Common.{◌≡◌, ℕ, ◌+◌, ◌<◌, ◌≤◌, ◌^◌, Bool, true, false, ◌&&◌, List, [], ◌∷◌, ◌++◌, find, nat_eq, if◌then◌else◌, Option, Some, None, ◌⊎◌, inl, inr, refl, sym, ◌∙◌, ap, ap₂, subst, subst₂, arith, append-nil, not, ◌||◌, codes}
+use Rattle.std.specs.List.{list_any}
 use Rattle.std.specs.Option.{option_map_or}
 use Rattle.mux_history.specs.declared.cause.Cause.{Cause}
 use Rattle.mux_history.specs.declared.cause.Cause.TheVariants.{Joined, FromEditor, EditorGone, Started, StartFailed, FromServer, ServerGone, Drained, Tick}
 use Rattle.mux_history.specs.declared.cause.Why as link
+use Rattle.mux_history.specs.declared.out.Out.{Out}
 use Rattle.mux_history.specs.declared.out.Out.TheVariants.{ToEditor}
 use Rattle.rpc_message.specs.Message.{Message, result, error, Id, message_of}
 use Rattle.event_model.specs.declared.phase.Phase.{Phase}
@@ -13,47 +15,52 @@ use Rattle.event_model.specs.declared.stage.Stage.TheVariants.{Unspawned, Spawni
 use Rattle.event_model.specs.Event.{Event, behind, heard, said, with_cause, requests}
 use Rattle.event_model.specs.Phases.{Desk, desk_hears, desk_of, editors_of, is_begun, is_there, is_waiting}
 use Rattle.event_model.specs.Requests.{answered_id, with_request, is_open, open_of, without, next_number}
-use Rattle.event_model.specs.Row.{choose, nothing, on, outs, send}
+use Rattle.event_model.specs.Row.{choose, each, nothing, on, outs, send, ◌⨾◌}
 use Rattle.event_model.specs.Settings.{Settings}
 use Rattle.event_model.specs.Spawns.{group_of}
-use Rattle.event_model.specs.Stages.{life_of}
+use Rattle.event_model.specs.Stages.{is_ready, life_of}
 use Rattle.event_model.proofs.Frames.{never}
 use Rattle.group_rows.specs.response_route.specs.Answers.{answer_text}
 use Rattle.mux_model.specs.Fits.{fits_behind}
 use Rattle.mux_facts.specs.Allowed.{is_response}
 use Rattle.mux_facts.specs.Ranges.{InRange}
 use Rattle.mux_facts.proofs.Folds.{desk_more, opens_more}
+use Rattle.mux_facts.proofs.Keeps.{behind_both}
 use Rattle.mux_facts.proofs.Words.{number_same, same_number}
+use Rattle.group_words.specs.Rows.{spawn}
 use Rattle.group_words.specs.Houses.{groups_of, home_of, is_home, placed_for, places, is_doubled, stops}
 use Rattle.group_rows.specs.Forwarded.{Forwarded, answered_by, forwarding_of}
 use Rattle.group_rows.specs.Answers.{answer_row, hand_on, own_version}
-use Rattle.group_rows.specs.ExitRows.{begins_again}
+use Rattle.group_rows.specs.Asks.{members_in, running_in}
+use Rattle.group_rows.specs.ExitRows.{begins_again, lose_sent, lose_start, lost_row, starts_again, turn_out}
 use Rattle.group_rows.specs.Rows.{from_server, outs_of, ready_row}
 use Rattle.group_rows.proofs.Versions.{own_flat}
-use Rattle.group_facts.specs.Built.{built_behind}
-use Rattle.group_facts.specs.Facts.{ends_with, is_too_many, is_unbegun, is_up, turned_away, is_crowded}
+use Rattle.group_facts.specs.Facts.{AllForwarded, ends_with, is_in, is_too_many, is_unbegun, is_up, turned_away, is_crowded}
 use Rattle.group_facts.specs.Lively.{Lively, is_unplaced}
 use Rattle.group_facts.specs.Settled.{is_answered}
 use Rattle.group_facts.proofs.AnswerRows.{answers_only, response_is}
 use Rattle.group_facts.proofs.Answered.{answer_says}
-use Rattle.group_facts.proofs.Begun.{Begun}
+use Rattle.group_facts.proofs.Begun.{Begun, start_took}
 use Rattle.group_facts.proofs.Facts.{Facts, TiedAt}
 use Rattle.group_facts.proofs.ExitEntry.{Exit, exit_ends, exit_placed, failed_exit, gone_exit}
-use Rattle.group_facts.proofs.Exits.{ends_live}
+use Rattle.group_facts.proofs.Exits.{RenewsGroup, ends_live, renews_parts}
+use Rattle.group_facts.proofs.LastStarts.{AllLast}
 use Rattle.group_facts.proofs.Lively.{begun_answered, lives_of, up_of}
 use Rattle.group_facts.proofs.OwnEntry.{Nobody, message_rests, placed_open, turned_rests}
-use Rattle.group_facts.proofs.Sent.{Found, IsOf, OneOf, Passed, Rising, SentAt, found_one, none_sent, rising_of, sent_answered, sent_drained, sent_gone, sent_heard, sent_joined, sent_started, sent_ended, sent_failed, sent_ticked}
-use Rattle.group_facts.proofs.PutOut.{turned_ends, turned_placed}
+use Rattle.group_facts.proofs.Sent.{Found, IsOf, OneOf, Passed, Rising, SentAt, found_one, none_sent, rising_of, sent_answered, sent_drained, sent_gone, sent_heard, sent_joined, sent_started, sent_ticked}
+use Rattle.group_facts.proofs.Lost.{NotOpen, closed_outs, sent_closed}
+use Rattle.group_facts.proofs.PutOut.{named_in, turned_ends, turned_placed}
+use Rattle.group_facts.proofs.Quits.{not_stopped}
 use Rattle.group_facts.proofs.OpenByPhase.{OpenDesk, OpenIf, answered_closed, if_other}
 use Rattle.group_facts.proofs.OpenByOut.{OpenAt, S, open_at, open_entry}
 use Rattle.std.proofs.lemmas.Bool.{and_parts}
-use Rattle.group_facts.proofs.StopEntry.{is_absent, none_absent, none_there}
+use Rattle.group_facts.proofs.StopEntry.{begun_there, is_absent, none_absent, none_there}
 use Rattle.mux_facts.proofs.Table.{there_taken, waiting_is}
 
 abbrev pub OpenAll : Settings → List Event → Type 0
 OpenAll settings events = (e : ℕ) → OpenAt settings e Nobody events
 
-module _ (settings : Settings) (range : InRange settings) (before : List Event) (facts : Facts settings before) (begun : Begun settings before) (lively : Lively settings before) (h : OpenAll settings before) where
+module _ (settings : Settings) (range : InRange settings) (before : List Event) (facts : Facts settings before) (begun : Begun settings before) (lively : Lively settings before) (lasts : AllLast before) (h : OpenAll settings before) where
   abbrev later : Cause → List Event
   later cause = behind (with_cause before cause) (outs_of settings before cause)
 
@@ -74,12 +81,12 @@ module _ (settings : Settings) (range : InRange settings) (before : List Event) 
   other_stays : (n : ℕ) (body : List ℕ) (e : ℕ) → stops before n (message_of body) ≡ false → nat_eq n e ≡ false → turned_away settings before (FromEditor n body) e ≡ false
   other_stays n body e on other = ap₂ (λ a b. a || b) (ap (λ b. b && (places (desk_of n before).phase (message_of body) && is_too_many (placed_for settings before n body (groups_of settings before)))) other) (ap (λ b. b && is_waiting (desk_of e before).phase) on)
 
-  own_entry : (n : ℕ) (body : List ℕ) → stops before n (message_of body) ≡ false → fits_behind before (FromEditor n body) ≡ true → built_behind settings before (FromEditor n body) ≡ true → OpenAt settings n Nobody (later (FromEditor n body))
-  own_entry n body on fits built = go (places (desk_of n before).phase (message_of body)) refl (is_crowded settings before n body n) refl
+  own_entry : (n : ℕ) (body : List ℕ) → stops before n (message_of body) ≡ false → fits_behind before (FromEditor n body) ≡ true → OpenAt settings n Nobody (later (FromEditor n body))
+  own_entry n body on fits = go (places (desk_of n before).phase (message_of body)) refl (is_crowded settings before n body n) refl
     where
       go : (b : Bool) → places (desk_of n before).phase (message_of body) ≡ b → (c : Bool) → is_crowded settings before n body n ≡ c → OpenAt settings n Nobody (later (FromEditor n body))
       go b place true turned = turned_rests settings before n body turned
-      go true place false few = open_entry settings n Nobody before (FromEditor n body) (ap₂ (λ a b. a || b) few (ap (λ b. b && is_waiting (desk_of n before).phase) on)) range facts begun built (placed_open settings before n body (h n) place)
+      go true place false few = open_entry settings n Nobody before (FromEditor n body) (ap₂ (λ a b. a || b) few (ap (λ b. b && is_waiting (desk_of n before).phase) on)) range facts begun fits lasts (placed_open settings before n body (h n) place)
       go false place false few = message_rests settings before n body (h n) range facts fits on place
 
   -- E6: behind it an editor that was there is closed, and of one that wasn't nothing is changed
@@ -104,8 +111,8 @@ module _ (settings : Settings) (range : InRange settings) (before : List Event) 
       go true same = subst (λ k. is_there (desk_of k (with_cause before (FromEditor n body))).phase ≡ true) (number_same n e same) (there_taken settings before n body own)
       go false other = ap (λ (d : Desk). is_there d.phase) (desk_more e before (heard (FromEditor n body)) ∙ ap (λ b. if b then desk_hears (desk_of e before).phase (desk_of e before).initialize body (message_of body) else desk_of e before) other) ∙ there
 
-  stop_entry : (n : ℕ) (body : List ℕ) → stops before n (message_of body) ≡ true → built_behind settings before (FromEditor n body) ≡ true → OpenAll settings (later (FromEditor n body))
-  stop_entry n body stop built e = go (is_there (desk_of e before).phase) refl
+  stop_entry : (n : ℕ) (body : List ℕ) → fits_behind before (FromEditor n body) ≡ true → stops before n (message_of body) ≡ true → OpenAll settings (later (FromEditor n body))
+  stop_entry n body fits stop e = go (is_there (desk_of e before).phase) refl
     where
       own : is_there (desk_of n before).phase ≡ true
       own = (and_parts (is_there (desk_of n before).phase) (not (is_begun (desk_of n before).phase && is_doubled before n (message_of body))) (and_parts (requests (codes "lspmux/stop") (message_of body)) _ stop).1).0
@@ -119,21 +126,21 @@ module _ (settings : Settings) (range : InRange settings) (before : List Event) 
           (none_there settings before n body stop (facts.steady).editors e) (none_absent settings before n body stop (facts.steady).editors e (there_heard_now n body e own there))
       go false gone = let away : nat_eq n e ≡ false = other gone (nat_eq n e) refl in open_entry settings e Nobody before (FromEditor n body)
           (ap₂ (λ a b. a || b) (ap (λ b. b && (places (desk_of n before).phase (message_of body) && is_too_many (placed_for settings before n body (groups_of settings before)))) away)
-          (ap₂ (λ a b. a && b) stop (unthere_late (desk_of e before).phase gone))) range facts begun built (other_heard n body e away)
+          (ap₂ (λ a b. a && b) stop (unthere_late (desk_of e before).phase gone))) range facts begun fits lasts (other_heard n body e away)
 
-  ordinary : (n : ℕ) (body : List ℕ) → stops before n (message_of body) ≡ false → fits_behind before (FromEditor n body) ≡ true → built_behind settings before (FromEditor n body) ≡ true → OpenAll settings (later (FromEditor n body))
-  ordinary n body on fits built e = go (nat_eq n e) refl
+  ordinary : (n : ℕ) (body : List ℕ) → stops before n (message_of body) ≡ false → fits_behind before (FromEditor n body) ≡ true → OpenAll settings (later (FromEditor n body))
+  ordinary n body on fits e = go (nat_eq n e) refl
     where
       go : (b : Bool) → nat_eq n e ≡ b → OpenAt settings e Nobody (later (FromEditor n body))
-      go true same = subst (λ k. OpenAt settings k Nobody (later (FromEditor n body))) (number_same n e same) (own_entry n body on fits built)
-      go false other = open_entry settings e Nobody before (FromEditor n body) (other_stays n body e on other) range facts begun built (other_heard n body e other)
+      go true same = subst (λ k. OpenAt settings k Nobody (later (FromEditor n body))) (number_same n e same) (own_entry n body on fits)
+      go false other = open_entry settings e Nobody before (FromEditor n body) (other_stays n body e on other) range facts begun fits lasts (other_heard n body e other)
 
-  editor_entry : (n : ℕ) (body : List ℕ) → fits_behind before (FromEditor n body) ≡ true → built_behind settings before (FromEditor n body) ≡ true → OpenAll settings (later (FromEditor n body))
-  editor_entry n body fits built e = choose_by (stops before n (message_of body)) refl
+  editor_entry : (n : ℕ) (body : List ℕ) → fits_behind before (FromEditor n body) ≡ true → OpenAll settings (later (FromEditor n body))
+  editor_entry n body fits e = choose_by (stops before n (message_of body)) refl
     where
       choose_by : (c : Bool) → stops before n (message_of body) ≡ c → OpenAt settings e Nobody (later (FromEditor n body))
-      choose_by true stop = stop_entry n body stop built e
-      choose_by false on = ordinary n body on fits built e
+      choose_by true stop = stop_entry n body fits stop e
+      choose_by false on = ordinary n body on fits e
 
   -- an editor that joins
   joined_now : (n e : ℕ) → fits_behind before (Joined n) ≡ true → OpenAt settings e Nobody (with_cause before (Joined n))
@@ -186,7 +193,7 @@ module _ (settings : Settings) (range : InRange settings) (before : List Event) 
       sent id (inl k) = inl (sent_started settings e id before s k)
       sent id (inr k) = inr k
 
-  -- X1 to X3: a program ends, or can't be run, and its group gets no new start
+  -- X1 to X3: a program ends, or can't be run
 
   -- an editor that is in its group no more, and whose `initialize` came
   over_by : (T : Id → Type 0) (phase : Phase) (initialize : List ℕ) (ids : List Id) → is_begun phase ≡ false → (is_unplaced phase ≡ true → ⊥) → OpenIf T phase initialize ids
@@ -199,20 +206,91 @@ module _ (settings : Settings) (range : InRange settings) (before : List Event) 
   over_by T Closed initialize ids unbegun placed = tt
   over_by T Gone initialize ids unbegun placed = tt
 
-  module _ (s : ℕ) (built : not (begins_again settings before s) ≡ true) (e : ℕ) where
+  module _ (s : ℕ) (cause : Cause) (fits : fits_behind before cause ≡ true) (exit : Exit settings before cause s) (e : ℕ) where
+    abbrev exit_now : List Event
+    exit_now = with_cause before cause
+
+    -- it was sent to the start that ends
+    record IsLost (id : Id) : Type 0 where
+      served : is_answered (desk_of e before).phase ≡ true
+      sent : SentAt settings before e id
+      here : nat_eq s sent.start ≡ true
+
+    lost_now : OpenAt settings e IsLost exit_now
+    lost_now = subst₂ (OpenDesk (S settings e IsLost exit_now)) (sym (exit.desk e)) (sym (exit.opens e))
+        (if_other (S settings e Nobody before) (S settings e IsLost exit_now) (desk_of e before).phase (desk_of e before).initialize (open_of e before) (λ served id is. moved served id) (h e))
+      where
+        stays : (id : Id) (k : SentAt settings before e id) → nat_eq s k.start ≡ false → SentAt settings exit_now e id
+        stays id k other = record {
+          group = k.group;
+          start = k.start;
+          home = exit.home e ∙ k.home;
+          last = start_took k.group before cause ∙ k.last;
+          among = subst (OneOf (IsOf e id)) (sym (exit.forwards k.start ∙ ap (λ b. if b then [] else (forwarding_of k.start before).open_requests) other)) k.among;
+        }
+
+        moved : is_answered (desk_of e before).phase ≡ true → (id : Id) → SentAt settings before e id ⊎ ⊥ → SentAt settings exit_now e id ⊎ IsLost id
+        moved served id (inr k) = absurd k
+        moved served id (inl k) = go (nat_eq s k.start) refl
+          where
+            go : (b : Bool) → nat_eq s k.start ≡ b → SentAt settings exit_now e id ⊎ IsLost id
+            go true same = inr (record { served = served; sent = k; here = same })
+            go false other = inl (stays id k other)
+
     abbrev StaysIn : Type 0
     StaysIn = (ends_with settings before s e && is_begun (desk_of e before).phase) ≡ false
 
-    -- the start is that of no other editor that got its result
-    apart_from : StaysIn → (id : Id) (k : SentAt settings before e id) → is_answered (desk_of e before).phase ≡ true → nat_eq s k.start ≡ false
-    apart_from rest id k served = go (nat_eq s k.start) refl
-      where
-        go : (b : Bool) → nat_eq s k.start ≡ b → b ≡ false
-        go true same =
-            let home : group_of s before ≡ Some k.group = ap (λ n. group_of n before) (number_same s k.start same) ∙ (lively.last k.group k.start k.last).0 in
-            never (sym (ap₂ (λ a b. a && b) (ap₂ (λ a b. a && b) (ends_live settings before s built k.group home (lives_of settings before lively e k.group served k.home))
-            (ap (λ o. option_map_or (λ i. is_home i (home_of settings e before)) o false) home ∙ (ap (is_home k.group) k.home ∙ same_number k.group))) (begun_answered (desk_of e before).phase served)) ∙ rest)
-        go false other = refl
+    -- of a group that goes on each was refused
+    module _ (id : Id) (lost : IsLost id) where
+      abbrev k : SentAt settings before e id
+      k = lost.sent
+
+      home : group_of s before ≡ Some k.group
+      home = ap (λ n. group_of n before) (number_same s k.start lost.here) ∙ (lively.last k.group k.start k.last).0
+
+      begun_here : is_begun (desk_of e before).phase ≡ true
+      begun_here = begun_answered (desk_of e before).phase lost.served
+
+      member : is_in settings before s e ≡ true
+      member = ap (λ o. option_map_or (λ i. is_home i (home_of settings e before)) o false) home ∙ (ap (is_home k.group) k.home ∙ same_number k.group)
+
+      askers : AllForwarded before
+      askers = (facts.steady).asked (not_stopped before facts.quit e (begun_there (desk_of e before).phase begun_here))
+
+      -- where its group ends it is put out
+      not_out : StaysIn → not (begins_again settings before s) ≡ true → ⊥
+      not_out rest ends = never (sym (ap₂ (λ a b. a && b) (ap₂ (λ a b. a && b) (ends_live settings before s ends k.group home (lives_of settings before lively e k.group lost.served k.home)) member) begun_here) ∙ rest)
+
+      refused_there : RenewsGroup settings before s → NotOpen e id (later cause)
+      refused_there r = subst (λ z. NotOpen e id (behind exit_now z)) (sym (exit.row ∙ goes_on)) (subst (NotOpen e id) (sym (behind_both exit_now first rest)) (closed_outs e id (behind exit_now first) rest
+          (sent_closed e id before askers s (members_in settings r.group before) named (subst (λ n. OneOf (IsOf e id) (forwarding_of n before).open_requests) (sym (number_same s k.start lost.here)) k.among) exit_now)))
+        where
+          same : k.group ≡ r.group
+          same = let both : ◌≡◌ {A = Option ℕ} (Some k.group) (Some r.group) = sym home ∙ r.home in cc
+
+          first : List Out
+          first = outs (each (lose_sent before s) (members_in settings r.group before)) exit_now
+
+          rest : List Out
+          rest = outs (choose (is_ready (life_of s before).stage) (each (lose_start settings before s) (running_in settings r.group before)) nothing
+              ⨾ choose (starts_again settings before r.group r.kept) (spawn r.group) (each turn_out (members_in settings r.group before))) (behind exit_now first)
+
+          goes_on : outs (lost_row settings before s) exit_now ≡ first ++ rest
+          goes_on = rw (r.home, r.found, r.live) refl
+
+          joined : e < 0 + editors_of before
+          joined = let known : editors_of before ≤ e → ⊥ = λ le. never (sym begun_here ∙ ap is_begun ((facts.steady).editors e le)) in omega (arith, known)
+
+          named : list_any (λ n. nat_eq n e) (members_in settings r.group before) ≡ true
+          named = named_in (λ n. is_begun (desk_of n before).phase && is_home r.group (home_of settings n before)) 0 (editors_of before) e (omega arith) joined
+              (ap (λ b. b && is_home r.group (home_of settings e before)) begun_here ∙ (ap (is_home r.group) (k.home ∙ ap (λ g. Some g) same) ∙ same_number r.group))
+
+      none_left : StaysIn → NotOpen e id (later cause)
+      none_left rest = go (begins_again settings before s) refl
+        where
+          go : (b : Bool) → begins_again settings before s ≡ b → NotOpen e id (later cause)
+          go true again = refused_there (renews_parts settings before s again)
+          go false last = absurd (not_out rest (ap not last))
 
     stays_waiting : StaysIn → (ends_with settings before s e && is_waiting (desk_of e before).phase) ≡ false
     stays_waiting rest = go (ends_with settings before s e) (is_waiting (desk_of e before).phase) refl rest
@@ -225,42 +303,27 @@ module _ (settings : Settings) (range : InRange settings) (before : List Event) 
         go true false waits off = refl
         go false b waits off = refl
 
-    failed_now : StaysIn → OpenAt settings e Nobody (with_cause before (StartFailed s))
-    failed_now rest = open_at settings e Nobody before (heard (StartFailed s)) (if_other (S settings e Nobody before) (S settings e Nobody (with_cause before (StartFailed s))) (desk_of e before).phase (desk_of e before).initialize (open_of e before) (λ served id is. sent served id) (h e))
+    stays_open : StaysIn → OpenAt settings e Nobody (later cause)
+    stays_open rest = if_other (S settings e IsLost (later cause)) (S settings e Nobody (later cause)) (desk_of e (later cause)).phase (desk_of e (later cause)).initialize (open_of e (later cause))
+        (λ served id still k. go id still k) (open_entry settings e IsLost before cause (exit.turned e ∙ stays_waiting rest) range facts begun fits lasts lost_now)
       where
-        sent : is_answered (desk_of e before).phase ≡ true → (id : Id) → SentAt settings before e id ⊎ ⊥ → SentAt settings (with_cause before (StartFailed s)) e id ⊎ ⊥
-        sent served id (inl k) = inl (sent_failed settings e id before s k (apart_from rest id k served))
-        sent served id (inr k) = inr k
+        go : (id : Id) → is_open id (open_of e (later cause)) ≡ true → SentAt settings (later cause) e id ⊎ IsLost id → SentAt settings (later cause) e id ⊎ ⊥
+        go id still (inl k) = inl k
+        go id still (inr lost) = absurd (none_left id lost rest still)
 
-    ended_now : StaysIn → OpenAt settings e Nobody (with_cause before (ServerGone s))
-    ended_now rest = open_at settings e Nobody before (heard (ServerGone s)) (if_other (S settings e Nobody before) (S settings e Nobody (with_cause before (ServerGone s))) (desk_of e before).phase (desk_of e before).initialize (open_of e before) (λ served id is. sent served id) (h e))
-      where
-        sent : is_answered (desk_of e before).phase ≡ true → (id : Id) → SentAt settings before e id ⊎ ⊥ → SentAt settings (with_cause before (ServerGone s)) e id ⊎ ⊥
-        sent served id (inl k) = inl (sent_ended settings e id before s k (apart_from rest id k served))
-        sent served id (inr k) = inr k
-
-    -- one that is in the group is closed
-    put_out_over : (cause : Cause) → Exit settings before cause s → (ends_with settings before s e && is_begun (desk_of e before).phase) ≡ true → OpenAt settings e Nobody (later cause)
-    put_out_over cause exit out = over_by (S settings e Nobody (later cause)) (desk_of e (later cause)).phase (desk_of e (later cause)).initialize (open_of e (later cause))
+    -- one that is in a group that ends is closed
+    put_out_over : (ends_with settings before s e && is_begun (desk_of e before).phase) ≡ true → OpenAt settings e Nobody (later cause)
+    put_out_over out = over_by (S settings e Nobody (later cause)) (desk_of e (later cause)).phase (desk_of e (later cause)).initialize (open_of e (later cause))
         (exit_ends settings before cause s exit (facts.steady).editors e (exit.out e ∙ out)) (exit_placed settings before cause s exit e (and_parts (ends_with settings before s e) (is_begun (desk_of e before).phase) out).1)
 
-    failed_at : OpenAt settings e Nobody (later (StartFailed s))
-    failed_at = go (ends_with settings before s e && is_begun (desk_of e before).phase) refl
+    exit_open : OpenAt settings e Nobody (later cause)
+    exit_open = go (ends_with settings before s e && is_begun (desk_of e before).phase) refl
       where
-        go : (b : Bool) → (ends_with settings before s e && is_begun (desk_of e before).phase) ≡ b → OpenAt settings e Nobody (later (StartFailed s))
-        go true out = put_out_over (StartFailed s) (failed_exit settings before s) out
-        go false rest = open_entry settings e Nobody before (StartFailed s) (stays_waiting rest) range facts begun built (failed_now rest)
+        go : (b : Bool) → (ends_with settings before s e && is_begun (desk_of e before).phase) ≡ b → OpenAt settings e Nobody (later cause)
+        go true out = put_out_over out
+        go false rest = stays_open rest
 
-    ended_at : OpenAt settings e Nobody (later (ServerGone s))
-    ended_at = go (ends_with settings before s e && is_begun (desk_of e before).phase) refl
-      where
-        go : (b : Bool) → (ends_with settings before s e && is_begun (desk_of e before).phase) ≡ b → OpenAt settings e Nobody (later (ServerGone s))
-        go true out = put_out_over (ServerGone s) (gone_exit settings before s) out
-        go false rest = open_entry settings e Nobody before (ServerGone s) (stays_waiting rest) range facts begun built (ended_now rest)
-
-  -- Entries of starts
-
-  module _ (s : ℕ) (body : List ℕ) (built : built_behind settings before (FromServer s body) ≡ true) where
+  module _ (s : ℕ) (body : List ℕ) (fits : fits_behind before (FromServer s body) ≡ true) where
     abbrev now : List Event
     now = with_cause before (FromServer s body)
 
@@ -374,7 +437,7 @@ module _ (settings : Settings) (range : InRange settings) (before : List Event) 
 
       stays_at : turned_away settings before (FromServer s body) e ≡ false → OpenAt settings e Nobody (later (FromServer s body))
       stays_at stays = if_other (S settings e Answers (later (FromServer s body))) (S settings e Nobody (later (FromServer s body))) (desk_of e (later (FromServer s body))).phase (desk_of e (later (FromServer s body))).initialize (open_of e (later (FromServer s body)))
-          (λ served id still k. go id served still k) (open_entry settings e Answers before (FromServer s body) stays range facts begun built response_now)
+          (λ served id still k. go id served still k) (open_entry settings e Answers before (FromServer s body) stays range facts begun fits lasts response_now)
         where
           go : (id : Id) → is_answered (desk_of e (later (FromServer s body))).phase ≡ true → is_open id (open_of e (later (FromServer s body))) ≡ true → SentAt settings (later (FromServer s body)) e id ⊎ Answers id → SentAt settings (later (FromServer s body)) e id ⊎ ⊥
           go id served still (inl k) = inl k
@@ -389,13 +452,13 @@ module _ (settings : Settings) (range : InRange settings) (before : List Event) 
           go true turned = over_by (S settings e Nobody (later (FromServer s body))) (desk_of e (later (FromServer s body))).phase (desk_of e (later (FromServer s body))).initialize (open_of e (later (FromServer s body)))
               (turned_ends settings before s body (facts.steady).editors e turned) (turned_placed settings before s body e turned)
 
-  pub open_rests : (cause : Cause) → fits_behind before cause ≡ true → built_behind settings before cause ≡ true → OpenAll settings (later cause)
-  open_rests (FromEditor n body) fits built = editor_entry n body fits built
-  open_rests (FromServer s body) fits built = λ e. server_at s body built e
-  open_rests (Joined n) fits built = λ e. open_entry settings e Nobody before (Joined n) refl range facts begun built (joined_now n e fits)
-  open_rests (Started s) fits built = λ e. open_entry settings e Nobody before (Started s) refl range facts begun built (started_now s e)
-  open_rests (Drained n k) fits built = λ e. open_entry settings e Nobody before (Drained n k) refl range facts begun built (drained_now n k e)
-  open_rests (EditorGone n why) fits built = λ e. open_entry settings e Nobody before (EditorGone n why) refl range facts begun built (gone_now n why e)
-  open_rests (StartFailed s) fits built = λ e. failed_at s built e
-  open_rests (ServerGone s) fits built = λ e. ended_at s built e
-  open_rests (Tick t) fits built = λ e. open_entry settings e Nobody before (Tick t) refl range facts begun built (ticked_now t e)
+  pub open_rests : (cause : Cause) → fits_behind before cause ≡ true → OpenAll settings (later cause)
+  open_rests (FromEditor n body) fits = editor_entry n body fits
+  open_rests (FromServer s body) fits = λ e. server_at s body fits e
+  open_rests (Joined n) fits = λ e. open_entry settings e Nobody before (Joined n) refl range facts begun fits lasts (joined_now n e fits)
+  open_rests (Started s) fits = λ e. open_entry settings e Nobody before (Started s) refl range facts begun fits lasts (started_now s e)
+  open_rests (Drained n k) fits = λ e. open_entry settings e Nobody before (Drained n k) refl range facts begun fits lasts (drained_now n k e)
+  open_rests (EditorGone n why) fits = λ e. open_entry settings e Nobody before (EditorGone n why) refl range facts begun fits lasts (gone_now n why e)
+  open_rests (StartFailed s) fits = λ e. exit_open s (StartFailed s) fits (failed_exit settings before s) e
+  open_rests (ServerGone s) fits = λ e. exit_open s (ServerGone s) fits (gone_exit settings before s) e
+  open_rests (Tick t) fits = λ e. open_entry settings e Nobody before (Tick t) refl range facts begun fits lasts (ticked_now t e)

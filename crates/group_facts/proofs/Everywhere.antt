@@ -16,7 +16,6 @@ use Rattle.mux_model.specs.Fits.{fits_behind}
 use Rattle.group_rows.specs.Leaves.{leave_row}
 use Rattle.group_rows.specs.Rows.{outs_of}
 use Rattle.group_facts.specs.SlowRows.{close_slow, entry_outs, is_slow, slow_row}
-use Rattle.group_facts.specs.Built.{built_behind}
 use Rattle.group_facts.specs.Facts.{Known}
 use Rattle.group_facts.specs.Legal.{Legal, LegalFrom}
 use Rattle.group_facts.specs.Why.{AllSlow, AllWhy, HasParts, HasReasons, ReasonsFrom, SlowOuts, Why, quitting}
@@ -53,23 +52,23 @@ module _ (settings : Settings) (range : InRange settings) where
           let rest : Turns (behind place []) (outs (each (close_slow settings) es) (behind place [])) = others (behind place []) (subst (Facts settings) (sym (behind_nothing place)) h) in
           record { slow = rest.slow; parts = rest.parts; leave = subst (λ z. AllSlow settings z rest.slow) (behind_nothing place) rest.leave }
 
-  entry_parts : (before : List Event) (cause : Cause) → fits_behind before cause ≡ true → built_behind settings before cause ≡ true → Facts settings before → HasParts settings before cause (entry_outs settings before cause)
-  entry_parts before cause fits built h =
+  entry_parts : (before : List Event) (cause : Cause) → fits_behind before cause ≡ true → Facts settings before → HasParts settings before cause (entry_outs settings before cause)
+  entry_parts before cause fits h =
       let later : List Event = behind (with_cause before cause) (outs_of settings before cause) in
-      let slow : Turns later (outs (slow_row settings) later) = turns (range_with_len 0 (editors_of later)) later (entry_keeps settings range before cause fits built h) in
+      let slow : Turns later (outs (slow_row settings) later) = turns (range_with_len 0 (editors_of later)) later (entry_keeps settings range before cause fits h) in
       record {
         row = outs_of settings before cause;
         slow = slow.slow;
         parts = ap (λ z. outs_of settings before cause ++ z) slow.parts;
-        why = all_why before cause (with_cause before cause) (outs_of settings before cause) (reasons settings range before h cause built).why;
+        why = all_why before cause (with_cause before cause) (outs_of settings before cause) (reasons settings range before h cause).why;
         leave = slow.leave;
       }
 
   reasons_from : (before rest : List Entry) → LegalFrom settings before rest → Facts settings (events_of before) → ReasonsFrom settings before rest
   reasons_from before [] legal h = tt
   reasons_from before (entry ∷ rest) legal h = (
-    subst (HasParts settings (events_of before) entry.cause) (sym legal.2) (entry_parts (events_of before) entry.cause legal.0 legal.1 h),
-    reasons_from (before ++ entry ∷ []) rest legal.3 (one_entry settings range before entry legal.0 legal.1 legal.2 h),
+    subst (HasParts settings (events_of before) entry.cause) (sym legal.1) (entry_parts (events_of before) entry.cause legal.0 h),
+    reasons_from (before ++ entry ∷ []) rest legal.2 (one_entry settings range before entry legal.0 legal.1 h),
   )
 
   pub reasons_hold : (history : List Entry) → Legal settings history → HasReasons settings history

@@ -4,7 +4,7 @@ use Rattle.std.specs.List.{list_any}
 use Rattle.std.specs.Option.{option_map_or}
 use Rattle.std.proofs.lemmas.Bool.{and_parts}
 use Rattle.mux_history.specs.declared.cause.Cause.{Cause}
-use Rattle.mux_history.specs.declared.cause.Cause.TheVariants.{StartFailed, ServerGone}
+use Rattle.mux_history.specs.declared.cause.Cause.TheVariants.{Joined, FromEditor, EditorGone, Started, StartFailed, FromServer, ServerGone, Drained, Tick}
 use Rattle.mux_history.specs.declared.out.Out.{Out}
 use Rattle.mux_history.specs.declared.out.Out.TheVariants.{CloseEditor}
 use Rattle.event_model.specs.declared.phase.Phase.{Phase}
@@ -21,7 +21,7 @@ use Rattle.mux_facts.proofs.Editors.{Editors}
 use Rattle.mux_facts.proofs.Folds.{desk_more, opens_more}
 use Rattle.mux_facts.proofs.Keeps.{behind_both}
 use Rattle.mux_facts.proofs.Table.{waiting_is}
-use Rattle.mux_facts.proofs.Words.{same_number}
+use Rattle.mux_facts.proofs.Words.{number_same, same_number}
 use Rattle.group_words.specs.Houses.{home_of, is_home}
 use Rattle.group_words.proofs.Frames.{home_stays}
 use Rattle.group_rows.specs.Asks.{Asking, asking_of, asks_of, idle_asking, members_in, no_asking, running_in}
@@ -92,6 +92,17 @@ failed_exit settings before s = record {
   turned = λ e. refl;
   out = λ e. refl;
 }
+
+pub exit_by : (settings : Settings) (before : List Event) (cause : Cause) (s : ℕ) → is_exit cause s ≡ true → Exit settings before cause s
+exit_by settings before (StartFailed n) s is = subst (Exit settings before (StartFailed n)) (number_same n s is) (failed_exit settings before n)
+exit_by settings before (ServerGone n) s is = subst (Exit settings before (ServerGone n)) (number_same n s is) (gone_exit settings before n)
+exit_by settings before (Joined n) s is = never (sym is)
+exit_by settings before (FromEditor n body) s is = never (sym is)
+exit_by settings before (EditorGone n why) s is = never (sym is)
+exit_by settings before (Started n) s is = never (sym is)
+exit_by settings before (FromServer n body) s is = never (sym is)
+exit_by settings before (Drained n k) s is = never (sym is)
+exit_by settings before (Tick t) s is = never (sym is)
 
 -- Links that are to be ended, one after the other
 

@@ -88,21 +88,28 @@ module _ (R : List Event → Out → Type 0) where
   pub ready_by : (settings : Settings) (before : List Event) (s : ℕ) (es : List ℕ) → AllByRecursion Tells es → (events : List Event) → Because R events (choose (is_ready (life_of s before).stage) (each (lose_start settings before s) es) nothing)
   ready_by settings before s es tells events = by_choose (λ ready. starts_by settings before s es tells events) (λ not_yet. by_nothing)
 
+  -- X1 and X2
+  module _ (tells : (e : ℕ) → Tells e) where
+    pub all_tell : (before : List Event) (s : ℕ) (es : List ℕ) → AllByRecursion (λ e. AllByRecursion (λ (f : Forwarded). Tells f.editor) (filter (is_of e) (forwarding_of s before).open_requests)) es
+    all_tell before s es = for_all (λ e. AllByRecursion (λ (f : Forwarded). Tells f.editor) (filter (is_of e) (forwarding_of s before).open_requests)) (λ e. for_all (λ (f : Forwarded). Tells f.editor) (λ f. tells f.editor) (filter (is_of e) (forwarding_of s before).open_requests)) es
+
+    pub told_by : (settings : Settings) (before : List Event) (s g : ℕ) (events : List Event) → Because R events (each (lose_sent before s) (members_in settings g before)
+        ⨾ choose (is_ready (life_of s before).stage) (each (lose_start settings before s) (running_in settings g before)) nothing)
+    told_by settings before s g events = by_then (sent_by before s (members_in settings g before) (all_tell before s (members_in settings g before)) events)
+        (ready_by settings before s (running_in settings g before) (for_all Tells tells (running_in settings g before)) (behind events (outs (each (lose_sent before s) (members_in settings g before)) events)))
+
   -- X3
   module _ (tells : (e : ℕ) → Tells e) (closes : (events : List Event) (e : ℕ) → R events (CloseEditor e)) where
     turned_by : (es : List ℕ) (events : List Event) → Because R events (each turn_out es)
     turned_by [] events = by_nothing
     turned_by (e ∷ es) events = by_then (by_then (by_look (by_choose (λ waits. by_send (tells e events _)) (λ late. by_nothing))) (by_send (closes _ e))) (turned_by es (behind events (outs (turn_out e) events)))
 
-    pub all_tell : (before : List Event) (s : ℕ) (es : List ℕ) → AllByRecursion (λ e. AllByRecursion (λ (f : Forwarded). Tells f.editor) (filter (is_of e) (forwarding_of s before).open_requests)) es
-    all_tell before s es = for_all (λ e. AllByRecursion (λ (f : Forwarded). Tells f.editor) (filter (is_of e) (forwarding_of s before).open_requests)) (λ e. for_all (λ (f : Forwarded). Tells f.editor) (λ f. tells f.editor) (filter (is_of e) (forwarding_of s before).open_requests)) es
-
-    module _ (settings : Settings) (before : List Event) (s : ℕ) (built : not (begins_again settings before s) ≡ true) where
+    module _ (settings : Settings) (before : List Event) (s : ℕ) (ends : not (begins_again settings before s) ≡ true) where
       alive_by : (g : ℕ) (x : Kept) → group_of s before ≡ Some g → slice_get (groups_of settings before) g ≡ Some x → x.live ≡ true → (events : List Event) → Because R events (each (lose_sent before s) (members_in settings g before)
           ⨾ (choose (is_ready (life_of s before).stage) (each (lose_start settings before s) (running_in settings g before)) nothing
           ⨾ choose (starts_again settings before g x) (spawn g) (each turn_out (members_in settings g before))))
-      alive_by g x home found live events = by_then (sent_by before s (members_in settings g before) (all_tell before s (members_in settings g before)) events) (by_then (ready_by settings before s (running_in settings g before) (for_all Tells tells (running_in settings g before)) (behind events errors))
-          (by_choose (λ again. never (sym (both x.live (starts_again settings before g x) live again) ∙ none_again settings before s built g x home found)) (λ last. turned_by (members_in settings g before) (behind (behind events errors) losses))))
+      alive_by g x home found live events = by_then (sent_by before s (members_in settings g before) (all_tell tells before s (members_in settings g before)) events) (by_then (ready_by settings before s (running_in settings g before) (for_all Tells tells (running_in settings g before)) (behind events errors))
+          (by_choose (λ again. never (sym (both x.live (starts_again settings before g x) live again) ∙ none_again settings before s ends g x home found)) (λ last. turned_by (members_in settings g before) (behind (behind events errors) losses))))
         where
           errors : List Out
           errors = outs (each (lose_sent before s) (members_in settings g before)) events

@@ -1,5 +1,5 @@
 -- X1 to X3: why each out is sent where a start ends that gives its group no new one.
-use Rattle.std.proofs.Common.{◌≡◌, ℕ, ◌+◌, ◌^◌, ◌<◌, Bool, true, false, not, ◌&&◌, List, [], ◌∷◌, ◌++◌, codes, cond, decimal, filter, nat_eq, if◌then◌else◌, Option, Some, None, refl, sym, ◌∙◌, ap, ap₂, subst, append_assoc, append-nil, ltb-true, arith}
+use Rattle.std.proofs.Common.{◌≡◌, ℕ, zero, suc, ◌+◌, ◌^◌, ◌<◌, ◌≤◌, Bool, true, false, not, ◌&&◌, List, [], ◌∷◌, ◌++◌, codes, cond, decimal, filter, length, map, nat_eq, if◌then◌else◌, Option, Some, None, refl, sym, ◌∙◌, ap, ap₂, subst, append_assoc, append-nil, ltb-true, arith}
 use Rattle.std.specs.Prelude.{slice_get}
 use Rattle.std.specs.List.{AllByRecursion, range_with_len}
 use Rattle.std.specs.Option.{option_map_or}
@@ -40,7 +40,7 @@ use Rattle.group_words.specs.Rows.{spawn}
 use Rattle.group_rows.specs.diagnostics_route.specs.declared.last_list.LastList.{LastList}
 use Rattle.group_rows.specs.Asks.{Ask, Asking, asked_behind, asking_of, asks_of, has_number, is_with, members_in, next_ask, running_in}
 use Rattle.group_rows.specs.Created.{Taking, Token, created_of, created_text, is_at}
-use Rattle.group_rows.specs.ExitRows.{begins_again, cancel_ask, cancel_take, empty_list, ends_group, end_text, end_token, exit_in, lose_sent, lose_start, lost_row, starts_again, turn_out, unanswered_at}
+use Rattle.group_rows.specs.ExitRows.{cancel_ask, cancel_take, comes_to_end, empty_list, ends_group, end_text, end_token, exit_in, lose_sent, lose_start, lost_row, starts_again, turn_out, unanswered_at}
 use Rattle.group_rows.specs.Forwarded.{Forwarded, Forwarding, forwarding_of, is_of}
 use Rattle.group_rows.specs.Leaves.{cancel_text}
 use Rattle.group_rows.specs.Lists.{lists_of}
@@ -53,15 +53,14 @@ use Rattle.group_rows.proofs.ListsKept.{IsList, lists_kept}
 use Rattle.group_rows.proofs.LiveTexts.{live_written, unregister_says}
 use Rattle.group_rows.proofs.Stops.{range_below}
 use Rattle.group_facts.specs.Facts.{AllForwarded, IsAlone, IsAsked, IsForwarded, IsTake, IsWaiting, OneRequest, asked_of, ends_with, is_early, is_put_out, turned_away}
-use Rattle.group_facts.specs.Lively.{lives}
 use Rattle.group_facts.specs.Why.{IsLost, Losing, Why, calls, empties, ends, forgets, frees, of_ask, of_taking, winds_up, refuses, turns_away}
 use Rattle.group_facts.proofs.Asks.{asked_of_more, asking_more}
 use Rattle.group_facts.proofs.AskingRows.{still_runs, unregisters_all, work_told}
 use Rattle.group_facts.proofs.ExitEntry.{Exit}
 use Rattle.group_facts.proofs.ExitOuts.{Tells, asks_by, for_all, ready_by, registered_by, sent_by, start_by, takes_by, tokens_by}
-use Rattle.group_facts.proofs.Exits.{ends_live, none_again}
 use Rattle.group_facts.proofs.Facts.{Facts}
 use Rattle.group_facts.proofs.Forwards.{forwarding_more, zip_all}
+use Rattle.group_facts.proofs.Housed.{longer_did, longer_took}
 use Rattle.group_facts.proofs.Losses.{Differ, Apart2, desk_refused, differ_of, lost_says, lost_text, next_asker}
 use Rattle.group_facts.proofs.PutOut.{outs_tested}
 use Rattle.group_facts.proofs.Quits.{asked_while}
@@ -613,21 +612,33 @@ module _ (settings : Settings) (before : List Event) (facts : Facts settings bef
 
     -- The row
 
-    module _ (built : not (begins_again settings before s) ≡ true) (x : Kept) (found : slice_get (groups_of settings before) g ≡ Some x) where
-      both : (a b : Bool) → a ≡ true → b ≡ true → (a && b) ≡ true
-      both true b is also = also
-      both false b is also = is
+    module _ (x : Kept) (found : slice_get (groups_of settings before) g ≡ Some x) where
+      found_below : (i : ℕ) (xs : List Kept) → slice_get xs i ≡ Some x → i < length xs
+      found_below i [] h = absurd (cc)
+      found_below zero (y ∷ ys) h = omega arith
+      found_below (suc i) (y ∷ ys) h = let k : i < length ys = found_below i ys h in omega (arith, k)
+
+      longer_behind : (events : List Event) (xs : List Out) → length (groups_of settings events) ≤ length (groups_of settings (behind events xs))
+      longer_behind events [] = subst (λ z. length (groups_of settings events) ≤ length (groups_of settings z)) (sym (append-nil events)) (omega arith)
+      longer_behind events (out ∷ outs) = subst (λ z. length (groups_of settings events) ≤ length (groups_of settings z)) (append_assoc events (said out ∷ []) (map said outs))
+          (let one = longer_did settings events out in let rest = longer_behind (events ++ said out ∷ []) outs in omega (arith, one, rest))
+
+      -- the group is kept
+      inside : g < length (groups_of settings lost)
+      inside = let a = longer_took settings before cause in let b = longer_behind now errors in let c = longer_behind told losses in let below : g < length (groups_of settings before) = found_below g (groups_of settings before) found in omega (arith, a, b, c, below)
+
+      over_here : x.live ≡ true → starts_again settings before g x ≡ false → ends_group settings before s ≡ true
+      over_here live last = ap (λ o. option_map_or (λ i. option_map_or (comes_to_end settings before i) (slice_get (groups_of settings before) i) false) o false) home
+          ∙ (ap (λ o. option_map_or (comes_to_end settings before g) o false) found ∙ ap₂ (λ a b. a && not b) live last)
 
       alive_why : x.live ≡ true → Because R now (each (lose_sent before s) (members_in settings g before) ⨾ (losing_row ⨾ choose (starts_again settings before g x) (spawn g) (each turn_out (members_in settings g before))))
-      alive_why live = by_then errors_why (by_then losses_why (by_choose
-          (λ again. never (sym (both x.live (starts_again settings before g x) live again) ∙ none_again settings before s built g x home found))
-          (λ last. leaves_why (ends_live settings before s built g home (ap lives found ∙ live)))))
+      alive_why live = by_then errors_why (by_then losses_why (by_choose (λ again. by_look (by_send (refl, inside))) (λ last. leaves_why (over_here live last))))
 
       kept_why : Because R now (exit_in settings before s g x)
       kept_why = by_choose (λ live. alive_why live) (λ over. by_nothing)
 
-  group_why : not (begins_again settings before s) ≡ true → (g : ℕ) → group_of s before ≡ Some g → Because R now (on (slice_get (groups_of settings before) g) nothing (exit_in settings before s g))
-  group_why built g home = by_on (λ none. by_nothing) (λ x found. kept_why g home built x found)
+  group_why : (g : ℕ) → group_of s before ≡ Some g → Because R now (on (slice_get (groups_of settings before) g) nothing (exit_in settings before s g))
+  group_why g home = by_on (λ none. by_nothing) (λ x found. kept_why g home x found)
 
-  pub lost_why : not (begins_again settings before s) ≡ true → Because R now (lost_row settings before s)
-  lost_why built = by_on (λ none. by_nothing) (λ g home. group_why built g home)
+  pub lost_why : Because R now (lost_row settings before s)
+  lost_why = by_on (λ none. by_nothing) (λ g home. group_why g home)

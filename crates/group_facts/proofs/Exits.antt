@@ -1,5 +1,5 @@
 -- The end of a start that gives its group no new one: the group ends, where it lives, and all others stay as they are.
-use Rattle.std.proofs.Common.{◌≡◌, ℕ, zero, suc, ◌+◌, Bool, true, false, not, ◌&&◌, List, [], ◌∷◌, length, nat_le, if◌then◌else◌, Option, Some, None, refl, sym, ◌∙◌, ap, ap₂}
+use Rattle.std.proofs.Common.{◌≡◌, ℕ, zero, suc, ◌+◌, Bool, true, false, not, ◌&&◌, List, [], ◌∷◌, length, nat_le, if◌then◌else◌, Option, Some, None, refl, sym, ◌∙◌, ap, ap₂, subst}
 use Rattle.std.specs.Prelude.{slice_get}
 use Rattle.std.specs.Option.{option_map_or}
 use Rattle.std.proofs.lemmas.Bool.{and_parts}
@@ -19,8 +19,8 @@ use Rattle.group_words.proofs.Frames.{changed_length, groups_more}
 use Rattle.group_rows.specs.Asks.{members_in, running_in}
 use Rattle.group_rows.specs.ExitRows.{begins_again, comes_again, comes_to_end, ends_group, exit_in, lose_sent, lose_start, lost_row, starts_again, turn_out}
 use Rattle.group_facts.specs.Built.{is_left}
-use Rattle.group_facts.specs.Lively.{lives, lives_at}
-use Rattle.group_facts.proofs.LiveGroups.{lives_changed}
+use Rattle.group_facts.specs.Lively.{is_busy_at, lives, lives_at}
+use Rattle.group_facts.proofs.LiveGroups.{busy_changed, changed_lives, lives_changed}
 
 changed_by : (f h : Kept → Kept) (g : ℕ) (xs : List Kept) → ((x : Kept) → slice_get xs g ≡ Some x → f x ≡ h x) → changed g f xs ≡ changed g h xs
 changed_by f h g [] same = refl
@@ -92,6 +92,54 @@ over_of (Some i) groups h g at = let same : i ≡ g = cc in ap (λ n. lives_at n
 pub left_over : (settings : Settings) (before : List Event) (s : ℕ) → is_left settings before s ≡ true → (g : ℕ) → group_of s before ≡ Some g → lives_at g (groups_of settings before) ≡ false
 left_over settings before s left g at = over_of (group_of s before) (groups_of settings before) left g at
 
+-- whatever becomes of its group, there are as many
+pub lose_length : (settings : Settings) (before : List Event) (s : ℕ) → length (groups_lose settings before s (house_of settings before)) ≡ length (groups_of settings before)
+lose_length settings before s = go (group_of s before)
+  where
+    go : (o : Option ℕ) → length (at_group o (λ g. exit_of settings.limits.restarts (has_editor needs_server g (house_of settings before).home before)) (groups_of settings before)) ≡ length (groups_of settings before)
+    go None = refl
+    go (Some g) = changed_length g (exit_of settings.limits.restarts (has_editor needs_server g (house_of settings before).home before)) (groups_of settings before)
+
+-- the group of the start lives, and goes on with a new one
+pub record RenewsGroup (settings : Settings) (before : List Event) (s : ℕ) : Type 0 where
+  pub group : ℕ
+  pub home : group_of s before ≡ Some group
+  pub kept : Kept
+  pub found : slice_get (groups_of settings before) group ≡ Some kept
+  pub live : kept.live ≡ true
+  pub again : starts_again settings before group kept ≡ true
+
+pub renews_parts : (settings : Settings) (before : List Event) (s : ℕ) → begins_again settings before s ≡ true → RenewsGroup settings before s
+renews_parts settings before s h = go (group_of s before) refl h
+  where
+    at_kept : (g : ℕ) → group_of s before ≡ Some g → (o : Option Kept) → slice_get (groups_of settings before) g ≡ o → option_map_or (comes_again settings before g) o false ≡ true → RenewsGroup settings before s
+    at_kept g home None found h = never (sym h)
+    at_kept g home (Some x) found h = let p = and_parts x.live (starts_again settings before g x) h in record { group = g; home = home; kept = x; found = found; live = p.0; again = p.1 }
+
+    go : (o : Option ℕ) → group_of s before ≡ o → option_map_or (λ g. option_map_or (comes_again settings before g) (slice_get (groups_of settings before) g) false) o false ≡ true → RenewsGroup settings before s
+    go None none h = never (sym h)
+    go (Some g) home h = at_kept g home (slice_get (groups_of settings before) g) refl h
+
+exit_goes : (restarts : ℕ) (wanted : Bool) (x : Kept) → x.live ≡ true → (wanted && nat_le (x.exits + 1) restarts) ≡ true → exit_of restarts wanted x ≡ exited x
+exit_goes restarts wanted x live again = ap (λ b. if b then (if wanted && nat_le (x.exits + 1) restarts then exited x else ended (exited x)) else x) live ∙ ap (λ b. if b then exited x else ended (exited x)) again
+
+-- then each lives that did, and is as busy
+module _ (settings : Settings) (before : List Event) (s : ℕ) (k : RenewsGroup settings before s) where
+  pub renewed_is : groups_lose settings before s (house_of settings before) ≡ changed k.group exited (groups_of settings before)
+  renewed_is = ap (λ o. at_group o (λ g. exit_of settings.limits.restarts (has_editor needs_server g (house_of settings before).home before)) (groups_of settings before)) k.home
+      ∙ changed_by (exit_of settings.limits.restarts (has_editor needs_server k.group (house_of settings before).home before)) exited k.group (groups_of settings before)
+      (λ x found. let same : k.kept ≡ x = kept_same (sym k.found ∙ found) in subst (λ y. exit_of settings.limits.restarts (has_editor needs_server k.group (house_of settings before).home before) y ≡ exited y) same
+      (exit_goes settings.limits.restarts (has_editor needs_server k.group (house_of settings before).home before) k.kept k.live k.again))
+    where
+      kept_same : {x y : Kept} → ◌≡◌ {A = Option Kept} (Some x) (Some y) → x ≡ y
+      kept_same e = cc
+
+  pub renewed_lives : (g : ℕ) → lives_at g (groups_lose settings before s (house_of settings before)) ≡ lives_at g (groups_of settings before)
+  renewed_lives g = ap (lives_at g) renewed_is ∙ changed_lives exited (λ x. refl) k.group g (groups_of settings before)
+
+  pub renewed_busy : (g : ℕ) → is_busy_at g (groups_of settings before) ≡ true → is_busy_at g (groups_lose settings before s (house_of settings before)) ≡ true
+  renewed_busy g h = ap (is_busy_at g) renewed_is ∙ busy_changed exited (λ x busy. busy) k.group g (groups_of settings before) h
+
 -- the group of the start lives, and ends with it
 pub record EndsGroup (settings : Settings) (before : List Event) (s : ℕ) : Type 0 where
   pub group : ℕ
@@ -116,9 +164,9 @@ ends_parts settings before s h = go (group_of s before) refl h
     go None none h = never (sym h)
     go (Some g) home h = at_kept g home (slice_get (groups_of settings before) g) refl h
 
-module _ (settings : Settings) (before : List Event) (s : ℕ) (built : not (begins_again settings before s) ≡ true) where
+module _ (settings : Settings) (before : List Event) (s : ℕ) (ends : not (begins_again settings before s) ≡ true) where
   again_off : begins_again settings before s ≡ false
-  again_off = off (begins_again settings before s) built
+  again_off = off (begins_again settings before s) ends
     where
       off : (b : Bool) → not b ≡ true → b ≡ false
       off true h = never (sym h)
@@ -169,3 +217,11 @@ module _ (settings : Settings) (before : List Event) (s : ℕ) (now : List Event
       ∙ ap (λ b. outs (each (lose_sent before s) (members_in settings k.group before)
       ⨾ (choose (is_ready (life_of s before).stage) (each (lose_start settings before s) (running_in settings k.group before)) nothing
       ⨾ choose b (spawn k.group) (each turn_out (members_in settings k.group before)))) now) k.last
+
+-- none lives that didn't
+pub lose_lived : (settings : Settings) (before : List Event) (s g : ℕ) → lives_at g (groups_lose settings before s (house_of settings before)) ≡ true → lives_at g (groups_of settings before) ≡ true
+lose_lived settings before s g h = go (begins_again settings before s) refl
+  where
+    go : (b : Bool) → begins_again settings before s ≡ b → lives_at g (groups_of settings before) ≡ true
+    go true again = sym (renewed_lives settings before s (renews_parts settings before s again) g) ∙ h
+    go false last = lost_lived settings before s g (sym (ap (lives_at g) (lost_is settings before s (ap not last))) ∙ h)

@@ -22,9 +22,8 @@ use Rattle.group_words.specs.Houses.{at_group, declared_for, emptied, groups_hea
 use Rattle.group_words.specs.Keys.{Common}
 use Rattle.group_words.specs.Placing.{busy, changed, end_where, ended, founded, is_due, is_live, with_editor}
 use Rattle.group_words.proofs.Frames.{changed_length, groups_more, groups_stay, touches_groups}
-use Rattle.group_facts.specs.Built.{built_behind}
 use Rattle.group_facts.specs.Facts.{Housed, IsHoused}
-use Rattle.group_facts.proofs.Exits.{failed_groups, gone_groups, lost_length}
+use Rattle.group_facts.proofs.Exits.{lose_length}
 
 -- No group is forgotten
 
@@ -71,17 +70,17 @@ module _ (settings : Settings) where
   still_long : (events : List Event) (event : Event) → touches_groups event ≡ false → Longer events (events ++ event ∷ [])
   still_long events event quiet = subst (λ z. length (groups_of settings events) ≤ length z) (sym (groups_stay settings events event quiet)) (omega arith)
 
-  pub longer_took : (events : List Event) (cause : Cause) → built_behind settings events cause ≡ true → Longer events (with_cause events cause)
-  longer_took events (FromEditor e body) built = subst (λ z. length (groups_of settings events) ≤ length z) (sym (groups_more settings events (heard (FromEditor e body)))) (hears_longer events e body)
-  longer_took events (FromServer s body) built = subst (λ z. length (groups_of settings events) ≤ length z) (sym (groups_more settings events (heard (FromServer s body))))
+  pub longer_took : (events : List Event) (cause : Cause) → Longer events (with_cause events cause)
+  longer_took events (FromEditor e body) = subst (λ z. length (groups_of settings events) ≤ length z) (sym (groups_more settings events (heard (FromEditor e body)))) (hears_longer events e body)
+  longer_took events (FromServer s body) = subst (λ z. length (groups_of settings events) ≤ length z) (sym (groups_more settings events (heard (FromServer s body))))
       (at_length (group_of s events) (is_first_error (message_of body) && is_initializing (life_of s events).stage) (groups_of settings events))
-  longer_took events (Joined e) built = still_long events (heard (Joined e)) refl
-  longer_took events (Started s) built = still_long events (heard (Started s)) refl
-  longer_took events (Drained e k) built = still_long events (heard (Drained e k)) refl
-  longer_took events (Tick t) built = subst (λ z. length (groups_of settings events) ≤ length z) (sym (groups_more settings events (heard (Tick t)))) (omega (arith, ended_length (is_due settings.limits.idle (max (time_of events) t)) (groups_of settings events)))
-  longer_took events (EditorGone e why) built = subst (λ z. length (groups_of settings events) ≤ length z) (sym (groups_more settings events (heard (EditorGone e why)))) (emptied_length ((house_of settings events).home e) _ _ _ (groups_of settings events))
-  longer_took events (StartFailed s) built = subst (λ z. length (groups_of settings events) ≤ length z) (sym (failed_groups settings events s built)) (omega (arith, lost_length settings events s))
-  longer_took events (ServerGone s) built = subst (λ z. length (groups_of settings events) ≤ length z) (sym (gone_groups settings events s built)) (omega (arith, lost_length settings events s))
+  longer_took events (Joined e) = still_long events (heard (Joined e)) refl
+  longer_took events (Started s) = still_long events (heard (Started s)) refl
+  longer_took events (Drained e k) = still_long events (heard (Drained e k)) refl
+  longer_took events (Tick t) = subst (λ z. length (groups_of settings events) ≤ length z) (sym (groups_more settings events (heard (Tick t)))) (omega (arith, ended_length (is_due settings.limits.idle (max (time_of events) t)) (groups_of settings events)))
+  longer_took events (EditorGone e why) = subst (λ z. length (groups_of settings events) ≤ length z) (sym (groups_more settings events (heard (EditorGone e why)))) (emptied_length ((house_of settings events).home e) _ _ _ (groups_of settings events))
+  longer_took events (StartFailed s) = subst (λ z. length (groups_of settings events) ≤ length z) (sym (groups_more settings events (heard (StartFailed s)))) (omega (arith, lose_length settings events s))
+  longer_took events (ServerGone s) = subst (λ z. length (groups_of settings events) ≤ length z) (sym (groups_more settings events (heard (ServerGone s)))) (omega (arith, lose_length settings events s))
 
   pub longer_did : (events : List Event) (out : Out) → Longer events (events ++ said out ∷ [])
   longer_did events (CloseEditor e) = subst (λ z. length (groups_of settings events) ≤ length z) (sym (groups_more settings events (said (CloseEditor e)))) (emptied_length ((house_of settings events).home e) _ _ _ (groups_of settings events))
@@ -95,8 +94,8 @@ module _ (settings : Settings) where
       let kept : k.group < length (groups_of settings events) = k.kept in
       record { group = k.group; is = group_more s events event ∙ same s ∙ k.is; kept = omega (arith, longer) }
 
-  pub housed_took : (events : List Event) (cause : Cause) → built_behind settings events cause ≡ true → Housed settings events → Housed settings (with_cause events cause)
-  housed_took events cause built h = go cause (longer_took events cause built)
+  pub housed_took : (events : List Event) (cause : Cause) → Housed settings events → Housed settings (with_cause events cause)
+  housed_took events cause h = go cause (longer_took events cause)
     where
       go : (cause : Cause) → Longer events (with_cause events cause) → Housed settings (with_cause events cause)
       go (Joined e) longer = housed_still events (heard (Joined e)) longer refl (λ s. refl) h

@@ -32,7 +32,6 @@ use Rattle.group_rows.specs.Rows.{outs_of}
 use Rattle.group_facts.specs.SlowRows.{entry_outs, is_slow}
 use Rattle.group_rows.specs.StopRows.{stopped as is_stopped}
 use Rattle.group_rows.proofs.Versions.{meant_heard, meant_more, meant_said}
-use Rattle.group_facts.specs.Built.{built_behind}
 use Rattle.group_facts.specs.Legal.{Legal, LegalFrom}
 use Rattle.group_facts.proofs.Apart.{apart_fewer, apart_said, apart_sent, fewer_took}
 use Rattle.group_facts.proofs.Asks.{asks_closed, asks_ended, asks_sent, asks_spawned, asks_told, asks_took, no_asks}
@@ -47,7 +46,7 @@ use Rattle.group_facts.proofs.Numbered.{ending_tied, tied_life, tied_rests, tied
 use Rattle.group_facts.proofs.Opened.{opened_did, opened_none, opened_took}
 use Rattle.group_facts.proofs.Quits.{not_stopped, stopped_back}
 use Rattle.group_facts.proofs.Results.{results_did, results_none, results_took}
-use Rattle.group_facts.proofs.SlowRow.{parting, parting_why, quit_built, quit_turns_none, slow_there, whole_entry}
+use Rattle.group_facts.proofs.SlowRow.{parting, parting_why, quit_turns_none, slow_there, whole_entry}
 use Rattle.group_facts.proofs.StopEntry.{quit_rests, stopped_outs}
 use Rattle.group_facts.proofs.Table.{reasons}
 use Rattle.group_facts.proofs.Takes.{no_takes, takes_closed, takes_ended, takes_sent, takes_spawned, takes_told, takes_took}
@@ -58,8 +57,8 @@ use Rattle.group_facts.proofs.Written.{written_did, written_took}
 module _ (settings : Settings) where
   -- What the events before tell
 
-  base_took : (events : List Event) (cause : Cause) → built_behind settings events cause ≡ true → Base settings events → Base settings (with_cause events cause)
-  base_took events cause built h = record { opened = opened_took settings events cause h.opened; results = results_took events cause h.results; written = written_took settings events cause built h.written; meant = meant_more events (heard cause) h.meant (meant_heard cause) }
+  base_took : (events : List Event) (cause : Cause) → Base settings events → Base settings (with_cause events cause)
+  base_took events cause h = record { opened = opened_took settings events cause h.opened; results = results_took events cause h.results; written = written_took settings events cause h.written; meant = meant_more events (heard cause) h.meant (meant_heard cause) }
 
   -- a program that is to be ended was spawned
   begun_end : (events : List Event) (n : ℕ) → WhyEnd settings events n → (life_of n events).stage ≡ Unspawned → ⊥
@@ -72,18 +71,18 @@ module _ (settings : Settings) where
 
   -- At a cause
 
-  steady_took : (events : List Event) (cause : Cause) → built_behind settings events cause ≡ true → fits_behind events cause ≡ true → Steady settings events → Steady settings (with_cause events cause)
-  steady_took events cause built fits h = record {
+  steady_took : (events : List Event) (cause : Cause) → fits_behind events cause ≡ true → Steady settings events → Steady settings (with_cause events cause)
+  steady_took events cause fits h = record {
     starts = starts_took events cause fits h.starts;
-    unbegun = unbegun_took settings events cause built (unbegun_fresh cause) h.unbegun;
-    untold = untold_took settings events cause built (untold_fresh cause) h.untold;
-    bounded = bounded_took settings events cause built (up_fresh cause) h.bounded;
+    unbegun = unbegun_took settings events cause (unbegun_fresh cause) h.unbegun;
+    untold = untold_took settings events cause (untold_fresh cause) h.untold;
+    bounded = bounded_took settings events cause (up_fresh cause) h.bounded;
     editors = editors_took events cause fits h.editors;
-    asked = λ on. asked_took settings events cause built fits h.editors (h.asked (stopped_back events (heard cause) on));
-    apart = apart_fewer events (with_cause events cause) (fewer_took settings events cause built) h.apart;
+    asked = λ on. asked_took settings events cause fits h.editors (h.asked (stopped_back events (heard cause) on));
+    apart = apart_fewer events (with_cause events cause) (fewer_took settings events cause) h.apart;
     asks = asks_took settings events cause h.asks;
     takes = takes_took settings events h.takes cause;
-    housed = housed_took settings events cause built h.housed;
+    housed = housed_took settings events cause h.housed;
   }
     where
       unbegun_fresh : (cause : Cause) (s : ℕ) → Fresh is_unbegun unbegun_falls s (life_of s events) (heard cause)
@@ -100,7 +99,7 @@ module _ (settings : Settings) where
 
   -- At an out
 
-  module _ (range : InRange settings) (before : List Event) (cause : Cause) (facts : Facts settings before) (built : built_behind settings before cause ≡ true) (events : List Event) where
+  module _ (range : InRange settings) (before : List Event) (cause : Cause) (facts : Facts settings before) (events : List Event) where
     to_editor : (n : ℕ) (body : List ℕ) → WhyToEditor settings before cause events n body → Steady settings events → Steady settings (events ++ said (ToEditor n body) ∷ [])
     to_editor n body why h = record {
       starts = starts.more events (said (ToEditor n body)) h.starts refl (λ s none. refl);
@@ -212,9 +211,9 @@ module _ (settings : Settings) where
     mid_did (ToServer n body) why h = record {
       steady = record {
         starts = starts.sent events n body (h.steady).starts;
-        unbegun = unbegun_sent settings before cause facts built events n body why (h.steady).unbegun;
-        untold = untold_sent settings before cause facts built events n body why (h.steady).untold;
-        bounded = bounded_sent settings before cause facts built events n body why (h.steady).bounded;
+        unbegun = unbegun_sent settings before cause facts events n body why (h.steady).unbegun;
+        untold = untold_sent settings before cause facts events n body why (h.steady).untold;
+        bounded = bounded_sent settings before cause facts events n body why (h.steady).bounded;
         editors = editors.to_server events n body (h.steady).editors;
         asked = λ on. asked_sent settings before cause events n body why ((h.steady).asked (stopped_back events (said (ToServer n body)) on));
         apart = apart_sent settings before cause events n body why (h.steady).apart;
@@ -238,19 +237,19 @@ module _ (settings : Settings) where
     pub mid : Mid settings before cause events
 
   module _ (range : InRange settings) where
-    pub here_took : (before : List Event) (cause : Cause) → fits_behind before cause ≡ true → built_behind settings before cause ≡ true → Facts settings before → Here before cause (with_cause before cause)
-    here_took before cause fits built h = record {
-      base = base_took before cause built h.base;
-      mid = record { steady = steady_took before cause built fits h.steady; tied = tied_took settings before cause built h.tied; waiting = waiting_took settings before cause h.waiting };
+    pub here_took : (before : List Event) (cause : Cause) → fits_behind before cause ≡ true → Facts settings before → Here before cause (with_cause before cause)
+    here_took before cause fits h = record {
+      base = base_took before cause h.base;
+      mid = record { steady = steady_took before cause fits h.steady; tied = tied_took settings before cause h.tied; waiting = waiting_took settings before cause h.waiting };
     }
 
-    pub here_did : (before : List Event) (cause : Cause) → Facts settings before → built_behind settings before cause ≡ true → (events : List Event) (out : Out) → Why settings before cause events out → Here before cause events → Here before cause (events ++ said out ∷ [])
-    here_did before cause facts built events out why h = record { base = base_did events out h.base; mid = mid_did range before cause facts built events out why h.mid }
+    pub here_did : (before : List Event) (cause : Cause) → Facts settings before → (events : List Event) (out : Out) → Why settings before cause events out → Here before cause events → Here before cause (events ++ said out ∷ [])
+    here_did before cause facts events out why h = record { base = base_did events out h.base; mid = mid_did range before cause facts events out why h.mid }
 
-    pub entry_keeps : (before : List Event) (cause : Cause) → fits_behind before cause ≡ true → built_behind settings before cause ≡ true → Facts settings before → Facts settings (behind (with_cause before cause) (outs_of settings before cause))
-    entry_keeps before cause fits built h =
-        let last : Here before cause (behind (with_cause before cause) (outs_of settings before cause)) = reasons_keep (λ events out. Why settings before cause events out) (Here before cause) (here_did before cause h built)
-        (with_cause before cause) (outs_of settings before cause) (reasons settings range before h cause built).why (here_took before cause fits built h) in
+    pub entry_keeps : (before : List Event) (cause : Cause) → fits_behind before cause ≡ true → Facts settings before → Facts settings (behind (with_cause before cause) (outs_of settings before cause))
+    entry_keeps before cause fits h =
+        let last : Here before cause (behind (with_cause before cause) (outs_of settings before cause)) = reasons_keep (λ events out. Why settings before cause events out) (Here before cause) (here_did before cause h)
+        (with_cause before cause) (outs_of settings before cause) (reasons settings range before h cause).why (here_took before cause fits h) in
         record { base = last.base; steady = (last.mid).steady; tied = tied_rests settings before cause fits (h.steady).starts (h.steady).unbegun (h.steady).housed (h.base).written (last.mid).tied; waiting = waiting_rests settings before cause (h.steady).editors (last.mid).waiting; quit = quit_rests settings before (h.steady).editors h.quit cause }
 
     -- an editor that is slow leaves: the facts are kept
@@ -259,13 +258,13 @@ module _ (settings : Settings) where
 
     pub slow_keeps_facts : (place : List Event) (e : ℕ) → is_slow settings e place ≡ true → Facts settings place → Facts settings (behind place (parting settings place e))
     slow_keeps_facts place e slow h =
-        let last : Here place (quitting e) (behind place (parting settings place e)) = reasons_keep (Why settings place (quitting e)) (Here place (quitting e)) (here_did place (quitting e) h (quit_built settings place e))
+        let last : Here place (quitting e) (behind place (parting settings place e)) = reasons_keep (Why settings place (quitting e)) (Here place (quitting e)) (here_did place (quitting e) h)
         place (parting settings place e) (parting_why settings range place h e slow) (here_slow place e h) in
         record { base = last.base; steady = (last.mid).steady; tied = λ s. (last.mid).tied s refl; waiting = λ n. (last.mid).waiting n (quit_turns_none settings place e n); quit = λ over. never (sym over ∙ (stopped_outs place (parting settings place e) ∙ not_stopped place h.quit e (slow_there settings e place slow))) }
 
     -- all outs of an entry
-    pub whole_keeps : (before : List Event) (cause : Cause) → fits_behind before cause ≡ true → built_behind settings before cause ≡ true → Facts settings before → Facts settings (behind (with_cause before cause) (entry_outs settings before cause))
-    whole_keeps before cause fits built h = whole_entry settings (Facts settings) slow_keeps_facts before cause (entry_keeps before cause fits built h)
+    pub whole_keeps : (before : List Event) (cause : Cause) → fits_behind before cause ≡ true → Facts settings before → Facts settings (behind (with_cause before cause) (entry_outs settings before cause))
+    whole_keeps before cause fits h = whole_entry settings (Facts settings) slow_keeps_facts before cause (entry_keeps before cause fits h)
 
     pub no_facts : Facts settings []
     no_facts = record {
@@ -276,15 +275,14 @@ module _ (settings : Settings) where
       quit = λ over. absurd (cc);
     }
 
-    pub one_entry : (before : List Entry) (entry : Entry) → IsTrue (fits_behind (events_of before) entry.cause) → IsTrue (built_behind settings (events_of before) entry.cause)
-        → entry.outs ≡ entry_outs settings (events_of before) entry.cause → Facts settings (events_of before) → Facts settings (events_of (before ++ entry ∷ []))
-    one_entry before entry fits built outs h = subst (Facts settings) (sym (events_more before entry)) (subst (λ z. Facts settings (behind (with_cause (events_of before) entry.cause) z)) (sym outs)
-        (whole_keeps (events_of before) entry.cause fits built h))
+    pub one_entry : (before : List Entry) (entry : Entry) → IsTrue (fits_behind (events_of before) entry.cause) → entry.outs ≡ entry_outs settings (events_of before) entry.cause → Facts settings (events_of before) → Facts settings (events_of (before ++ entry ∷ []))
+    one_entry before entry fits outs h = subst (Facts settings) (sym (events_more before entry)) (subst (λ z. Facts settings (behind (with_cause (events_of before) entry.cause) z)) (sym outs)
+        (whole_keeps (events_of before) entry.cause fits h))
 
     from_here : (before rest : List Entry) → LegalFrom settings before rest → Facts settings (events_of before) → Facts settings (events_of (before ++ rest))
     from_here before [] legal h = subst (λ z. Facts settings (events_of z)) (sym (append-nil before)) h
     from_here before (entry ∷ rest) legal h = subst (λ z. Facts settings (events_of z)) (append_assoc before (entry ∷ []) rest)
-        (from_here (before ++ entry ∷ []) rest legal.3 (one_entry before entry legal.0 legal.1 legal.2 h))
+        (from_here (before ++ entry ∷ []) rest legal.2 (one_entry before entry legal.0 legal.1 h))
 
     -- the facts hold of every legal history
     pub facts_hold : (history : List Entry) → Legal settings history → Facts settings (events_of history)

@@ -68,7 +68,9 @@ pub mod Moved
 pub mod Homes
 pub mod Resuming
 pub mod Spreads
-pub mod OneStart
+pub mod Configured
+pub mod LastStarts
+pub mod Lost
 pub mod AskSeats
 pub mod AskRest
 pub mod AskEntries

@@ -35,21 +35,22 @@ use Rattle.group_words.proofs.Frames.{groups_more, home_more}
 use Rattle.group_rows.specs.ExitRows.{begins_again}
 use Rattle.group_rows.specs.Rows.{outs_of}
 use Rattle.group_facts.specs.SlowRows.{is_slow}
-use Rattle.group_facts.specs.Built.{built_behind}
-use Rattle.group_facts.specs.Facts.{ends_with, is_put_out, is_refusing, is_up}
+use Rattle.group_facts.specs.Facts.{ends_with, is_exit, is_parted, is_put_out, is_refused, is_refusing, is_up}
 use Rattle.group_facts.specs.Lively.{IsDying, Lively, is_busy_at, is_unplaced, lives_at}
 use Rattle.group_facts.specs.Settled.{is_answered}
-use Rattle.group_facts.specs.Why.{Why, WhyEnd, WhyToServer, begins, greets, forwarded, notes, tells, shuts, cancels, exits, refused, starting, stopped, responds, resolves, cancels_work, quitting}
+use Rattle.group_facts.specs.Why.{Why, WhyEnd, WhyToServer, begins, greets, conveys, forwarded, notes, tells, shuts, cancels, exits, refused, starting, stopped, responds, resolves, cancels_work, quitting}
 use Rattle.group_facts.proofs.Begun.{Begun, start_more}
-use Rattle.group_facts.proofs.Exits.{end_live, ends_live, groups_lost, left_over, lost_is, lost_lived, lost_over}
+use Rattle.group_facts.proofs.Downs.{lives_outs}
+use Rattle.group_facts.proofs.Exits.{end_live, ends_live, left_over, lose_lived, lost_is, renewed_busy, renews_parts}
 use Rattle.group_facts.proofs.Facts.{Facts}
 use Rattle.group_facts.proofs.Housed.{group_more}
 use Rattle.group_facts.proofs.Known.{Here, here_did, here_slow, here_took}
+use Rattle.group_facts.proofs.LastStarts.{AllLast, over_last}
 use Rattle.group_facts.proofs.LiveGroups.{IsFair, busy_apart, busy_emptied, busy_ended, busy_own, busy_placed, lives_busy, lives_changed, lives_emptied, lives_ended, lives_placed, placed_fair}
 use Rattle.group_facts.proofs.Numbered.{no_shutdown}
-use Rattle.group_facts.proofs.PutOut.{begun_closed, begun_told, unplaced_closed, unplaced_told}
+use Rattle.group_facts.proofs.PutOut.{begun_closed, begun_told, or_first, unplaced_closed, unplaced_told}
 use Rattle.group_facts.proofs.RequestRow.{either_desk}
-use Rattle.group_facts.proofs.SlowRow.{parting, parting_why, quit_built}
+use Rattle.group_facts.proofs.SlowRow.{parting, parting_why}
 use Rattle.group_facts.proofs.StopEnds.{over_all}
 use Rattle.group_facts.proofs.StopEntry.{begun_there, put_out_ends, there_heard}
 use Rattle.group_facts.proofs.Table.{reasons}
@@ -179,27 +180,30 @@ module _ (settings : Settings) (events : List Event) (event : Event) where
     up = λ g s h at. ap (λ (l : Life). is_up l.stage) (life_more s events event) ∙ up g s (sym (ap (lives_at g) (groups_more settings events event)) ∙ h) (sym (start_more g events event) ∙ at);
   }
 
--- Inside of an entry in which a group ends while it has editors, these are left out
+-- Inside of an entry in which a group ends while it has editors, these are left out, and so is the start that ends in it
 
-record Mostly (settings : Settings) (out : ℕ → Bool) (events : List Event) : Type 0 where
+record Mostly (settings : Settings) (out over : ℕ → Bool) (events : List Event) : Type 0 where
   unplaced : (e : ℕ) → is_unplaced (desk_of e events).phase ≡ true → home_of settings e events ≡ None
   busy : (e g : ℕ) → out e ≡ false → is_begun (desk_of e events).phase ≡ true → home_of settings e events ≡ Some g → is_busy_at g (groups_of settings events) ≡ true
   last : (g s : ℕ) → start_of g events ≡ Some s → (group_of s events ≡ Some g) × (s < starts_of events)
-  up : (g s : ℕ) → lives_at g (groups_of settings events) ≡ true → start_of g events ≡ Some s → is_up (life_of s events).stage ≡ true
+  up : (g s : ℕ) → over s ≡ false → lives_at g (groups_of settings events) ≡ true → start_of g events ≡ Some s → is_up (life_of s events).stage ≡ true
 
-mostly : (settings : Settings) (out : ℕ → Bool) (events : List Event) → Lively settings events → Mostly settings out events
-mostly settings out events h = record { unplaced = h.unplaced; busy = λ e g rest. h.busy e g; last = h.last; up = h.up }
+mostly : (settings : Settings) (out over : ℕ → Bool) (events : List Event) → Lively settings events → Mostly settings out over events
+mostly settings out over events h = record { unplaced = h.unplaced; busy = λ e g rest. h.busy e g; last = h.last; up = λ g s rest. h.up g s }
 
-module _ (settings : Settings) (out : ℕ → Bool) (events : List Event) (event : Event) where
+module _ (settings : Settings) (out over : ℕ → Bool) (events : List Event) (event : Event) where
   abbrev MostBusy : Type 0
   MostBusy = (e g : ℕ) → out e ≡ false → is_begun (desk_behind e (desk_of e events) event).phase ≡ true → home_next settings events (house_of settings events) event e ≡ Some g → is_busy_at g (groups_next settings events (house_of settings events) event) ≡ true
 
-  most_words : Unplaced settings events event → MostBusy → Last settings events event → Up settings events event → Mostly settings out (events ++ event ∷ [])
+  abbrev MostUp : Type 0
+  MostUp = (g s : ℕ) → over s ≡ false → lives_at g (groups_next settings events (house_of settings events) event) ≡ true → start_behind g (start_of g events) event ≡ Some s → is_up (life_behind s (life_of s events) event).stage ≡ true
+
+  most_words : Unplaced settings events event → MostBusy → Last settings events event → MostUp → Mostly settings out over (events ++ event ∷ [])
   most_words unplaced busy last up = record {
     unplaced = λ e h. home_more settings e events event ∙ unplaced e (sym (ap (λ (d : Desk). is_unplaced d.phase) (desk_more e events event)) ∙ h);
     busy = λ e g rest h at. ap (is_busy_at g) (groups_more settings events event) ∙ busy e g rest (sym (ap (λ (d : Desk). is_begun d.phase) (desk_more e events event)) ∙ h) (sym (home_more settings e events event) ∙ at);
     last = λ g s at. let k = last g s (sym (start_more g events event) ∙ at) in (group_more s events event ∙ k.0, subst (λ n. s < n) (sym (starts_more events event)) k.1);
-    up = λ g s h at. ap (λ (l : Life). is_up l.stage) (life_more s events event) ∙ up g s (sym (ap (lives_at g) (groups_more settings events event)) ∙ h) (sym (start_more g events event) ∙ at);
+    up = λ g s rest h at. ap (λ (l : Life). is_up l.stage) (life_more s events event) ∙ up g s rest (sym (ap (lives_at g) (groups_more settings events event)) ∙ h) (sym (start_more g events event) ∙ at);
   }
 
 -- Causes
@@ -290,9 +294,9 @@ module _ (settings : Settings) (before : List Event) (h : Lively settings before
         busy e g false other k at = h.busy e g k at
 
     -- E6: all groups end, and each editor that is there is left out
-    stopped_by : places (desk_of n before).phase m ≡ false → stops before n m ≡ true → Mostly settings (is_put_out settings before (FromEditor n body)) (with_cause before (FromEditor n body))
-    stopped_by off stop = most_words settings (is_put_out settings before (FromEditor n body)) before (heard (FromEditor n body)) (λ e. rw off (unplaced e (nat_eq n e))) (λ e g rest begun at. never (sym (ap₂ (λ a b. a && b) stop (out e (nat_eq n e) begun)) ∙ rest)) h.last
-        (λ g s live at. never (sym live ∙ (ap₂ (λ a b. lives_at g (if a then later else if b then end_where is_live groups else groups)) off stop ∙ over_all g groups)))
+    stopped_by : places (desk_of n before).phase m ≡ false → stops before n m ≡ true → Mostly settings (is_put_out settings before (FromEditor n body)) (is_exit (FromEditor n body)) (with_cause before (FromEditor n body))
+    stopped_by off stop = most_words settings (is_put_out settings before (FromEditor n body)) (is_exit (FromEditor n body)) before (heard (FromEditor n body)) (λ e. rw off (unplaced e (nat_eq n e))) (λ e g rest begun at. never (sym (ap₂ (λ a b. a && b) stop (out e (nat_eq n e) begun)) ∙ rest)) h.last
+        (λ g s rest live at. never (sym live ∙ (ap₂ (λ a b. lives_at g (if a then later else if b then end_where is_live groups else groups)) off stop ∙ over_all g groups)))
       where
         unplaced : (e : ℕ) (b : Bool) → is_unplaced (if b then desk_hears (desk_of e before).phase (desk_of e before).initialize body m else desk_of e before).phase ≡ true → (if b && false then home_by placed (home_of settings e before) else home_of settings e before) ≡ None
         unplaced e true k = h.unplaced e (unplaced_heard (desk_of e before).phase (desk_of e before).initialize body m k)
@@ -321,25 +325,25 @@ module _ (settings : Settings) (before : List Event) (h : Lively settings before
         go (Some i) home = busy_apart i g ended groups (λ same. never (sym (out same) ∙ rest)) (h.busy e g begun at)
           where
             out : g ≡ i → put_out e ≡ true
-            out same = ap₂ (λ a b. a && b) refuses (ap₂ (λ a b. a && b) begun
-                (ap (λ o. option_map_or (λ k. is_home k (home_of settings e before)) o false) home ∙ (ap (is_home i) (at ∙ ap (λ k. Some k) same) ∙ same_number i)))
+            out same = or_first (is_refused settings before n body e) (is_parted settings before n body e) (ap₂ (λ a b. a && b) refuses (ap₂ (λ a b. a && b) begun
+                (ap (λ o. option_map_or (λ k. is_home k (home_of settings e before)) o false) home ∙ (ap (is_home i) (at ∙ ap (λ k. Some k) same) ∙ same_number i))))
 
     lived : (g : ℕ) (home : Option ℕ) → lives_at g (at_group home (λ k. ended) groups) ≡ true → lives_at g groups ≡ true
     lived g None live = live
     lived g (Some i) live = lives_changed ended (λ x k. absurd (cc)) i g groups live
 
-    refused_by : Mostly settings put_out (with_cause before (FromServer n body))
-    refused_by = most_words settings put_out before (heard (FromServer n body)) h.unplaced (λ e g rest begun at. ap (λ b. is_busy_at g (if b then at_group (group_of n before) (λ k. ended) groups else groups)) refuses ∙ in_time e g rest begun at) h.last
-        (λ g s live at. let old : is_up (life_of s before).stage ≡ true = h.up g s (lived g (group_of n before) (sym (ap (λ b. lives_at g (if b then at_group (group_of n before) (λ k. ended) groups else groups)) refuses) ∙ live)) at in
+    refused_by : Mostly settings put_out (is_exit (FromServer n body)) (with_cause before (FromServer n body))
+    refused_by = most_words settings put_out (is_exit (FromServer n body)) before (heard (FromServer n body)) h.unplaced (λ e g rest begun at. ap (λ b. is_busy_at g (if b then at_group (group_of n before) (λ k. ended) groups else groups)) refuses ∙ in_time e g rest begun at) h.last
+        (λ g s rest live at. let old : is_up (life_of s before).stage ≡ true = h.up g s (lived g (group_of n before) (sym (ap (λ b. lives_at g (if b then at_group (group_of n before) (λ k. ended) groups else groups)) refuses) ∙ live)) at in
         by_start (nat_eq n s) (record { stage = stage_hears (life_of s before).stage (message_of body); started = (life_of s before).started }) (life_of s before) (λ same. up_hears (life_of s before).stage (message_of body) old) (λ other. old))
 
   -- a message of a start
-  said_by : (n : ℕ) (body : List ℕ) → Mostly settings (is_put_out settings before (FromServer n body)) (with_cause before (FromServer n body))
+  said_by : (n : ℕ) (body : List ℕ) → Mostly settings (is_put_out settings before (FromServer n body)) (is_exit (FromServer n body)) (with_cause before (FromServer n body))
   said_by n body = go (is_refusing before n (message_of body)) refl
     where
-      go : (b : Bool) → is_refusing before n (message_of body) ≡ b → Mostly settings (is_put_out settings before (FromServer n body)) (with_cause before (FromServer n body))
+      go : (b : Bool) → is_refusing before n (message_of body) ≡ b → Mostly settings (is_put_out settings before (FromServer n body)) (is_exit (FromServer n body)) (with_cause before (FromServer n body))
       go true refuses = refused_by n body refuses
-      go false off = mostly settings (is_put_out settings before (FromServer n body)) (with_cause before (FromServer n body)) (spoke n body off)
+      go false off = mostly settings (is_put_out settings before (FromServer n body)) (is_exit (FromServer n body)) (with_cause before (FromServer n body)) (spoke n body off)
 
   gone : (n : ℕ) (why : link.Why) → Editors (with_cause before (EditorGone n why)) → Lively settings (with_cause before (EditorGone n why))
   gone n why absent = by_words settings before (heard (EditorGone n why)) (λ e. unplaced e (nat_eq n e)) (λ e g. busy e g (nat_eq n e) refl) h.last
@@ -356,54 +360,57 @@ module _ (settings : Settings) (before : List Event) (h : Lively settings before
           (still_has (house_of settings before).home (with_cause before (EditorGone n why)) e g absent (ap (λ (d : Desk). is_begun d.phase) (desk_more e before (heard (EditorGone n why)))
           ∙ (ap (λ b. is_begun (if b then record { phase = Gone; initialize = (desk_of e before).initialize } else desk_of e before).phase) other ∙ k)) at) (h.busy e g k at)
 
-  -- a start ends that gives its group no new one: the group ends
-  module _ (n : ℕ) (built : not (begins_again settings before n) ≡ true) where
-    lost_busy : (e g : ℕ) → (ends_with settings before n e && is_begun (desk_of e before).phase) ≡ false → is_begun (desk_of e before).phase ≡ true → home_of settings e before ≡ Some g → is_busy_at g (groups_lose settings before n (house_of settings before)) ≡ true
-    lost_busy e g rest begun at = ap (is_busy_at g) (lost_is settings before n built) ∙ go (group_of n before) refl
+  -- a start ends: its group ends, or goes on, and has no start that is up until it is spawned
+  module _ (n : ℕ) where
+    ended_busy : not (begins_again settings before n) ≡ true → (e g : ℕ) → (ends_with settings before n e && is_begun (desk_of e before).phase) ≡ false → is_begun (desk_of e before).phase ≡ true → home_of settings e before ≡ Some g → is_busy_at g (groups_lose settings before n (house_of settings before)) ≡ true
+    ended_busy ends e g rest begun at = ap (is_busy_at g) (lost_is settings before n ends) ∙ go (group_of n before) refl
       where
         go : (o : Option ℕ) → group_of n before ≡ o → is_busy_at g (at_group o (λ k. end_live) groups) ≡ true
         go None none = h.busy e g begun at
         go (Some i) home = busy_apart i g end_live groups (λ same. never (sym (out same) ∙ rest)) (h.busy e g begun at)
           where
             out : g ≡ i → (ends_with settings before n e && is_begun (desk_of e before).phase) ≡ true
-            out same = ap₂ (λ a b. a && b) (ap₂ (λ a b. a && b) (ends_live settings before n built i home (ap (λ k. lives_at k groups) (sym same) ∙ lives_busy g groups (h.busy e g begun at)))
+            out same = ap₂ (λ a b. a && b) (ap₂ (λ a b. a && b) (ends_live settings before n ends i home (ap (λ k. lives_at k groups) (sym same) ∙ lives_busy g groups (h.busy e g begun at)))
                 (ap (λ o. option_map_or (λ k. is_home k (home_of settings e before)) o false) home ∙ (ap (is_home i) (at ∙ ap (λ k. Some k) same) ∙ same_number i))) begun
 
-    lost_up : (g s : ℕ) → lives_at g (groups_lose settings before n (house_of settings before)) ≡ true → start_of g before ≡ Some s → is_up (if nat_eq n s then record { stage = Ended; started = (life_of s before).started } else life_of s before).stage ≡ true
-    lost_up g s live at = by_start (nat_eq n s) (record { stage = Ended; started = (life_of s before).started }) (life_of s before)
-        (λ same. never (sym kept ∙ lost_over settings before n g (ap (λ k. group_of k before) (number_same n s same) ∙ (h.last g s at).0))) (λ other. h.up g s (lost_lived settings before n g kept) at)
+    lost_busy : (e g : ℕ) → (ends_with settings before n e && is_begun (desk_of e before).phase) ≡ false → is_begun (desk_of e before).phase ≡ true → home_of settings e before ≡ Some g → is_busy_at g (groups_lose settings before n (house_of settings before)) ≡ true
+    lost_busy e g rest begun at = go (begins_again settings before n) refl
       where
-        kept : lives_at g (groups_lost settings before n) ≡ true
-        kept = ap (lives_at g) (sym (lost_is settings before n built)) ∙ live
+        go : (b : Bool) → begins_again settings before n ≡ b → is_busy_at g (groups_lose settings before n (house_of settings before)) ≡ true
+        go true again = renewed_busy settings before n (renews_parts settings before n again) g (h.busy e g begun at)
+        go false last = ended_busy (ap not last) e g rest begun at
 
-    failed : Mostly settings (is_put_out settings before (StartFailed n)) (with_cause before (StartFailed n))
-    failed = most_words settings (is_put_out settings before (StartFailed n)) before (heard (StartFailed n)) h.unplaced lost_busy h.last lost_up
+    lost_up : (g s : ℕ) → nat_eq n s ≡ false → lives_at g (groups_lose settings before n (house_of settings before)) ≡ true → start_of g before ≡ Some s → is_up (if nat_eq n s then record { stage = Ended; started = (life_of s before).started } else life_of s before).stage ≡ true
+    lost_up g s apart live at = ap (λ b. is_up (if b then record { stage = Ended; started = (life_of s before).started } else life_of s before).stage) apart ∙ h.up g s (lose_lived settings before n g live) at
 
-    exited : Mostly settings (is_put_out settings before (ServerGone n)) (with_cause before (ServerGone n))
-    exited = most_words settings (is_put_out settings before (ServerGone n)) before (heard (ServerGone n)) h.unplaced lost_busy h.last lost_up
+    failed : Mostly settings (is_put_out settings before (StartFailed n)) (is_exit (StartFailed n)) (with_cause before (StartFailed n))
+    failed = most_words settings (is_put_out settings before (StartFailed n)) (is_exit (StartFailed n)) before (heard (StartFailed n)) h.unplaced lost_busy h.last lost_up
 
-took : (settings : Settings) (before : List Event) (cause : Cause) → fits_behind before cause ≡ true → built_behind settings before cause ≡ true → Editors before → Editors (with_cause before cause) → Begun settings before → Lively settings before
-    → Mostly settings (is_put_out settings before cause) (with_cause before cause)
-took settings before (Joined n) fits built absent after begun h = mostly settings _ _ (joined settings before h n fits absent)
-took settings before (Drained n k) fits built absent after begun h = mostly settings _ _ (drained settings before h n k)
-took settings before (Started n) fits built absent after begun h = mostly settings _ _ (began settings before h n)
-took settings before (EditorGone n why) fits built absent after begun h = mostly settings _ _ (gone settings before h n why after)
-took settings before (FromServer n body) fits built absent after begun h = said_by settings before h n body
-took settings before (FromEditor n body) fits built absent after begun h = go (places (desk_of n before).phase (message_of body)) (stops before n (message_of body)) refl refl
+    exited : Mostly settings (is_put_out settings before (ServerGone n)) (is_exit (ServerGone n)) (with_cause before (ServerGone n))
+    exited = most_words settings (is_put_out settings before (ServerGone n)) (is_exit (ServerGone n)) before (heard (ServerGone n)) h.unplaced lost_busy h.last lost_up
+
+took : (settings : Settings) (before : List Event) (cause : Cause) → fits_behind before cause ≡ true → Editors before → Editors (with_cause before cause) → Begun settings before → Lively settings before
+    → Mostly settings (is_put_out settings before cause) (is_exit cause) (with_cause before cause)
+took settings before (Joined n) fits absent after begun h = mostly settings _ _ _ (joined settings before h n fits absent)
+took settings before (Drained n k) fits absent after begun h = mostly settings _ _ _ (drained settings before h n k)
+took settings before (Started n) fits absent after begun h = mostly settings _ _ _ (began settings before h n)
+took settings before (EditorGone n why) fits absent after begun h = mostly settings _ _ _ (gone settings before h n why after)
+took settings before (FromServer n body) fits absent after begun h = said_by settings before h n body
+took settings before (FromEditor n body) fits absent after begun h = go (places (desk_of n before).phase (message_of body)) (stops before n (message_of body)) refl refl
   where
-    go : (b c : Bool) → places (desk_of n before).phase (message_of body) ≡ b → stops before n (message_of body) ≡ c → Mostly settings (is_put_out settings before (FromEditor n body)) (with_cause before (FromEditor n body))
-    go true c here stop = mostly settings _ _ (placing settings before h n body begun here)
+    go : (b c : Bool) → places (desk_of n before).phase (message_of body) ≡ b → stops before n (message_of body) ≡ c → Mostly settings (is_put_out settings before (FromEditor n body)) (is_exit (FromEditor n body)) (with_cause before (FromEditor n body))
+    go true c here stop = mostly settings _ _ _ (placing settings before h n body begun here)
     go false true off stop = stopped_by settings before h n body off stop
-    go false false off on = mostly settings _ _ (heard_on settings before h n body off on)
-took settings before (StartFailed n) fits built absent after begun h = failed settings before h n built
-took settings before (ServerGone n) fits built absent after begun h = exited settings before h n built
-took settings before (Tick t) fits built absent after begun h = mostly settings _ _ (ticked settings before h t)
+    go false false off on = mostly settings _ _ _ (heard_on settings before h n body off on)
+took settings before (StartFailed n) fits absent after begun h = failed settings before h n
+took settings before (ServerGone n) fits absent after begun h = exited settings before h n
+took settings before (Tick t) fits absent after begun h = mostly settings _ _ _ (ticked settings before h t)
 
 -- Outs
 
-module _ (settings : Settings) (out : ℕ → Bool) (events : List Event) (h : Mostly settings out events) where
-  told : (n : ℕ) (body : List ℕ) → Mostly settings out (events ++ said (ToEditor n body) ∷ [])
-  told n body = most_words settings out events (said (ToEditor n body)) (λ e. unplaced e (nat_eq n e)) (λ e g rest. busy e g rest (nat_eq n e)) h.last h.up
+module _ (settings : Settings) (out over : ℕ → Bool) (events : List Event) (h : Mostly settings out over events) where
+  told : (n : ℕ) (body : List ℕ) → Mostly settings out over (events ++ said (ToEditor n body) ∷ [])
+  told n body = most_words settings out over events (said (ToEditor n body)) (λ e. unplaced e (nat_eq n e)) (λ e g rest. busy e g rest (nat_eq n e)) h.last h.up
     where
       unplaced : (e : ℕ) (b : Bool) → is_unplaced (if b then record { phase = phase_told (desk_of e events).phase (desk_of e events).initialize (message_of body); initialize = (desk_of e events).initialize } else desk_of e events).phase ≡ true → home_of settings e events ≡ None
       unplaced e true k = h.unplaced e (unplaced_told (desk_of e events).phase (desk_of e events).initialize (message_of body) k)
@@ -414,9 +421,9 @@ module _ (settings : Settings) (out : ℕ → Bool) (events : List Event) (h : M
       busy e g rest true k at = h.busy e g rest (begun_told (desk_of e events).phase (desk_of e events).initialize (message_of body) k) at
       busy e g rest false k at = h.busy e g rest k at
 
-  closes : (n : ℕ) → Editors (events ++ said (CloseEditor n) ∷ []) → Mostly settings out (events ++ said (CloseEditor n) ∷ [])
-  closes n absent = most_words settings out events (said (CloseEditor n)) (λ e. unplaced e (nat_eq n e)) (λ e g rest. busy e g rest (nat_eq n e) refl) h.last
-      (λ g s live at. h.up g s (lives_emptied (home_of settings n events) _ _ _ g (groups_of settings events) live) at)
+  closes : (n : ℕ) → Editors (events ++ said (CloseEditor n) ∷ []) → Mostly settings out over (events ++ said (CloseEditor n) ∷ [])
+  closes n absent = most_words settings out over events (said (CloseEditor n)) (λ e. unplaced e (nat_eq n e)) (λ e g rest. busy e g rest (nat_eq n e) refl) h.last
+      (λ g s rest live at. h.up g s rest (lives_emptied (home_of settings n events) _ _ _ g (groups_of settings events) live) at)
     where
       unplaced : (e : ℕ) (b : Bool) → is_unplaced (if b then record { phase = phase_closed (desk_of e events).phase; initialize = (desk_of e events).initialize } else desk_of e events).phase ≡ true → home_of settings e events ≡ None
       unplaced e true k = never (sym k ∙ unplaced_closed (desk_of e events).phase)
@@ -429,8 +436,8 @@ module _ (settings : Settings) (out : ℕ → Bool) (events : List Event) (h : M
           (still_has (house_of settings events).home (events ++ said (CloseEditor n) ∷ []) e g absent (ap (λ (d : Desk). is_begun d.phase) (desk_more e events (said (CloseEditor n)))
           ∙ (ap (λ b. is_begun (if b then record { phase = phase_closed (desk_of e events).phase; initialize = (desk_of e events).initialize } else desk_of e events).phase) other ∙ k)) at) (h.busy e g rest k at)
 
-  spawned : (g : ℕ) → Mostly settings out (events ++ said (Spawn (starts_of events) g) ∷ [])
-  spawned g = most_words settings out events (said (Spawn (starts_of events) g)) h.unplaced h.busy (λ i s. last i s (nat_eq g i) refl) (λ i s live. up i s live (nat_eq g i) refl)
+  spawned : (g : ℕ) → Mostly settings out over (events ++ said (Spawn (starts_of events) g) ∷ [])
+  spawned g = most_words settings out over events (said (Spawn (starts_of events) g)) h.unplaced h.busy (λ i s. last i s (nat_eq g i) refl) (λ i s rest live. up i s rest live (nat_eq g i) refl)
     where
       n : ℕ
       n = starts_of events
@@ -446,10 +453,10 @@ module _ (settings : Settings) (out : ℕ → Bool) (events : List Event) (h : M
           apart true same below = absurd (let is : starts_of events ≡ s = number_same (starts_of events) s same in omega (arith, is, below))
           apart false same below = refl
 
-      up : (i s : ℕ) → lives_at i (groups_of settings events) ≡ true → (b : Bool) → nat_eq g i ≡ b → (if b then Some (starts_of events) else start_of i events) ≡ Some s
+      up : (i s : ℕ) → over s ≡ false → lives_at i (groups_of settings events) ≡ true → (b : Bool) → nat_eq g i ≡ b → (if b then Some (starts_of events) else start_of i events) ≡ Some s
           → is_up (if nat_eq (starts_of events) s then record { stage = Spawning; started = false } else life_of s events).stage ≡ true
-      up i s live true same at = let is : starts_of events ≡ s = cc in ap (λ b. is_up (if b then record { stage = Spawning; started = false } else life_of s events).stage) (subst (λ k. nat_eq (starts_of events) k ≡ true) is (same_number (starts_of events)))
-      up i s live false other at = by_start (nat_eq (starts_of events) s) (record { stage = Spawning; started = false }) (life_of s events) (λ same. refl) (λ apart. h.up i s live at)
+      up i s rest live true same at = let is : starts_of events ≡ s = cc in ap (λ b. is_up (if b then record { stage = Spawning; started = false } else life_of s events).stage) (subst (λ k. nat_eq (starts_of events) k ≡ true) is (same_number (starts_of events)))
+      up i s rest live false other at = by_start (nat_eq (starts_of events) s) (record { stage = Spawning; started = false }) (life_of s events) (λ same. refl) (λ apart. h.up i s rest live at)
 
   -- a start that ends is the last one of no group that lives
   dies : (n g : ℕ) → IsDying settings events n → lives_at g (groups_of settings events) ≡ true → start_of g events ≡ Some n → ⊥
@@ -461,23 +468,24 @@ module _ (settings : Settings) (out : ℕ → Bool) (events : List Event) (h : M
       same : g ≡ k.group
       same = the (sym (h.last g n at).0 ∙ (h.last k.group n k.last).0)
 
-  ends : (n : ℕ) → WhyEnd settings events n → Mostly settings out (events ++ said (EndServer n) ∷ [])
-  ends n why = most_words settings out events (said (EndServer n)) h.unplaced h.busy h.last
-      (λ g s live at. by_start (nat_eq n s) (record { stage = stage_ending (life_of s events).stage; started = (life_of s events).started }) (life_of s events) (λ same. absurd (over why g s live at (number_same n s same))) (λ other. h.up g s live at))
+  ends : (n : ℕ) → WhyEnd settings events n → Mostly settings out over (events ++ said (EndServer n) ∷ [])
+  ends n why = most_words settings out over events (said (EndServer n)) h.unplaced h.busy h.last
+      (λ g s rest live at. by_start (nat_eq n s) (record { stage = stage_ending (life_of s events).stage; started = (life_of s events).started }) (life_of s events) (λ same. absurd (ends_none why g s rest live at (number_same n s same))) (λ other. h.up g s rest live at))
     where
-      over : WhyEnd settings events n → (g s : ℕ) → lives_at g (groups_of settings events) ≡ true → start_of g events ≡ Some s → n ≡ s → ⊥
-      over (starting early dying) g s live at same = dies n g dying live (at ∙ ap (λ k. Some k) (sym same))
-      over (refused early left) g s live at same = never (sym live ∙ left_over settings events n left g (ap (λ k. group_of k events) same ∙ (h.last g s at).0))
-      over (stopped stopping) g s live at same = never (sym (h.up g s live at) ∙ (ap (λ k. is_up (life_of k events).stage) (sym same) ∙ ap is_up stopping))
+      ends_none : WhyEnd settings events n → (g s : ℕ) → over s ≡ false → lives_at g (groups_of settings events) ≡ true → start_of g events ≡ Some s → n ≡ s → ⊥
+      ends_none (starting early dying) g s rest live at same = dies n g dying live (at ∙ ap (λ k. Some k) (sym same))
+      ends_none (refused early left) g s rest live at same = never (sym live ∙ left_over settings events n left g (ap (λ k. group_of k events) same ∙ (h.last g s at).0))
+      ends_none (stopped stopping) g s rest live at same = never (sym (h.up g s rest live at) ∙ (ap (λ k. is_up (life_of k events).stage) (sym same) ∙ ap is_up stopping))
 
-  sends : (n : ℕ) (body : List ℕ) → ((g s : ℕ) → n ≡ s → lives_at g (groups_of settings events) ≡ true → start_of g events ≡ Some s → requests (codes "shutdown") (message_of body) ≡ false) → Mostly settings out (events ++ said (ToServer n body) ∷ [])
-  sends n body other = most_words settings out events (said (ToServer n body)) h.unplaced h.busy h.last
-      (λ g s live at. by_start (nat_eq n s) (record { stage = stage_told (life_of s events).stage (message_of body); started = (life_of s events).started }) (life_of s events)
-      (λ same. up_told (life_of s events).stage (message_of body) (other g s (number_same n s same) live at) (h.up g s live at)) (λ apart. h.up g s live at))
+  sends : (n : ℕ) (body : List ℕ) → ((g s : ℕ) → n ≡ s → lives_at g (groups_of settings events) ≡ true → start_of g events ≡ Some s → requests (codes "shutdown") (message_of body) ≡ false) → Mostly settings out over (events ++ said (ToServer n body) ∷ [])
+  sends n body other = most_words settings out over events (said (ToServer n body)) h.unplaced h.busy h.last
+      (λ g s rest live at. by_start (nat_eq n s) (record { stage = stage_told (life_of s events).stage (message_of body); started = (life_of s events).started }) (life_of s events)
+      (λ same. up_told (life_of s events).stage (message_of body) (other g s (number_same n s same) live at) (h.up g s rest live at)) (λ apart. h.up g s rest live at))
 
-  sent : (before : List Event) (cause : Cause) (n : ℕ) (body : List ℕ) → WhyToServer settings before cause events n body → Mostly settings out (events ++ said (ToServer n body) ∷ [])
+  sent : (before : List Event) (cause : Cause) (n : ℕ) (body : List ℕ) → WhyToServer settings before cause events n body → Mostly settings out over (events ++ said (ToServer n body) ∷ [])
   sent before cause n body (begins k) = sends n body (λ g s same live at. ap (requests (codes "shutdown")) k.says)
   sent before cause n body (greets k) = sends n body (λ g s same live at. ap (requests (codes "shutdown")) k.says)
+  sent before cause n body (conveys k) = sends n body (λ g s same live at. ap (requests (codes "shutdown")) k.says)
   sent before cause n body (forwarded k) = sends n body (λ g s same live at. ap (requests (codes "shutdown")) k.says ∙ no_shutdown k.method k.other)
   sent before cause n body (notes k) = sends n body (λ g s same live at. ap (requests (codes "shutdown")) k.says)
   sent before cause n body (tells k) = sends n body (λ g s same live at. let x : Spoken (message_of body) = spoken (message_of body) k.spoken in ap (requests (codes "shutdown")) x.is)
@@ -488,35 +496,40 @@ module _ (settings : Settings) (out : ℕ → Bool) (events : List Event) (h : M
   sent before cause n body (exits k) = sends n body (λ g s same live at. ap (requests (codes "shutdown")) k.says)
   sent before cause n body (shuts k) = sends n body (λ g s same live at. absurd (dies n g k.dying live (at ∙ ap (λ i. Some i) (sym same))))
 
-  did : (before : List Event) (cause : Cause) (x : Out) → Why settings before cause events x → Editors (events ++ said x ∷ []) → Mostly settings out (events ++ said x ∷ [])
+  did : (before : List Event) (cause : Cause) (x : Out) → Why settings before cause events x → Editors (events ++ said x ∷ []) → Mostly settings out over (events ++ said x ∷ [])
   did before cause (ToEditor n body) why absent = told n body
   did before cause (ToServer n body) why absent = sent before cause n body why
   did before cause (CloseEditor n) why absent = closes n absent
   did before cause (EndServer n) why absent = ends n why
-  did before cause (Spawn s g) why absent = subst (λ k. Mostly settings out (events ++ said (Spawn k g) ∷ [])) (sym why.0) (spawned g)
+  did before cause (Spawn s g) why absent = subst (λ k. Mostly settings out over (events ++ said (Spawn k g) ∷ [])) (sym why.0) (spawned g)
 
 -- A whole entry
 
-module _ (settings : Settings) (range : InRange settings) (before : List Event) (facts : Facts settings before) (begun : Begun settings before) (h : Lively settings before) where
+module _ (settings : Settings) (range : InRange settings) (before : List Event) (facts : Facts settings before) (begun : Begun settings before) (h : Lively settings before) (lasts : AllLast before) where
   -- what is known at a place of it
   record At (cause : Cause) (events : List Event) : Type 0 where
     here : Here settings before cause events
-    lively : Mostly settings (is_put_out settings before cause) events
+    lively : Mostly settings (is_put_out settings before cause) (is_exit cause) events
 
-  pub lively_rests : (cause : Cause) → fits_behind before cause ≡ true → built_behind settings before cause ≡ true → Lively settings (behind (with_cause before cause) (outs_of settings before cause))
-  lively_rests cause fits built =
-      let first : Here settings before cause (with_cause before cause) = here_took settings range before cause fits built facts in
+  pub lively_rests : (cause : Cause) → fits_behind before cause ≡ true → Lively settings (behind (with_cause before cause) (outs_of settings before cause))
+  lively_rests cause fits =
+      let first : Here settings before cause (with_cause before cause) = here_took settings range before cause fits facts in
       let last : At cause (behind (with_cause before cause) (outs_of settings before cause)) = reasons_keep (λ events out. Why settings before cause events out) (At cause)
-      (λ events out why i. let next : Here settings before cause (events ++ said out ∷ []) = here_did settings range before cause facts built events out why i.here in
-      record { here = next; lively = did settings (is_put_out settings before cause) events i.lively before cause out why ((next.mid).steady).editors })
-      (with_cause before cause) (outs_of settings before cause) (reasons settings range before facts cause built).why
-      (record { here = first; lively = took settings before cause fits built (facts.steady).editors ((first.mid).steady).editors begun h }) in
-      all_lively cause last.lively
+      (λ events out why i. let next : Here settings before cause (events ++ said out ∷ []) = here_did settings range before cause facts events out why i.here in
+      record { here = next; lively = did settings (is_put_out settings before cause) (is_exit cause) events i.lively before cause out why ((next.mid).steady).editors })
+      (with_cause before cause) (outs_of settings before cause) (reasons settings range before facts cause).why
+      (record { here = first; lively = took settings before cause fits (facts.steady).editors ((first.mid).steady).editors begun h }) in
+      all_lively cause fits last.lively
     where
       -- those that were left out are in no group any more
-      all_lively : (cause : Cause) → Mostly settings (is_put_out settings before cause) (behind (with_cause before cause) (outs_of settings before cause)) → Lively settings (behind (with_cause before cause) (outs_of settings before cause))
-      all_lively cause k = record { unplaced = k.unplaced; busy = λ e g. busy e g (is_put_out settings before cause e) refl; last = k.last; up = k.up }
+      all_lively : (cause : Cause) → fits_behind before cause ≡ true → Mostly settings (is_put_out settings before cause) (is_exit cause) (behind (with_cause before cause) (outs_of settings before cause)) → Lively settings (behind (with_cause before cause) (outs_of settings before cause))
+      all_lively cause fits k = record { unplaced = k.unplaced; busy = λ e g. busy e g (is_put_out settings before cause e) refl; last = k.last; up = λ g s. up g s (is_exit cause s) refl }
         where
+          up : (g s : ℕ) (b : Bool) → is_exit cause s ≡ b → lives_at g (groups_of settings (behind (with_cause before cause) (outs_of settings before cause))) ≡ true → start_of g (behind (with_cause before cause) (outs_of settings before cause)) ≡ Some s
+              → is_up (life_of s (behind (with_cause before cause) (outs_of settings before cause))).stage ≡ true
+          up g s false goes_on live at = k.up g s goes_on live at
+          up g s true is live at = absurd (over_last settings before cause begun fits lasts h.last g s is at (sym (lives_outs settings g (with_cause before cause) (outs_of settings before cause)) ∙ live))
+
           busy : (e g : ℕ) (b : Bool) → is_put_out settings before cause e ≡ b → is_begun (desk_of e (behind (with_cause before cause) (outs_of settings before cause))).phase ≡ true
               → home_of settings e (behind (with_cause before cause) (outs_of settings before cause)) ≡ Some g → is_busy_at g (groups_of settings (behind (with_cause before cause) (outs_of settings before cause))) ≡ true
           busy e g false rest begun at = k.busy e g rest begun at
@@ -530,16 +543,16 @@ module _ (settings : Settings) (range : InRange settings) (place : List Event) (
 
   record AtSlow (events : List Event) : Type 0 where
     here : Here settings place (quitting e) events
-    lively : Mostly settings none_out events
+    lively : Mostly settings none_out none_out events
 
   slow_did : (events : List Event) (out : Out) → Why settings place (quitting e) events out → AtSlow events → AtSlow (events ++ said out ∷ [])
-  slow_did events out why i = let next : Here settings place (quitting e) (events ++ said out ∷ []) = here_did settings range place (quitting e) facts (quit_built settings place e) events out why i.here in
-      record { here = next; lively = did settings none_out events i.lively place (quitting e) out why ((next.mid).steady).editors }
+  slow_did events out why i = let next : Here settings place (quitting e) (events ++ said out ∷ []) = here_did settings range place (quitting e) facts events out why i.here in
+      record { here = next; lively = did settings none_out none_out events i.lively place (quitting e) out why ((next.mid).steady).editors }
 
   pub lively_slow : Lively settings place → Lively settings (behind place (parting settings place e))
   lively_slow h = let last : AtSlow (behind place (parting settings place e)) = reasons_keep (Why settings place (quitting e)) AtSlow slow_did place (parting settings place e) (parting_why settings range place facts e slow)
-      (record { here = here_slow settings range place e facts; lively = mostly settings none_out place h }) in
-      record { unplaced = (last.lively).unplaced; busy = λ n g. (last.lively).busy n g refl; last = (last.lively).last; up = (last.lively).up }
+      (record { here = here_slow settings range place e facts; lively = mostly settings none_out none_out place h }) in
+      record { unplaced = (last.lively).unplaced; busy = λ n g. (last.lively).busy n g refl; last = (last.lively).last; up = λ g s. (last.lively).up g s refl }
 
 pub no_lively : (settings : Settings) → Lively settings []
 no_lively settings = record { unplaced = λ e h. refl; busy = λ e g h at. absurd (cc); last = λ g s at. absurd (cc); up = λ g s live at. absurd (cc) }

@@ -33,7 +33,7 @@ use Rattle.group_facts.specs.Facts.{IsAlone, IsWaiting, is_early}
 use Rattle.group_facts.specs.Lively.{lives_at}
 use Rattle.group_rows.specs.Tokens.{forwarded_text}
 use Rattle.group_facts.proofs.Quits.{running_stops}
-use Rattle.group_facts.specs.Why.{IsBehindSync, IsBeside, IsQuestion, Showing, Telling, Turn, Why, WhyToEditor, WhyToServer, answers, asks, asks_something, begins, cancels, exits, forwarded, greeted, greets, is_uncancelled, notes, of_held, of_request, of_token, passes, recalls, refuses, calls, rejects, resolves, responds, resumes, shuts, spreads, stays, tells, turns_away, versions_at, welcomes, cancels_work, progresses, begins_by, comes, opened_by, shows, loses, winds_up}
+use Rattle.group_facts.specs.Why.{IsBehindSync, IsBeside, IsQuestion, Showing, Telling, Turn, Why, WhyToEditor, WhyToServer, answers, asks, asks_something, begins, cancels, exits, forwarded, greeted, greets, conveys, is_uncancelled, notes, of_held, of_request, of_token, passes, recalls, refuses, calls, rejects, resolves, responds, resumes, shuts, spreads, stays, tells, turns_away, versions_at, welcomes, cancels_work, progresses, begins_by, comes, opened_by, shows, loses, winds_up}
 use Rattle.group_rows.proofs.Versions.{AllMeant, meant_heard, meant_more}
 use Rattle.group_facts.proofs.Same.{IsBody, Same, same_agreement, same_behind, same_held, same_questions, same_version}
 use Rattle.group_facts.proofs.Shown.{meant_behind}
@@ -110,6 +110,7 @@ module _ (settings : Settings) (before : List Event) (e : ℕ) (body : List ℕ)
     server_moved : (s : ℕ) (b : List ℕ) → WhyToServer settings before cause x s b → WhyToServer settings before cause y s b
     server_moved s b (begins k) = absurd (let clash : FromEditor e body ≡ Started s = k.from in cc)
     server_moved s b (greets k) = absurd (let clash : FromEditor e body ≡ FromServer s k.answer = k.from in cc)
+    server_moved s b (conveys k) = absurd (let clash : FromEditor e body ≡ FromServer s k.answer = k.from in cc)
     server_moved s b (exits k) = absurd (let clash : FromEditor e body ≡ FromServer s k.answer = k.from in cc)
     server_moved s b (forwarded k) = forwarded (record {
       sender = k.sender;

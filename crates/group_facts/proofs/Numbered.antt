@@ -30,9 +30,8 @@ use Rattle.group_words.specs.Rows.{initialize_of}
 use Rattle.group_rows.specs.Forwarded.{Forwarding, forwarding_of, numbered}
 use Rattle.mux_facts.specs.Allowed.{is_response}
 use Rattle.group_rows.specs.Rows.{outs_of, started}
-use Rattle.group_facts.specs.Built.{built_behind}
 use Rattle.group_facts.specs.Facts.{Housed, IsHoused, IsWritten, Unbegun, Written}
-use Rattle.group_facts.specs.Why.{IsForward, WhyToServer, begins, greets, forwarded, notes, tells, shuts, cancels, responds, IsShutting, exits, resolves, cancels_work}
+use Rattle.group_facts.specs.Why.{IsForward, WhyToServer, begins, greets, conveys, forwarded, notes, tells, shuts, cancels, responds, IsShutting, exits, resolves, cancels_work}
 use Rattle.group_facts.proofs.Forwards.{get_all}
 use Rattle.group_facts.proofs.Facts.{AllTied, OthersTied, Tied, TiedAt, begins_now}
 use Rattle.group_facts.proofs.Forwards.{notified_next}
@@ -57,24 +56,23 @@ if_life true x y a f h k = h
 if_life false x y a f h k = k
 
 -- a start that ended has nothing to tie
-tied_end : (settings : Settings) (events : List Event) (cause : Cause) (s : ℕ) (b : Bool) → built_behind settings events cause ≡ true
-    → (life_of s (with_cause events cause)).stage ≡ (if b then record { stage = Ended; started = (life_of s events).started } else life_of s events).stage → (b ≡ false → ends_now cause s ≡ false) → Tied events s → Tied (with_cause events cause) s
-tied_end settings events cause s true built life on h = subst (λ z. TiedAt z (next_number s (with_cause events cause)) (forwarding_of s (with_cause events cause)).next) (sym life) tt
-tied_end settings events cause s false built life on h = tied_by s events (with_cause events cause) (life_of s events).stage life (number_heard s events cause) (forwarding_heard settings s events cause built (on refl)) h
+tied_end : (settings : Settings) (events : List Event) (cause : Cause) (s : ℕ) (b : Bool) → (life_of s (with_cause events cause)).stage ≡ (if b then record { stage = Ended; started = (life_of s events).started } else life_of s events).stage → (b ≡ false → ends_now cause s ≡ false) → Tied events s → Tied (with_cause events cause) s
+tied_end settings events cause s true life on h = subst (λ z. TiedAt z (next_number s (with_cause events cause)) (forwarding_of s (with_cause events cause)).next) (sym life) tt
+tied_end settings events cause s false life on h = tied_by s events (with_cause events cause) (life_of s events).stage life (number_heard s events cause) (forwarding_heard settings s events cause (on refl)) h
 
-pub tied_took : (settings : Settings) (events : List Event) (cause : Cause) → built_behind settings events cause ≡ true → AllTied events → OthersTied cause (with_cause events cause)
-tied_took settings events (Joined e) built h = λ s rest. tied_by s events (with_cause events (Joined e)) (life_of s events).stage (ap (λ (l : Life). l.stage) (life_more s events (heard (Joined e)))) (number_heard s events (Joined e)) (forwarding_heard settings s events (Joined e) built refl) (h s)
-tied_took settings events (FromEditor e body) built h = λ s rest. tied_by s events (with_cause events (FromEditor e body)) (life_of s events).stage (ap (λ (l : Life). l.stage) (life_more s events (heard (FromEditor e body)))) (number_heard s events (FromEditor e body)) (forwarding_heard settings s events (FromEditor e body) built refl) (h s)
-tied_took settings events (Started n) built h = λ s rest. tied_by s events (with_cause events (Started n)) (life_of s events).stage
-    (ap (λ (l : Life). l.stage) (life_more s events (heard (Started n))) ∙ ap (λ b. (if b then record { stage = stage_started (life_of s events).stage; started = true } else life_of s events).stage) rest) (number_heard s events (Started n)) (forwarding_heard settings s events (Started n) built refl) (h s)
-tied_took settings events (FromServer n body) built h = λ s rest. tied_by s events (with_cause events (FromServer n body)) _ (ap (λ (l : Life). l.stage) (life_more s events (heard (FromServer n body)))) (number_heard s events (FromServer n body)) (forwarding_heard settings s events (FromServer n body) built refl)
+pub tied_took : (settings : Settings) (events : List Event) (cause : Cause) → AllTied events → OthersTied cause (with_cause events cause)
+tied_took settings events (Joined e) h = λ s rest. tied_by s events (with_cause events (Joined e)) (life_of s events).stage (ap (λ (l : Life). l.stage) (life_more s events (heard (Joined e)))) (number_heard s events (Joined e)) (forwarding_heard settings s events (Joined e) refl) (h s)
+tied_took settings events (FromEditor e body) h = λ s rest. tied_by s events (with_cause events (FromEditor e body)) (life_of s events).stage (ap (λ (l : Life). l.stage) (life_more s events (heard (FromEditor e body)))) (number_heard s events (FromEditor e body)) (forwarding_heard settings s events (FromEditor e body) refl) (h s)
+tied_took settings events (Started n) h = λ s rest. tied_by s events (with_cause events (Started n)) (life_of s events).stage
+    (ap (λ (l : Life). l.stage) (life_more s events (heard (Started n))) ∙ ap (λ b. (if b then record { stage = stage_started (life_of s events).stage; started = true } else life_of s events).stage) rest) (number_heard s events (Started n)) (forwarding_heard settings s events (Started n) refl) (h s)
+tied_took settings events (FromServer n body) h = λ s rest. tied_by s events (with_cause events (FromServer n body)) _ (ap (λ (l : Life). l.stage) (life_more s events (heard (FromServer n body)))) (number_heard s events (FromServer n body)) (forwarding_heard settings s events (FromServer n body) refl)
     (if_life (nat_eq n s) (record { stage = stage_hears (life_of s events).stage (message_of body); started = (life_of s events).started }) (life_of s events) (next_number s events) (forwarding_of s events).next
     (heard_first (life_of s events).stage (message_of body) (next_number s events) (forwarding_of s events).next (h s)) (h s))
-tied_took settings events (Drained e k) built h = λ s rest. tied_by s events (with_cause events (Drained e k)) (life_of s events).stage (ap (λ (l : Life). l.stage) (life_more s events (heard (Drained e k)))) (number_heard s events (Drained e k)) (forwarding_heard settings s events (Drained e k) built refl) (h s)
-tied_took settings events (Tick t) built h = λ s rest. tied_by s events (with_cause events (Tick t)) (life_of s events).stage (ap (λ (l : Life). l.stage) (life_more s events (heard (Tick t)))) (number_heard s events (Tick t)) (forwarding_heard settings s events (Tick t) built refl) (h s)
-tied_took settings events (EditorGone e why) built h = λ s rest. tied_by s events (with_cause events (EditorGone e why)) (life_of s events).stage (ap (λ (l : Life). l.stage) (life_more s events (heard (EditorGone e why)))) (number_heard s events (EditorGone e why)) (forwarding_heard settings s events (EditorGone e why) built refl) (h s)
-tied_took settings events (StartFailed n) built h = λ s rest. tied_end settings events (StartFailed n) s (nat_eq n s) built (ap (λ (l : Life). l.stage) (life_more s events (heard (StartFailed n)))) (λ on. on) (h s)
-tied_took settings events (ServerGone n) built h = λ s rest. tied_end settings events (ServerGone n) s (nat_eq n s) built (ap (λ (l : Life). l.stage) (life_more s events (heard (ServerGone n)))) (λ on. on) (h s)
+tied_took settings events (Drained e k) h = λ s rest. tied_by s events (with_cause events (Drained e k)) (life_of s events).stage (ap (λ (l : Life). l.stage) (life_more s events (heard (Drained e k)))) (number_heard s events (Drained e k)) (forwarding_heard settings s events (Drained e k) refl) (h s)
+tied_took settings events (Tick t) h = λ s rest. tied_by s events (with_cause events (Tick t)) (life_of s events).stage (ap (λ (l : Life). l.stage) (life_more s events (heard (Tick t)))) (number_heard s events (Tick t)) (forwarding_heard settings s events (Tick t) refl) (h s)
+tied_took settings events (EditorGone e why) h = λ s rest. tied_by s events (with_cause events (EditorGone e why)) (life_of s events).stage (ap (λ (l : Life). l.stage) (life_more s events (heard (EditorGone e why)))) (number_heard s events (EditorGone e why)) (forwarding_heard settings s events (EditorGone e why) refl) (h s)
+tied_took settings events (StartFailed n) h = λ s rest. tied_end settings events (StartFailed n) s (nat_eq n s) (ap (λ (l : Life). l.stage) (life_more s events (heard (StartFailed n)))) (λ on. on) (h s)
+tied_took settings events (ServerGone n) h = λ s rest. tied_end settings events (ServerGone n) s (nat_eq n s) (ap (λ (l : Life). l.stage) (life_more s events (heard (ServerGone n)))) (λ on. on) (h s)
 
 -- A body to a start
 
@@ -134,6 +132,7 @@ module _ (settings : Settings) (cause : Cause) (events : List Event) (n : ℕ) (
     one_tied : WhyToServer settings before cause events n body → Later n
     one_tied (begins k) rest h = never (sym (ap (λ c. begins_now c n) k.from ∙ same_number n) ∙ rest)
     one_tied (greets k) rest h = notified (codes "initialized") k.params Ready k.says k.ready refl rest h
+    one_tied (conveys k) rest h = notified (codes "workspace/didChangeConfiguration") k.params Ready k.says k.ready refl rest h
     one_tied (forwarded k) rest h = goes k h
     one_tied (notes k) rest h = notified k.method k.params Ready k.says k.ready refl rest h
     one_tied (tells k) rest h = let m : Spoken (message_of body) = spoken (message_of body) k.spoken in notified m.method m.params Ready m.is k.ready refl rest h
@@ -193,7 +192,7 @@ module _ (settings : Settings) (before : List Event) (n : ℕ) where
       let a : next_number n end ≡ next_number n now + 1 = (number_sent now n (initialize_of x) m k.says) in
       let f : (forwarding_of n end).next ≡ (forwarding_of n now).next = ap (λ (z : Forwarding). z.next) (forwarding_sent now n (initialize_of x) m k.says) in
       subst (λ z. TiedAt z (next_number n end) (forwarding_of n end).next) (sym stage)
-      (a ∙ ap (λ z. z + 1) (number_heard n before (Started n) ∙ none.0), f ∙ forwarding_heard settings n before (Started n) refl refl ∙ none.1)
+      (a ∙ ap (λ z. z + 1) (number_heard n before (Started n) ∙ none.0), f ∙ forwarding_heard settings n before (Started n) refl ∙ none.1)
 
   -- a start that is spawned has a group
   spawned : Starts before → (life_of n before).stage ≡ Spawning → n < starts_of before

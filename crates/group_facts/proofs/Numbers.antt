@@ -24,12 +24,11 @@ use Rattle.mux_facts.proofs.Starts.{Starts}
 use Rattle.mux_facts.proofs.Tellings.{sent_more}
 use Rattle.mux_facts.proofs.Words.{number_same, same_number}
 use Rattle.group_rows.specs.Forwarded.{Forwarding, forwarding_of, forwards, no_forwarding, numbered}
-use Rattle.group_facts.specs.Built.{built_behind}
 use Rattle.group_facts.specs.Facts.{Bounded, Unbegun, Untold, is_unready, is_up}
 use Rattle.group_facts.proofs.Facts.{Facts}
 use Rattle.group_facts.proofs.Forwards.{forwarding_more, notified_next}
 use Rattle.group_facts.proofs.Levels.{Fresh, Step, each_start, level_more, unbegun_falls, unready_falls, up_falls}
-use Rattle.group_facts.specs.Why.{IsBeginning, IsForward, WhyToServer, begins, greets, forwarded, notes, tells, shuts, cancels, IsReply, responds, exits, resolves, cancels_work}
+use Rattle.group_facts.specs.Why.{IsBeginning, IsForward, WhyToServer, begins, greets, conveys, forwarded, notes, tells, shuts, cancels, IsReply, responds, exits, resolves, cancels_work}
 use Rattle.mux_facts.specs.Allowed.{is_response}
 
 -- A cause leaves the numbers and the documents alone
@@ -66,16 +65,16 @@ next_left : (b : Bool) (x : Forwarding) → b ≡ false → (if b then no_forwar
 next_left true x h = never h
 next_left false x h = refl
 
-pub forwarding_heard : (settings : Settings) (s : ℕ) (events : List Event) (cause : Cause) → built_behind settings events cause ≡ true → ends_now cause s ≡ false → (forwarding_of s (with_cause events cause)).next ≡ (forwarding_of s events).next
-forwarding_heard settings s events (Joined e) built on = ap (λ (x : Forwarding). x.next) (forwarding_more s events (heard (Joined e)))
-forwarding_heard settings s events (FromEditor e body) built on = ap (λ (x : Forwarding). x.next) (forwarding_more s events (heard (FromEditor e body)))
-forwarding_heard settings s events (Started n) built on = ap (λ (x : Forwarding). x.next) (forwarding_more s events (heard (Started n)))
-forwarding_heard settings s events (FromServer n body) built on = ap (λ (x : Forwarding). x.next) (forwarding_more s events (heard (FromServer n body)))
-forwarding_heard settings s events (Drained e k) built on = ap (λ (x : Forwarding). x.next) (forwarding_more s events (heard (Drained e k)))
-forwarding_heard settings s events (Tick t) built on = ap (λ (x : Forwarding). x.next) (forwarding_more s events (heard (Tick t)))
-forwarding_heard settings s events (EditorGone e why) built on = ap (λ (x : Forwarding). x.next) (forwarding_more s events (heard (EditorGone e why)))
-forwarding_heard settings s events (StartFailed n) built on = ap (λ (x : Forwarding). x.next) (forwarding_more s events (heard (StartFailed n))) ∙ next_left (nat_eq n s) (forwarding_of s events) on
-forwarding_heard settings s events (ServerGone n) built on = ap (λ (x : Forwarding). x.next) (forwarding_more s events (heard (ServerGone n))) ∙ next_left (nat_eq n s) (forwarding_of s events) on
+pub forwarding_heard : (settings : Settings) (s : ℕ) (events : List Event) (cause : Cause) → ends_now cause s ≡ false → (forwarding_of s (with_cause events cause)).next ≡ (forwarding_of s events).next
+forwarding_heard settings s events (Joined e) on = ap (λ (x : Forwarding). x.next) (forwarding_more s events (heard (Joined e)))
+forwarding_heard settings s events (FromEditor e body) on = ap (λ (x : Forwarding). x.next) (forwarding_more s events (heard (FromEditor e body)))
+forwarding_heard settings s events (Started n) on = ap (λ (x : Forwarding). x.next) (forwarding_more s events (heard (Started n)))
+forwarding_heard settings s events (FromServer n body) on = ap (λ (x : Forwarding). x.next) (forwarding_more s events (heard (FromServer n body)))
+forwarding_heard settings s events (Drained e k) on = ap (λ (x : Forwarding). x.next) (forwarding_more s events (heard (Drained e k)))
+forwarding_heard settings s events (Tick t) on = ap (λ (x : Forwarding). x.next) (forwarding_more s events (heard (Tick t)))
+forwarding_heard settings s events (EditorGone e why) on = ap (λ (x : Forwarding). x.next) (forwarding_more s events (heard (EditorGone e why)))
+forwarding_heard settings s events (StartFailed n) on = ap (λ (x : Forwarding). x.next) (forwarding_more s events (heard (StartFailed n))) ∙ next_left (nat_eq n s) (forwarding_of s events) on
+forwarding_heard settings s events (ServerGone n) on = ap (λ (x : Forwarding). x.next) (forwarding_more s events (heard (ServerGone n))) ∙ next_left (nat_eq n s) (forwarding_of s events) on
 
 -- Bodies to a start
 
@@ -152,6 +151,7 @@ ready_or : (settings : Settings) (before : List Event) (cause : Cause) (events :
     → (IsReply before cause events s body → P) → ((life_of s events).stage ≡ Ready → P) → ((life_of s events).stage ≡ Stopping → P) → P
 ready_or settings before cause events s body P (begins k) f r g h = f k
 ready_or settings before cause events s body P (greets k) f r g h = g k.ready
+ready_or settings before cause events s body P (conveys k) f r g h = g k.ready
 ready_or settings before cause events s body P (forwarded k) f r g h = g k.ready
 ready_or settings before cause events s body P (notes k) f r g h = g k.ready
 ready_or settings before cause events s body P (tells k) f r g h = g k.ready
@@ -185,18 +185,18 @@ module _ (settings : Settings) where
   bounds_by s events later a f k = (subst (λ z. z ≤ (forwarding_of s later).next) (sym a) (subst (λ z. next_number s events ≤ z) (sym f) k.0), subst (λ z. z ≤ settings.limits.requests + 2) (sym f) k.1)
 
   -- at a cause
-  module _ (events : List Event) (cause : Cause) (built : built_behind settings events cause ≡ true) where
+  module _ (events : List Event) (cause : Cause) where
     pub unbegun_took : ((s : ℕ) → Fresh is_unbegun unbegun_falls s (life_of s events) (heard cause)) → Unbegun events → Unbegun (with_cause events cause)
-    unbegun_took fresh h = level_more is_unbegun unbegun_falls NoRequest events (heard cause) fresh (λ s was after k. (number_heard s events cause ∙ k.0, forwarding_heard settings s events cause built (goes_on is_unbegun refl s (life_of s events) cause after) ∙ k.1)) h
+    unbegun_took fresh h = level_more is_unbegun unbegun_falls NoRequest events (heard cause) fresh (λ s was after k. (number_heard s events cause ∙ k.0, forwarding_heard settings s events cause (goes_on is_unbegun refl s (life_of s events) cause after) ∙ k.1)) h
 
     pub untold_took : ((s : ℕ) → Fresh is_unready unready_falls s (life_of s events) (heard cause)) → Untold events → Untold (with_cause events cause)
     untold_took fresh h = level_more is_unready unready_falls HasNone events (heard cause) fresh (λ s was after k u. held_heard s u events cause ∙ k u) h
 
     pub bounded_took : ((s : ℕ) → Fresh is_up up_falls s (life_of s events) (heard cause)) → Bounded settings events → Bounded settings (with_cause events cause)
-    bounded_took fresh h = level_more is_up up_falls InBounds events (heard cause) fresh (λ s was after k. bounds_by s events (with_cause events cause) (number_heard s events cause) (forwarding_heard settings s events cause built (goes_on is_up refl s (life_of s events) cause after)) k) h
+    bounded_took fresh h = level_more is_up up_falls InBounds events (heard cause) fresh (λ s was after k. bounds_by s events (with_cause events cause) (number_heard s events cause) (forwarding_heard settings s events cause (goes_on is_up refl s (life_of s events) cause after)) k) h
 
   -- at a body to a start
-  module _ (before : List Event) (cause : Cause) (facts : Facts settings before) (built : built_behind settings before cause ≡ true) (events : List Event) (n : ℕ) (body : List ℕ) (why : WhyToServer settings before cause events n body) where
+  module _ (before : List Event) (cause : Cause) (facts : Facts settings before) (events : List Event) (n : ℕ) (body : List ℕ) (why : WhyToServer settings before cause events n body) where
     abbrev sent : List Event
     sent = events ++ said (ToServer n body) ∷ []
 
@@ -229,7 +229,7 @@ module _ (settings : Settings) where
         let here : events ≡ with_cause before (Started n) = b.place ∙ ap (with_cause before) b.from in
         let none : NoRequest n before = (facts.steady).unbegun n (rw b.stage refl) in
         let asked : next_number n events ≡ 1 = ap (λ z. next_number n z) here ∙ number_heard n before (Started n) ∙ none.0 in
-        let sent_on : (forwarding_of n events).next ≡ 2 = ap (λ z. (forwarding_of n z).next) here ∙ forwarding_heard settings n before (Started n) refl refl ∙ none.1 in
+        let sent_on : (forwarding_of n events).next ≡ 2 = ap (λ z. (forwarding_of n z).next) here ∙ forwarding_heard settings n before (Started n) refl ∙ none.1 in
         let a : next_number n sent ≡ next_number n events + 1 = (number_sent events n body m b.says) in
         let f : (forwarding_of n sent).next ≡ (forwarding_of n events).next = ap (λ (x : Forwarding). x.next) (forwarding_sent events n body m b.says) in
         (omega (arith, a, f, asked, sent_on), omega (arith, f, sent_on))
@@ -249,6 +249,7 @@ module _ (settings : Settings) where
     one_bounded : WhyToServer settings before cause events n body → Step is_up up_falls InBounds events (said (ToServer n body)) n
     one_bounded (begins b) was after k = opened b
     one_bounded (greets b) was after k = notified (codes "initialized") b.params b.says k
+    one_bounded (conveys b) was after k = notified (codes "workspace/didChangeConfiguration") b.params b.says k
     one_bounded (forwarded b) was after k = asked_on b k
     one_bounded (notes b) was after k = notified b.method b.params b.says k
     one_bounded (tells b) was after k = let m : Spoken (message_of body) = spoken (message_of body) b.spoken in notified m.method m.params m.is k

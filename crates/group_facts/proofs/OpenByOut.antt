@@ -1,16 +1,18 @@
 -- What is open at an editor, behind each out of an entry that has its reason.
-use Rattle.std.proofs.Common.{◌≡◌, ℕ, Bool, true, false, List, [], ◌∷◌, ◌++◌, map, length, nat_eq, if◌then◌else◌, None, ◌⊎◌, inl, inr, refl, sym, ◌∙◌, ap, subst, subst₂, arith, append-nil, append_assoc}
+use Rattle.std.proofs.Common.{◌≡◌, ℕ, Bool, true, false, List, [], ◌∷◌, ◌++◌, map, length, nat_eq, if◌then◌else◌, Option, None, Some, ◌⊎◌, inl, inr, refl, sym, ◌∙◌, ap, subst, subst₂, arith, append-nil, append_assoc}
 use Rattle.std.specs.List.{AllByRecursion}
 use Rattle.mux_history.specs.declared.cause.Cause.{Cause}
+use Rattle.mux_history.specs.declared.cause.Cause.TheVariants.{Joined, FromEditor, EditorGone, Started, StartFailed, FromServer, ServerGone, Drained, Tick}
 use Rattle.mux_history.specs.declared.out.Out.{Out}
 use Rattle.mux_history.specs.declared.out.Out.TheVariants.{ToEditor, ToServer, Spawn, CloseEditor, EndServer}
 use Rattle.rpc_message.specs.Message.{Id, message_of}
-use Rattle.event_model.specs.Event.{Event, behind, said, with_cause}
+use Rattle.event_model.specs.Event.{Event, behind, heard, said, with_cause}
 use Rattle.event_model.specs.Phases.{Desk, desk_behind, desk_of, phase_closed, phase_told}
 use Rattle.event_model.specs.Requests.{answered_id, open_behind, open_of, without}
 use Rattle.event_model.specs.Settings.{Settings}
-use Rattle.event_model.specs.Spawns.{start_of}
+use Rattle.event_model.specs.Spawns.{group_of, start_of, starts_of}
 use Rattle.event_model.proofs.Frames.{never}
+use Rattle.mux_model.specs.Fits.{fits_behind}
 use Rattle.mux_facts.specs.Ranges.{InRange}
 use Rattle.mux_facts.proofs.Folds.{desk_more, opens_more}
 use Rattle.mux_facts.proofs.Keeps.{behind_both}
@@ -19,15 +21,17 @@ use Rattle.mux_facts.proofs.Words.{number_same, same_number}
 use Rattle.group_words.specs.Houses.{groups_of}
 use Rattle.mux_facts.proofs.Why.{is_early}
 use Rattle.group_rows.specs.Rows.{outs_of}
-use Rattle.group_facts.specs.Built.{built_behind}
-use Rattle.group_facts.specs.Facts.{turned_away}
+use Rattle.group_facts.specs.Facts.{is_exit, turned_away}
 use Rattle.group_facts.proofs.Listens.{listens_late}
 use Rattle.group_facts.specs.Why.{Why, WhyToEditor, calls, rejects, resumes, refuses, answers, turns_away, welcomes, passes, asks, recalls, spreads, progresses, shows, loses, winds_up}
-use Rattle.group_facts.proofs.Begun.{Begun, Founding, NoSpawn, founding_of, founds, quiet, starts_stay, start_took}
+use Rattle.group_facts.proofs.Begun.{Begun, Founding, IsTold, NoSpawn, founding_of, founds, quiet, renews, start_more, starts_stay, start_took, told_quiet}
 use Rattle.group_facts.proofs.Facts.{Facts}
+use Rattle.group_facts.proofs.Forwards.{forwarding_more}
+use Rattle.group_facts.proofs.LastStarts.{AllLast, alive_exit}
+use Rattle.group_facts.proofs.PutOut.{home_did}
 use Rattle.group_facts.proofs.Same.{Same}
 use Rattle.group_facts.proofs.Sent.{IsOf, OneOf, SentAt, sent_did, sent_spawn}
-use Rattle.group_rows.specs.Forwarded.{Forwarding}
+use Rattle.group_rows.specs.Forwarded.{Forwarding, forwarding_of, no_forwarding}
 use Rattle.group_facts.proofs.RequestRow.{beside_other}
 use Rattle.group_facts.proofs.Table.{reasons}
 use Rattle.group_facts.proofs.OpenByPhase.{OpenDesk, OpenIf, if_closed, if_null, if_other, if_passed, if_refused, if_replied, if_welcomed}
@@ -79,6 +83,24 @@ module _ (settings : Settings) (e : ℕ) (E : Id → Type 0) where
   -- the first start of a group
   open_spawned : (events : List Event) (n g : ℕ) → start_of g events ≡ None → OpenAt events → OpenAt (events ++ said (Spawn n g) ∷ [])
   open_spawned events n g none h = open_at events (said (Spawn n g)) (open_still events (events ++ said (Spawn n g) ∷ []) (λ id. sent_spawn settings e id events n g none) h)
+
+  -- a later one, where none has to be answered by the one before it
+  open_renewed : (events : List Event) (n g s : ℕ) → start_of g events ≡ Some s → (forwarding_of s events).open_requests ≡ [] → OpenAt events → OpenAt (events ++ said (Spawn n g) ∷ [])
+  open_renewed events n g s last none h = open_at events (said (Spawn n g)) (open_still events (events ++ said (Spawn n g) ∷ []) still h)
+    where
+      still : (id : Id) → SentAt settings events e id → SentAt settings (events ++ said (Spawn n g) ∷ []) e id
+      still id k = go (nat_eq g k.group) refl
+        where
+          go : (b : Bool) → nat_eq g k.group ≡ b → SentAt settings (events ++ said (Spawn n g) ∷ []) e id
+          go true same = absurd (let both : ◌≡◌ {A = Option ℕ} (Some s) (Some k.start) = sym last ∙ (ap (λ i. start_of i events) (number_same g k.group same) ∙ k.last) in let it : s ≡ k.start = cc in
+              subst (OneOf (IsOf e id)) (ap (λ i. (forwarding_of i events).open_requests) (sym it) ∙ none) k.among)
+          go false other = record {
+            group = k.group;
+            start = k.start;
+            home = home_did settings e events (Spawn n g) ∙ k.home;
+            last = start_more k.group events (said (Spawn n g)) ∙ (ap (λ b. if b then Some n else start_of k.group events) other ∙ k.last);
+            among = subst (λ (f : Forwarding). OneOf (IsOf e id) f.open_requests) (sym (forwarding_more k.start events (said (Spawn n g)))) k.among;
+          }
 
   pub open_closed : (events : List Event) → OpenAt (events ++ said (CloseEditor e) ∷ [])
   open_closed events = open_at events (said (CloseEditor e)) (go (nat_eq e e) (same_number e))
@@ -149,13 +171,40 @@ module _ (settings : Settings) (e : ℕ) (E : Id → Type 0) where
     open_outs events (x ∷ xs) why calm h = subst OpenAt (append_assoc events (said x ∷ []) (map said xs)) (open_outs (events ++ said x ∷ []) xs why.1 calm.1 (open_did events x why.0 calm.0 h))
 
     -- all outs of an entry
-    pub open_entry : InRange settings → Facts settings before → Begun settings before → built_behind settings before cause ≡ true → OpenAt (with_cause before cause) → OpenAt (behind (with_cause before cause) (outs_of settings before cause))
-    open_entry range facts begun built h = go (founding_of settings before cause built) (reasons settings range before facts cause built).why
+    pub open_entry : InRange settings → Facts settings before → Begun settings before → fits_behind before cause ≡ true → AllLast before → OpenAt (with_cause before cause) → OpenAt (behind (with_cause before cause) (outs_of settings before cause))
+    open_entry range facts begun fits lasts h = go (founding_of settings before cause) (reasons settings range before facts cause).why
       where
         last : (xs : List Out) (s : ℕ) → AllByRecursion NoSpawn xs → Reasons R now (xs ++ Spawn s N ∷ []) → OpenAt (behind now (xs ++ Spawn s N ∷ []))
         last xs s calm why = subst OpenAt (sym (behind_both now xs (Spawn s N ∷ [])))
             (open_spawned (behind now xs) s N (starts_stay N now xs calm ∙ start_took N before cause ∙ (begun N).1 (omega arith)) (open_outs now xs (reasons_left R now xs (Spawn s N ∷ []) why) calm h))
 
+        -- bodies to editors leave alone what a start has to answer
+        unsent : (events : List Event) (xs : List Out) (s : ℕ) → AllByRecursion IsTold xs → forwarding_of s (behind events xs) ≡ forwarding_of s events
+        unsent events [] s all = ap (forwarding_of s) (append-nil events)
+        unsent events (ToEditor n body ∷ xs) s all = ap (forwarding_of s) (sym (append_assoc events (said (ToEditor n body) ∷ []) (map said xs))) ∙ (unsent (events ++ said (ToEditor n body) ∷ []) xs s all.1 ∙ forwarding_more s events (said (ToEditor n body)))
+        unsent events (ToServer n body ∷ xs) s all = absurd all.0
+        unsent events (Spawn n g ∷ xs) s all = absurd all.0
+        unsent events (CloseEditor n ∷ xs) s all = absurd all.0
+        unsent events (EndServer n ∷ xs) s all = absurd all.0
+
+        over_now : (c : Cause) (s : ℕ) → is_exit c s ≡ true → (forwarding_of s (with_cause before c)).open_requests ≡ []
+        over_now (StartFailed n) s is = ap (λ (x : Forwarding). x.open_requests) (forwarding_more s before (heard (StartFailed n))) ∙ ap (λ b. (if b then no_forwarding else record { sender = None; next = (forwarding_of s before).next; open_requests = (forwarding_of s before).open_requests }).open_requests) is
+        over_now (ServerGone n) s is = ap (λ (x : Forwarding). x.open_requests) (forwarding_more s before (heard (ServerGone n))) ∙ ap (λ b. (if b then no_forwarding else record { sender = None; next = (forwarding_of s before).next; open_requests = (forwarding_of s before).open_requests }).open_requests) is
+        over_now (Joined n) s is = never (sym is)
+        over_now (FromEditor n body) s is = never (sym is)
+        over_now (EditorGone n why) s is = never (sym is)
+        over_now (Started n) s is = never (sym is)
+        over_now (FromServer n body) s is = never (sym is)
+        over_now (Drained n k) s is = never (sym is)
+        over_now (Tick t) s is = never (sym is)
+
+        again : (xs : List Out) (s g : ℕ) → AllByRecursion IsTold xs → is_exit cause s ≡ true → group_of s before ≡ Some g → Reasons R now (xs ++ Spawn (starts_of before) g ∷ []) → OpenAt (behind now (xs ++ Spawn (starts_of before) g ∷ []))
+        again xs s g told is home why = subst OpenAt (sym (behind_both now xs (Spawn (starts_of before) g ∷ [])))
+            (open_renewed (behind now xs) (starts_of before) g s (starts_stay g now xs (told_quiet xs told) ∙ (start_took g before cause ∙ lasts s g home (alive_exit before cause s is fits)))
+            (ap (λ (x : Forwarding). x.open_requests) (unsent now xs s told) ∙ over_now cause s is)
+            (open_outs now xs (reasons_left R now xs (Spawn (starts_of before) g ∷ []) why) (told_quiet xs told) h))
+
         go : Founding settings before cause → Reasons R now (outs_of settings before cause) → OpenAt (behind now (outs_of settings before cause))
         go (quiet calm same) why = open_outs now (outs_of settings before cause) why calm h
         go (founds xs s calm sent more live) why = subst (λ z. OpenAt (behind now z)) (sym sent) (last xs s calm (subst (Reasons R now) sent why))
+        go (renews xs s g told sent same is home live) why = subst (λ z. OpenAt (behind now z)) (sym sent) (again xs s g told is home (subst (Reasons R now) sent why))

@@ -181,13 +181,13 @@ module _ (settings : Settings) (range : InRange settings) where
   -- one entry more
   legal_more : (before xs : List Entry) (entry : Entry) → LegalFrom settings before xs → LegalFrom settings (before ++ xs) (entry ∷ []) → LegalFrom settings before (xs ++ entry ∷ [])
   legal_more before [] entry legal one = subst (λ z. LegalFrom settings z (entry ∷ [])) (append-nil before) one
-  legal_more before (x ∷ xs) entry legal one = (legal.0, legal.1, legal.2, legal_more (before ++ x ∷ []) xs entry legal.3 (subst (λ z. LegalFrom settings z (entry ∷ [])) (sym (append_assoc before (x ∷ []) xs)) one))
+  legal_more before (x ∷ xs) entry legal one = (legal.0, legal.1, legal_more (before ++ x ∷ []) xs entry legal.2 (subst (λ z. LegalFrom settings z (entry ∷ [])) (sym (append_assoc before (x ∷ []) xs)) one))
 
   own_from : (before rest : List Entry) → Legal settings before → LegalFrom settings before rest → OwnVersionsFrom settings before rest
   own_from before [] so_far legal = tt
   own_from before (entry ∷ rest) so_far legal = (
-    subst (AllByRecursion (OnOwnVersions settings (events_of before) entry.cause)) (sym legal.2) (on_whole (events_of before) (facts_hold settings range before so_far) (sent_holds settings range before so_far) entry.cause),
-    own_from (before ++ entry ∷ []) rest (legal_more [] before entry so_far (legal.0, legal.1, legal.2, tt)) legal.3,
+    subst (AllByRecursion (OnOwnVersions settings (events_of before) entry.cause)) (sym legal.1) (on_whole (events_of before) (facts_hold settings range before so_far) (sent_holds settings range before so_far) entry.cause),
+    own_from (before ++ entry ∷ []) rest (legal_more [] before entry so_far (legal.0, legal.1, tt)) legal.2,
   )
 
   pub own_versions_hold : (history : List Entry) → Legal settings history → OwnVersions settings history

@@ -1,4 +1,4 @@
--- The editors of a group that ends while it has editors (S3): behind the entry each of them is closed.
+-- The editors of a group that ends while it has editors (S3), and those that were shown other capabilities than a new start's (S2): behind the entry each of them is closed.
 use Rattle.std.proofs.Common.{◌≡◌, ℕ, zero, suc, ◌+◌, ◌<◌, ◌≤◌, Bool, true, false, cond, ◌&&◌, ◌||◌, List, [], ◌∷◌, ◌++◌, filter, map, nat_eq, if◌then◌else◌, Option, Some, None, refl, sym, ◌∙◌, ap, ap₂, subst, append_assoc, append-nil, arith}
 use Rattle.std.specs.List.{list_any, range_with_len}
 use Rattle.std.specs.Option.{option_map_or}
@@ -7,13 +7,14 @@ use Rattle.mux_history.specs.declared.cause.Cause.TheVariants.{FromServer}
 use Rattle.mux_history.specs.declared.out.Out.{Out}
 use Rattle.mux_history.specs.declared.out.Out.TheVariants.{ToEditor, ToServer, Spawn, CloseEditor, EndServer}
 use Rattle.rpc_message.specs.Message.{Message, request, notification, result, error, not_json, not_message, message_of}
+use Rattle.rpc_message.specs.Texts.{initialized_text}
 use Rattle.event_model.specs.declared.phase.Phase.{Phase}
 use Rattle.event_model.specs.declared.phase.Phase.TheVariants.{Absent, New, Waiting, Answered, Running, Down, Closed, Gone}
 use Rattle.event_model.specs.declared.stage.Stage.{Stage}
 use Rattle.event_model.specs.declared.stage.Stage.TheVariants.{Initializing}
 use Rattle.event_model.specs.Event.{Event, behind, heard, said, with_cause}
 use Rattle.event_model.specs.Phases.{Desk, desk_of, editors_of, is_begun, is_waiting, phase_closed, phase_told}
-use Rattle.event_model.specs.Row.{each, outs}
+use Rattle.event_model.specs.Row.{choose, each, nothing, outs, send, ◌⨾◌}
 use Rattle.event_model.specs.Settings.{Settings}
 use Rattle.event_model.specs.Spawns.{group_of}
 use Rattle.event_model.specs.Stages.{is_first_result, is_initializing, life_of}
@@ -26,8 +27,10 @@ use Rattle.mux_facts.proofs.Words.{number_same, same_number}
 use Rattle.group_words.specs.Houses.{home_of, is_first_error, is_home}
 use Rattle.group_words.proofs.Frames.{home_stays}
 use Rattle.group_rows.specs.Asks.{members_in}
-use Rattle.group_rows.specs.Rows.{close_all, outs_of, refused_in, refusal, waiting_in}
-use Rattle.group_facts.specs.Facts.{is_in, is_put_out, is_refusing, turned_away}
+use Rattle.group_rows.specs.Earlier.{configure, differs, given_of, part_row, shown_in, was_shown}
+use Rattle.group_rows.specs.Rows.{close_all, outs_of, refused_in, refusal, replay, result_in, waiting_in, welcome_all}
+use Rattle.group_rows.specs.StopRows.{close_each}
+use Rattle.group_facts.specs.Facts.{is_in, is_other, is_parted, is_put_out, is_refused, is_refusing, turned_away}
 use Rattle.group_facts.specs.Lively.{is_unplaced}
 
 -- Phases
@@ -231,7 +234,7 @@ module _ (settings : Settings) (before : List Event) (s : ℕ) (body : List ℕ)
       go None at k = absurd (cc)
       go (Some i) at k = ap (λ n. Some n) (number_same i g k)
 
-  pub refused_ends : Editors before → (e : ℕ) → is_put_out settings before (FromServer s body) e ≡ true → is_begun (desk_of e later).phase ≡ false
+  pub refused_ends : Editors before → (e : ℕ) → is_refused settings before s body e ≡ true → is_begun (desk_of e later).phase ≡ false
   refused_ends absent e out =
       let p = and_parts (is_refusing before s (message_of body)) (is_begun (desk_of e before).phase && is_in settings before s e) out in
       let q = and_parts (is_begun (desk_of e before).phase) (is_in settings before s e) p.1 in
@@ -242,7 +245,7 @@ module _ (settings : Settings) (before : List Event) (s : ℕ) (body : List ℕ)
       go (Some g) home refuses member = ends_begun refuses g home absent e (is_member e g home member) (is_begun (desk_of e later).phase) refl
 
   -- one that waits for the start is among them
-  turned_begins : (e : ℕ) → turned_away settings before (FromServer s body) e ≡ true → is_put_out settings before (FromServer s body) e ≡ true
+  turned_begins : (e : ℕ) → turned_away settings before (FromServer s body) e ≡ true → is_refused settings before s body e ≡ true
   turned_begins e turned =
       let p = and_parts (is_refusing before s (message_of body)) (is_waiting (desk_of e before).phase && is_in settings before s e) turned in
       let q = and_parts (is_waiting (desk_of e before).phase) (is_in settings before s e) p.1 in
@@ -257,3 +260,57 @@ module _ (settings : Settings) (before : List Event) (s : ℕ) (body : List ℕ)
       let p = and_parts (is_refusing before s (message_of body)) (is_waiting (desk_of e before).phase && is_in settings before s e) turned in
       let q = and_parts (is_waiting (desk_of e before).phase) (is_in settings before s e) p.1 in
       never (sym (sym (ap (λ (d : Desk). is_unplaced d.phase) (desk_more e before (heard (FromServer s body)))) ∙ unplaced_outs e now (outs_of settings before (FromServer s body)) h) ∙ ap is_unplaced (waiting_is (desk_of e before).phase q.0))
+
+  -- S2: one that was shown other capabilities
+  module _ (first : is_first_result (message_of body) ≡ true) (stage : (life_of s before).stage ≡ Initializing) (g : ℕ) (home : group_of s before ≡ Some g) where
+    pub result_sends : outs_of settings before (FromServer s body) ≡ outs (result_in settings before s body g) now
+    result_sends = rw (stage, first, home) refl
+
+    abbrev partings : List Out
+    partings = outs (part_row settings before body g) now
+
+    abbrev others : List Out
+    others = outs (send (ToServer s initialized_text) ⨾ (configure settings before s g ⨾ (replay settings s g ⨾ welcome_all settings body g))) (behind now partings)
+
+    module _ (other : differs (given_of g before) body ≡ true) (absent : Editors before) (e : ℕ) (at_home : home_of settings e before ≡ Some g) (shown : was_shown (desk_of e before).phase ≡ true) where
+      all_parted : partings ≡ outs (close_each (shown_in settings g before)) now
+      all_parted = ap (λ b. outs (choose b (close_each (shown_in settings g before)) nothing) now) other
+
+      joined : e < 0 + editors_of before
+      joined = let known : editors_of before ≤ e → ⊥ = λ le. never (sym shown ∙ ap was_shown (absent e le)) in omega (arith, known)
+
+      none_parted : is_begun (desk_of e (behind now partings)).phase ≡ true → ⊥
+      none_parted h = all_closed (shown_in settings g before) now e
+          (named_in (λ n. was_shown (desk_of n before).phase && is_home g (home_of settings n before)) 0 (editors_of before) e (omega arith) joined
+          (ap (λ b. b && is_home g (home_of settings e before)) shown ∙ (ap (is_home g) at_home ∙ same_number g)))
+          (subst (λ xs. is_begun (desk_of e (behind now xs)).phase ≡ true) all_parted h)
+
+      parts_begun : (b : Bool) → is_begun (desk_of e later).phase ≡ b → b ≡ false
+      parts_begun false h = refl
+      parts_begun true h = absurd (none_parted (begun_outs e (behind now partings) others
+          (subst (λ z. is_begun (desk_of e z).phase ≡ true) (behind_both now partings others) (subst (λ xs. is_begun (desk_of e (behind now xs)).phase ≡ true) result_sends h))))
+
+  pub parted_ends : Editors before → (e : ℕ) → is_parted settings before s body e ≡ true → is_begun (desk_of e later).phase ≡ false
+  parted_ends absent e out =
+      let p = and_parts (is_other before s body) (was_shown (desk_of e before).phase && is_in settings before s e) out in
+      let q = and_parts (was_shown (desk_of e before).phase) (is_in settings before s e) p.1 in
+      let r = and_parts (is_initializing (life_of s before).stage) (is_first_result (message_of body) && option_map_or (λ g. differs (given_of g before) body) (group_of s before) false) p.0 in
+      let t = and_parts (is_first_result (message_of body)) (option_map_or (λ g. differs (given_of g before) body) (group_of s before) false) r.1 in
+      go (group_of s before) refl (initializing_is (life_of s before).stage r.0) t.0 t.1 q.0 q.1
+    where
+      go : (o : Option ℕ) → group_of s before ≡ o → (life_of s before).stage ≡ Initializing → is_first_result (message_of body) ≡ true → option_map_or (λ g. differs (given_of g before) body) (group_of s before) false ≡ true
+          → was_shown (desk_of e before).phase ≡ true → is_in settings before s e ≡ true → is_begun (desk_of e later).phase ≡ false
+      go None none stage first other shown member = never (sym member ∙ ap (λ o. option_map_or (λ i. is_home i (home_of settings e before)) o false) none)
+      go (Some g) home stage first other shown member = parts_begun first stage g home (sym (ap (λ o. option_map_or (λ i. differs (given_of i before) body) o false) home) ∙ other) absent e (is_member e g home member) shown (is_begun (desk_of e later).phase) refl
+
+  pub server_ends : Editors before → (e : ℕ) → is_put_out settings before (FromServer s body) e ≡ true → is_begun (desk_of e later).phase ≡ false
+  server_ends absent e out = go (is_refused settings before s body e) refl out
+    where
+      go : (b : Bool) → is_refused settings before s body e ≡ b → (b || is_parted settings before s body e) ≡ true → is_begun (desk_of e later).phase ≡ false
+      go true refused k = refused_ends absent e refused
+      go false other k = parted_ends absent e k
+
+-- one of two reasons
+pub or_first : (a b : Bool) → a ≡ true → (a || b) ≡ true
+or_first true b h = refl
+or_first false b h = never (sym h)

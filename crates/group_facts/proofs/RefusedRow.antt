@@ -34,13 +34,13 @@ use Rattle.group_words.proofs.Frames.{groups_more, groups_stay, home_stays}
 use Rattle.group_rows.specs.Asks.{members_in}
 use Rattle.group_rows.specs.Rows.{close_all, refused_in, refused_row, refusal, waiting_in}
 use Rattle.group_facts.specs.Built.{is_left}
-use Rattle.group_facts.specs.Facts.{IsWaiting, is_in, is_put_out, is_refusing, turned_away}
+use Rattle.group_facts.specs.Facts.{IsWaiting, is_in, is_parted, is_put_out, is_refused, is_refusing, turned_away}
 use Rattle.group_facts.specs.Lively.{lives_at}
 use Rattle.group_facts.specs.Why.{Why, refused, turns_away}
 use Rattle.group_facts.proofs.Housed.{group_more}
 use Rattle.group_facts.proofs.LiveGroups.{lives_emptied}
 use Rattle.group_rows.proofs.Stops.{range_below}
-use Rattle.group_facts.proofs.PutOut.{begun_outs, homes_stay, no_result}
+use Rattle.group_facts.proofs.PutOut.{begun_outs, homes_stay, no_result, or_first}
 
 -- The end of a group
 
@@ -142,7 +142,7 @@ module _ (settings : Settings) (before : List Event) (s : ℕ) (body : List ℕ)
     member e at = ap (λ o. option_map_or (λ i. is_home i (home_of settings e before)) o false) home ∙ at
 
     put_out : (e : ℕ) → is_begun (desk_of e before).phase ≡ true → is_home g (home_of settings e before) ≡ true → is_put_out settings before (FromServer s body) e ≡ true
-    put_out e begun at = ap₂ (λ a b. a && b) refusing (ap₂ (λ a b. a && b) begun (member e at))
+    put_out e begun at = or_first (is_refused settings before s body e) (is_parted settings before s body e) (ap₂ (λ a b. a && b) refusing (ap₂ (λ a b. a && b) begun (member e at)))
 
     -- The editors that wait
 

@@ -28,7 +28,6 @@ use Rattle.group_words.specs.Keys.{Common}
 use Rattle.group_words.specs.Placing.{changed, ended, evicting, first_from, founded, founding, home_by, idlest_from, joining, live_count, placed_in, takes, with_editor}
 use Rattle.group_words.proofs.Frames.{changed_length, groups_more, home_more, home_stays}
 use Rattle.group_rows.specs.Rows.{outs_of}
-use Rattle.group_facts.specs.Built.{built_behind}
 use Rattle.group_facts.specs.Facts.{is_too_many, turned_away, is_crowded}
 use Rattle.group_facts.specs.Settled.{IsSeated}
 use Rattle.group_facts.proofs.Begun.{Begun}
@@ -245,16 +244,16 @@ module _ (settings : Settings) where
     gone_placed n why e longer false other = stays_placed e before (heard (EditorGone n why)) (home_more settings e before (heard (EditorGone n why)) ∙ rw other refl) longer
         (by_desk e before (heard (EditorGone n why)) (λ needs. subst (λ b. needs_server (if b then record { phase = Gone; initialize = (desk_of e before).initialize } else desk_of e before).phase ≡ true) other needs)) (h e)
 
-    placed_took : (cause : Cause) → built_behind settings before cause ≡ true → count before ≤ count (with_cause before cause) → (e : ℕ) → turned_away settings before cause e ≡ false → PlacedAt settings e (with_cause before cause)
-    placed_took (FromEditor n body) built longer e stays = editor_heard n body e longer stays
-    placed_took (Joined n) built longer e stays = stays_placed e before (heard (Joined n)) (home_stays settings e before (heard (Joined n)) refl) longer (by_desk e before (heard (Joined n)) (joined_needed e before n)) (h e)
-    placed_took (Started s) built longer e stays = stays_placed e before (heard (Started s)) (home_stays settings e before (heard (Started s)) refl) longer (by_desk e before (heard (Started s)) (λ needs. needs)) (h e)
-    placed_took (FromServer s body) built longer e stays = stays_placed e before (heard (FromServer s body)) (home_stays settings e before (heard (FromServer s body)) refl) longer (by_desk e before (heard (FromServer s body)) (λ needs. needs)) (h e)
-    placed_took (Drained n k) built longer e stays = stays_placed e before (heard (Drained n k)) (home_stays settings e before (heard (Drained n k)) refl) longer (by_desk e before (heard (Drained n k)) (λ needs. needs)) (h e)
-    placed_took (Tick t) built longer e stays = stays_placed e before (heard (Tick t)) (home_stays settings e before (heard (Tick t)) refl) longer (by_desk e before (heard (Tick t)) (λ needs. needs)) (h e)
-    placed_took (EditorGone n why) built longer e stays = gone_placed n why e longer (nat_eq n e) refl
-    placed_took (StartFailed s) built longer e stays = stays_placed e before (heard (StartFailed s)) (home_stays settings e before (heard (StartFailed s)) refl) longer (by_desk e before (heard (StartFailed s)) (λ needs. needs)) (h e)
-    placed_took (ServerGone s) built longer e stays = stays_placed e before (heard (ServerGone s)) (home_stays settings e before (heard (ServerGone s)) refl) longer (by_desk e before (heard (ServerGone s)) (λ needs. needs)) (h e)
+    placed_took : (cause : Cause) → count before ≤ count (with_cause before cause) → (e : ℕ) → turned_away settings before cause e ≡ false → PlacedAt settings e (with_cause before cause)
+    placed_took (FromEditor n body) longer e stays = editor_heard n body e longer stays
+    placed_took (Joined n) longer e stays = stays_placed e before (heard (Joined n)) (home_stays settings e before (heard (Joined n)) refl) longer (by_desk e before (heard (Joined n)) (joined_needed e before n)) (h e)
+    placed_took (Started s) longer e stays = stays_placed e before (heard (Started s)) (home_stays settings e before (heard (Started s)) refl) longer (by_desk e before (heard (Started s)) (λ needs. needs)) (h e)
+    placed_took (FromServer s body) longer e stays = stays_placed e before (heard (FromServer s body)) (home_stays settings e before (heard (FromServer s body)) refl) longer (by_desk e before (heard (FromServer s body)) (λ needs. needs)) (h e)
+    placed_took (Drained n k) longer e stays = stays_placed e before (heard (Drained n k)) (home_stays settings e before (heard (Drained n k)) refl) longer (by_desk e before (heard (Drained n k)) (λ needs. needs)) (h e)
+    placed_took (Tick t) longer e stays = stays_placed e before (heard (Tick t)) (home_stays settings e before (heard (Tick t)) refl) longer (by_desk e before (heard (Tick t)) (λ needs. needs)) (h e)
+    placed_took (EditorGone n why) longer e stays = gone_placed n why e longer (nat_eq n e) refl
+    placed_took (StartFailed s) longer e stays = stays_placed e before (heard (StartFailed s)) (home_stays settings e before (heard (StartFailed s)) refl) longer (by_desk e before (heard (StartFailed s)) (λ needs. needs)) (h e)
+    placed_took (ServerGone s) longer e stays = stays_placed e before (heard (ServerGone s)) (home_stays settings e before (heard (ServerGone s)) refl) longer (by_desk e before (heard (ServerGone s)) (λ needs. needs)) (h e)
 
     -- one that is turned away is closed
     turned_none : (n : ℕ) (body : List ℕ) (e : ℕ) → is_crowded settings before n body e ≡ true → needs_server (desk_of e (behind (with_cause before (FromEditor n body)) (outs_of settings before (FromEditor n body)))).phase ≡ false
@@ -284,12 +283,12 @@ module _ (settings : Settings) where
     turned_placed (ServerGone s) absent e turned = λ needs. never (sym (needs_begun _ needs) ∙ exit_turns settings before (ServerGone s) s (gone_exit settings before s) absent e turned)
     turned_placed cause absent e turned = never (sym turned)
 
-    pub placed_rests : (cause : Cause) → built_behind settings before cause ≡ true → Editors before → AllPlaced settings (behind (with_cause before cause) (outs_of settings before cause))
-    placed_rests cause built absent e = go (turned_away settings before cause e) refl
+    pub placed_rests : (cause : Cause) → Editors before → AllPlaced settings (behind (with_cause before cause) (outs_of settings before cause))
+    placed_rests cause absent e = go (turned_away settings before cause e) refl
       where
         go : (b : Bool) → turned_away settings before cause e ≡ b → PlacedAt settings e (behind (with_cause before cause) (outs_of settings before cause))
         go true turned = turned_placed cause absent e turned
-        go false stays = placed_outs e (with_cause before cause) (outs_of settings before cause) (placed_took cause built (longer_took settings before cause built) e stays)
+        go false stays = placed_outs e (with_cause before cause) (outs_of settings before cause) (placed_took cause (longer_took settings before cause) e stays)
 
   -- a group that is kept has a start
   pub seat : (events : List Event) (e : ℕ) → Begun settings events → IsPlaced settings events e → IsSeated settings events e

@@ -27,7 +27,7 @@ use Rattle.group_rows.specs.Texts.{texts_of, worker_behind, worker_of}
 use Rattle.group_rows.proofs.Moments.{asks, moment_other, moment_apart, moment_quiet, moment_sent}
 use Rattle.group_facts.specs.Legal.{Legal}
 use Rattle.group_facts.specs.OwnVersions.{IsSentOn}
-use Rattle.group_facts.specs.Why.{IsForward, WhyToServer, begins, cancels, exits, forwarded, greets, notes, responds, shuts, tells, resolves, cancels_work}
+use Rattle.group_facts.specs.Why.{IsForward, WhyToServer, begins, cancels, exits, forwarded, greets, conveys, notes, responds, shuts, tells, resolves, cancels_work}
 use Rattle.group_facts.proofs.Apart.{fewer_said, fewer_took, new, grow, own_fewer, response_fewer}
 use Rattle.group_facts.proofs.Forwards.{Fewer, fewer_notified, forwarding_more, notified_sender, zip_all}
 use Rattle.group_facts.proofs.RestLaws.{Law, law_holds}
@@ -233,6 +233,7 @@ module _ (settings : Settings) (before : List Event) (cause : Cause) (events : L
   one_sent : WhyToServer settings before cause events n body → AllSentOn events → AllSentOn sent
   one_sent (begins k) h = own (integer (codes "1")) (codes "initialize") k.params k.says refl h
   one_sent (greets k) h = notified (codes "initialized") k.params k.says h
+  one_sent (conveys k) h = notified (codes "workspace/didChangeConfiguration") k.params k.says h
   one_sent (forwarded k) h = asked_now k h
   one_sent (notes k) h = notified k.method k.params k.says h
   one_sent (tells k) h = let m : Spoken (message_of body) = spoken (message_of body) k.spoken in notified m.method m.params m.is h
@@ -245,7 +246,7 @@ module _ (settings : Settings) (before : List Event) (cause : Cause) (events : L
 
 sent_law : (settings : Settings) → Law settings AllSentOn
 sent_law settings = record {
-  took = λ before cause fits built known h. quiet before (heard cause) (silent_cause cause) (fewer_took settings before cause built) h;
+  took = λ before cause fits known h. quiet before (heard cause) (silent_cause cause) (fewer_took settings before cause) h;
   to_editor = λ before cause events e body why known here i h. quiet events (said (ToEditor e body)) refl (fewer_said events (ToEditor e body) (λ s. refl)) h;
   to_server = λ before cause events s body why known here i h. one_sent settings before cause events s body why h;
   close = λ before cause events e ends there known here i h. quiet events (said (CloseEditor e)) refl (fewer_said events (CloseEditor e) (λ s. refl)) h;

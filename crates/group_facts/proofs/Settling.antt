@@ -19,14 +19,13 @@ use Rattle.group_words.specs.Houses.{groups_of}
 use Rattle.group_words.proofs.Openings.{folders_utf8}
 use Rattle.group_rows.specs.Rows.{outs_of}
 use Rattle.group_facts.specs.SlowRows.{entry_outs, is_slow}
-use Rattle.group_facts.specs.Built.{built_behind}
 use Rattle.group_facts.specs.Legal.{Legal, LegalFrom}
 use Rattle.group_facts.specs.Lively.{Lively}
 use Rattle.group_facts.specs.Settled.{AreUtf8, IsOnly, IsSent, Settled, is_answered}
 use Rattle.group_facts.proofs.Entries.{OpenAll, open_rests}
 use Rattle.group_facts.proofs.AskEntries.{AllSeats}
 use Rattle.group_facts.proofs.AskLeft.{no_seats, seats_rest}
-use Rattle.group_facts.proofs.OneStart.{OneStart, one_none, one_rests}
+use Rattle.group_facts.proofs.LastStarts.{AllLast, last_none, last_rests}
 use Rattle.group_facts.proofs.Begun.{Begun, begun_rests}
 use Rattle.group_facts.proofs.Ceased.{Spawned, spawned_behind, spawned_none, spawned_took}
 use Rattle.group_facts.proofs.Downs.{AllDown, Over, down_none, down_rests, over_none, over_rests, serving}
@@ -42,7 +41,7 @@ use Rattle.group_facts.proofs.OpenByPhase.{IsOne, OpenIf, if_answered}
 use Rattle.group_facts.proofs.OpenByOut.{S}
 use Rattle.group_rows.specs.StopRows.{stopped}
 use Rattle.group_facts.proofs.StopDown.{bounded_low}
-use Rattle.group_facts.proofs.SlowRest.{slow_begun, slow_down, slow_one, slow_opens, slow_over, slow_placed, slow_seats, slow_taken}
+use Rattle.group_facts.proofs.SlowRest.{slow_begun, slow_down, slow_lasts, slow_opens, slow_over, slow_placed, slow_seats, slow_taken}
 use Rattle.group_facts.proofs.SlowRow.{parting, whole_entry}
 use Rattle.group_facts.proofs.StopEntry.{before_on, stopped_outs}
 
@@ -55,7 +54,7 @@ abbrev AllSpelt : Settings → List Event → Type 0
 AllSpelt settings events = AllByRecursion Spelt (groups_of settings events)
 
 spelt_keeps : Keeps Spelt
-spelt_keeps = record { ends = λ x h. tt; busies = λ x h. h; idles = λ now x h. h }
+spelt_keeps = record { ends = λ x h. tt; busies = λ x h. h; idles = λ now x h. h; exits = λ x h. h }
 
 -- A whole history
 
@@ -67,7 +66,7 @@ module _ (settings : Settings) (range : InRange settings) where
     lively : Lively settings events
     opens : OpenAll settings events
     placed : AllPlaced settings events
-    pub one : OneStart events
+    pub lasts : AllLast events
     seats : stopped events ≡ false → AllSeats settings events
     uncreated : Uncreated settings events
     taken : AllTaken settings events
@@ -80,20 +79,20 @@ module _ (settings : Settings) (range : InRange settings) where
   entry_all I did events [] h = subst I (sym (append-nil events)) h
   entry_all I did events (out ∷ outs) h = subst I (append_assoc events (said out ∷ []) (map said outs)) (entry_all I did (events ++ said out ∷ []) outs (did events out h))
 
-  pub entry_rests : (before : List Event) (cause : Cause) → fits_behind before cause ≡ true → built_behind settings before cause ≡ true → Rests before → Rests (behind (with_cause before cause) (outs_of settings before cause))
-  entry_rests before cause fits built h = record {
-    facts = entry_keeps settings range before cause fits built h.facts;
-    spelt = entry_all (AllSpelt settings) (all_did Spelt spelt_keeps settings) (with_cause before cause) (outs_of settings before cause) (all_took Spelt spelt_keeps settings before cause built (λ e body. folders_utf8 body) h.spelt);
-    begun = begun_rests settings before cause built h.begun;
-    lively = lively_rests settings range before h.facts h.begun h.lively cause fits built;
-    opens = open_rests settings range before h.facts h.begun h.lively h.opens cause fits built;
-    placed = placed_rests settings before h.placed cause built ((h.facts).steady).editors;
-    one = one_rests settings before cause h.begun built h.one;
-    seats = λ on. seats_rest settings range before h.facts h.one (h.seats (before_on before cause (outs_of settings before cause) on)) h.begun cause built fits on (lively_rests settings range before h.facts h.begun h.lively cause fits built);
-    uncreated = uncreated_rests settings range before h.facts h.one h.begun cause built fits h.uncreated h.taken;
-    taken = taken_rests settings range before h.facts h.one h.begun cause built fits h.uncreated h.taken (lively_rests settings range before h.facts h.begun h.lively cause fits built);
+  pub entry_rests : (before : List Event) (cause : Cause) → fits_behind before cause ≡ true → Rests before → Rests (behind (with_cause before cause) (outs_of settings before cause))
+  entry_rests before cause fits h = record {
+    facts = entry_keeps settings range before cause fits h.facts;
+    spelt = entry_all (AllSpelt settings) (all_did Spelt spelt_keeps settings) (with_cause before cause) (outs_of settings before cause) (all_took Spelt spelt_keeps settings before cause (λ e body. folders_utf8 body) h.spelt);
+    begun = begun_rests settings before cause h.begun;
+    lively = lively_rests settings range before h.facts h.begun h.lively h.lasts cause fits;
+    opens = open_rests settings range before h.facts h.begun h.lively h.lasts h.opens cause fits;
+    placed = placed_rests settings before h.placed cause ((h.facts).steady).editors;
+    lasts = last_rests settings before cause h.begun fits h.lasts;
+    seats = λ on. seats_rest settings range before h.facts h.lasts (h.seats (before_on before cause (outs_of settings before cause) on)) h.begun cause fits on (lively_rests settings range before h.facts h.begun h.lively h.lasts cause fits);
+    uncreated = uncreated_rests settings range before h.facts h.lasts h.begun cause fits h.uncreated h.taken;
+    taken = taken_rests settings range before h.facts h.lasts h.begun cause fits h.uncreated h.taken (lively_rests settings range before h.facts h.begun h.lively h.lasts cause fits);
     spawned = spawned_behind (with_cause before cause) (outs_of settings before cause) (spawned_took before cause h.spawned);
-    down = down_rests settings before (bounded_low settings range before ((h.facts).steady).bounded) h.spawned h.lively h.one h.down cause h.begun built (lively_rests settings range before h.facts h.begun h.lively cause fits built);
+    down = down_rests settings before (bounded_low settings range before ((h.facts).steady).bounded) h.spawned h.lively h.lasts h.down cause fits h.begun (lively_rests settings range before h.facts h.begun h.lively h.lasts cause fits);
     over = over_rests settings before (h.facts).quit h.over cause;
   }
 
@@ -108,8 +107,8 @@ module _ (settings : Settings) (range : InRange settings) where
         lively = lively;
         opens = slow_opens settings range place h.facts e slow h.opens;
         placed = slow_placed settings range place h.facts e slow h.placed;
-        one = slow_one settings range place h.facts e slow h.one;
-        seats = λ on. slow_seats settings range place h.facts e slow lively h.one (h.seats (sym (stopped_outs place (parting settings place e)) ∙ on));
+        lasts = slow_lasts settings range place h.facts e slow h.lasts;
+        seats = λ on. slow_seats settings range place h.facts e slow lively h.lasts (h.seats (sym (stopped_outs place (parting settings place e)) ∙ on));
         uncreated = entry_all (Uncreated settings) (uncreated_did settings) place (parting settings place e) h.uncreated;
         taken = slow_taken settings range place h.facts e slow lively h.taken;
         spawned = spawned_behind place (parting settings place e) h.spawned;
@@ -117,8 +116,8 @@ module _ (settings : Settings) (range : InRange settings) where
         over = slow_over settings range place h.facts e slow;
       }
 
-  whole_rests : (before : List Event) (cause : Cause) → fits_behind before cause ≡ true → built_behind settings before cause ≡ true → Rests before → Rests (behind (with_cause before cause) (entry_outs settings before cause))
-  whole_rests before cause fits built h = whole_entry settings Rests slow_rests before cause (entry_rests before cause fits built h)
+  whole_rests : (before : List Event) (cause : Cause) → fits_behind before cause ≡ true → Rests before → Rests (behind (with_cause before cause) (entry_outs settings before cause))
+  whole_rests before cause fits h = whole_entry settings Rests slow_rests before cause (entry_rests before cause fits h)
 
   pub no_rests : Rests []
   no_rests = record {
@@ -128,7 +127,7 @@ module _ (settings : Settings) (range : InRange settings) where
     lively = no_lively settings;
     opens = λ e. refl;
     placed = λ e needs. absurd (cc);
-    one = one_none;
+    lasts = last_none;
     seats = λ on. no_seats settings;
     uncreated = none_uncreated settings;
     taken = none_taken settings;
@@ -137,12 +136,12 @@ module _ (settings : Settings) (range : InRange settings) where
     over = over_none settings;
   }
 
-  rests_more : (before : List Entry) (entry : Entry) → IsTrue (fits_behind (events_of before) entry.cause) → IsTrue (built_behind settings (events_of before) entry.cause) → entry.outs ≡ entry_outs settings (events_of before) entry.cause → Rests (events_of before) → Rests (events_of (before ++ entry ∷ []))
-  rests_more before entry fits built sent h = subst Rests (sym (events_more before entry)) (subst (λ z. Rests (behind (with_cause (events_of before) entry.cause) z)) (sym sent) (whole_rests (events_of before) entry.cause fits built h))
+  rests_more : (before : List Entry) (entry : Entry) → IsTrue (fits_behind (events_of before) entry.cause) → entry.outs ≡ entry_outs settings (events_of before) entry.cause → Rests (events_of before) → Rests (events_of (before ++ entry ∷ []))
+  rests_more before entry fits sent h = subst Rests (sym (events_more before entry)) (subst (λ z. Rests (behind (with_cause (events_of before) entry.cause) z)) (sym sent) (whole_rests (events_of before) entry.cause fits h))
 
   from_here : (before rest : List Entry) → LegalFrom settings before rest → Rests (events_of before) → Rests (events_of (before ++ rest))
   from_here before [] legal h = subst (λ z. Rests (events_of z)) (sym (append-nil before)) h
-  from_here before (entry ∷ rest) legal h = subst (λ z. Rests (events_of z)) (append_assoc before (entry ∷ []) rest) (from_here (before ++ entry ∷ []) rest legal.3 (rests_more before entry legal.0 legal.1 legal.2 h))
+  from_here before (entry ∷ rest) legal h = subst (λ z. Rests (events_of z)) (append_assoc before (entry ∷ []) rest) (from_here (before ++ entry ∷ []) rest legal.2 (rests_more before entry legal.0 legal.1 h))
 
   -- by phase
 
@@ -161,7 +160,7 @@ module _ (settings : Settings) (range : InRange settings) where
     spelt = h.spelt;
     begun = h.begun;
     lively = h.lively;
-    serving = serving settings events ((h.facts).steady).starts ((h.facts).steady).housed h.one h.down;
+    serving = serving settings events ((h.facts).steady).starts ((h.facts).steady).housed h.lasts h.down;
     down = h.down;
     over = h.over;
     unasked = λ e at. subst (λ p. OpenIf (S settings e Nobody events) p (desk_of e events).initialize (open_of e events)) at (h.opens e);

@@ -28,13 +28,13 @@ use Rattle.group_facts.proofs.AskRest.{all_pending, leave_clean}
 use Rattle.group_facts.proofs.AskSeats.{Away, MidSeat, Pending, did_all}
 use Rattle.group_facts.proofs.Begun.{Begun, NoSpawn, starts_stay}
 use Rattle.group_facts.proofs.Begun as founded
-use Rattle.group_facts.proofs.Ceased.{off_outs}
+use Rattle.group_facts.proofs.Ceased.{off_outs, unended_outs}
 use Rattle.group_facts.proofs.Downs.{AllDown, Over, lives_outs}
 use Rattle.group_facts.proofs.Entries.{OpenAll}
 use Rattle.group_facts.proofs.Facts.{Facts}
 use Rattle.group_facts.proofs.Forwards.{zip_all}
 use Rattle.group_facts.proofs.Lively.{up_of}
-use Rattle.group_facts.proofs.OneStart.{OneStart, groups_rest}
+use Rattle.group_facts.proofs.LastStarts.{AllLast, groups_rest}
 use Rattle.group_facts.proofs.OpenByOut.{open_outs}
 use Rattle.group_facts.proofs.OwnEntry.{Nobody}
 use Rattle.group_facts.proofs.PutOut.{homes_stay}
@@ -74,8 +74,8 @@ module _ (settings : Settings) (range : InRange settings) (place : List Event) (
   pub slow_begun : Begun settings place → Begun settings later
   slow_begun h g = subst (λ k. (start_of g later ≡ None) ↔ (k ≤ g)) (sym (founded.count_behind settings place xs)) (subst (λ o. (o ≡ None) ↔ (length (groups_of settings place) ≤ g)) (sym (starts_stay g place xs calm)) (h g))
 
-  pub slow_one : OneStart place → OneStart later
-  slow_one h s g at = starts_stay g place xs calm ∙ h s g (sym (groups_rest s place xs calm) ∙ at)
+  pub slow_lasts : AllLast place → AllLast later
+  slow_lasts h s g at alive = starts_stay g place xs calm ∙ h s g (sym (groups_rest s place xs calm) ∙ at) (unended_outs s place xs calm alive)
 
   pub slow_down : AllDown settings place → AllDown settings later
   slow_down h g s over at = off_outs s place xs calm (h g s (sym (lives_outs settings g place xs) ∙ over) (sym (starts_stay g place xs calm) ∙ at))
@@ -114,7 +114,7 @@ module _ (settings : Settings) (range : InRange settings) (place : List Event) (
 
   -- What starts asked
 
-  module _ (one : OneStart place) (seats : AllSeats settings place) where
+  module _ (lasts : AllLast place) (seats : AllSeats settings place) where
     away : (s : ℕ) → AllByRecursion (Away e) (asks_of settings s later)
     away s = parting_behind settings (λ z. AllByRecursion (Away e) (asks_of settings s z)) place e (leave_clean settings place (quitting e) (facts.steady).asks e (place ++ said (CloseEditor e) ∷ [])
         (λ t. did_all settings (MidSeat settings place (quitting e) t) t place (CloseEditor e) tt (all_of (HasSeat settings place t) (MidSeat settings place (quitting e) t) (λ a k. seat_now settings place facts (quitting e) (quit_fits settings place e slow) t a k) (asks_of settings t place) (seats t)))
@@ -124,8 +124,8 @@ module _ (settings : Settings) (range : InRange settings) (place : List Event) (
     asked_before s = parting_keeps settings (λ events. AllByRecursion (HasSeat settings place s) (asks_of settings s events)) e (λ events h. did_all settings (HasSeat settings place s) s events (CloseEditor e) tt h)
         (λ events n body h. did_all settings (HasSeat settings place s) s events (ToServer n body) tt h) place (seats s)
 
-  pub slow_seats : Lively settings later → OneStart place → AllSeats settings place → AllSeats settings later
-  slow_seats lively one seats s = zip_all (Away e) (HasSeat settings place s) (HasSeat settings later s) (λ a other k. runs_later lively s a.editor (other_way a.editor e other) k) (asks_of settings s later) (away one seats s) (asked_before one seats s)
+  pub slow_seats : Lively settings later → AllLast place → AllSeats settings place → AllSeats settings later
+  slow_seats lively lasts seats s = zip_all (Away e) (HasSeat settings place s) (HasSeat settings later s) (λ a other k. runs_later lively s a.editor (other_way a.editor e other) k) (asks_of settings s later) (away lasts seats s) (asked_before lasts seats s)
 
   -- and what it asked them to take
 

@@ -10,7 +10,7 @@ use Rattle.json_text.specs.Computes.{computes}
 use Rattle.json_text.specs.Json.{Json}
 use Rattle.json_text.specs.Named.{named}
 use Rattle.mux_history.specs.declared.cause.Cause.{Cause}
-use Rattle.mux_history.specs.declared.cause.Cause.TheVariants.{FromEditor}
+use Rattle.mux_history.specs.declared.cause.Cause.TheVariants.{FromEditor, FromServer}
 use Rattle.mux_history.specs.declared.out.Out.{Out}
 use Rattle.mux_history.specs.declared.out.Out.TheVariants.{CloseEditor, EndServer, Spawn, ToEditor, ToServer}
 use Rattle.rpc_message.specs.Changed.{id_edits}
@@ -40,9 +40,8 @@ use Rattle.group_rows.proofs.Exits.{exit_says}
 use Rattle.group_rows.proofs.Going.{no_exit}
 use Rattle.event_model.proofs.Frames.{never}
 use Rattle.group_facts.proofs.Asides.{answer_aside, spoken_aside, unsynced}
-use Rattle.group_facts.specs.Built.{built_behind}
 use Rattle.group_facts.specs.Facts.{ends_link, is_parting, is_put_out, turned_away}
-use Rattle.group_facts.specs.Why.{IsWorkCancel, Why, WhyToServer, begins, cancels, cancels_work, exits, forwarded, greets, notes, quitting, resolves, responds, shuts, tells}
+use Rattle.group_facts.specs.Why.{IsWorkCancel, Why, WhyToServer, begins, cancels, cancels_work, exits, forwarded, greets, conveys, notes, quitting, resolves, responds, shuts, tells}
 use Rattle.group_facts.proofs.Asks.{asked_by_more}
 use Rattle.group_facts.proofs.Begun.{NoSpawn, all_outs, leave_by}
 use Rattle.group_facts.proofs.Facts.{Facts}
@@ -82,6 +81,7 @@ quit_works settings before e events s body k = never (sym ((bytes_eq-Decides (co
 pub quit_unsynced : (settings : Settings) (before : List Event) (e : ℕ) (events : List Event) (s : ℕ) (body : List ℕ) → WhyToServer settings before (quitting e) events s body → is_synced (message_of body) ≡ true → ⊥
 quit_unsynced settings before e events s body (begins k) goes = unsynced body _ k.says refl goes
 quit_unsynced settings before e events s body (greets k) goes = unsynced body _ k.says refl goes
+quit_unsynced settings before e events s body (conveys k) goes = absurd (let clash : quitting e ≡ FromServer s k.answer = k.from in cc)
 quit_unsynced settings before e events s body (forwarded k) goes =
     let same : message_of body ≡ exit_message = ap message_of (k.bytes ∙ (ap (forwarded_text (forwarding_of s events).next) (the_body k.from) ∙ exit_forwarded (forwarding_of s events).next)) ∙ exit_says in
     let clash : exit_message ≡ request (integer (decimal (forwarding_of s events).next)) k.method k.params = sym same ∙ k.says in cc
@@ -114,9 +114,6 @@ IsToStart (ToServer s body) = Unit {0}
 IsToStart other = ⊥
 
 module _ (settings : Settings) where
-  pub quit_built : (before : List Event) (e : ℕ) → built_behind settings before (quitting e) ≡ true
-  quit_built before e = refl
-
   -- by it no editor is turned away
   pub quit_turns_none : (before : List Event) (e n : ℕ) → turned_away settings before (quitting e) n ≡ false
   quit_turns_none before e n = ap₂ (λ a b. a || b)

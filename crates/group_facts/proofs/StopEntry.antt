@@ -27,7 +27,7 @@ use Rattle.group_rows.specs.Rows.{closing_row, from_editor, lspmux_row, outs_of,
 use Rattle.group_rows.specs.StopRows.{close_each, refuse_open, stop_row, stopped, stopped_next, there_in}
 use Rattle.group_facts.specs.Facts.{Quit, is_put_out}
 use Rattle.group_facts.proofs.ExitEntry.{exit_ends, failed_exit, gone_exit}
-use Rattle.group_facts.proofs.PutOut.{named_in, outs_tested, refused_ends}
+use Rattle.group_facts.proofs.PutOut.{named_in, outs_tested, server_ends}
 use Rattle.group_facts.proofs.Quits.{stopped_back, stopped_did, stopped_more, stopped_now}
 
 -- Phases
@@ -310,7 +310,7 @@ unthere_unbegun Running h = never h
 unthere_unbegun Down h = never h
 
 pub put_out_ends : (settings : Settings) (before : List Event) (cause : Cause) → Editors before → (e : ℕ) → is_put_out settings before cause e ≡ true → is_begun (desk_of e (behind (with_cause before cause) (outs_of settings before cause))).phase ≡ false
-put_out_ends settings before (FromServer s body) absent e out = refused_ends settings before s body absent e out
+put_out_ends settings before (FromServer s body) absent e out = server_ends settings before s body absent e out
 put_out_ends settings before (FromEditor n body) absent e out = unthere_unbegun _ (none_there settings before n body (and_parts (stops before n (message_of body)) (is_there (desk_of e before).phase) out).0 absent e)
 put_out_ends settings before (Joined n) absent e out =
     let p = and_parts (nat_eq n e) (stopped before) out in unthere_unbegun _ (joined_gone settings before n p.1 e (λ other. never (sym p.0 ∙ other)))

@@ -27,7 +27,6 @@ use Rattle.mux_facts.proofs.Why.{is_early}
 use Rattle.group_words.specs.Houses.{is_doubled, stops}
 use Rattle.group_rows.specs.AskRows.{run_row}
 use Rattle.group_rows.specs.Rows.{asks_lspmux, closing_row, down_row, early_code, early_row, exit_row, from_editor, lspmux_row, message_row, row_of, served_notice, served_request, served_row, taken_row, wrong_code}
-use Rattle.group_facts.specs.Built.{built_behind}
 use Rattle.group_facts.specs.Facts.{AllForwarded, IsAlone, is_parting, leaves}
 use Rattle.group_facts.proofs.AskingRows.{response_why}
 use Rattle.group_facts.proofs.AnswerRows.{server_why, start_why}
@@ -221,13 +220,13 @@ module _ (settings : Settings) (range : InRange settings) (before : List Event) 
 
 module _ (settings : Settings) (range : InRange settings) (before : List Event) (facts : Facts settings before) where
   -- every out of every entry has its reason
-  pub reasons : (cause : Cause) → built_behind settings before cause ≡ true → Because (Why settings before cause) (with_cause before cause) (row_of settings before cause)
-  reasons (FromEditor e body) built = editor_why settings range before facts e body
-  reasons (EditorGone e why) built = gone_why settings range before (facts.base).opened (facts.steady).bounded (facts.steady).asks e why (desk_of e before).phase
-  reasons (FromServer s body) built = server_why settings range before s body (facts.base).opened (facts.steady).untold facts.waiting (asked_while before (facts.steady).asked facts.quit) (facts.steady).apart (facts.base).meant (facts.steady).asks (facts.base).written (life_of s before).stage refl
-  reasons (Joined e) built = joined_why settings before e
-  reasons (Started s) built = start_why settings before s (facts.base).written (life_of s before).stage refl
-  reasons (Tick t) built = tick_why settings range.requests before (facts.steady).bounded t
-  reasons (StartFailed s) built = lost_why settings before facts (StartFailed s) s (failed_exit settings before s) built
-  reasons (ServerGone s) built = lost_why settings before facts (ServerGone s) s (gone_exit settings before s) built
-  reasons cause built = by_nothing
+  pub reasons : (cause : Cause) → Because (Why settings before cause) (with_cause before cause) (row_of settings before cause)
+  reasons (FromEditor e body) = editor_why settings range before facts e body
+  reasons (EditorGone e why) = gone_why settings range before (facts.base).opened (facts.steady).bounded (facts.steady).asks e why (desk_of e before).phase
+  reasons (FromServer s body) = server_why settings range before s body (facts.base).opened (facts.steady).untold facts.waiting (asked_while before (facts.steady).asked facts.quit) (facts.steady).apart (facts.base).meant (facts.steady).asks (facts.base).written (life_of s before).stage refl
+  reasons (Joined e) = joined_why settings before e
+  reasons (Started s) = start_why settings before s (facts.base).written (life_of s before).stage refl
+  reasons (Tick t) = tick_why settings range.requests before (facts.steady).bounded t
+  reasons (StartFailed s) = lost_why settings before facts (StartFailed s) s (failed_exit settings before s)
+  reasons (ServerGone s) = lost_why settings before facts (ServerGone s) s (gone_exit settings before s)
+  reasons cause = by_nothing

@@ -1,5 +1,5 @@
 -- Behind every entry each editor that was asked to take a token runs, in the group whose last start asked it, and that start is ready; and a start that wasn't spawned created none.
-use Rattle.std.proofs.Common.{◌≡◌, ℕ, ◌^◌, ◌<◌, ◌≤◌, Bool, true, false, not, ◌&&◌, ◌||◌, cond, List, [], ◌∷◌, ◌++◌, codes, decimal, filter, find, flat_map, map, nat_eq, if◌then◌else◌, Option, Some, None, refl, sym, ◌∙◌, ap, subst, ltb-true, arith}
+use Rattle.std.proofs.Common.{◌≡◌, ℕ, ◌^◌, ◌<◌, ◌≤◌, Bool, true, false, not, ◌&&◌, ◌||◌, cond, List, [], ◌∷◌, ◌++◌, codes, decimal, filter, find, flat_map, map, nat_eq, if◌then◌else◌, Option, Some, None, refl, sym, ◌∙◌, ap, subst, ltb-true, append-nil, append_assoc, arith}
 use Rattle.std.specs.List.{AllByRecursion}
 use Rattle.json_text.specs.Json.{Json}
 use Rattle.lsp_method.specs.Class.{server_request}
@@ -16,7 +16,7 @@ use Rattle.event_model.specs.Phases.{Desk, desk_of, is_new}
 use Rattle.event_model.specs.Requests.{answered_id}
 use Rattle.event_model.specs.Settings.{Settings}
 use Rattle.event_model.specs.Spawns.{group_of, start_of, starts_behind, starts_of}
-use Rattle.event_model.specs.Stages.{Life, is_ready, life_of, no_life}
+use Rattle.event_model.specs.Stages.{Life, is_ended, is_ready, life_of, no_life}
 use Rattle.event_model.proofs.Frames.{never}
 use Rattle.mux_model.specs.Fits.{fits_behind}
 use Rattle.mux_facts.specs.Ranges.{InRange}
@@ -35,8 +35,7 @@ use Rattle.group_rows.specs.CreatedRows.{create_text}
 use Rattle.group_rows.specs.Rows.{outs_of}
 use Rattle.group_rows.proofs.CreatedTexts.{create_says, create_tree}
 use Rattle.group_rows.proofs.LiveTexts.{again_written, live_written, register_says, registered_written, unregister_says}
-use Rattle.group_facts.specs.Built.{built_behind}
-use Rattle.group_facts.specs.Facts.{is_unready, shuts}
+use Rattle.group_facts.specs.Facts.{is_exit, is_unready, shuts}
 use Rattle.group_facts.specs.Lively.{Lively}
 use Rattle.group_facts.specs.Settled as settled_facts
 use Rattle.group_facts.specs.Settled.{HasTaken, RunsAt}
@@ -49,7 +48,7 @@ use Rattle.group_facts.proofs.Facts.{Facts}
 use Rattle.group_facts.proofs.Homes.{heard_home, took_home}
 use Rattle.group_facts.proofs.Lively.{up_of}
 use Rattle.group_facts.proofs.Marks.{mark_start, marked_same}
-use Rattle.group_facts.proofs.OneStart.{OneStart, start_kept}
+use Rattle.group_facts.proofs.LastStarts.{AllLast, start_kept}
 use Rattle.group_facts.proofs.PutOut.{homes_stay}
 use Rattle.group_facts.proofs.Table.{reasons}
 
@@ -103,6 +102,11 @@ none_did settings s events (ToServer n body) = refl
 none_did settings s events (Spawn n g) = refl
 none_did settings s events (CloseEditor e) = refl
 none_did settings s events (EndServer n) = refl
+
+pub none_outs : (settings : Settings) (s : ℕ) (events : List Event) (xs : List Out) → created_of settings s events ≡ no_created → created_of settings s (behind events xs) ≡ no_created
+none_outs settings s events [] h = ap (created_of settings s) (append-nil events) ∙ h
+none_outs settings s events (x ∷ xs) h = ap (created_of settings s) (sym (append_assoc events (said x ∷ []) (map said xs)))
+    ∙ none_outs settings s (events ++ said x ∷ []) xs (created_more settings s events (said x) ∙ (ap (λ y. created_next settings s events y (said x)) h ∙ none_did settings s events x))
 
 -- nor does it behind a cause
 pub uncreated_heard : (settings : Settings) (before : List Event) → Starts before → (cause : Cause) → Uncreated settings before → (s : ℕ) → starts_of before ≤ s → created_of settings s (with_cause before cause) ≡ no_created
@@ -291,7 +295,7 @@ module _ (settings : Settings) (before : List Event) (cause : Cause) where
       (took_takings (RunsAt settings before s) (Taker now s) settings s before (created_of settings s before) cause (λ e stays k. taker_now facts fits s e stays k) (h (fewer_starts before (heard cause) (2 ^ 64) few) s))
 
   -- outs
-  module _ (one : OneStart before) (starts : Starts before) (events : List Event) (none : Uncreated settings events) (h : Takers events) where
+  module _ (lasts : AllLast before) (starts : Starts before) (events : List Event) (none : Uncreated settings events) (h : Takers events) where
     still : (out : Out) → ((e : ℕ) → (desk_of e events).phase ≡ Running → (desk_of e (events ++ said out ∷ [])).phase ≡ Running) → starts_of (events ++ said out ∷ []) ≤ 2 ^ 64 → (s : ℕ) → AllAt (Taker (events ++ said out ∷ []) s) (created_of settings s events)
     still out runs few s = all_so (Taker events s) (Taker (events ++ said out ∷ []) s) (created_of settings s events) (λ e k. moved events (events ++ said out ∷ []) s e (runs e k.running) k) (h (fewer_starts events (said out) (2 ^ 64) few) s)
 
@@ -363,7 +367,7 @@ module _ (settings : Settings) (before : List Event) (cause : Cause) where
         running = still_runs events e body e k.running;
         group = c.group;
         home = subst (λ z. home_of settings e (with_cause before z) ≡ Some c.group) (sym c.from) (home_stays settings e before (heard (FromServer k.start asked)) refl ∙ c.home);
-        last = one k.start c.group c.kept;
+        last = lasts k.start c.group c.kept (ap is_ended k.ready);
         ready = k.ready;
       })
       called_takers spawned k (revives token earlier rest r order is) = made_takers k.start token.number (next_ask e events) (ltb-true (next_ask e events) (2 ^ 64) k.room) is k.ready spawned (record {
@@ -404,11 +408,11 @@ module _ (settings : Settings) (before : List Event) (cause : Cause) where
     none : Uncreated settings events
     takers : Takers events
 
-  place_did : OneStart before → Starts before → (events : List Event) (out : Out) → Why settings before cause events out → Place events → Place (events ++ said out ∷ [])
-  place_did one starts events out why h = record {
+  place_did : AllLast before → Starts before → (events : List Event) (out : Out) → Why settings before cause events out → Place events → Place (events ++ said out ∷ [])
+  place_did lasts starts events out why h = record {
     spawned = let old : starts_of before ≤ starts_of events = h.spawned in let m = starts_more events (said out) in let g = spawns_more (starts_of events) (said out) in omega (arith, old, m, g);
     none = uncreated_did settings events out h.none;
-    takers = did_takers one starts events h.none h.takers h.spawned out why;
+    takers = did_takers lasts starts events h.none h.takers h.spawned out why;
   }
 
 -- Behind it
@@ -416,7 +420,7 @@ module _ (settings : Settings) (before : List Event) (cause : Cause) where
 abbrev pub AllTaken : Settings → List Event → Type 0
 AllTaken settings events = starts_of events ≤ 2 ^ 64 → (s : ℕ) → AllByRecursion (HasTaken settings events s) (created_of settings s events).takings
 
-module _ (settings : Settings) (range : InRange settings) (before : List Event) (facts : Facts settings before) (one : OneStart before) (begun : Begun settings before) (cause : Cause) (built : built_behind settings before cause ≡ true) (fits : fits_behind before cause ≡ true)
+module _ (settings : Settings) (range : InRange settings) (before : List Event) (facts : Facts settings before) (lasts : AllLast before) (begun : Begun settings before) (cause : Cause) (fits : fits_behind before cause ≡ true)
     (none : Uncreated settings before) (taken : AllTaken settings before) where
   abbrev there : List Event
   there = behind (with_cause before cause) (outs_of settings before cause)
@@ -429,15 +433,15 @@ module _ (settings : Settings) (range : InRange settings) (before : List Event) 
   }
 
   place_rests : Place settings before cause there
-  place_rests = reasons_keep (λ events out. Why settings before cause events out) (Place settings before cause) (place_did settings before cause one (facts.steady).starts) (with_cause before cause) (outs_of settings before cause) (reasons settings range before facts cause built).why place_took
+  place_rests = reasons_keep (λ events out. Why settings before cause events out) (Place settings before cause) (place_did settings before cause lasts (facts.steady).starts) (with_cause before cause) (outs_of settings before cause) (reasons settings range before facts cause).why place_took
 
   pub uncreated_rests : Uncreated settings there
   uncreated_rests = place_rests.none
 
-  runs_there : Lively settings there → (s e : ℕ) → Taker settings before cause there s e → RunsAt settings there s e
-  runs_there lively s e k =
+  runs_there : Lively settings there → (s e : ℕ) → is_exit cause s ≡ false → Taker settings before cause there s e → RunsAt settings there s e
+  runs_there lively s e goes_on k =
       let home : home_of settings e there ≡ Some k.group = homes_stay settings e (with_cause before cause) (outs_of settings before cause) ∙ k.home in
-      let last : start_of k.group there ≡ Some s = start_kept settings before cause begun built k.group s k.last in
+      let last : start_of k.group there ≡ Some s = start_kept settings before cause begun fits lasts k.group s k.last goes_on in
       let kept : group_of s there ≡ Some k.group = (lively.last k.group s last).0 in
       record {
         running = k.running;
@@ -445,11 +449,27 @@ module _ (settings : Settings) (range : InRange settings) (before : List Event) 
         group = k.group;
         kept = kept;
         last = last;
-        ready = up_ready (life_of s there).stage (up_of settings there lively e k.group s (ap settled_facts.is_answered k.running) home last) (onward_rests settings range before facts cause built fits s (ap is_unready k.ready));
+        ready = up_ready (life_of s there).stage (up_of settings there lively e k.group s (ap settled_facts.is_answered k.running) home last) (onward_rests settings range before facts cause fits s (ap is_unready k.ready));
       }
 
   pub taken_rests : Lively settings there → AllTaken settings there
-  taken_rests lively few s = all_so (Taker settings before cause there s) (RunsAt settings there s) (created_of settings s there) (λ e k. runs_there lively s e k) (place_rests.takers few s)
+  taken_rests lively few s = by_exit (is_exit cause s) refl
+    where
+      -- of a start that ends no token is left
+      none_now : (c : Cause) → is_exit c s ≡ true → created_next settings s before (created_of settings s before) (heard c) ≡ no_created
+      none_now (StartFailed n) is = ap (λ b. if b then no_created else created_of settings s before) is
+      none_now (ServerGone n) is = ap (λ b. if b then no_created else created_of settings s before) is
+      none_now (Joined n) is = never (sym is)
+      none_now (FromEditor n body) is = never (sym is)
+      none_now (EditorGone n why) is = never (sym is)
+      none_now (Started n) is = never (sym is)
+      none_now (FromServer n body) is = never (sym is)
+      none_now (Drained n k) is = never (sym is)
+      none_now (Tick t) is = never (sym is)
+
+      by_exit : (b : Bool) → is_exit cause s ≡ b → AllByRecursion (HasTaken settings there s) (created_of settings s there).takings
+      by_exit true is = subst (λ (x : Created). AllByRecursion (HasTaken settings there s) x.takings) (sym (none_outs settings s (with_cause before cause) (outs_of settings before cause) (created_more settings s before (heard cause) ∙ none_now cause is))) tt
+      by_exit false goes_on = all_so (Taker settings before cause there s) (RunsAt settings there s) (created_of settings s there) (λ e k. runs_there lively s e goes_on k) (place_rests.takers few s)
 
 pub none_uncreated : (settings : Settings) → Uncreated settings []
 none_uncreated settings s le = refl

@@ -1,5 +1,5 @@
 -- Legal histories of two editors, worked out by the checker.
-use Rattle.std.proofs.Common.{◌≡◌, true, false, ◌&&◌, List, [], ◌∷◌, ◌++◌, codes, None, refl, ◌∙◌, ap}
+use Rattle.std.proofs.Common.{◌≡◌, true, false, List, [], ◌∷◌, ◌++◌, codes, None, refl, ◌∙◌, ap}
 use Rattle.std.specs.Fmt.{digits}
 use Rattle.std.proofs.lemmas.Bool.{and_parts}
 use Rattle.url.proofs.OnLiterals.{url_on_literals}
@@ -29,7 +29,6 @@ use Rattle.group_rows.specs.TokensExample.{marking, progressing, working}
 use Rattle.group_rows.specs.Example.{all_outs, both_ask, closing, switching, two_editors, two_groups}
 use Rattle.group_rows.specs.Forwarded.{forwarding_of}
 use Rattle.group_facts.specs.SlowExample.{few_bytes, slowing}
-use Rattle.group_facts.specs.Built.{built_behind}
 use Rattle.group_facts.specs.Example.{asking_again, asking_again_outs, offering_more, offering_more_outs, one_group, one_waits, played, played_from, taken_from, two_ask, one_refused}
 use Rattle.group_facts.specs.Legal.{Legal, LegalFrom}
 use Rattle.group_facts.specs.SlowRows.{entry_outs}
@@ -40,9 +39,8 @@ legal_from settings before [] h = tt
 legal_from settings before (cause ∷ causes) h =
     let entry : Entry = record { cause = cause; outs = entry_outs settings (events_of before) cause } in
     let later : List Event = behind (with_cause (events_of before) cause) (entry_outs settings (events_of before) cause) in
-    let first = and_parts (fits_behind (events_of before) cause) (built_behind settings (events_of before) cause && taken_from settings later causes) h in
-    let second = and_parts (built_behind settings (events_of before) cause) (taken_from settings later causes) first.1 in
-    (first.0, second.0, refl, legal_from settings (before ++ entry ∷ []) causes (ap (λ z. taken_from settings z causes) (events_more before entry) ∙ second.1))
+    let parts = and_parts (fits_behind (events_of before) cause) (taken_from settings later causes) h in
+    (parts.0, refl, legal_from settings (before ++ entry ∷ []) causes (ap (λ z. taken_from settings z causes) (events_more before entry) ∙ parts.1))
 
 legal : (settings : Settings) (causes : List Cause) → taken_from settings [] causes ≡ true → Legal settings (played settings causes)
 legal settings causes h = legal_from settings [] causes h

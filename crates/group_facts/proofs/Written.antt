@@ -1,5 +1,5 @@
 -- The daemon's own `initialize` to the starts of each group is a request with the number 1.
-use Rattle.std.proofs.Common.{◌≡◌, ℕ, true, List, [], ◌∷◌, ◌++◌, codes, Option}
+use Rattle.std.proofs.Common.{◌≡◌, ℕ, List, [], ◌∷◌, ◌++◌, codes, Option}
 use Rattle.json_text.specs.Json.{Json}
 use Rattle.mux_history.specs.declared.cause.Cause.{Cause}
 use Rattle.mux_history.specs.declared.out.Out.{Out}
@@ -11,7 +11,6 @@ use Rattle.group_words.specs.Houses.{declared_for, key_for}
 use Rattle.group_words.specs.Placing.{founded}
 use Rattle.group_words.specs.Rows.{folders_text, initialize_of}
 use Rattle.group_words.proofs.Openings.{founded_folders, founded_opens, over_folders, over_opens}
-use Rattle.group_facts.specs.Built.{built_behind}
 use Rattle.group_facts.specs.Facts.{IsWritten, Written}
 use Rattle.group_facts.proofs.Keeping.{Keeps, all_did, all_took}
 
@@ -20,6 +19,7 @@ written_keeps : Keeps IsWritten
 written_keeps = record {
   ends = λ x k. record { params = over_opens.0; says = over_opens.1; folders = over_folders.0; listed = over_folders.1 };
   busies = λ x k. record { params = k.params; says = k.says; folders = k.folders; listed = k.listed };
+  exits = λ x k. record { params = k.params; says = k.says; folders = k.folders; listed = k.listed };
   idles = λ now x k. record { params = k.params; says = k.says; folders = k.folders; listed = k.listed };
 }
 
@@ -30,8 +30,8 @@ module _ (settings : Settings) where
       let f : (v : Json) × IsShallowText 1023 v (folders_text (key_for settings events e body).folders) = founded_folders settings events e body in
       record { params = k.0; says = k.1; folders = f.0; listed = f.1 }
 
-  pub written_took : (events : List Event) (cause : Cause) → built_behind settings events cause ≡ true → Written settings events → Written settings (with_cause events cause)
-  written_took events cause built h = all_took IsWritten written_keeps settings events cause built (founded_written events) h
+  pub written_took : (events : List Event) (cause : Cause) → Written settings events → Written settings (with_cause events cause)
+  written_took events cause h = all_took IsWritten written_keeps settings events cause (founded_written events) h
 
   pub written_did : (events : List Event) (out : Out) → Written settings events → Written settings (events ++ said out ∷ [])
   written_did events out h = all_did IsWritten written_keeps settings events out h

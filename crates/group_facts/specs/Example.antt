@@ -9,14 +9,13 @@ use Rattle.event_model.specs.Event.{Event, behind, events_of, with_cause}
 use Rattle.event_model.specs.Settings.{Settings}
 use Rattle.mux_model.specs.Fits.{fits_behind}
 use Rattle.group_rows.specs.Example.{two_editors}
-use Rattle.group_facts.specs.Built.{built_behind}
 use Rattle.group_facts.specs.SlowRows.{entry_outs}
 
--- each of these causes fits, and is built, behind the ones before it
+-- each of these causes fits behind the ones before it
 abbrev pub taken_from : Settings → List Event → List Cause → Bool
 taken_from settings events [] = true
 taken_from settings events (cause ∷ causes) =
-    fits_behind events cause && (built_behind settings events cause && taken_from settings (behind (with_cause events cause) (entry_outs settings events cause)) causes)
+    fits_behind events cause && taken_from settings (behind (with_cause events cause) (entry_outs settings events cause)) causes
 
 -- the entries of these causes, behind others
 abbrev pub played_from : Settings → List Entry → List Cause → List Entry

@@ -29,6 +29,7 @@ use Rattle.group_words.specs.Houses.{groups_of, home_of, is_doubled, is_first_er
 use Rattle.group_words.specs.Rows.{folders_text, initialize_of, result_of}
 use Rattle.group_rows.specs.Asks.{Ask, Parked, asks_of, is_patient, is_under, parked_of, waits_under}
 use Rattle.group_rows.specs.Created.{Taking, created_of}
+use Rattle.group_rows.specs.Earlier.{differs, given_of, was_shown}
 use Rattle.group_rows.specs.ExitRows.{ends_group}
 use Rattle.group_rows.specs.Forwarded.{Forwarded, forwarding_of}
 use Rattle.group_rows.specs.StopRows.{stopped}
@@ -265,9 +266,21 @@ turned_away settings before (StartFailed s) e = ends_with settings before s e &&
 turned_away settings before (ServerGone s) e = ends_with settings before s e && is_waiting (desk_of e before).phase
 turned_away settings before other e = false
 
--- an editor whose link another one's doing ends: of a group whose start refuses its `initialize` (S3), or with whose start it ends (X3); each that is there, where one stops all (E6); and one that joins behind that (J1)
+-- an editor of a group whose start refuses its `initialize` (S3)
+abbrev pub is_refused : Settings → List Event → ℕ → List ℕ → ℕ → Bool
+is_refused settings before s body e = is_refusing before s (message_of body) && (is_begun (desk_of e before).phase && is_in settings before s e)
+
+-- S2: the start gives its result, and editors are shown other capabilities of it than of an earlier start's
+abbrev pub is_other : List Event → ℕ → List ℕ → Bool
+is_other before s body = is_initializing (life_of s before).stage && (is_first_result (message_of body) && option_map_or (λ g. differs (given_of g before) body) (group_of s before) false)
+
+-- an editor of its group that was shown those
+abbrev pub is_parted : Settings → List Event → ℕ → List ℕ → ℕ → Bool
+is_parted settings before s body e = is_other before s body && (was_shown (desk_of e before).phase && is_in settings before s e)
+
+-- an editor whose link another one's doing ends: of a group whose start refuses its `initialize` (S3), shows other capabilities than an earlier one (S2), or with whose start it ends (X3); each that is there, where one stops all (E6); and one that joins behind that (J1)
 abbrev pub is_put_out : Settings → List Event → Cause → ℕ → Bool
-is_put_out settings before (FromServer s body) e = is_refusing before s (message_of body) && (is_begun (desk_of e before).phase && is_in settings before s e)
+is_put_out settings before (FromServer s body) e = is_refused settings before s body e || is_parted settings before s body e
 is_put_out settings before (FromEditor n body) e = stops before n (message_of body) && is_there (desk_of e before).phase
 is_put_out settings before (Joined n) e = nat_eq n e && stopped before
 is_put_out settings before (StartFailed s) e = ends_with settings before s e && is_begun (desk_of e before).phase

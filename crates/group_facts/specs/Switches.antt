@@ -1,17 +1,18 @@
 -- What a server is told before a message of an editor goes on to it: of just the documents that are open at the editor and on which the server doesn't agree with it, in the order of their opening, the editor's language and text (LSP 3.17, Text Document Synchronization).
-use Rattle.std.specs.Prelude.{◌≡◌, ℕ, true, List, [], ◌∷◌, ◌++◌, map}
+use Rattle.std.specs.Prelude.{◌≡◌, ◌⊎◌, ℕ, true, List, [], ◌∷◌, ◌++◌, map}
 use Rattle.std.specs.Prelude.{Some}
 use Rattle.std.specs.List.{AllByRecursion}
 use Rattle.mux_history.specs.declared.cause.Cause.{Cause}
-use Rattle.mux_history.specs.declared.cause.Cause.TheVariants.{FromEditor}
+use Rattle.mux_history.specs.declared.cause.Cause.TheVariants.{FromEditor, FromServer}
 use Rattle.mux_history.specs.declared.entry.Entry.{Entry}
 use Rattle.mux_history.specs.declared.out.Out.{Out}
 use Rattle.mux_history.specs.declared.out.Out.TheVariants.{ToServer}
 use Rattle.rpc_message.specs.Message.{message_of}
 use Rattle.event_model.specs.Event.{Event, behind, events_of, said, with_cause}
 use Rattle.event_model.specs.Settings.{Settings}
-use Rattle.event_model.specs.Spawns.{start_of}
+use Rattle.event_model.specs.Spawns.{group_of, start_of}
 use Rattle.mux_model.specs.Documents.{held_at}
+use Rattle.group_rows.specs.Earlier.{configuration_of}
 use Rattle.group_rows.specs.Rows.{sync_bodies}
 use Rattle.group_rows.specs.Texts.{is_synced, texts_of}
 use Rattle.group_facts.specs.Why.{IsQuestion}
@@ -27,9 +28,17 @@ pub record IsSwitched (settings : Settings) (before : List Event) (cause : Cause
   pub asks : AllByRecursion (IsQuestion editor) questions
   pub place : events ≡ behind (with_cause before cause) (questions ++ map (λ text. ToServer s text) (sync_bodies settings.limits.versions (λ u. held_at s u before) editor (texts_of settings group before).opens))
 
--- at a body that goes behind a sync
+-- or s gave its result in this entry, and is told of the configuration that its group keeps
+pub record IsConfigured (settings : Settings) (before : List Event) (cause : Cause) (s : ℕ) (body : List ℕ) : Type 0 where
+  pub group : ℕ
+  pub answer : List ℕ
+  pub from : cause ≡ FromServer s answer
+  pub home : group_of s before ≡ Some group
+  pub kept : configuration_of settings group before ≡ Some body
+
+-- at a body that goes behind a sync, as those of editors do
 abbrev pub OnSwitches : Settings → List Event → Cause → List Event → Out → Type 0
-OnSwitches settings before cause events (ToServer s body) = is_synced (message_of body) ≡ true → IsSwitched settings before cause events s
+OnSwitches settings before cause events (ToServer s body) = is_synced (message_of body) ≡ true → IsSwitched settings before cause events s ⊎ IsConfigured settings before cause s body
 OnSwitches settings before cause events other = Unit {0}
 
 -- at each of these outs, behind these events

@@ -58,6 +58,7 @@ use Rattle.group_rows.specs.Live.{is_registering, live_of, register_text, taken_
 use Rattle.group_rows.specs.Rows.{sync_bodies}
 use Rattle.group_facts.specs.SlowRows.{is_slow}
 use Rattle.group_rows.specs.StopRows.{stopped as is_stopped}
+use Rattle.group_rows.specs.Earlier.{configuration_of}
 use Rattle.group_rows.specs.Texts.{texts_of}
 use Rattle.group_rows.specs.Tokens.{forwarded_text, is_told, is_worked, listens, mark_text, marked_text, own_token, reserves, work_mark}
 use Rattle.group_facts.specs.Built.{is_left}
@@ -98,7 +99,6 @@ pub record IsGreeting (before : List Event) (cause : Cause) (events : List Event
   pub ready : (life_of s events).stage ≡ Ready
   pub from : cause ≡ FromServer s answer
   pub first : is_first_result (message_of answer) ≡ true
-  pub place : events ≡ with_cause before cause
   pub part : server_part s events ≡ server_part s before ++ heard cause ∷ []
   pub says : message_of body ≡ notification (codes "initialized") params
 
@@ -154,6 +154,18 @@ pub record IsForward (settings : Settings) (before : List Event) (cause : Cause)
 pub data Turn (before : List Event) (cause : Cause) (events : List Event) (s : ℕ) : Type 0 where
   stays : moves before cause s ≡ false → Turn before cause events s
   greeted : (xs : List Event) → server_part s events ≡ server_part s before ++ heard cause ∷ said (ToServer s initialized_text) ∷ xs → Turn before cause events s
+
+-- s was greeted in this entry, and is told of the configuration that its group keeps, as it came (S2, E16)
+pub record IsConfiguring (settings : Settings) (before : List Event) (cause : Cause) (events : List Event) (s : ℕ) (body : List ℕ) : Type 0 where
+  pub group : ℕ
+  pub answer : List ℕ
+  pub params : Option Json
+  pub from : cause ≡ FromServer s answer
+  pub home : group_of s before ≡ Some group
+  pub kept : configuration_of settings group before ≡ Some body
+  pub ready : (life_of s events).stage ≡ Ready
+  pub turn : Turn before cause events s
+  pub says : message_of body ≡ notification (codes "workspace/didChangeConfiguration") params
 
 -- s is ready, and this body tells it of a document, as it may be told
 pub record IsTelling (before : List Event) (cause : Cause) (events : List Event) (s : ℕ) (body : List ℕ) : Type 0 where
@@ -283,6 +295,7 @@ pub record IsExit (before : List Event) (cause : Cause) (events : List Event) (s
 pub data WhyToServer (settings : Settings) (before : List Event) (cause : Cause) (events : List Event) (s : ℕ) (body : List ℕ) : Type 0 where
   begins : IsBeginning before cause events s body → WhyToServer settings before cause events s body
   greets : IsGreeting before cause events s body → WhyToServer settings before cause events s body
+  conveys : IsConfiguring settings before cause events s body → WhyToServer settings before cause events s body
   forwarded : IsForward settings before cause events s body → WhyToServer settings before cause events s body
   notes : IsNotice settings before cause events s body → WhyToServer settings before cause events s body
   tells : IsTelling before cause events s body → WhyToServer settings before cause events s body

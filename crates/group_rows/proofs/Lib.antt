@@ -22,6 +22,7 @@ pub mod CreatedKept
 pub mod WorkedLists
 pub mod WorkedStop
 pub mod WorkedExits
+pub mod WorkedRestarts
 pub mod ExitTexts
 pub mod ListTexts
 pub mod ListsKept

@@ -18,10 +18,10 @@ use Rattle.group_rows.specs.ExitExample.{failed, failed_outs, lost, lost_down, l
 use Rattle.group_rows.specs.Rows.{outs_from}
 
 -- where starts of a group may end so often and be started again
-abbrev restarting : ℕ → Settings
+abbrev pub restarting : ℕ → Settings
 restarting n = record { limits = record (with_groups 8).limits { restarts = n }; servers = (with_groups 8).servers; default = 0 }
 
-abbrev outs_by : ℕ → List Cause → List Out
+abbrev pub outs_by : ℕ → List Cause → List Out
 outs_by n causes = flat_map (λ xs. xs) (outs_from (restarting n) [] causes)
 
 a_start_is_lost : outs_by 1 lost ≡ lost_outs

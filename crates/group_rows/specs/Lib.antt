@@ -2,11 +2,13 @@ pub mod Answers
 pub mod AnswersExample
 pub mod Cancelling
 pub mod CancellingExample
+pub mod Earlier
 pub mod Ends
 pub mod Example
 pub mod ExitExample
 pub mod ExitRows
 pub mod Forwarded
+pub mod RestartExample
 pub mod Rows
 pub mod StopExample
 pub mod StopRows

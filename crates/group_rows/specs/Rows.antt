@@ -41,6 +41,7 @@ use Rattle.group_rows.specs.Asks.{members_in}
 use Rattle.group_rows.specs.AskRows.{notified_row, question_row, response_row, run_row}
 use Rattle.group_rows.specs.Cancelling.{cancelling_row}
 use Rattle.group_rows.specs.CreatedRows.{work_row}
+use Rattle.group_rows.specs.Earlier.{configure, part_row}
 use Rattle.group_rows.specs.Ends.{answers_shutdown, exit_server}
 use Rattle.group_rows.specs.ExitRows.{lost_row}
 use Rattle.group_rows.specs.Forwarded.{forwarding_of}
@@ -112,7 +113,7 @@ document_at settings before e body x g s =
 abbrev pub document_row : Settings → List Event → ℕ → List ℕ → Saying → Row
 document_row settings before e body x = on (home_of settings e before) nothing (λ g. on (start_of g before) nothing (document_at settings before e body x g))
 
--- E16 and E17: the notification goes to the start of the editor's group as it came, behind a sync, where the start is ready; no later start is told of a configuration yet, since a group has one start
+-- E16 and E17: the notification goes to the start of the editor's group as it came, behind a sync, where the start is ready; a later start is told of the last configuration by S2
 abbrev pub notice_at : Settings → List Event → ℕ → List ℕ → ℕ → ℕ → Row
 notice_at settings before e body g s = choose (is_ready (life_of s before).stage) (sync_row settings before g s e ⨾ send (ToServer s body)) nothing
 
@@ -214,16 +215,23 @@ message_row settings before e body m phase = choose (is_begun phase && is_double
 abbrev pub from_editor : Settings → List Event → ℕ → List ℕ → Message → Phase → Row
 from_editor settings before e body m phase = choose (is_malformed m) (malformed_row e m phase) (message_row settings before e body m phase)
 
--- S2: the session begins, the start is told of each document that is open, and the editors that wait are answered
+-- S2: an editor that waits is answered
 abbrev pub welcome : List ℕ → ℕ → Row
 welcome body e = look (λ events. send (ToEditor e (ok_text (id_bytes (desk_of e events).initialize) (shown_of (result_bytes body)))))
 
 abbrev pub waiting_in : Settings → ℕ → List Event → List ℕ
 waiting_in settings g events = editors_in is_waiting g (λ e. home_of settings e events) events
 
+abbrev pub welcome_all : Settings → List ℕ → ℕ → Row
+welcome_all settings body g = look (λ events. each (welcome body) (waiting_in settings g events))
+
+-- X4: by what is open then, without the documents of an editor whose link is to be ended
+abbrev pub replay : Settings → ℕ → ℕ → Row
+replay settings s g = look (λ events. to_start s (replay_bodies [] (texts_of settings g events).opens (texts_of settings g events).opens))
+
+-- S2: the editors that were shown other capabilities are parted with, the session begins, the start is told of the configuration and of each document that is open, and the editors that wait are answered
 abbrev pub result_in : Settings → List Event → ℕ → List ℕ → ℕ → Row
-result_in settings before s body g =
-    send (ToServer s initialized_text) ⨾ (to_start s (replay_bodies [] (texts_of settings g before).opens (texts_of settings g before).opens) ⨾ look (λ events. each (welcome body) (waiting_in settings g events)))
+result_in settings before s body g = part_row settings before body g ⨾ (send (ToServer s initialized_text) ⨾ (configure settings before s g ⨾ (replay settings s g ⨾ welcome_all settings body g)))
 
 abbrev pub first_result : Settings → List Event → ℕ → List ℕ → Row
 first_result settings before s body = on (group_of s before) nothing (result_in settings before s body)

@@ -16,7 +16,6 @@ use Rattle.session_laws.specs.ClientRules.{accepted_of}
 use Rattle.session_laws.specs.Progress.{Creates, is_one, token_at}
 use Rattle.group_rows.specs.Created.{created_mark}
 use Rattle.group_rows.specs.Rows.{outs_of}
-use Rattle.group_facts.specs.Built.{built_behind}
 use Rattle.group_facts.specs.Why.{Telling, of_held, of_request, of_token, IsLosing}
 use Rattle.group_facts.proofs.Reached.{Reached}
 
@@ -56,5 +55,4 @@ Heard settings before cause events other = Unit {0}
 
 -- Each out of every entry is so: the part of rule 6 that is about created tokens.
 abbrev pub AllHeard : Settings → Type 0
-AllHeard settings = (before : List Event) → Reached settings before → (cause : Cause) → fits_behind before cause ≡ true → built_behind settings before cause ≡ true
-    → Reasons (Heard settings before cause) (with_cause before cause) (outs_of settings before cause)
+AllHeard settings = (before : List Event) → Reached settings before → (cause : Cause) → fits_behind before cause ≡ true → Reasons (Heard settings before cause) (with_cause before cause) (outs_of settings before cause)

@@ -35,7 +35,6 @@ use Rattle.group_rows.specs.LiveRows.{call, has_some, restore}
 use Rattle.group_rows.specs.Rows.{asks_lspmux, closing_row, from_editor, lspmux_row, message_row, outs_of, served_row, taken_row, told_row}
 use Rattle.group_rows.proofs.LiveTexts.{live_written}
 use Rattle.mux_model.specs.Rows.{malformed_row}
-use Rattle.group_facts.specs.Built.{built_behind}
 use Rattle.group_facts.specs.Facts.{IsParked, is_unready, is_up, shuts}
 use Rattle.group_facts.specs.Settled.{Settled, is_answered as answered_phase}
 use Rattle.group_facts.specs.Why.{asks_something}
@@ -53,6 +52,7 @@ use Rattle.group_rows.proofs.Versions.{AllMeant, meant_heard, meant_more}
 use Rattle.group_sessions.proofs.Changes.{Some_hold, none_gone, small, still_some, still_there}
 use Rattle.group_sessions.proofs.Enrolled.{create_apart, Adds, Same, is_about, may_add, register_adds, same_all}
 use Rattle.group_sessions.proofs.Registered.{At, at_free, at_plain, at_told, at_took, ids}
+use Rattle.group_facts.proofs.LastStarts.{AllLast}
 use Rattle.group_sessions.proofs.Tied.{All, IsTied, Place, all_back, has_run, live_here, place, runs_on}
 use Rattle.group_rows.specs.Created.{created_of, Token, is_creating}
 use Rattle.group_rows.specs.CreatedRows.{offer_all, offer, create_text}
@@ -123,8 +123,8 @@ up_unready Stopping up off = never (sym up)
 up_unready Ending up off = never (sym up)
 up_unready Ended up off = never (sym up)
 
-module _ (settings : Settings) (range : InRange settings) (before : List Event) (facts : Facts settings before) (settled : Settled settings before) (all : All settings before)
-    (e : ℕ) (body : List ℕ) (fits : fits_behind before (FromEditor e body) ≡ true) (built : built_behind settings before (FromEditor e body) ≡ true) (was : (desk_of e before).phase ≡ Answered) (runs : makes_running (message_of body) ≡ true) where
+module _ (settings : Settings) (range : InRange settings) (before : List Event) (facts : Facts settings before) (settled : Settled settings before) (lasts : AllLast before) (all : All settings before)
+    (e : ℕ) (body : List ℕ) (fits : fits_behind before (FromEditor e body) ≡ true) (was : (desk_of e before).phase ≡ Answered) (runs : makes_running (message_of body) ≡ true) where
   abbrev now : List Event
   now = with_cause before (FromEditor e body)
 
@@ -135,13 +135,13 @@ module _ (settings : Settings) (range : InRange settings) (before : List Event) 
   at_now = at_took e [] before (FromEditor e body) (record { always = all.always e; has = all.early e (ap has_run was) })
 
   live_is : (t : ℕ) → live_of settings t later ≡ live_of settings t before
-  live_is t = live_here settings range before facts settled (FromEditor e body) fits built t
+  live_is t = live_here settings range before facts settled (FromEditor e body) fits t
 
   shut : shuts (FromEditor e body) e ≡ false
   shut = ap (λ b. b && requests (codes "shutdown") (message_of body)) (same_number e) ∙ unshut settings before e body (message_of body) runs
 
-  where_it_was : (g t : ℕ) → home_of settings e later ≡ Some g → start_of g later ≡ Some t → Place settings range before facts settled (FromEditor e body) fits built e g t
-  where_it_was g t home start = place settings range before facts settled (FromEditor e body) fits built e g t (ap needs_server was) (ap is_new was) shut home start
+  where_it_was : (g t : ℕ) → home_of settings e later ≡ Some g → start_of g later ≡ Some t → Place settings range before facts settled (FromEditor e body) fits e g t
+  where_it_was g t home start = place settings range before facts settled (FromEditor e body) fits lasts e g t (ap needs_server was) (ap is_new was) shut (λ k. refl) home start
 
   pub record Outcome : Type 0 where
     pub xs : List (List ℕ)

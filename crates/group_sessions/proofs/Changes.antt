@@ -18,7 +18,7 @@ use Rattle.group_rows.specs.LiveTexts.{AreWritten}
 use Rattle.group_rows.proofs.LiveTexts.{again_written}
 use Rattle.group_sessions.proofs.Enrolled.{Adds, Between, Drops, Same, again_in, between_dropped, between_none, items_out, may_add, may_drop, register_adds, same_added, same_dropped, unregister_drops}
 use Rattle.group_sessions.proofs.Registered.{At, at_other, at_told}
-use Rattle.group_sessions.proofs.Tied.{out_rests}
+use Rattle.group_sessions.proofs.Numbers.{out_rests}
 
 -- One after the other
 

@@ -36,7 +36,7 @@ module _ (settings : Settings) (before : List Event) (cause : Cause) (events : L
 
 law : (settings : Settings) → Law settings Everywhere
 law settings = record {
-  took = λ before cause fits built known h. took_it before cause fits ((known.steady).editors) h;
+  took = λ before cause fits known h. took_it before cause fits ((known.steady).editors) h;
   to_editor = λ before cause events e body why known here h i. to_editor events e body (there settings before cause events e body why) i;
   to_server = λ before cause events s body why known here h i. to_server events s body i;
   close = λ before cause events e turned there known here h i. closes events e i;

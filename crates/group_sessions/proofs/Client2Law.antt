@@ -47,7 +47,7 @@ module _ (settings : Settings) (before : List Event) (cause : Cause) (events : L
 
 law : (settings : Settings) → Law settings Everywhere
 law settings = record {
-  took = λ before cause fits built known h. took_it before cause h;
+  took = λ before cause fits known h. took_it before cause h;
   to_editor = λ before cause events e body why known here h i. told_it settings before cause events e body why h i;
   to_server = λ before cause events s body why known here h i. more events (said (ToServer s body)) refl i;
   close = λ before cause events e turned there known here h i. more events (said (CloseEditor e)) refl i;

@@ -347,7 +347,7 @@ rests settings before cause everywhere meant fits waiting h i e = go (asks_again
 
 law : (settings : Settings) → RestLaw settings Everywhere Within
 law settings = record {
-  took = λ before cause fits built known h. λ e other. later e (with_cause before cause) (took_it before cause fits (known.steady).editors e other (now e before known.waiting (h e)));
+  took = λ before cause fits known h. λ e other. later e (with_cause before cause) (took_it before cause fits (known.steady).editors e other (now e before known.waiting (h e)));
   to_editor = λ before cause events n body why known here h i. λ e other. to_editor events n body e (heard_it events n body settings before cause why) (i e other);
   to_server = λ before cause events s body why known here h i. λ e other. one_more e events (said (ToServer s body)) (i e other) (λ same. absurd (cc)) (i e other).link;
   close = λ before cause events n turned there known here h i. λ e other. closed events n e (i e other);

@@ -36,7 +36,6 @@ use Rattle.group_rows.specs.Forwarded.{Forwarded, Forwarding, answered_by, forwa
 use Rattle.group_rows.specs.Rows.{outs_of}
 use Rattle.group_rows.specs.Tokens.{is_mark, is_told, marked_text, own_token, partial_mark, work_mark, listens}
 use Rattle.group_rows.proofs.CreatedTexts.{created_is}
-use Rattle.group_facts.specs.Built.{built_behind}
 use Rattle.group_facts.specs.Legal.{Legal}
 use Rattle.group_facts.specs.Why.{IsNotified, Telling, Why, WhyToEditor, answers, asks, calls, of_held, of_request, of_token, passes, progresses, recalls, refuses, rejects, resumes, shows, spreads, turns_away, welcomes, loses, quitting, winds_up}
 use Rattle.group_facts.proofs.Facts.{Facts}
@@ -57,7 +56,7 @@ use Rattle.group_facts.proofs.Apart.{find_true}
 use Rattle.group_facts.proofs.Listens.{listens_there}
 use Rattle.event_model.specs.Phases.{desk_of, is_there}
 use Rattle.std.proofs.lemmas.Bool.{and_parts}
-use Rattle.group_facts.proofs.SlowRow.{parting_walk, quit_built}
+use Rattle.group_facts.proofs.SlowRow.{parting_walk}
 use Rattle.event_model.proofs.Frames.{never}
 
 -- What is told
@@ -95,7 +94,7 @@ own_is j f bytes h = go (is_mark j (work_mark f.number)) refl (is_mark j (partia
 pub created_id : (s k : ℕ) → IsIdText (text (created_mark s k)) (created_text s k)
 created_id s k = let w : IsValueText (string nowhere (created_mark s k)) (created_text s k) = created_is s k in record { tree = w.tree; stands = w.stands; is = sym (id_bare w.tree) ∙ ap id_of w.same }
 
-module _ (settings : Settings) (range : InRange settings) (before : List Event) (facts : Facts settings before) (cause : Cause) (built : built_behind settings before cause ≡ true) where
+module _ (settings : Settings) (range : InRange settings) (before : List Event) (facts : Facts settings before) (cause : Cause) where
   -- at a place inside of the entry
   record At (events : List Event) : Type 0 where
     here : Here settings before cause events
@@ -190,7 +189,7 @@ module _ (settings : Settings) (range : InRange settings) (before : List Event) 
 
   more : (events : List Event) (out : Out) → Why settings before cause events out → At events → (stopped (events ++ said out ∷ []) ≡ false → Ties (events ++ said out ∷ [])) → ((e : ℕ) → Always ClientRule6 (editor_part e (events ++ said out ∷ []))) → At (events ++ said out ∷ [])
   more events out why i ties rules = record {
-    here = here_did settings range before cause facts built events out why i.here;
+    here = here_did settings range before cause facts events out why i.here;
     outs = i.outs ++ out ∷ [];
     place = ap (λ z. z ++ said out ∷ []) i.place ∙ sym (behind_both (with_cause before cause) i.outs (out ∷ []));
     ties = ties;
@@ -220,20 +219,19 @@ record Rests (events : List Event) : Type 0 where
 
 -- where what editors are told of created tokens is as it should be
 module _ (settings : Settings) (range : InRange settings) (all_heard : AllHeard settings) where
-  entry : (before : List Event) → Reached settings before → (cause : Cause) → fits_behind before cause ≡ true → built_behind settings before cause ≡ true
-      → Rests before → Rests (behind (with_cause before cause) (outs_of settings before cause))
-  entry before so_far cause fits built h =
+  entry : (before : List Event) → Reached settings before → (cause : Cause) → fits_behind before cause ≡ true → Rests before → Rests (behind (with_cause before cause) (outs_of settings before cause))
+  entry before so_far cause fits h =
       let facts : Facts settings before = facts_at settings range before so_far in
       let now : List Event = with_cause before cause in
-      let last : At settings range before facts cause built (behind now (outs_of settings before cause)) = reasons_keep (Both settings range before facts cause built) (At settings range before facts cause built) (step settings range before facts cause built)
+      let last : At settings range before facts cause (behind now (outs_of settings before cause)) = reasons_keep (Both settings range before facts cause) (At settings range before facts cause) (step settings range before facts cause)
       now (outs_of settings before cause)
-      (both settings range before facts cause built now (outs_of settings before cause) (reasons settings range before facts cause built).why (all_heard before so_far cause fits built))
+      (both settings range before facts cause now (outs_of settings before cause) (reasons settings range before facts cause).why (all_heard before so_far cause fits))
       (record {
-        here = here_took settings range before cause fits built facts;
+        here = here_took settings range before cause fits facts;
         outs = [];
         place = sym (behind_nothing now);
         ties = λ on. ties_took before cause (h.ties (stopped_back before (heard cause) on));
-        rules = rules_took settings range before facts cause built cause h.rules;
+        rules = rules_took settings range before facts cause cause h.rules;
       }) in
       record { ties = last.ties; rules = last.rules }
 
@@ -243,11 +241,11 @@ module _ (settings : Settings) (range : InRange settings) (all_heard : AllHeard 
       parting_walk settings range place facts e is Rests
       (λ i. record {
         ties = λ on. ties_free place (CloseEditor e) refl (λ s. refl) (i.ties (stopped_back place (said (CloseEditor e)) on));
-        rules = free settings range place facts (quitting e) (quit_built settings place e) place (said (CloseEditor e)) refl i.rules;
+        rules = free settings range place facts (quitting e) place (said (CloseEditor e)) refl i.rules;
       })
       (λ events n body why i. record {
         ties = λ on. ties_sent settings place (quitting e) events n body why (i.ties (stopped_back events (said (ToServer n body)) on));
-        rules = free settings range place facts (quitting e) (quit_built settings place e) events (said (ToServer n body)) refl i.rules;
+        rules = free settings range place facts (quitting e) events (said (ToServer n body)) refl i.rules;
       }) h
 
   pub client_6_law : (history : List Entry) → Legal settings history → KeepsClient6 history

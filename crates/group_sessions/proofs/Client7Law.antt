@@ -32,7 +32,6 @@ use Rattle.group_words.specs.Houses.{home_of}
 use Rattle.group_rows.specs.Asks.{asking_of, is_taken}
 use Rattle.group_rows.specs.Live.{live_by, live_next, live_of}
 use Rattle.group_rows.specs.Rows.{outs_of}
-use Rattle.group_facts.specs.Built.{built_behind}
 use Rattle.group_facts.specs.Facts.{is_unready}
 use Rattle.group_facts.specs.Legal.{Legal}
 use Rattle.group_facts.specs.Settled.{Settled}
@@ -41,13 +40,14 @@ use Rattle.group_facts.proofs.Facts.{Facts}
 use Rattle.group_facts.proofs.Known.{Here, here_did, here_took}
 use Rattle.group_facts.proofs.Levels.{Fresh, falls_back, unready_falls}
 use Rattle.group_facts.proofs.Numbers.{spawn_fresh}
-use Rattle.group_facts.proofs.OneStart.{OneStart}
-use Rattle.group_facts.proofs.Reached.{facts_at, reached, rests_at, settled_at}
+use Rattle.group_facts.proofs.LastStarts.{AllLast}
+use Rattle.group_facts.proofs.Reached.{Reached, facts_at, reached, rests_at, settled_at}
 use Rattle.group_facts.proofs.SlowRow.{parting, parting_calm, parting_keeps}
 use Rattle.group_facts.proofs.Table.{reasons}
 use Rattle.group_sessions.proofs.Begins.{begun_outcome}
 use Rattle.group_sessions.proofs.Enrolled.{is_about}
 use Rattle.group_sessions.proofs.Registered.{At, begins, ids, is_answered, is_change}
+use Rattle.group_sessions.proofs.Numbers.{out_rests}
 use Rattle.group_sessions.proofs.Tied.{All, IsTied, early_here, has_run, live_here, ordinary, ordinary_tied}
 use Rattle.group_sessions.proofs.Told.{change_outcome}
 use Rattle.group_sessions.proofs.Walk.{Keeps, KeepsSlow, walk}
@@ -58,7 +58,7 @@ use Rattle.group_facts.proofs.Begun.{starts_stay}
 use Rattle.group_facts.proofs.PutOut.{homes_stay}
 use Rattle.group_sessions.proofs.Enrolled.{Same}
 use Rattle.group_sessions.proofs.Registered.{at_free}
-use Rattle.group_sessions.proofs.Tied.{all_back, live_rests, not_run, out_rests, runs_on}
+use Rattle.group_sessions.proofs.Tied.{all_back, live_rests, not_run, runs_on}
 
 -- A start that gave no result has nothing that is live
 
@@ -71,7 +71,7 @@ unready_off Stopping h = never (sym h)
 unready_off Ending h = never (sym h)
 unready_off Ended h = never (sym h)
 
-module _ (settings : Settings) (range : InRange settings) (before : List Event) (facts : Facts settings before) (cause : Cause) (fits : fits_behind before cause ≡ true) (built : built_behind settings before cause ≡ true) where
+module _ (settings : Settings) (range : InRange settings) (before : List Event) (facts : Facts settings before) (cause : Cause) (fits : fits_behind before cause ≡ true) where
   record Level (events : List Event) : Type 0 where
     here : Here settings before cause events
     begun : (s : ℕ) → is_unready (life_of s before).stage ≡ false → is_unready (life_of s events).stage ≡ false
@@ -95,13 +95,13 @@ module _ (settings : Settings) (range : InRange settings) (before : List Event) 
   fresh_out events (EndServer n) why none s = tt
 
   level_did : (events : List Event) (out : Out) → Why settings before cause events out → Level events → Level (events ++ said out ∷ [])
-  level_did events out why i = record { here = here_did settings range before cause facts built events out why i.here; begun = λ s h. not_back s events (said out) (fresh_out events out why (((i.here).mid).steady).starts s) (i.begun s h) }
+  level_did events out why i = record { here = here_did settings range before cause facts events out why i.here; begun = λ s h. not_back s events (said out) (fresh_out events out why (((i.here).mid).steady).starts s) (i.begun s h) }
 
   level_took : Level (with_cause before cause)
-  level_took = record { here = here_took settings range before cause fits built facts; begun = λ s h. not_back s before (heard cause) (fresh_cause cause s) h }
+  level_took = record { here = here_took settings range before cause fits facts; begun = λ s h. not_back s before (heard cause) (fresh_cause cause s) h }
 
   pub begun_later : (s : ℕ) → is_unready (life_of s before).stage ≡ false → is_unready (life_of s (behind (with_cause before cause) (outs_of settings before cause))).stage ≡ false
-  begun_later = (reasons_keep (λ events out. Why settings before cause events out) Level level_did (with_cause before cause) (outs_of settings before cause) (reasons settings range before facts cause built).why level_took).begun
+  begun_later = (reasons_keep (λ events out. Why settings before cause events out) Level level_did (with_cause before cause) (outs_of settings before cause) (reasons settings range before facts cause).why level_took).begun
 
 heard_unready : (settings : Settings) (before : List Event) (n s : ℕ) (body : List ℕ) (m : Message) (live : List Registration) → is_ready (life_of s before).stage ≡ false → live_next settings s before live (took (FromServer n body) m) ≡ live
 heard_unready settings before n s body (request id method params) live off = ap (λ b. if nat_eq n s && (b && not (is_taken (Some id) (asking_of settings s before))) then live_by (class_of method Server false) body live else live) off ∙ go (nat_eq n s)
@@ -135,7 +135,7 @@ answered_is Down h = never (sym h)
 answered_is Closed h = never (sym h)
 answered_is Gone h = never (sym h)
 
-module _ (settings : Settings) (range : InRange settings) (before : List Event) (facts : Facts settings before) (settled : Settled settings before) (one : OneStart before) (all : All settings before) where
+module _ (settings : Settings) (range : InRange settings) (before : List Event) (facts : Facts settings before) (settled : Settled settings before) (lasts : AllLast before) (all : All settings before) where
   abbrev later : Cause → List Event
   later cause = behind (with_cause before cause) (outs_of settings before cause)
 
@@ -146,18 +146,18 @@ module _ (settings : Settings) (range : InRange settings) (before : List Event) 
     early : has_run (desk_of e (later cause)).phase ≡ false → ids e (later cause) ≡ []
     tied : (g t : ℕ) → (desk_of e (later cause)).phase ≡ Running → home_of settings e (later cause) ≡ Some g → start_of g (later cause) ≡ Some t → IsTied settings e t (ids e (later cause)) (later cause)
 
-  module _ (cause : Cause) (fits : fits_behind before cause ≡ true) (built : built_behind settings before cause ≡ true) where
+  module _ (cause : Cause) (fits : fits_behind before cause ≡ true) where
     plain : is_change before cause ≡ false → (e : ℕ) → begins before cause e ≡ false → Whole cause e
     plain off e runs =
-        let g = ordinary settings range before facts settled cause fits built all off one e runs in record {
+        let g = ordinary settings range before facts settled cause fits all off lasts e runs in record {
           xs = ids e (later cause);
           at = record { always = g.always; has = refl };
-          early = λ h. let k = early_here settings range before facts settled cause fits built e h in g.kept (λ s lost. never (sym (ap has_run lost.ran) ∙ k.0)) ∙ all.early e k.0;
-          tied = λ g t. ordinary_tied settings range before facts settled cause fits built all off one e g t runs;
+          early = λ h. let k = early_here settings range before facts settled cause fits e h in g.kept (λ s lost. never (sym (ap has_run lost.ran) ∙ k.0)) ∙ all.early e k.0;
+          tied = λ g t. ordinary_tied settings range before facts settled cause fits all off lasts e g t runs;
         }
 
     late : (e : ℕ) → begins before cause e ≡ true → has_run (desk_of e (later cause)).phase ≡ false → ids e (later cause) ≡ []
-    late e runs h = never (sym runs ∙ (early_here settings range before facts settled cause fits built e h).1)
+    late e runs h = never (sym runs ∙ (early_here settings range before facts settled cause fits e h).1)
 
     nothing_live : (s : ℕ) → is_unready (life_of s (later cause)).stage ≡ true → live_of settings s (later cause) ≡ []
     nothing_live s h = go (is_unready (life_of s before).stage) refl
@@ -174,12 +174,12 @@ module _ (settings : Settings) (range : InRange settings) (before : List Event) 
         next off none (Tick t) = none
 
         go : (b : Bool) → is_unready (life_of s before).stage ≡ b → live_of settings s (later cause) ≡ []
-        go true un = live_here settings range before facts settled cause fits built s ∙ next (unready_off (life_of s before).stage un) (all.unready s un) cause
-        go false begun = never (sym h ∙ begun_later settings range before facts cause fits built s begun)
+        go true un = live_here settings range before facts settled cause fits s ∙ next (unready_off (life_of s before).stage un) (all.unready s un) cause
+        go false begun = never (sym h ∙ begun_later settings range before facts cause fits s begun)
 
   -- L2
-  starting : (cause : Cause) → fits_behind before cause ≡ true → built_behind settings before cause ≡ true → (e : ℕ) → begins before cause e ≡ true → Whole cause e
-  starting cause fits built e runs = by_cause cause refl
+  starting : (cause : Cause) → fits_behind before cause ≡ true → (e : ℕ) → begins before cause e ≡ true → Whole cause e
+  starting cause fits e runs = by_cause cause refl
     where
       both : (is_answered (desk_of e before).phase ≡ true) × (is_running (desk_of e (with_cause before cause)).phase ≡ true)
       both = and_parts (is_answered (desk_of e before).phase) (is_running (desk_of e (with_cause before cause)).phase) runs
@@ -193,9 +193,8 @@ module _ (settings : Settings) (range : InRange settings) (before : List Event) 
       own : (body : List ℕ) → cause ≡ FromEditor e body → makes_running (message_of body) ≡ true → Whole cause e
       own body is makes =
           let fits_here = ap (fits_behind before) (sym is) ∙ fits in
-          let built_here = ap (built_behind settings before) (sym is) ∙ built in
-          let o = begun_outcome settings range before facts settled all e body fits_here built_here was makes in
-          subst (λ c. Whole c e) (sym is) (record { xs = o.xs; at = o.at; early = late (FromEditor e body) fits_here built_here e (ap (λ c. begins before c e) (sym is) ∙ runs); tied = o.tied })
+          let o = begun_outcome settings range before facts settled lasts all e body fits_here was makes in
+          subst (λ c. Whole c e) (sym is) (record { xs = o.xs; at = o.at; early = late (FromEditor e body) fits_here e (ap (λ c. begins before c e) (sym is) ∙ runs); tied = o.tied })
 
       makes_so : (body : List ℕ) → is_running (desk_hears (desk_of e before).phase (desk_of e before).initialize body (message_of body)).phase ≡ true → makes_running (message_of body) ≡ true
       makes_so body h = go (requests (codes "shutdown") (message_of body)) (makes_running (message_of body)) (sym (ap (λ p. is_running (desk_hears p (desk_of e before).initialize body (message_of body)).phase) was) ∙ h)
@@ -229,43 +228,43 @@ module _ (settings : Settings) (range : InRange settings) (before : List Event) 
       by_cause (Tick t) is = same (Tick t) is (ap (λ (d : Desk). d.phase) (desk_more e before (heard (Tick t))))
 
   -- S6 and S7
-  changing : (s : ℕ) (body : List ℕ) → fits_behind before (FromServer s body) ≡ true → built_behind settings before (FromServer s body) ≡ true → is_ready (life_of s before).stage ≡ true → (m : Message) → message_of body ≡ m → is_about m ≡ true → (e : ℕ) → Whole (FromServer s body) e
-  changing s body fits built ready (request id method params) says about e =
-      let o = change_outcome settings range before facts settled one all s body fits built (ready_is (life_of s before).stage ready) id method params says about e in record {
+  changing : (s : ℕ) (body : List ℕ) → fits_behind before (FromServer s body) ≡ true → is_ready (life_of s before).stage ≡ true → (m : Message) → message_of body ≡ m → is_about m ≡ true → (e : ℕ) → Whole (FromServer s body) e
+  changing s body fits ready (request id method params) says about e =
+      let o = change_outcome settings range before facts settled lasts all s body fits (ready_is (life_of s before).stage ready) id method params says about e in record {
         xs = o.xs;
         at = o.at;
-        early = λ h. (o.still (unrunning (desk_of e before).phase (early_here settings range before facts settled (FromServer s body) fits built e h).0)).has ∙ all.early e (early_here settings range before facts settled (FromServer s body) fits built e h).0;
+        early = λ h. (o.still (unrunning (desk_of e before).phase (early_here settings range before facts settled (FromServer s body) fits e h).0)).has ∙ all.early e (early_here settings range before facts settled (FromServer s body) fits e h).0;
         tied = o.tied;
       }
-  changing s body fits built ready (notification method params) says about e = never (sym about)
-  changing s body fits built ready (result id r) says about e = never (sym about)
-  changing s body fits built ready (error id r) says about e = never (sym about)
-  changing s body fits built ready not_json says about e = never (sym about)
-  changing s body fits built ready not_message says about e = never (sym about)
+  changing s body fits ready (notification method params) says about e = never (sym about)
+  changing s body fits ready (result id r) says about e = never (sym about)
+  changing s body fits ready (error id r) says about e = never (sym about)
+  changing s body fits ready not_json says about e = never (sym about)
+  changing s body fits ready not_message says about e = never (sym about)
 
-  whole : (cause : Cause) → fits_behind before cause ≡ true → built_behind settings before cause ≡ true → (b : Bool) → is_change before cause ≡ b → (e : ℕ) → (c : Bool) → begins before cause e ≡ c → Whole cause e
-  whole (FromServer s body) fits built true change e c runs = let k = and_parts (is_ready (life_of s before).stage) (is_about (message_of body)) change in changing s body fits built k.0 (message_of body) refl k.1 e
-  whole cause fits built false off e false runs = plain cause fits built off e runs
-  whole cause fits built false off e true runs = starting cause fits built e runs
-  whole (Joined n) fits built true change e c runs = never (sym change)
-  whole (FromEditor n body) fits built true change e c runs = never (sym change)
-  whole (EditorGone n why) fits built true change e c runs = never (sym change)
-  whole (Started n) fits built true change e c runs = never (sym change)
-  whole (StartFailed n) fits built true change e c runs = never (sym change)
-  whole (ServerGone n) fits built true change e c runs = never (sym change)
-  whole (Drained n k) fits built true change e c runs = never (sym change)
-  whole (Tick t) fits built true change e c runs = never (sym change)
+  whole : (cause : Cause) → fits_behind before cause ≡ true → (b : Bool) → is_change before cause ≡ b → (e : ℕ) → (c : Bool) → begins before cause e ≡ c → Whole cause e
+  whole (FromServer s body) fits true change e c runs = let k = and_parts (is_ready (life_of s before).stage) (is_about (message_of body)) change in changing s body fits k.0 (message_of body) refl k.1 e
+  whole cause fits false off e false runs = plain cause fits off e runs
+  whole cause fits false off e true runs = starting cause fits e runs
+  whole (Joined n) fits true change e c runs = never (sym change)
+  whole (FromEditor n body) fits true change e c runs = never (sym change)
+  whole (EditorGone n why) fits true change e c runs = never (sym change)
+  whole (Started n) fits true change e c runs = never (sym change)
+  whole (StartFailed n) fits true change e c runs = never (sym change)
+  whole (ServerGone n) fits true change e c runs = never (sym change)
+  whole (Drained n k) fits true change e c runs = never (sym change)
+  whole (Tick t) fits true change e c runs = never (sym change)
 
-  pub entry_all : (cause : Cause) → fits_behind before cause ≡ true → built_behind settings before cause ≡ true → All settings (later cause)
-  entry_all cause fits built = record {
+  pub entry_all : (cause : Cause) → fits_behind before cause ≡ true → All settings (later cause)
+  entry_all cause fits = record {
     always = λ e. ((at_all e).at).always;
     early = λ e h. (at_all e).early h;
     tied = λ e g t at home start. (at_all e).tied g t at home start;
-    unready = λ s h. nothing_live cause fits built s h;
+    unready = λ s h. nothing_live cause fits s h;
   }
     where
       at_all : (e : ℕ) → Whole cause e
-      at_all e = whole cause fits built (is_change before cause) refl e (begins before cause e) refl
+      at_all e = whole cause fits (is_change before cause) refl e (begins before cause e) refl
 
 -- A whole history
 
@@ -310,7 +309,7 @@ module _ (settings : Settings) (range : InRange settings) (place : List Event) (
 
 module _ (settings : Settings) (range : InRange settings) where
   entry : Keeps settings (All settings)
-  entry before at cause fits built h = entry_all settings range before (facts_at settings range before at) (settled_at settings range before at) (rests_at settings range before at).one h cause fits built
+  entry before at cause fits h = entry_all settings range before (facts_at settings range before at) (settled_at settings range before at) (rests_at settings range before at).lasts h cause fits
 
   slow : KeepsSlow settings (All settings)
   slow place at e is h = all_slow settings range place (facts_at settings range place at) e is h
@@ -318,5 +317,8 @@ module _ (settings : Settings) (range : InRange settings) where
   none : All settings []
   none = record { always = λ e. tt; early = λ e h. refl; tied = λ e g s at home start. absurd (cc); unready = λ s h. refl }
 
+  pub all_at : (events : List Event) → Reached settings events → All settings events
+  all_at = walk settings (All settings) entry slow none
+
   pub client_7_law : (history : List Entry) → Legal settings history → KeepsClient7 history
-  client_7_law history legal e = (walk settings (All settings) entry slow none (events_of history) (reached settings history legal)).always e
+  client_7_law history legal e = (all_at (events_of history) (reached settings history legal)).always e

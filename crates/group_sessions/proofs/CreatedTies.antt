@@ -42,7 +42,6 @@ use Rattle.group_rows.specs.CreatedRows.{offer}
 use Rattle.group_rows.specs.Live.{is_heard}
 use Rattle.group_rows.specs.LiveRows.{accept, decline}
 use Rattle.group_rows.specs.Rows.{from_server, outs_of}
-use Rattle.group_facts.specs.Built.{built_behind}
 use Rattle.group_facts.specs.Facts.{IsHoused, is_unready}
 use Rattle.group_facts.proofs.Facts.{Facts}
 use Rattle.group_facts.proofs.Nulls.{null_said}
@@ -197,7 +196,7 @@ not_so false h = refl
 
 -- One entry
 
-module _ (settings : Settings) (range : InRange settings) (before : List Event) (facts : Facts settings before) (h : Tie settings before) (cause : Cause) (fits : fits_behind before cause ≡ true) (built : built_behind settings before cause ≡ true) where
+module _ (settings : Settings) (range : InRange settings) (before : List Event) (facts : Facts settings before) (h : Tie settings before) (cause : Cause) (fits : fits_behind before cause ≡ true) where
   abbrev now : List Event
   now = with_cause before cause
 
@@ -232,7 +231,7 @@ module _ (settings : Settings) (range : InRange settings) (before : List Event) 
     where
       go : (b : Bool) → is_unready (life_of s before).stage ≡ b → (created_of settings s later).tokens ≡ []
       go true old = none_here s old
-      go false begun = never (sym un ∙ begun_later settings range before facts cause fits built s begun)
+      go false begun = never (sym un ∙ begun_later settings range before facts cause fits s begun)
 
   -- a start that is ready was ready, or gave its result in this entry
   was : (s : ℕ) → is_ready (life_of s now).stage ≡ true → (is_ready (life_of s before).stage ≡ true) ⊎ (is_unready (life_of s before).stage ≡ true)
@@ -401,7 +400,7 @@ module _ (settings : Settings) (range : InRange settings) (before : List Event) 
   ended_open body params end (Some id) is (Some t) at = left_of body params id t.number end x.tokens old (apart_found id x.tokens t (created_orderly settings s before).apart at)
 
   -- by its message
-  module _ (body : List ℕ) (fits : fits_behind before (FromServer s body) ≡ true) (built : built_behind settings before (FromServer s body) ≡ true) where
+  module _ (body : List ℕ) (fits : fits_behind before (FromServer s body) ≡ true) where
     abbrev heard_now : List Event
     heard_now = with_cause before (FromServer s body)
 
@@ -412,7 +411,7 @@ module _ (settings : Settings) (range : InRange settings) (before : List Event) 
     part_is m says = creates_more s before (heard (FromServer s body)) ∙ ap₂ (λ b z. cond b (creates_told X z) X) (same_number s) says
 
     later_open : (ts : List Token) → Open (creates s heard_now) ts → Open (creates s after) ts
-    later_open ts o = from_now settings range before facts h (FromServer s body) fits built s ts o
+    later_open ts o = from_now settings range before facts h (FromServer s body) fits s ts o
 
     same_open : (m : Message) → message_of body ≡ m → (creates_told X m).created ≡ X.created → (ts : List Token) → Open X ts → Open (creates s after) ts
     same_open m says same ts o = later_open ts (subst (λ cs. AllByRecursion (λ (t : Token). is_open t.id cs ≡ true) ts) (sym (ap (λ (y : Creates). y.created) (part_is m says) ∙ same)) o)
@@ -458,9 +457,9 @@ module _ (settings : Settings) (range : InRange settings) (before : List Event) 
 -- All of it
 
 module _ (settings : Settings) (range : InRange settings) (before : List Event) (facts : Facts settings before) (h : Tie settings before) where
-  there_here : (cause : Cause) → fits_behind before cause ≡ true → built_behind settings before cause ≡ true → (s : ℕ) → (life_of s (behind (with_cause before cause) (outs_of settings before cause))).stage ≡ Ready
+  there_here : (cause : Cause) → fits_behind before cause ≡ true → (s : ℕ) → (life_of s (behind (with_cause before cause) (outs_of settings before cause))).stage ≡ Ready
       → AllOpen s (behind (with_cause before cause) (outs_of settings before cause)) (created_of settings s (behind (with_cause before cause) (outs_of settings before cause))).tokens
-  there_here cause fits built s ready = go (was settings range before facts h cause fits built s (ready_outs s (with_cause before cause) (outs_of settings before cause) (ap is_ready ready)))
+  there_here cause fits s ready = go (was settings range before facts h cause fits s (ready_outs s (with_cause before cause) (outs_of settings before cause) (ap is_ready ready)))
     where
       after : Cause → List Event
       after c = behind (with_cause before c) (outs_of settings before c)
@@ -468,40 +467,40 @@ module _ (settings : Settings) (range : InRange settings) (before : List Event) 
       x : Created
       x = created_of settings s before
 
-      still : (c : Cause) → fits_behind before c ≡ true → built_behind settings before c ≡ true → is_from_server (heard c) ≡ false → (life_of s before).stage ≡ Ready → AllOpen s (behind (with_cause before c) (outs_of settings before c)) x.tokens
-      still c f b off rd = from_now settings range before facts h c f b s x.tokens
+      still : (c : Cause) → fits_behind before c ≡ true → is_from_server (heard c) ≡ false → (life_of s before).stage ≡ Ready → AllOpen s (behind (with_cause before c) (outs_of settings before c)) x.tokens
+      still c f off rd = from_now settings range before facts h c f s x.tokens
           (all_of (λ (t : Token). is_open t.id (creates s before).created ≡ true) (λ (t : Token). is_open t.id (creates s (with_cause before c)).created ≡ true) (λ t o. creates_grows s before (heard c) off t.id o) x.tokens (h.there s rd))
 
       ended : (c : Cause) (b : Bool) → AllOpen s (behind (with_cause before c) (outs_of settings before c)) x.tokens → AllOpen s (behind (with_cause before c) (outs_of settings before c)) (if b then no_created else x).tokens
       ended c true k = tt
       ended c false k = k
 
-      by_cause : (c : Cause) → fits_behind before c ≡ true → built_behind settings before c ≡ true → (life_of s before).stage ≡ Ready → AllOpen s (behind (with_cause before c) (outs_of settings before c)) (created_next settings s before x (heard c)).tokens
-      by_cause (FromServer n body) f b rd = by_start (nat_eq n s) refl
+      by_cause : (c : Cause) → fits_behind before c ≡ true → (life_of s before).stage ≡ Ready → AllOpen s (behind (with_cause before c) (outs_of settings before c)) (created_next settings s before x (heard c)).tokens
+      by_cause (FromServer n body) f rd = by_start (nat_eq n s) refl
         where
           by_start : (z : Bool) → nat_eq n s ≡ z → AllOpen s (behind (with_cause before (FromServer n body)) (outs_of settings before (FromServer n body))) (created_next settings s before x (heard (FromServer n body))).tokens
           by_start true same = subst (λ k. AllOpen s (behind (with_cause before (FromServer k body)) (outs_of settings before (FromServer k body))) (created_next settings s before x (heard (FromServer k body))).tokens) (sym (number_same n s same))
-              (heard_open settings range before facts h s rd body (subst (λ k. fits_behind before (FromServer k body) ≡ true) (number_same n s same) f) (subst (λ k. built_behind settings before (FromServer k body) ≡ true) (number_same n s same) b))
+              (heard_open settings range before facts h s rd body (subst (λ k. fits_behind before (FromServer k body) ≡ true) (number_same n s same) f))
           by_start false other = subst (AllOpen s (behind (with_cause before (FromServer n body)) (outs_of settings before (FromServer n body)))) (sym (other_tokens settings s before x n body (message_of body) other))
-              (from_now settings range before facts h (FromServer n body) f b s x.tokens (subst (λ (y : Creates). AllByRecursion (λ (t : Token). is_open t.id y.created ≡ true) x.tokens)
+              (from_now settings range before facts h (FromServer n body) f s x.tokens (subst (λ (y : Creates). AllByRecursion (λ (t : Token). is_open t.id y.created ≡ true) x.tokens)
               (sym (creates_more s before (heard (FromServer n body)) ∙ ap (λ z. cond z (creates_told (creates s before) (message_of body)) (creates s before)) other)) (h.there s rd)))
-      by_cause (FromEditor e body) f b rd = subst (AllOpen s (behind (with_cause before (FromEditor e body)) (outs_of settings before (FromEditor e body)))) (sym (spoken_tokens settings s before x e body (message_of body))) (still (FromEditor e body) f b refl rd)
-      by_cause (StartFailed n) f b rd = ended (StartFailed n) (nat_eq n s) (still (StartFailed n) f b refl rd)
-      by_cause (ServerGone n) f b rd = ended (ServerGone n) (nat_eq n s) (still (ServerGone n) f b refl rd)
-      by_cause (EditorGone e why) f b rd = still (EditorGone e why) f b refl rd
-      by_cause (Joined e) f b rd = still (Joined e) f b refl rd
-      by_cause (Started n) f b rd = still (Started n) f b refl rd
-      by_cause (Drained e k) f b rd = still (Drained e k) f b refl rd
-      by_cause (Tick t) f b rd = still (Tick t) f b refl rd
+      by_cause (FromEditor e body) f rd = subst (AllOpen s (behind (with_cause before (FromEditor e body)) (outs_of settings before (FromEditor e body)))) (sym (spoken_tokens settings s before x e body (message_of body))) (still (FromEditor e body) f refl rd)
+      by_cause (StartFailed n) f rd = ended (StartFailed n) (nat_eq n s) (still (StartFailed n) f refl rd)
+      by_cause (ServerGone n) f rd = ended (ServerGone n) (nat_eq n s) (still (ServerGone n) f refl rd)
+      by_cause (EditorGone e why) f rd = still (EditorGone e why) f refl rd
+      by_cause (Joined e) f rd = still (Joined e) f refl rd
+      by_cause (Started n) f rd = still (Started n) f refl rd
+      by_cause (Drained e k) f rd = still (Drained e k) f refl rd
+      by_cause (Tick t) f rd = still (Tick t) f refl rd
 
       go : (is_ready (life_of s before).stage ≡ true) ⊎ (is_unready (life_of s before).stage ≡ true) → AllOpen s (after cause) (created_of settings s (after cause)).tokens
-      go (inl rd) = subst (AllOpen s (after cause)) (sym (tokens_here settings range before facts h cause fits built s)) (by_cause cause fits built (ready_is (life_of s before).stage rd))
-      go (inr un) = subst (AllOpen s (after cause)) (sym (none_here settings range before facts h cause fits built s un)) tt
+      go (inl rd) = subst (AllOpen s (after cause)) (sym (tokens_here settings range before facts h cause fits s)) (by_cause cause fits (ready_is (life_of s before).stage rd))
+      go (inr un) = subst (AllOpen s (after cause)) (sym (none_here settings range before facts h cause fits s un)) tt
 
-  pub tie_rests : (cause : Cause) → fits_behind before cause ≡ true → built_behind settings before cause ≡ true → Tie settings (behind (with_cause before cause) (outs_of settings before cause))
-  tie_rests cause fits built = record {
-    unready = λ s un. unready_here settings range before facts h cause fits built s un;
-    there = λ s ready. there_here cause fits built s ready;
+  pub tie_rests : (cause : Cause) → fits_behind before cause ≡ true → Tie settings (behind (with_cause before cause) (outs_of settings before cause))
+  tie_rests cause fits = record {
+    unready = λ s un. unready_here settings range before facts h cause fits s un;
+    there = λ s ready. there_here cause fits s ready;
   }
 
 -- An editor that is slow leaves

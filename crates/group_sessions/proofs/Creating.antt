@@ -22,7 +22,7 @@ pub record IsCreated (s : ℕ) (events : List Event) (t : Token) : Type 0 where
 
 pub all_created : (settings : Settings) → InRange settings → (before : List Event) → Reached settings before → (s : ℕ) → (life_of s before).stage ≡ Ready → AllByRecursion (IsCreated s before) (created_of settings s before).tokens
 all_created settings range before legal s ready =
-    let tie : Tie settings before = walk settings (Tie settings) (λ earlier so_far cause fits built h. tie_rests settings range earlier (facts_at settings range earlier so_far) h cause fits built)
+    let tie : Tie settings before = walk settings (Tie settings) (λ earlier so_far cause fits h. tie_rests settings range earlier (facts_at settings range earlier so_far) h cause fits)
     (λ place at e is h. tie_slow settings range place (facts_at settings range place at) e is h) (no_tie settings) before legal in
     zip_all (IsLive (created_of settings s before).next) (λ (t : Token). is_open t.id (creates s before).created ≡ true) (IsCreated s before) (λ t a b. record { text = a.text; there = b })
     (created_of settings s before).tokens (created_orderly settings s before).live (tie.there s ready)

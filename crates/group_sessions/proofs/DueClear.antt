@@ -30,7 +30,6 @@ use Rattle.group_rows.specs.Created.{Created, Taking, Token, accepts, answered, 
 use Rattle.group_rows.specs.Forwarded.{names}
 use Rattle.group_rows.specs.Live.{is_registering}
 use Rattle.group_rows.specs.Rows.{outs_of}
-use Rattle.group_facts.specs.Built.{built_behind}
 use Rattle.group_facts.specs.Why.{Why, WhyToEditor, answers, asks, asks_something, calls, passes, progresses, recalls, refuses, rejects, resumes, shows, spreads, turns_away, welcomes, loses, winds_up}
 use Rattle.group_facts.proofs.AskSeats.{asks_more, did_all, took_all}
 use Rattle.group_facts.proofs.Asks.{call_hurried, is_question, listed, registering_made, response_asks_none, resumed_here, resumed_off, taken}
@@ -458,10 +457,9 @@ clear_of settings events facts o = record { one = one; apart = apart }
 pub all_clear : (settings : Settings) → InRange settings → AllClear settings
 all_clear settings range before legal = clear_of settings before (facts_at settings range before legal) (walk settings (Orders settings) entry slow (record { plain = λ s. tt; set = λ s. tt; small = λ e. omega arith }) before legal)
   where
-    entry : (earlier : List Event) → Reached settings earlier → (cause : Cause) → fits_behind earlier cause ≡ true → built_behind settings earlier cause ≡ true
-        → Orders settings earlier → Orders settings (behind (with_cause earlier cause) (outs_of settings earlier cause))
-    entry earlier so_far cause fits built h = reasons_keep (Why settings earlier cause) (Orders settings) (orders_did settings earlier cause) (with_cause earlier cause) (outs_of settings earlier cause)
-        (reasons settings range earlier (facts_at settings range earlier so_far) cause built).why (orders_took settings earlier cause h)
+    entry : (earlier : List Event) → Reached settings earlier → (cause : Cause) → fits_behind earlier cause ≡ true → Orders settings earlier → Orders settings (behind (with_cause earlier cause) (outs_of settings earlier cause))
+    entry earlier so_far cause fits h = reasons_keep (Why settings earlier cause) (Orders settings) (orders_did settings earlier cause) (with_cause earlier cause) (outs_of settings earlier cause)
+        (reasons settings range earlier (facts_at settings range earlier so_far) cause).why (orders_took settings earlier cause h)
 
     slow : KeepsSlow settings (Orders settings)
     slow place at e is h = reasons_keep (Why settings place (quitting e)) (Orders settings) (orders_did settings place (quitting e)) place (parting settings place e) (parting_why settings range place (facts_at settings range place at) e is) h

@@ -16,12 +16,11 @@ use Rattle.mux_facts.proofs.Reasons.{Reasons, reasons_keep}
 use Rattle.group_rows.specs.Created.{created_text, created_of}
 use Rattle.group_rows.specs.Rows.{outs_of}
 use Rattle.group_rows.specs.Tokens.{marked_text}
-use Rattle.group_facts.specs.Built.{built_behind}
 use Rattle.group_facts.specs.Legal.{Legal}
 use Rattle.group_facts.specs.Settled.{Settled}
 use Rattle.group_facts.proofs.Facts.{Facts}
 use Rattle.group_facts.proofs.Reached.{Reached, facts_at, reached, settled_at}
-use Rattle.group_facts.proofs.SlowRow.{parting, parting_walk, parting_why, quit_built}
+use Rattle.group_facts.proofs.SlowRow.{parting, parting_walk, parting_why}
 use Rattle.group_facts.proofs.Known.{Here, here_did, here_slow}
 use Rattle.group_facts.proofs.SlowRest.{quit_fits}
 use Rattle.group_facts.specs.Why.{Why, quitting}
@@ -67,12 +66,11 @@ module _ (settings : Settings) (s k e : ℕ) where
       or_none false = refl
 
 module _ (settings : Settings) (range : InRange settings) where
-  entry : (before : List Event) → Reached settings before → (cause : Cause) → fits_behind before cause ≡ true → built_behind settings before cause ≡ true
-      → AllRest settings before → AllRest settings (behind (with_cause before cause) (outs_of settings before cause))
-  entry before so_far cause fits built h few s k e low small = record {
-    tie = entry_tied settings range before facts settled free (all_clear settings range before so_far) cause fits built few_before s k e low small was.tie asked;
-    ran = ran_entry settings range before facts settled cause fits built few_before s k e low small was.tie was.ran;
-    same = entry_due settings range before facts settled free (all_clear settings range before so_far) cause fits built few_before s k e low small was.tie asked was.same;
+  entry : (before : List Event) → Reached settings before → (cause : Cause) → fits_behind before cause ≡ true → AllRest settings before → AllRest settings (behind (with_cause before cause) (outs_of settings before cause))
+  entry before so_far cause fits h few s k e low small = record {
+    tie = entry_tied settings range before facts settled free (all_clear settings range before so_far) cause fits few_before s k e low small was.tie asked;
+    ran = ran_entry settings range before facts settled cause fits few_before s k e low small was.tie was.ran;
+    same = entry_due settings range before facts settled free (all_clear settings range before so_far) cause fits few_before s k e low small was.tie asked was.same;
   }
     where
       facts : Facts settings before
@@ -91,7 +89,7 @@ module _ (settings : Settings) (range : InRange settings) where
       was = h few_before s k e low small
 
       asked : Reasons (AskedOnce settings s k e) (with_cause before cause) (outs_of settings before cause)
-      asked = asked_once settings range before facts settled cause fits built few_before s k e low small was.tie was.ran
+      asked = asked_once settings range before facts settled cause fits few_before s k e low small was.tie was.ran
 
   slow : KeepsSlow settings (AllRest settings)
   slow place at n is h few s k e low small = record { tie = last.tied; ran = ran_last; same = last.same }
@@ -107,21 +105,21 @@ module _ (settings : Settings) (range : InRange settings) where
 
       ran_last : list_any is_asks (words settings s k e (behind place (parting settings place n))) ≡ true → has_run (desk_of e (behind place (parting settings place n))).phase ≡ true
       ran_last = reasons_keep (Why settings place (quitting n)) (λ events. list_any is_asks (words settings s k e events) ≡ true → has_run (desk_of e events).phase ≡ true)
-          (ran_did settings range place facts (settled_at settings range place at) (quitting n) (quit_fits settings place n is) (quit_built settings place n) few_before s k e low small was.tie was.ran)
+          (ran_did settings range place facts (settled_at settings range place at) (quitting n) (quit_fits settings place n is) few_before s k e low small was.tie was.ran)
           place (parting settings place n) (parting_why settings range place facts n is) was.ran
 
       last : AtSlow settings s k e place n (behind place (parting settings place n))
       last = parting_walk settings range place facts n is (AtSlow settings s k e place n)
           (λ i. let m : Moves settings s k e place (said (CloseEditor n)) = moved_did settings s k e place i.tied (((i.here).mid).steady).starts (CloseEditor n) tt
-          (λ asks. never (sym asks ∙ closed_off settings range place facts (settled_at settings range place at) (quitting n) (quit_fits settings place n is) (quit_built settings place n) few_before s k e low small was.tie was.ran place n)) in
+          (λ asks. never (sym asks ∙ closed_off settings range place facts (settled_at settings range place at) (quitting n) (quit_fits settings place n is) few_before s k e low small was.tie was.ran place n)) in
           record {
-            here = here_did settings range place (quitting n) facts (quit_built settings place n) place (CloseEditor n) (parting_why settings range place facts n is).0 i.here;
+            here = here_did settings range place (quitting n) facts place (CloseEditor n) (parting_why settings range place facts n is).0 i.here;
             tied = m.tie;
             same = one_silent settings s k e place (CloseEditor n) refl refl (left_whole settings s k e place (nat_eq n e)) m i.same;
           })
           (λ events t body why i. let m : Moves settings s k e events (said (ToServer t body)) = moved_did settings s k e events i.tied (((i.here).mid).steady).starts (ToServer t body) tt (λ asks. never (sym asks)) in
           record {
-            here = here_did settings range place (quitting n) facts (quit_built settings place n) events (ToServer t body) why i.here;
+            here = here_did settings range place (quitting n) facts events (ToServer t body) why i.here;
             tied = m.tie;
             same = one_silent settings s k e events (ToServer t body) refl refl refl m i.same;
           })

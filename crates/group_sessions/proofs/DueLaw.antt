@@ -32,7 +32,6 @@ use Rattle.group_rows.specs.Created.{Created, Taking, Token, accepts, created_of
 use Rattle.group_rows.specs.Forwarded.{names}
 use Rattle.group_rows.specs.Rows.{outs_of}
 use Rattle.group_rows.specs.Tokens.{marked_text}
-use Rattle.group_facts.specs.Built.{built_behind}
 use Rattle.group_facts.specs.Settled.{HasTaken, RunsAt, Settled}
 use Rattle.group_facts.specs.Why.{IsNotified, IsTaken, Why, IsLost}
 use Rattle.group_facts.proofs.Facts.{Facts}
@@ -102,7 +101,7 @@ or_none false = refl
 
 -- One entry
 
-module _ (settings : Settings) (range : InRange settings) (before : List Event) (facts : Facts settings before) (settled : Settled settings before) (free : Unreserved before) (clear : IsClear settings before) (cause : Cause) (fits : fits_behind before cause ≡ true) (built : built_behind settings before cause ≡ true)
+module _ (settings : Settings) (range : InRange settings) (before : List Event) (facts : Facts settings before) (settled : Settled settings before) (free : Unreserved before) (clear : IsClear settings before) (cause : Cause) (fits : fits_behind before cause ≡ true)
     (few : starts_of before ≤ 2 ^ 64) (s k e : ℕ) (low : s < 2 ^ 64) (small : k < 2 ^ 64) (tie : Tie settings s k e before) where
   abbrev x : Created
   x = created_of settings s before
@@ -111,7 +110,7 @@ module _ (settings : Settings) (range : InRange settings) (before : List Event) 
   now = with_cause before cause
 
   why : Reasons (Why settings before cause) now (outs_of settings before cause)
-  why = (reasons settings range before facts cause built).why
+  why = (reasons settings range before facts cause).why
 
   abbrev From : Type 0
   From = Source settings before facts settled free few cause s k e low small
@@ -355,7 +354,7 @@ module _ (settings : Settings) (range : InRange settings) (before : List Event) 
 
   step : (events : List Event) (out : Out) → Both events out → At events → At (events ++ said out ∷ [])
   step events out b i = record {
-    here = here_did settings range before cause facts built events out b.0 i.here;
+    here = here_did settings range before cause facts events out b.0 i.here;
     tied = moves.tie;
     same = moves.grows ∙ (ap (λ z. due (words settings s k e events) ++ z) (none out) ∙ (append-nil (due (words settings s k e events)) ∙ i.same));
     cut = moves.cut ∙ (ap (λ b. is_closing (words settings s k e events) || (b && has_begun e k (created_of settings s events))) (said_whole out) ∙ (or_none (is_closing (words settings s k e events)) ∙ i.cut));
@@ -396,7 +395,7 @@ module _ (settings : Settings) (range : InRange settings) (before : List Event) 
 
   last : Reasons (AskedOnce settings s k e) now (outs_of settings before cause) → At later
   last once = reasons_keep Both At step now (outs_of settings before cause) (both now (outs_of settings before cause) why once)
-      (record { here = here_took settings range before cause fits built facts; tied = moved.tie; same = refl; cut = refl })
+      (record { here = here_took settings range before cause fits facts; tied = moved.tie; same = refl; cut = refl })
 
   pub entry_tied : Reasons (AskedOnce settings s k e) now (outs_of settings before cause) → Tie settings s k e later
   entry_tied once = (last once).tied

@@ -45,7 +45,6 @@ use Rattle.group_rows.specs.LiveRows.{accept, call, decline, has_some, restore}
 use Rattle.group_rows.specs.Rows.{asks_lspmux, closing_row, from_editor, from_server, lspmux_row, message_row, outs_of, served_row, taken_row, told_row}
 use Rattle.group_rows.proofs.CreatedTexts.{create_says, create_tree}
 use Rattle.group_rows.proofs.LiveTexts.{again_written, live_written, register_says, registered_written, unregister_says}
-use Rattle.group_facts.specs.Built.{built_behind}
 use Rattle.group_facts.specs.Facts.{IsParked}
 use Rattle.group_facts.specs.Settled.{Settled}
 use Rattle.group_facts.specs.Why.{Calling, IsCall, IsChange, IsRestoring, Why, WhyToEditor, answers, asks, asks_something, calls, creates, displaces, enrols, passes, progresses, recalls, refuses, rejects, releases, restores, resumes, revives, shows, spreads, turns_away, welcomes, loses, winds_up, forgets}
@@ -152,7 +151,7 @@ abbrev ToStart : Out → Type 0
 ToStart (ToServer s body) = Unit {0}
 ToStart other = ⊥
 
-module _ (settings : Settings) (range : InRange settings) (before : List Event) (facts : Facts settings before) (settled : Settled settings before) (cause : Cause) (fits : fits_behind before cause ≡ true) (built : built_behind settings before cause ≡ true)
+module _ (settings : Settings) (range : InRange settings) (before : List Event) (facts : Facts settings before) (settled : Settled settings before) (cause : Cause) (fits : fits_behind before cause ≡ true)
     (few : starts_of before ≤ 2 ^ 64) (s k e : ℕ) (low : s < 2 ^ 64) (small : k < 2 ^ 64) (tie : Tie settings s k e before) (ran : list_any is_asks (words settings s k e before) ≡ true → HasRun before e) where
   abbrev x : Created
   x = created_of settings s before
@@ -623,7 +622,7 @@ module _ (settings : Settings) (range : InRange settings) (before : List Event) 
   by_origin (begun t r) = subst (λ z. Reasons Once (with_cause before z) (outs_of settings before z)) (sym r.from) (begun_once r.text r.waited (runs_by r.text r.waited (subst (λ z. (desk_of e (with_cause before z)).phase ≡ Running) r.from r.began)))
 
   pub asked_once : Reasons Once now (outs_of settings before cause)
-  asked_once = go (none_or now (outs_of settings before cause) (reasons settings range before facts cause built).why)
+  asked_once = go (none_or now (outs_of settings before cause) (reasons settings range before facts cause).why)
     where
       go : (Reasons Once now (outs_of settings before cause)) ⊎ Origin → Reasons Once now (outs_of settings before cause)
       go (inl r) = r
@@ -661,5 +660,5 @@ module _ (settings : Settings) (range : InRange settings) (before : List Event) 
   ran_did events (EndServer n) why h = ran_more events (said (EndServer n)) (runs_later events (EndServer n)) (λ asked. never (sym asked)) h
 
   pub ran_entry : Ran (behind now (outs_of settings before cause))
-  ran_entry = reasons_keep (Why settings before cause) Ran ran_did now (outs_of settings before cause) (reasons settings range before facts cause built).why
-      (ran_more before (heard cause) (λ h. run_later (has_run (desk_of e before).phase) (has_run (desk_of e now).phase) (unrun settings range before facts settled cause fits built e) h) (λ asked. never (sym asked ∙ heard_off cause)) ran)
+  ran_entry = reasons_keep (Why settings before cause) Ran ran_did now (outs_of settings before cause) (reasons settings range before facts cause).why
+      (ran_more before (heard cause) (λ h. run_later (has_run (desk_of e before).phase) (has_run (desk_of e now).phase) (unrun settings range before facts settled cause fits e) h) (λ asked. never (sym asked ∙ heard_off cause)) ran)

@@ -119,7 +119,7 @@ register_is : is_registering (codes "client/registerCapability") ≡ true
 unfolding server_request
 register_is = refl
 
-unregister_is : is_registering (codes "client/unregisterCapability") ≡ true
+pub unregister_is : is_registering (codes "client/unregisterCapability") ≡ true
 unfolding server_request
 unregister_is = refl
 

@@ -16,8 +16,9 @@ use Rattle.event_model.specs.Requests.{is_open}
 use Rattle.event_model.specs.Row.{Row, choose, each, nothing, on, outs, send}
 use Rattle.event_model.specs.Settings.{Settings}
 use Rattle.event_model.specs.Spawns.{group_of}
-use Rattle.event_model.specs.Stages.{is_ready, life_of}
+use Rattle.event_model.specs.Stages.{is_ended, is_ready, life_of}
 use Rattle.event_model.proofs.Frames.{never}
+use Rattle.mux_facts.proofs.DocumentRow.{ready_is}
 use Rattle.mux_facts.proofs.Lists.{all_filtered}
 use Rattle.mux_facts.proofs.Reasons.{Because, Reasons, by_choose, by_look, by_nothing, by_on, by_send, by_then, reasons_keep}
 use Rattle.mux_facts.proofs.Rising.{by_rising}
@@ -45,7 +46,7 @@ use Rattle.group_facts.proofs.ExitEntry.{Exit, failed_exit, gone_exit}
 use Rattle.group_facts.proofs.ExitOuts.{start_by}
 use Rattle.group_facts.proofs.Facts.{Facts}
 use Rattle.group_facts.proofs.Losses.{lost_says, lost_text}
-use Rattle.group_facts.proofs.OneStart.{OneStart}
+use Rattle.group_facts.proofs.LastStarts.{AllLast}
 use Rattle.group_facts.proofs.Quits.{asked_while}
 use Rattle.group_sessions.proofs.Accepted.{Closes, accepted}
 use Rattle.group_sessions.proofs.CreatedFold.{AllApart, IsApart, IsLive, created_orderly}
@@ -84,7 +85,7 @@ module _ (settings : Settings) (before : List Event) (facts : Facts settings bef
       go f true is z = here is
       go f false is z = f z
 
-  module _ (one : OneStart before) (cause : Cause) where
+  module _ (lasts : AllLast before) (cause : Cause) where
     abbrev K : List Event → Out → Type 0
     K = Closes settings before cause
 
@@ -261,17 +262,17 @@ module _ (settings : Settings) (before : List Event) (facts : Facts settings bef
         home_is None h = never (sym h)
         home_is (Some i) h = ap (λ n. Some n) (number_same i g h)
 
-        stands_told : (e : ℕ) → runs_here e ≡ true → Stands e told
-        stands_told e t =
+        stands_told : is_ready (life_of s before).stage ≡ true → (e : ℕ) → runs_here e ≡ true → Stands e told
+        stands_told ready e t =
             let q = and_parts (is_running (desk_of e before).phase) (is_home g (home_of settings e before)) t in
             let ran : (desk_of e before).phase ≡ Running = running_is settings before (desk_of e before).phase q.0 in record {
-              runs = record { running = ran; group = g; home = home_is (home_of settings e before) q.1; last = one s g home };
+              runs = record { running = ran; group = g; home = home_is (home_of settings e before) q.1; last = lasts s g home (ap is_ended (ready_is (life_of s before).stage ready)) };
               same = same_behind e now (each (lose_sent before s) (members_in settings g before)) (sent_same (askers e (ap is_there ran)) e (members_in settings g before) now) (same_now e);
             }
 
         losses_close : Because K told (choose (is_ready (life_of s before).stage) (each (lose_start settings before s) (running_in settings g before)) nothing)
         losses_close = by_choose (λ ready. subst (λ ns. Because K told (each (lose_start settings before s) (filter runs_here ns))) (sym (range_below (editors_of before)))
-            (by_rising (lose_start settings before s) Stands (λ e events h. start_close e h.runs events h.same) stands_still told runs_here stands_told (editors_of before))) (λ off. by_nothing)
+            (by_rising (lose_start settings before s) Stands (λ e events h. start_close e h.runs events h.same) stands_still told runs_here (stands_told ready) (editors_of before))) (λ off. by_nothing)
 
         group_close : Because K now (on (slice_get (groups_of settings before) g) nothing (exit_in settings before s g))
         group_close = by_on (λ none. by_nothing) (λ x found. by_choose (λ live. by_then (sent_close (members_in settings g before) now) (by_then losses_close (by_choose (λ again. by_look (by_send tt)) (λ last. turned_close (members_in settings g before) _)))) (λ over. by_nothing))
@@ -282,13 +283,13 @@ module _ (settings : Settings) (before : List Event) (facts : Facts settings bef
       exit_close : Reasons K now (outs_of settings before cause)
       exit_close = subst (Reasons K now) (sym exit.row) lost_close.why
 
-  pub all_close : OneStart before → (cause : Cause) → Reasons (Closes settings before cause) (with_cause before cause) (outs_of settings before cause)
-  all_close one (StartFailed s) = exit_close one (StartFailed s) s (failed_exit settings before s)
-  all_close one (ServerGone s) = exit_close one (ServerGone s) s (gone_exit settings before s)
-  all_close one (Joined e) = not_lost one (Joined e) (λ s is. never (sym is)) (with_cause before (Joined e)) (outs_of settings before (Joined e))
-  all_close one (FromEditor e body) = not_lost one (FromEditor e body) (λ s is. never (sym is)) (with_cause before (FromEditor e body)) (outs_of settings before (FromEditor e body))
-  all_close one (EditorGone e why) = not_lost one (EditorGone e why) (λ s is. never (sym is)) (with_cause before (EditorGone e why)) (outs_of settings before (EditorGone e why))
-  all_close one (Started n) = not_lost one (Started n) (λ s is. never (sym is)) (with_cause before (Started n)) (outs_of settings before (Started n))
-  all_close one (FromServer n body) = not_lost one (FromServer n body) (λ s is. never (sym is)) (with_cause before (FromServer n body)) (outs_of settings before (FromServer n body))
-  all_close one (Drained e k) = not_lost one (Drained e k) (λ s is. never (sym is)) (with_cause before (Drained e k)) (outs_of settings before (Drained e k))
-  all_close one (Tick t) = not_lost one (Tick t) (λ s is. never (sym is)) (with_cause before (Tick t)) (outs_of settings before (Tick t))
+  pub all_close : AllLast before → (cause : Cause) → Reasons (Closes settings before cause) (with_cause before cause) (outs_of settings before cause)
+  all_close lasts (StartFailed s) = exit_close lasts (StartFailed s) s (failed_exit settings before s)
+  all_close lasts (ServerGone s) = exit_close lasts (ServerGone s) s (gone_exit settings before s)
+  all_close lasts (Joined e) = not_lost lasts (Joined e) (λ s is. never (sym is)) (with_cause before (Joined e)) (outs_of settings before (Joined e))
+  all_close lasts (FromEditor e body) = not_lost lasts (FromEditor e body) (λ s is. never (sym is)) (with_cause before (FromEditor e body)) (outs_of settings before (FromEditor e body))
+  all_close lasts (EditorGone e why) = not_lost lasts (EditorGone e why) (λ s is. never (sym is)) (with_cause before (EditorGone e why)) (outs_of settings before (EditorGone e why))
+  all_close lasts (Started n) = not_lost lasts (Started n) (λ s is. never (sym is)) (with_cause before (Started n)) (outs_of settings before (Started n))
+  all_close lasts (FromServer n body) = not_lost lasts (FromServer n body) (λ s is. never (sym is)) (with_cause before (FromServer n body)) (outs_of settings before (FromServer n body))
+  all_close lasts (Drained e k) = not_lost lasts (Drained e k) (λ s is. never (sym is)) (with_cause before (Drained e k)) (outs_of settings before (Drained e k))
+  all_close lasts (Tick t) = not_lost lasts (Tick t) (λ s is. never (sym is)) (with_cause before (Tick t)) (outs_of settings before (Tick t))

@@ -27,7 +27,7 @@ use Rattle.group_sessions.proofs.HeldFold.{IsFair, LastEnds, NameTokens, NoneEnd
 use Rattle.group_sessions.proofs.Marked.{Marked, ends, marked}
 use Rattle.group_sessions.proofs.Taken.{Rests, all_at, all_rests}
 use Rattle.group_sessions.proofs.TakingTies.{Accepts, Answers, IsTied, TiedIf, accepted_aside, accepts_now, answers_it, find_true, mark_of, told_here}
-use Rattle.group_sessions.proofs.TellingPlaces.{Known, KnownOut, Knows, RunsIn, all_known, one_start}
+use Rattle.group_sessions.proofs.TellingPlaces.{Known, KnownOut, Knows, RunsIn, all_known, last_starts}
 use Rattle.group_sessions.proofs.ExitCloses.{accepted_there, all_close}
 
 module _ (settings : Settings) (before : List Event) (facts : Facts settings before) (rests : Rests settings before) (cause : Cause) where
@@ -110,5 +110,5 @@ module _ (settings : Settings) (before : List Event) (facts : Facts settings bef
   heard_outs events (out ∷ outs) h k = (heard_out events out h.0 k.0, heard_outs (events ++ said out ∷ []) outs h.1 k.1)
 
 pub all_heard : (settings : Settings) → InRange settings → AllHeard settings
-all_heard settings range before so_far cause fits built = heard_outs settings before (facts_at settings range before so_far) (all_rests settings range before so_far) cause (with_cause before cause) (outs_of settings before cause)
-    (all_known settings before (one_start settings range before so_far) cause) (all_close settings before (facts_at settings range before so_far) (all_rests settings range before so_far) (one_start settings range before so_far) cause)
+all_heard settings range before so_far cause fits = heard_outs settings before (facts_at settings range before so_far) (all_rests settings range before so_far) cause (with_cause before cause) (outs_of settings before cause)
+    (all_known settings before (last_starts settings range before so_far) cause) (all_close settings before (facts_at settings range before so_far) (all_rests settings range before so_far) (last_starts settings range before so_far) cause)

@@ -16,7 +16,9 @@ pub mod Client4Law
 pub mod Client5Law
 pub mod Server5Law
 pub mod Enrolled
+pub mod Numbers
 pub mod Registered
+pub mod Renewed
 pub mod Tied
 pub mod Changes
 pub mod Told
@@ -63,3 +65,11 @@ pub mod ListsLost
 pub mod EndTexts
 pub mod DueCut
 pub mod WorkedLost
+pub mod ExitOuts
+pub mod ExitsRefused
+pub mod ListsEmpty
+pub mod ExitsCleared
+pub mod ExitsOver
+pub mod Replayed
+pub mod ReplayLaw
+pub mod WorkedExits

@@ -34,7 +34,6 @@ use Rattle.group_rows.specs.Leaves.{leave_row}
 use Rattle.group_rows.specs.Lists.{is_publishing, names_list, sayings_of}
 use Rattle.group_rows.specs.Rows.{closing_row, document_row, from_editor, lspmux_row, message_row, outs_of, served_row, taken_row, told_row}
 use Rattle.group_rows.proofs.Versions.{AllMeant, meant_heard, meant_more}
-use Rattle.group_facts.specs.Built.{built_behind}
 use Rattle.group_facts.specs.Legal.{Legal, LegalFrom}
 use Rattle.group_facts.specs.Settled.{Settled}
 use Rattle.group_facts.specs.Why.{IsQuestion, Showing, Why, begins_by, comes, opened_by}
@@ -43,7 +42,7 @@ use Rattle.group_facts.proofs.Begun.{leave_by}
 use Rattle.group_facts.proofs.Facts.{Facts}
 use Rattle.group_facts.proofs.Reached.{Reached, facts_at, reached, settled_at}
 use Rattle.group_facts.proofs.SlowRow.{slow_all}
-use Rattle.group_facts.proofs.OneStart.{OneStart}
+use Rattle.group_facts.proofs.LastStarts.{AllLast}
 use Rattle.group_facts.proofs.Resuming.{run_questions, stays_there}
 use Rattle.group_facts.proofs.Same.{IsBody}
 use Rattle.group_facts.proofs.Shown.{meant_behind}
@@ -53,7 +52,7 @@ use Rattle.group_sessions.proofs.DueOnce.{well_formed}
 use Rattle.group_sessions.proofs.ListsNone.{Listless, Off, all_off, lists_join, lists_none, off_lists, unrun_more, unrun_off}
 use Rattle.group_sessions.proofs.ListsServed.{Opens, OpensNone, at_join, at_none, at_same, full, none_due, opened_row, opens_lists, opens_or, run_lists, served_off}
 use Rattle.group_sessions.proofs.ListsShown.{comes_exactly}
-use Rattle.group_sessions.proofs.TellingPlaces.{one_start}
+use Rattle.group_sessions.proofs.TellingPlaces.{last_starts}
 use Rattle.group_sessions.proofs.Tied.{runs_on}
 use Rattle.group_sessions.specs.LastLists.{KeepsLists, at_start, due_beginning, due_coming, due_opening, due_own, gives_list, lists_due, lists_to, shown}
 use Rattle.group_facts.specs.SlowRows.{slow_row}
@@ -87,9 +86,9 @@ talks (FromEditor n body) = true
 talks (FromServer s body) = true
 talks other = false
 
-module _ (settings : Settings) (range : InRange settings) (before : List Event) (facts : Facts settings before) (settled : Settled settings before) (one : OneStart before) (e : ℕ) where
+module _ (settings : Settings) (range : InRange settings) (before : List Event) (facts : Facts settings before) (settled : Settled settings before) (lasts : AllLast before) (e : ℕ) where
   -- by e's own message
-  module _ (body : List ℕ) (built : built_behind settings before (FromEditor e body) ≡ true) where
+  module _ (body : List ℕ) where
     abbrev m : Message
     m = message_of body
 
@@ -103,7 +102,7 @@ module _ (settings : Settings) (range : InRange settings) (before : List Event) 
     after = behind now xs
 
     why : Reasons (Why settings before (FromEditor e body)) now xs
-    why = (reasons settings range before facts (FromEditor e body) built).why
+    why = (reasons settings range before facts (FromEditor e body)).why
 
     now_meant : AllMeant now
     now_meant = meant_more before (heard (FromEditor e body)) (facts.base).meant (meant_heard (FromEditor e body))
@@ -297,8 +296,8 @@ module _ (settings : Settings) (range : InRange settings) (before : List Event) 
         go false off = by_now off (is_running (desk_of e now).phase) refl
 
   -- by a message of another editor
-  other_editor : (n : ℕ) (body : List ℕ) → nat_eq n e ≡ false → built_behind settings before (FromEditor n body) ≡ true → lists_to e (outs_of settings before (FromEditor n body)) ≡ []
-  other_editor n body apart built = all_off settings before (FromEditor n body) e (λ events text k. hidden events text k.start k.shown) (λ s is. never (sym is)) (with_cause before (FromEditor n body)) (outs_of settings before (FromEditor n body)) (reasons settings range before facts (FromEditor n body) built).why
+  other_editor : (n : ℕ) (body : List ℕ) → nat_eq n e ≡ false → lists_to e (outs_of settings before (FromEditor n body)) ≡ []
+  other_editor n body apart = all_off settings before (FromEditor n body) e (λ events text k. hidden events text k.start k.shown) (λ s is. never (sym is)) (with_cause before (FromEditor n body)) (outs_of settings before (FromEditor n body)) (reasons settings range before facts (FromEditor n body)).why
     where
       mine : (words : List ℕ) → FromEditor n body ≡ FromEditor e words → ⊥
       mine words from = never (sym (same_number e) ∙ (ap (λ z. nat_eq z e) (sym same) ∙ apart))
@@ -312,12 +311,12 @@ module _ (settings : Settings) (range : InRange settings) (before : List Event) 
       hidden events text s (begins_by list earlier later restoring order full fitting) = mine restoring.text restoring.from
 
   -- by a message of a start
-  module _ (s : ℕ) (body : List ℕ) (built : built_behind settings before (FromServer s body) ≡ true) where
+  module _ (s : ℕ) (body : List ℕ) where
     abbrev told : List Event
     told = with_cause before (FromServer s body)
 
     unpublished : (gives_list (message_of body) ≡ true → is_ready (life_of s before).stage ≡ true → ⊥) → lists_to e (outs_of settings before (FromServer s body)) ≡ []
-    unpublished none = all_off settings before (FromServer s body) e (λ events text k. hidden events text k.start (ap is_ready k.ready) k.shown) (λ n is. never (sym is)) told (outs_of settings before (FromServer s body)) (reasons settings range before facts (FromServer s body) built).why
+    unpublished none = all_off settings before (FromServer s body) e (λ events text k. hidden events text k.start (ap is_ready k.ready) k.shown) (λ n is. never (sym is)) told (outs_of settings before (FromServer s body)) (reasons settings range before facts (FromServer s body)).why
       where
         hidden : (events : List Event) (text : List ℕ) (t : ℕ) → is_ready (life_of t before).stage ≡ true → Showing settings before (FromServer s body) events e t text → ⊥
         hidden events text t ready (comes asked method given list from notified class came fitting) =
@@ -332,7 +331,7 @@ module _ (settings : Settings) (range : InRange settings) (before : List Event) 
     start_lists = go (message_of body) refl
       where
         published_by : (method : List ℕ) (params : Option Json) → message_of body ≡ notification method params → is_publishing method ≡ true → (b : Bool) → is_ready (life_of s before).stage ≡ b → lists_to e (outs_of settings before (FromServer s body)) ≡ due_coming settings s e before body
-        published_by method params says class true ready = comes_exactly settings before facts settled one e s body method params says class (ready_is (life_of s before).stage ready)
+        published_by method params says class true ready = comes_exactly settings before facts settled lasts e s body method params says class (ready_is (life_of s before).stage ready)
         published_by method params says class false off = unpublished (λ gives ready. never (sym ready ∙ off))
             ∙ sym (ap (λ b. if b && (is_running (desk_of e before).phase && serves settings before s e) then option_map_or (shown settings s e before) (published (sayings_of s before) body) [] else []) off)
 
@@ -352,39 +351,39 @@ module _ (settings : Settings) (range : InRange settings) (before : List Event) 
         go not_message says = unlisted (ap gives_list says)
 
   -- by none
-  silent : (cause : Cause) → talks cause ≡ false → ((s : ℕ) → is_exit cause s ≡ true → ⊥) → built_behind settings before cause ≡ true → lists_to e (outs_of settings before cause) ≡ []
-  silent cause quiet on built = all_off settings before cause e (λ events text k. never (sym (spoken events text k.start k.shown) ∙ quiet)) on (with_cause before cause) (outs_of settings before cause) (reasons settings range before facts cause built).why
+  silent : (cause : Cause) → talks cause ≡ false → ((s : ℕ) → is_exit cause s ≡ true → ⊥) → lists_to e (outs_of settings before cause) ≡ []
+  silent cause quiet on = all_off settings before cause e (λ events text k. never (sym (spoken events text k.start k.shown) ∙ quiet)) on (with_cause before cause) (outs_of settings before cause) (reasons settings range before facts cause).why
     where
       spoken : (events : List Event) (text : List ℕ) (s : ℕ) → Showing settings before cause events e s text → talks cause ≡ true
       spoken events text s (comes asked method given list from notified class came fitting) = ap talks from
       spoken events text s (opened_by words u l v t list from says found full fitting) = ap talks from
       spoken events text s (begins_by list earlier later restoring order full fitting) = ap talks restoring.from
 
-  pub entry_lists : (cause : Cause) → built_behind settings before cause ≡ true → lists_to e (outs_of settings before cause) ≡ lists_due settings e before cause (behind (with_cause before cause) (outs_of settings before cause))
-  entry_lists (FromEditor n body) built = go (nat_eq n e) refl
+  pub entry_lists : (cause : Cause) → lists_to e (outs_of settings before cause) ≡ lists_due settings e before cause (behind (with_cause before cause) (outs_of settings before cause))
+  entry_lists (FromEditor n body) = go (nat_eq n e) refl
     where
       Holds : ℕ → Bool → Type 0
       Holds k b = lists_to e (outs_of settings before (FromEditor k body)) ≡ (if b then due_own settings e before (message_of body) (behind (with_cause before (FromEditor k body)) (outs_of settings before (FromEditor k body))) else [])
 
       go : (b : Bool) → nat_eq n e ≡ b → Holds n b
-      go true same = subst (λ z. Holds z true) (sym (number_same n e same)) (own_lists body (subst (λ z. built_behind settings before (FromEditor z body) ≡ true) (number_same n e same) built))
-      go false apart = other_editor n body apart built
-  entry_lists (FromServer s body) built = start_lists s body built
-  entry_lists (Joined n) built = silent (Joined n) refl (λ z is. never (sym is)) built
-  entry_lists (EditorGone n why) built = silent (EditorGone n why) refl (λ z is. never (sym is)) built
-  entry_lists (Started s) built = silent (Started s) refl (λ z is. never (sym is)) built
-  entry_lists (StartFailed s) built = ending_lists settings range before facts settled one e (StartFailed s) s (failed_exit settings before s) built
-  entry_lists (ServerGone s) built = ending_lists settings range before facts settled one e (ServerGone s) s (gone_exit settings before s) built
-  entry_lists (Drained n k) built = silent (Drained n k) refl (λ z is. never (sym is)) built
-  entry_lists (Tick t) built = silent (Tick t) refl (λ z is. never (sym is)) built
+      go true same = subst (λ z. Holds z true) (sym (number_same n e same)) (own_lists body)
+      go false apart = other_editor n body apart
+  entry_lists (FromServer s body) = start_lists s body
+  entry_lists (Joined n) = silent (Joined n) refl (λ z is. never (sym is))
+  entry_lists (EditorGone n why) = silent (EditorGone n why) refl (λ z is. never (sym is))
+  entry_lists (Started s) = silent (Started s) refl (λ z is. never (sym is))
+  entry_lists (StartFailed s) = ending_lists settings range before facts settled lasts e (StartFailed s) s (failed_exit settings before s)
+  entry_lists (ServerGone s) = ending_lists settings range before facts settled lasts e (ServerGone s) s (gone_exit settings before s)
+  entry_lists (Drained n k) = silent (Drained n k) refl (λ z is. never (sym is))
+  entry_lists (Tick t) = silent (Tick t) refl (λ z is. never (sym is))
 
 -- A whole history
 
-legal_parts : (settings : Settings) (before xs ys : List Entry) → LegalFrom settings before (xs ++ ys) → LegalFrom settings before xs × LegalFrom settings (before ++ xs) ys
+pub legal_parts : (settings : Settings) (before xs ys : List Entry) → LegalFrom settings before (xs ++ ys) → LegalFrom settings before xs × LegalFrom settings (before ++ xs) ys
 legal_parts settings before [] ys legal = (tt, subst (λ z. LegalFrom settings z ys) (sym (append-nil before)) legal)
 legal_parts settings before (x ∷ xs) ys legal =
-    let rest = legal_parts settings (before ++ x ∷ []) xs ys legal.3 in
-    ((legal.0, legal.1, legal.2, rest.0), subst (λ z. LegalFrom settings z ys) (append_assoc before (x ∷ []) xs) rest.1)
+    let rest = legal_parts settings (before ++ x ∷ []) xs ys legal.2 in
+    ((legal.0, legal.1, rest.0), subst (λ z. LegalFrom settings z ys) (append_assoc before (x ∷ []) xs) rest.1)
 
 module _ (settings : Settings) (range : InRange settings) where
   at_entry : (before later : List Entry) (entry : Entry) → Legal settings before → LegalFrom settings before (entry ∷ later) → (e : ℕ) → lists_to e entry.outs ≡ lists_due settings e (events_of before) entry.cause (behind (with_cause (events_of before) entry.cause) (outs_of settings (events_of before) entry.cause))
@@ -392,8 +391,8 @@ module _ (settings : Settings) (range : InRange settings) where
       let at : Reached settings (events_of before) = reached settings before so_far in
       let row : List Out = outs_of settings (events_of before) entry.cause in
       let slow : List Out = outs (slow_row settings) (behind (with_cause (events_of before) entry.cause) row) in
-      ap (lists_to e) legal.2 ∙ (lists_join e row slow ∙ (ap (λ z. lists_to e row ++ z) (lists_none e slow (slow_all settings (Listless e) (λ n. refl) (λ s body. refl) (behind (with_cause (events_of before) entry.cause) row)))
-      ∙ (append-nil (lists_to e row) ∙ entry_lists settings range (events_of before) (facts_at settings range (events_of before) at) (settled_at settings range (events_of before) at) (one_start settings range (events_of before) at) e entry.cause legal.1)))
+      ap (lists_to e) legal.1 ∙ (lists_join e row slow ∙ (ap (λ z. lists_to e row ++ z) (lists_none e slow (slow_all settings (Listless e) (λ n. refl) (λ s body. refl) (behind (with_cause (events_of before) entry.cause) row)))
+      ∙ (append-nil (lists_to e row) ∙ entry_lists settings range (events_of before) (facts_at settings range (events_of before) at) (settled_at settings range (events_of before) at) (last_starts settings range (events_of before) at) e entry.cause)))
 
   pub lists_law : (history : List Entry) → Legal settings history → KeepsLists settings history
   lists_law history legal before later entry is e =

@@ -15,10 +15,11 @@ use Rattle.event_model.specs.Phases.{Desk, desk_of, editors_of, is_running, is_t
 use Rattle.event_model.specs.Row.{Row, choose, each, nothing, on, outs, send, ◌⨾◌}
 use Rattle.event_model.specs.Settings.{Settings}
 use Rattle.event_model.specs.Spawns.{group_of}
-use Rattle.event_model.specs.Stages.{is_ready, life_of}
+use Rattle.event_model.specs.Stages.{is_ended, is_ready, life_of}
 use Rattle.event_model.proofs.Frames.{never}
 use Rattle.mux_facts.specs.Ranges.{InRange}
 use Rattle.mux_facts.proofs.Keeps.{behind_both}
+use Rattle.mux_facts.proofs.DocumentRow.{ready_is}
 use Rattle.mux_facts.proofs.Lists.{all_filtered}
 use Rattle.mux_facts.proofs.Reasons.{by_choose, by_look, by_nothing, by_send, by_then}
 use Rattle.mux_facts.proofs.Words.{number_same, same_number}
@@ -40,7 +41,6 @@ use Rattle.group_rows.proofs.Cancels.{cancel_says}
 use Rattle.group_rows.proofs.ExitTexts.{empty_says, end_says}
 use Rattle.group_rows.proofs.ListsKept.{IsList, lists_kept}
 use Rattle.group_rows.proofs.LiveTexts.{live_written, unregister_says}
-use Rattle.group_facts.specs.Built.{built_behind}
 use Rattle.group_facts.specs.Facts.{IsAsked, IsForwarded, IsTake}
 use Rattle.group_facts.specs.Lively.{lives, lives_at}
 use Rattle.group_facts.specs.Settled.{Settled, is_answered}
@@ -51,7 +51,7 @@ use Rattle.group_facts.proofs.ExitRow.{waiting_closed, waiting_told}
 use Rattle.group_facts.proofs.Facts.{Facts}
 use Rattle.group_facts.proofs.Lively.{lives_of}
 use Rattle.group_facts.proofs.Losses.{lost_says, lost_text}
-use Rattle.group_facts.proofs.OneStart.{OneStart}
+use Rattle.group_facts.proofs.LastStarts.{AllLast}
 use Rattle.group_facts.proofs.PutOut.{outs_tested}
 use Rattle.group_facts.proofs.Quits.{asked_while}
 use Rattle.group_facts.proofs.Table.{reasons}
@@ -72,7 +72,7 @@ list_gives : is_publishing (codes "textDocument/publishDiagnostics") ≡ true
 unfolding server_notification
 list_gives = refl
 
-module _ (settings : Settings) (range : InRange settings) (before : List Event) (facts : Facts settings before) (settled : Settled settings before) (one : OneStart before) (e : ℕ) (cause : Cause) (s : ℕ) (exit : Exit settings before cause s) where
+module _ (settings : Settings) (range : InRange settings) (before : List Event) (facts : Facts settings before) (settled : Settled settings before) (lasts : AllLast before) (e : ℕ) (cause : Cause) (s : ℕ) (exit : Exit settings before cause s) where
   abbrev now : List Event
   now = with_cause before cause
 
@@ -311,8 +311,12 @@ module _ (settings : Settings) (range : InRange settings) (before : List Event) 
           go false over = nothing_due (is_ready (life_of s before).stage) ∙ ap Due (sym (none_runs (ap lives found ∙ over)))
 
     by_group : (o : Option ℕ) → group_of s before ≡ o → lists_to e (outs (on o nothing (λ g. on (slice_get (groups_of settings before) g) nothing (exit_in settings before s g))) now) ≡ due_ending settings s e before
-    by_group o at = go o (ap (λ b. is_ready (life_of s before).stage && (is_running (desk_of e before).phase && b)) (serves_is settings before facts settled one e s ∙ ap (λ p. option_map_or (λ g. is_home g (home_of settings e before)) p false) at))
+    by_group o at = go o (hears_by (is_ready (life_of s before).stage) refl)
       where
+        hears_by : (b : Bool) → is_ready (life_of s before).stage ≡ b → (b && (is_running (desk_of e before).phase && serves settings before s e)) ≡ (b && (is_running (desk_of e before).phase && option_map_or (λ g. is_home g (home_of settings e before)) o false))
+        hears_by true ready = ap (λ b. is_running (desk_of e before).phase && b) (serves_is settings before facts settled lasts e s (ap is_ended (ready_is (life_of s before).stage ready)) ∙ ap (λ p. option_map_or (λ g. is_home g (home_of settings e before)) p false) at)
+        hears_by false early = refl
+
         off : (a b : Bool) → (a && (b && false)) ≡ false
         off true true = refl
         off true false = refl
@@ -323,8 +327,8 @@ module _ (settings : Settings) (range : InRange settings) (before : List Event) 
         go (Some g) hears = kept_lists g (slice_get (groups_of settings before) g) refl ∙ ap (λ b. if b then due else []) (sym hears)
         go None hears = ap (λ b. if b then due else []) (sym (hears ∙ off (is_ready (life_of s before).stage) (is_running (desk_of e before).phase)))
 
-  pub ending_lists : built_behind settings before cause ≡ true → lists_to e (outs_of settings before cause) ≡ due_ending settings s e before
-  ending_lists built = go (is_running (desk_of e before).phase) refl
+  pub ending_lists : lists_to e (outs_of settings before cause) ≡ due_ending settings s e before
+  ending_lists = go (is_running (desk_of e before).phase) refl
     where
       off : (a : Bool) → [] ≡ (if a && false then due else [])
       off true = refl
@@ -332,5 +336,5 @@ module _ (settings : Settings) (range : InRange settings) (before : List Event) 
 
       go : (b : Bool) → is_running (desk_of e before).phase ≡ b → lists_to e (outs_of settings before cause) ≡ due_ending settings s e before
       go true on = ap (lists_to e) exit.row ∙ by_group (running_is settings before (desk_of e before).phase on) (group_of s before) refl
-      go false none = unrun_off settings before cause e now (outs_of settings before cause) (reasons settings range before facts cause built).why (ap (λ (d : Desk). is_running d.phase) (exit.desk e) ∙ none)
+      go false none = unrun_off settings before cause e now (outs_of settings before cause) (reasons settings range before facts cause).why (ap (λ (d : Desk). is_running d.phase) (exit.desk e) ∙ none)
           ∙ (off (is_ready (life_of s before).stage) ∙ ap (λ b. if is_ready (life_of s before).stage && (b && serves settings before s e) then due else []) (sym none))

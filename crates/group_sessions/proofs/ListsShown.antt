@@ -16,7 +16,7 @@ use Rattle.event_model.specs.Phases.{desk_of, editors_of, is_running}
 use Rattle.event_model.specs.Row.{Row, choose, each, nothing, on, outs, send}
 use Rattle.event_model.specs.Settings.{Settings}
 use Rattle.event_model.specs.Spawns.{group_of, start_of}
-use Rattle.event_model.specs.Stages.{is_ready, life_of}
+use Rattle.event_model.specs.Stages.{is_ended, is_ready, life_of}
 use Rattle.event_model.proofs.Frames.{never}
 use Rattle.mux_facts.proofs.Words.{number_same, same_number}
 use Rattle.group_words.specs.Houses.{home_of, is_home}
@@ -33,7 +33,7 @@ use Rattle.group_rows.proofs.ListsKept.{IsList, published_body}
 use Rattle.group_rows.proofs.Versions.{AllMeant}
 use Rattle.group_facts.specs.Settled.{Settled}
 use Rattle.group_facts.proofs.Facts.{Facts}
-use Rattle.group_facts.proofs.OneStart.{OneStart}
+use Rattle.group_facts.proofs.LastStarts.{AllLast}
 use Rattle.group_facts.proofs.Same.{Same, same_agreement, same_version}
 use Rattle.group_facts.proofs.Shown.{list_is, text_says, text_shown}
 use Rattle.group_sessions.proofs.DueSent.{flat_kept, only_one}
@@ -103,17 +103,17 @@ same_due settings x y same e w s = refl
 
 -- A list that comes
 
-module _ (settings : Settings) (before : List Event) (facts : Facts settings before) (settled : Settled settings before) (one : OneStart before) (e s : ℕ) where
+module _ (settings : Settings) (before : List Event) (facts : Facts settings before) (settled : Settled settings before) (lasts : AllLast before) (e s : ℕ) where
   -- s is the last start of e's group just where e is in the group that s was spawned for
-  pub serves_is : serves settings before s e ≡ option_map_or (λ g. is_home g (home_of settings e before)) (group_of s before) false
-  serves_is = by_home (home_of settings e before) (group_of s before) refl
+  pub serves_is : is_ended (life_of s before).stage ≡ false → serves settings before s e ≡ option_map_or (λ g. is_home g (home_of settings e before)) (group_of s before) false
+  serves_is alive = by_home (home_of settings e before) (group_of s before) refl
     where
       by_start : (h : ℕ) (o : Option ℕ) → group_of s before ≡ o → (t : Option ℕ) → start_of h before ≡ t → option_map_or (nat_eq s) t false ≡ option_map_or (λ g. is_home g (Some h)) o false
       by_start h (Some g) at None none = go (nat_eq h g) refl
         where
           go : (b : Bool) → nat_eq h g ≡ b → false ≡ b
           go false off = refl
-          go true same = absurd (let clash : ◌≡◌ {A = Option ℕ} None (Some s) = sym none ∙ (ap (λ z. start_of z before) (number_same h g same) ∙ one s g at) in cc)
+          go true same = absurd (let clash : ◌≡◌ {A = Option ℕ} None (Some s) = sym none ∙ (ap (λ z. start_of z before) (number_same h g same) ∙ lasts s g at alive) in cc)
       by_start h None at None none = refl
       by_start h o at (Some t) last = go (nat_eq s t) refl
         where
@@ -126,7 +126,7 @@ module _ (settings : Settings) (before : List Event) (facts : Facts settings bef
             where
               by : (b : Bool) → nat_eq h g ≡ b → false ≡ b
               by false other = refl
-              by true same = absurd (let both : ◌≡◌ {A = Option ℕ} (Some t) (Some s) = sym last ∙ (ap (λ z. start_of z before) (number_same h g same) ∙ one s g is) in let is_it : t ≡ s = cc in let clash : false ≡ true = sym off ∙ (ap (nat_eq s) is_it ∙ same_number s) in cc)
+              by true same = absurd (let both : ◌≡◌ {A = Option ℕ} (Some t) (Some s) = sym last ∙ (ap (λ z. start_of z before) (number_same h g same) ∙ lasts s g is alive) in let is_it : t ≡ s = cc in let clash : false ≡ true = sym off ∙ (ap (nat_eq s) is_it ∙ same_number s) in cc)
 
           go : (b : Bool) → nat_eq s t ≡ b → b ≡ option_map_or (λ g. is_home g (Some h)) o false
           go true same = sym (ap (λ p. option_map_or (λ g. is_home g (Some h)) p false) (sym at ∙ its_group (sym (number_same s t same))) ∙ same_number h)
@@ -208,7 +208,7 @@ module _ (settings : Settings) (before : List Event) (facts : Facts settings bef
 
     by_group : (life_of s before).stage ≡ Ready → (l : LastList) → published (sayings_of s before) body ≡ Some l → (o : Option ℕ) → group_of s before ≡ o
         → lists_to e (outs (on o nothing (λ g. each (λ n. show settings before s n l) (running_in settings g before))) now) ≡ (if is_hearing settings s e before then shown settings s e before l else [])
-    by_group ready l came o at = go o (ap₂ (λ a b. a && (is_running (desk_of e before).phase && b)) (ap is_ready ready) (serves_is ∙ ap (λ p. option_map_or (λ g. is_home g (home_of settings e before)) p false) at))
+    by_group ready l came o at = go o (ap₂ (λ a b. a && (is_running (desk_of e before).phase && b)) (ap is_ready ready) (serves_is (ap is_ended ready) ∙ ap (λ p. option_map_or (λ g. is_home g (home_of settings e before)) p false) at))
       where
         off : (a : Bool) → (a && false) ≡ false
         off true = refl

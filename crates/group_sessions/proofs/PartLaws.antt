@@ -21,7 +21,7 @@ use Rattle.group_facts.proofs.RestLaws.{Law, RestLaw, law_holds, rest_holds}
 
 pub no_law : (settings : Settings) → Law settings No
 no_law settings = record {
-  took = λ before cause fits built known h. tt;
+  took = λ before cause fits known h. tt;
   to_editor = λ before cause events e body why known here h i. tt;
   to_server = λ before cause events s body why known here h i. tt;
   close = λ before cause events e turned there known here h i. tt;
@@ -57,7 +57,7 @@ module _ (settings : Settings) (Rule : List Event → Event → Type 0) (rule : 
 
   editor_law : Law settings EditorRules
   editor_law = record {
-    took = λ before cause fits built known h. editor_took before cause h;
+    took = λ before cause fits known h. editor_took before cause h;
     to_editor = λ before cause events n body why known here h i. λ e. rule_more Rule (is_of_editor e) events (said (ToEditor n body)) (i e)
         (λ same. subst (λ k. Rule (editor_part k events) (said (ToEditor n body))) (number_same n e same) (rule.told before cause events n body why));
     to_server = λ before cause events s body why known here h i. editor_free events (said (ToServer s body)) refl i;
@@ -93,7 +93,7 @@ module _ (settings : Settings) (I : List Event → Type 0) (M : List Event → C
 
   server_law : RestLaw settings (Kept I ServerRules) (KeptInside M ServerRules)
   server_law = record {
-    took = λ before cause fits built known h. record { own = (rule.law).took before cause fits built known h.own; rules = server_took before cause h.rules };
+    took = λ before cause fits known h. record { own = (rule.law).took before cause fits known h.own; rules = server_took before cause h.rules };
     to_editor = λ before cause events e body why known here h i. record { own = (rule.law).to_editor before cause events e body why known here h.own i.own; rules = server_free events (said (ToEditor e body)) refl i.rules };
     to_server = λ before cause events n body why known here h i. record {
       own = (rule.law).to_server before cause events n body why known here h.own i.own;

@@ -1,5 +1,7 @@
 -- Entries that leave what is registered at an editor as it is.
-use Rattle.std.proofs.Common.{ltb-true, arith, ◌<◌, ◌^◌, ◌||◌, ◌≡◌, ℕ, Bool, true, false, ◌&&◌, cond, List, [], ◌∷◌, ◌++◌, nat_eq, refl, sym, ◌∙◌, ap, subst, ◌+◌, ◌≤◌, ◌⊎◌, inl, inr, if◌then◌else◌, nat_lt}
+use Rattle.std.proofs.Common.{ltb-true, arith, ◌<◌, ◌^◌, ◌||◌, ◌≡◌, ℕ, Bool, true, false, not, ◌&&◌, bytes_eq, cond, List, [], ◌∷◌, ◌++◌, nat_eq, refl, sym, ◌∙◌, ap, subst, ◌+◌, ◌≤◌, ◌⊎◌, inl, inr, if◌then◌else◌, nat_lt}
+use Rattle.std.specs.List.{list_any}
+use Rattle.std.proofs.lemmas.Slice.Eq.{bytes_eq-Decides}
 use Rattle.mux_history.specs.declared.cause.Cause.{Cause}
 use Rattle.mux_history.specs.declared.cause.Cause.TheVariants.{Joined, FromServer}
 use Rattle.mux_history.specs.declared.out.Out.{Out}
@@ -22,20 +24,21 @@ use Rattle.mux_facts.specs.Ranges.{InRange}
 use Rattle.mux_facts.proofs.Reasons.{reasons_keep}
 use Rattle.mux_facts.proofs.Rules.{rule_more, word_more}
 use Rattle.mux_facts.proofs.Words.{number_same, same_number}
-use Rattle.session_laws.specs.ClientRules.{ClientRule7, after_told, may_register, registered_behind, registered_of, has_id}
+use Rattle.session_laws.specs.ClientRules.{ClientRule7, after_told, has_id, may_register, registered_behind, registered_in, registered_of}
 use Rattle.session_laws.proofs.Client4Law.{is_told}
 use Rattle.session_laws.proofs.Client7Law.{free_7}
 use Rattle.group_rows.specs.Live.{changes_live, is_registering, live_of, unregister_text}
 use Rattle.group_rows.specs.Rows.{outs_of}
-use Rattle.group_facts.specs.Built.{built_behind}
 use Rattle.group_facts.specs.Why.{progresses, IsAsk, IsChange, IsResumed, Calling, Why, WhyToEditor, answers, asks, displaces, enrols, passes, recalls, refuses, calls, rejects, releases, restores, creates, revives, resumes, shows, spreads, turns_away, welcomes, loses, winds_up, IsCall, IsLost, forgets}
 use Rattle.group_facts.proofs.Asks.{call_hurried}
 use Rattle.group_facts.proofs.Facts.{Facts}
 use Rattle.group_facts.proofs.Table.{reasons}
-use Rattle.group_sessions.proofs.Enrolled.{create_apart, Leaves, is_about, leaves_other, left, may_leave, Drops, Same, may_drop, unregister_drops}
+use Rattle.group_sessions.proofs.Enrolled.{create_apart, dropped, Leaves, is_about, leaves_other, left, may_leave, names, Drops, Same, may_drop, unregister_drops, unregister_is}
+use Rattle.group_sessions.proofs.Numbers.{out_of_numbers}
 use Rattle.group_rows.specs.Created.{is_creating}
 use Rattle.group_rows.specs.Asks.{next_ask, asked_behind, has_number}
 use Rattle.group_rows.proofs.CreatedTexts.{create_says}
+use Rattle.group_rows.specs.LiveTexts.{AreWritten}
 use Rattle.group_rows.proofs.LiveTexts.{live_written, unregister_says}
 use Rattle.registrations.specs.declared.registration.Registration.{Registration}
 use Rattle.std.proofs.lemmas.List.Sums.{fold-append}
@@ -63,10 +66,13 @@ cond_same : {A : Type 0} (b : Bool) (x y : A) → x ≡ y → cond b x y ≡ y
 cond_same true x y h = h
 cond_same false x y h = refl
 
+ids_quiet : (e : ℕ) (events : List Event) (event : Event) → is_told event ≡ false → ids e (events ++ event ∷ []) ≡ ids e events
+ids_quiet e events event other = ids_more e events event ∙ cond_same (is_of_editor e event) (registered_behind (ids e events) event) (ids e events) (quiet (ids e events) event other)
+
 pub at_free : (e : ℕ) (xs : List (List ℕ)) (events : List Event) (event : Event) → is_told event ≡ false → At e xs events → At e xs (events ++ event ∷ [])
 at_free e xs events event other h = record {
   always = rule_more ClientRule7 (is_of_editor e) events event h.always (λ same. free_7 (editor_part e events) event other);
-  has = ids_more e events event ∙ cond_same (is_of_editor e event) (registered_behind (ids e events) event) (ids e events) (quiet (ids e events) event other) ∙ h.has;
+  has = ids_quiet e events event other ∙ h.has;
 }
 
 pub at_told : (e : ℕ) (xs : List (List ℕ)) (events : List Event) (body : List ℕ) → may_register xs (message_of body) ≡ true → At e xs events → At e (after_told xs (message_of body)) (events ++ said (ToEditor e body) ∷ [])
@@ -92,6 +98,16 @@ at_plain e n xs events body plain h = go (nat_eq n e) refl
 pub at_took : (e : ℕ) (xs : List (List ℕ)) (before : List Event) (cause : Cause) → At e xs before → At e xs (with_cause before cause)
 at_took e xs before (Joined n) h = at_free e xs before (heard (Joined n)) refl h
 at_took e xs before cause h = at_free e xs before (heard cause) refl h
+
+-- where there is no id nothing is registered
+pub none_has : (xs : List (List ℕ)) → ((x : List ℕ) → has_id xs x ≡ false) → xs ≡ []
+none_has [] h = refl
+none_has (x ∷ xs) h = never (sym (ap (λ b. b || list_any (bytes_eq x) xs) ((bytes_eq-Decides x x).1 refl)) ∙ h x)
+
+none_left : (a b : Bool) → a ≡ b → (a && not b) ≡ false
+none_left true true h = refl
+none_left true false h = never h
+none_left false b h = refl
 
 -- Entries in which nothing changes of what is registered at an editor
 
@@ -201,6 +217,9 @@ module _ (settings : Settings) (before : List Event) (cause : Cause) (same : is_
     still : (events : List Event) → Going events → At e (ids e events) events
     still events h = record { always = h.always; has = refl }
 
+    alike : (events : List Event) (body : List ℕ) → (k : Forgets events e body runs) → Going events → Same (ids e events) (live_of settings k.start before)
+    alike events body k h x = ap (λ xs. has_id xs x) (h.first k.first) ∙ tied k.start k.lost (ap (λ n. nat_lt n (2 ^ 64)) (sym k.first) ∙ k.room) x
+
     forgotten : (events : List Event) (body : List ℕ) → Forgets events e body runs → Going events → Going (events ++ said (ToEditor e body) ∷ [])
     forgotten events body k h = record {
       always = told.always;
@@ -218,17 +237,14 @@ module _ (settings : Settings) (before : List Event) (cause : Cause) (same : is_
         drops : Drops (message_of text) live
         drops = unregister_drops live (live_written settings k.start before) (next_ask e events) (small_number e events k.room)
 
-        alike : Same (ids e events) live
-        alike x = ap (λ xs. has_id xs x) (h.first k.first) ∙ tied k.start k.lost (ap (λ n. nat_lt n (2 ^ 64)) (sym k.first) ∙ k.room) x
-
         told : At e (after_told (ids e events) (message_of body)) (events ++ said (ToEditor e body) ∷ [])
-        told = at_told e (ids e events) events body (ap (λ z. may_register (ids e events) (message_of z)) k.bytes ∙ may_drop (ids e events) (message_of text) live drops (λ x named. alike x ∙ named)) (still events h)
+        told = at_told e (ids e events) events body (ap (λ z. may_register (ids e events) (message_of z)) k.bytes ∙ may_drop (ids e events) (message_of text) live drops (λ x named. alike events body k h x ∙ named)) (still events h)
 
         asked : next_ask e (events ++ said (ToEditor e body) ∷ []) ≡ next_ask e events + 1
         asked = next_more e events (said (ToEditor e body)) ∙ (ap (λ m. asked_behind e (next_ask e events) (did (ToEditor e body) m)) (ap message_of k.bytes ∙ (unregister_says live (live_written settings k.start before) (next_ask e events) (small_number e events k.room)).1)
             ∙ ap (λ b. if b then next_ask e events + 1 else next_ask e events) (same_number e))
 
-    goes : (events : List Event) (out : Out) → Why settings before cause events out → Going events → Going (events ++ said out ∷ [])
+    pub goes : (events : List Event) (out : Out) → Why settings before cause events out → Going events → Going (events ++ said out ∷ [])
     goes events (ToEditor n body) why h = go (nat_eq n e) refl
       where
         own : WhyToEditor settings before cause events e body → Going (events ++ said (ToEditor e body) ∷ [])
@@ -242,6 +258,58 @@ module _ (settings : Settings) (before : List Event) (cause : Cause) (same : is_
     goes events (CloseEditor n) why h = unchanged events (said (CloseEditor n)) h (at_free e (ids e events) events (said (CloseEditor n)) refl (still events h))
     goes events (EndServer s) why h = unchanged events (said (EndServer s)) h (at_free e (ids e events) events (said (EndServer s)) refl (still events h))
 
-    pub entry_goes : InRange settings → Facts settings before → built_behind settings before cause ≡ true → Always ClientRule7 (editor_part e before) → Going (behind (with_cause before cause) (outs_of settings before cause))
-    entry_goes range facts built always = reasons_keep (λ events out. Why settings before cause events out) Going goes (with_cause before cause) (outs_of settings before cause) (reasons settings range before facts cause built).why
-        (unchanged before (heard cause) (record { always = always; first = λ same. refl; kept = λ none. refl; above = omega arith }) (at_took e (ids e before) before cause (record { always = always; has = refl })))
+    pub going_now : Always ClientRule7 (editor_part e before) → Going (with_cause before cause)
+    going_now always = unchanged before (heard cause) (record { always = always; first = λ same. refl; kept = λ none. refl; above = omega arith }) (at_took e (ids e before) before cause (record { always = always; has = refl }))
+
+    pub entry_goes : InRange settings → Facts settings before → Always ClientRule7 (editor_part e before) → Going (behind (with_cause before cause) (outs_of settings before cause))
+    entry_goes range facts always = reasons_keep (λ events out. Why settings before cause events out) Going goes (with_cause before cause) (outs_of settings before cause) (reasons settings range before facts cause).why (going_now always)
+
+    -- nothing is registered at it, or it can be asked nothing more
+    abbrev pub Cleared : List Event → Type 0
+    Cleared events = (ids e events ≡ []) ⊎ (has_number e events ≡ false)
+
+    told_more : (events : List Event) (body : List ℕ) → ids e (events ++ said (ToEditor e body) ∷ []) ≡ after_told (ids e events) (message_of body)
+    told_more events body = ids_more e events (said (ToEditor e body)) ∙ ap (λ b. cond b (after_told (ids e events) (message_of body)) (ids e events)) (same_number e)
+
+    bare_told : (events : List Event) (body : List ℕ) → WhyToEditor settings before cause events e body → ids e events ≡ [] → ids e (events ++ said (ToEditor e body) ∷ []) ≡ []
+    bare_told events body why none = told_more events body ∙ (ap (λ xs. after_told xs (message_of body)) none ∙ go (plain_or events e body runs why))
+      where
+        go : (is_about (message_of body) ≡ false) ⊎ Forgets events e body runs → after_told [] (message_of body) ≡ []
+        go (inl plain) = left [] (message_of body) (leaves_other (message_of body) plain)
+        go (inr k) = ap (λ z. registered_in (message_of z)) k.bytes ∙ (unregister_drops (live_of settings k.start before) (live_written settings k.start before) (next_ask e events) (small_number e events k.room)).comes
+
+    pub clears_on : (events : List Event) (out : Out) → Why settings before cause events out → Cleared events → Cleared (events ++ said out ∷ [])
+    clears_on events out why (inr none) = inr (out_of_numbers e events (said out) none)
+    clears_on events (ToEditor n body) why (inl none) = inl (go (nat_eq n e) refl)
+      where
+        go : (b : Bool) → nat_eq n e ≡ b → ids e (events ++ said (ToEditor n body) ∷ []) ≡ []
+        go false other = ids_more e events (said (ToEditor n body)) ∙ (ap (λ b. cond b (after_told (ids e events) (message_of body)) (ids e events)) other ∙ none)
+        go true own = subst (λ z. ids e (events ++ said (ToEditor z body) ∷ []) ≡ []) (sym (number_same n e own)) (bare_told events body (subst (λ z. WhyToEditor settings before cause events z body) (number_same n e own) why) none)
+    clears_on events (ToServer s body) why (inl none) = inl (ids_quiet e events (said (ToServer s body)) refl ∙ none)
+    clears_on events (Spawn s g) why (inl none) = inl (ids_quiet e events (said (Spawn s g)) refl ∙ none)
+    clears_on events (CloseEditor n) why (inl none) = inl (ids_quiet e events (said (CloseEditor n)) refl ∙ none)
+    clears_on events (EndServer s) why (inl none) = inl (ids_quiet e events (said (EndServer s)) refl ∙ none)
+
+    -- what takes back all that is live leaves nothing
+    pub cleared_by : (live : List Registration) → AreWritten live → (events : List Event) → has_number e events ≡ true → Going events → WhyToEditor settings before cause events e (unregister_text live (next_ask e events))
+        → ids e (events ++ said (ToEditor e (unregister_text live (next_ask e events))) ∷ []) ≡ []
+    cleared_by live written events room h why = go (plain_or events e text runs why)
+      where
+        text : List ℕ
+        text = unregister_text live (next_ask e events)
+
+        about : is_about (message_of text) ≡ true
+        about = ap is_about (unregister_says live written (next_ask e events) (small_number e events room)).1 ∙ unregister_is
+
+        go : (is_about (message_of text) ≡ false) ⊎ Forgets events e text runs → ids e (events ++ said (ToEditor e text) ∷ []) ≡ []
+        go (inl plain) = never (sym about ∙ plain)
+        go (inr k) = told_more events text ∙ none_has (after_told (ids e events) (message_of text)) gone
+          where
+            forgotten_live : List Registration
+            forgotten_live = live_of settings k.start before
+
+            drops : Drops (message_of text) forgotten_live
+            drops = subst (λ z. Drops (message_of z) forgotten_live) (sym k.bytes) (unregister_drops forgotten_live (live_written settings k.start before) (next_ask e events) (small_number e events k.room))
+
+            gone : (x : List ℕ) → has_id (after_told (ids e events) (message_of text)) x ≡ false
+            gone x = dropped (ids e events) (message_of text) forgotten_live drops x ∙ none_left (has_id (ids e events) x) (has_id (names forgotten_live) x) (alike events text k h x)

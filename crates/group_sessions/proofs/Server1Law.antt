@@ -14,7 +14,7 @@ use Rattle.mux_facts.proofs.Words.{pick}
 use Rattle.session_laws.specs.ServerRules.{KeepsServer1, Program, ServerRule1, program_of}
 use Rattle.session_laws.proofs.Server1Law.{IsUp, Link, Running, begun_up, free, is_up, more, ready_up, running_sent, running_spawned, running_took}
 use Rattle.group_facts.specs.Legal.{Legal}
-use Rattle.group_facts.specs.Why.{WhyToServer, begins, greets, forwarded, notes, tells, shuts, cancels, responds, exits, resolves, cancels_work}
+use Rattle.group_facts.specs.Why.{WhyToServer, begins, greets, conveys, forwarded, notes, tells, shuts, cancels, responds, exits, resolves, cancels_work}
 use Rattle.group_facts.proofs.RestLaws.{Inside, Law}
 use Rattle.group_sessions.proofs.PartLaws.{ServerRule, server_history}
 
@@ -29,7 +29,7 @@ running_ended events n h = more events (said (EndServer n)) (λ s. pick Link (na
 
 law : (settings : Settings) → Law settings Running
 law settings = record {
-  took = λ before cause fits built known h. running_took before cause h;
+  took = λ before cause fits known h. running_took before cause h;
   to_editor = λ before cause events e body why known here h i. more events (said (ToEditor e body)) i;
   to_server = λ before cause events n body why known here h i. running_sent events n body i;
   close = λ before cause events e turned there known here h i. more events (said (CloseEditor e)) i;
@@ -45,6 +45,7 @@ module _ (settings : Settings) (before : List Event) (cause : Cause) (events : L
   up : WhyToServer settings before cause events s body → Running events → IsUp (program_of (server_part s events))
   up (begins k) i = begun_up before cause events s k.stage k.from k.place i
   up (greets k) i = ready_up events s k.ready i
+  up (conveys k) i = ready_up events s k.ready i
   up (forwarded k) i = ready_up events s k.ready i
   up (notes k) i = ready_up events s k.ready i
   up (tells k) i = ready_up events s k.ready i

@@ -1,5 +1,5 @@
 -- The handshake with a start.
-use Rattle.std.proofs.Common.{◌≡◌, ℕ, ◌<◌, ◌≤◌, Bool, true, false, not, ◌&&◌, cond, Option, List, [], ◌∷◌, ◌++◌, filter, map, fold, bytes_eq, codes, nat_eq, IsTrue, if◌then◌else◌, None, Some, refl, sym, ◌∙◌, ap, ap₂, subst, append_assoc, arith}
+use Rattle.std.proofs.Common.{◌≡◌, ℕ, ◌<◌, ◌≤◌, Bool, true, false, not, ◌&&◌, cond, Option, List, [], ◌∷◌, ◌++◌, filter, map, fold, bytes_eq, codes, nat_eq, IsTrue, if◌then◌else◌, None, Some, refl, sym, ◌∙◌, ap, ap₂, subst, append-nil, append_assoc, arith}
 use Rattle.std.specs.Prelude.{slice_get}
 use Rattle.std.proofs.lemmas.Bool.{and_parts}
 use Rattle.std.proofs.lemmas.List.Elements.{filter-append}
@@ -17,12 +17,13 @@ use Rattle.event_model.specs.declared.stage.Stage.TheVariants.{Unspawned, Spawni
 use Rattle.event_model.specs.Event.{Event, did, heard, said, behind, with_cause, notifies, requests}
 use Rattle.event_model.specs.Parts.{server_part, is_of_server}
 use Rattle.event_model.specs.Settings.{Settings}
-use Rattle.event_model.specs.Row.{outs}
+use Rattle.event_model.specs.Row.{choose, nothing, outs}
 use Rattle.event_model.specs.Spawns.{group_of, starts_of}
 use Rattle.event_model.specs.Stages.{Life, life_of, is_first_result, is_initializing, is_spawning, stage_ending, stage_hears, stage_started, stage_told}
 use Rattle.event_model.proofs.Places.{item_at}
 use Rattle.mux_facts.specs.Ranges.{InRange}
 use Rattle.mux_facts.proofs.Folds.{life_more}
+use Rattle.mux_facts.proofs.Keeps.{behind_both}
 use Rattle.mux_facts.proofs.Starts.{Starts}
 use Rattle.mux_facts.specs.Allowed.{is_response}
 use Rattle.mux_facts.proofs.Why as single
@@ -32,11 +33,13 @@ use Rattle.session_laws.proofs.Server2Law.{HandAt, Link, begun_hand, begun_stage
 use Rattle.group_words.specs.declared.kept.Kept.{Kept}
 use Rattle.group_words.specs.Houses.{groups_of}
 use Rattle.group_words.specs.Rows.{initialize_of}
+use Rattle.group_rows.specs.Earlier.{differs, given_of, part_row, shown_in}
 use Rattle.group_rows.specs.Rows.{outs_of, result_in}
+use Rattle.group_rows.specs.StopRows.{close_each}
 use Rattle.group_facts.specs.Facts.{Housed, IsHoused, IsWritten, Written, is_unready}
 use Rattle.group_rows.proofs.Going.{no_initialized}
 use Rattle.group_facts.specs.Legal.{Legal}
-use Rattle.group_facts.specs.Why.{IsTelling, Turn, WhyToServer, begins, greets, forwarded, notes, tells, shuts, cancels, stays, greeted, moves, responds, exits, resolves, cancels_work}
+use Rattle.group_facts.specs.Why.{Turn, WhyToServer, begins, greets, conveys, forwarded, notes, tells, shuts, cancels, stays, greeted, moves, responds, exits, resolves, cancels_work}
 use Rattle.group_facts.proofs.Forwards.{get_all}
 use Rattle.group_facts.proofs.Facts.{Facts}
 use Rattle.group_facts.proofs.RestLaws.{RestLaw}
@@ -230,16 +233,16 @@ module _ (settings : Settings) (range : InRange settings) (before : List Event) 
   greeted_open (Started n) from xs part ready on h moved = absurd (let ungreeted : is_greeted Ready ≡ false = ap is_greeted (sym ready) ∙ moved in cc)
   greeted_open c from xs part ready on h moved = absurd (cc)
 
-  told_step : (k : IsTelling before cause events s body) → Hands before → Within before cause events → OpenStep → Step before cause events s body
-  told_step k h m f = go k.turn
+  told_step : (life_of s events).stage ≡ Ready → Turn before cause events s → Hands before → Within before cause events → OpenStep → Step before cause events s body
+  told_step ready turn h m f = go turn
     where
       go : Turn before cause events s → Step before cause events s body
-      go (stays still) = ready_step k.ready still m f
+      go (stays still) = ready_step ready still m f
       go (greeted xs part) = either_way (moves before cause s) refl
         where
           either_way : (b : Bool) → moves before cause s ≡ b → Step before cause events s body
-          either_way false still = ready_step k.ready still m f
-          either_way true on = open_step k.ready (greeted_open cause refl xs part k.ready on h (m.moved s on)) f
+          either_way false still = ready_step ready still m f
+          either_way true on = open_step ready (greeted_open cause refl xs part ready on h (m.moved s on)) f
 
   step : WhyToServer settings before cause events s body → Hands before → Within before cause events → Step before cause events s body
   step (begins k) h m =
@@ -247,12 +250,15 @@ module _ (settings : Settings) (range : InRange settings) (before : List Event) 
       let moving : moves before cause s ≡ true = ap (λ c. moves before c s) k.from ∙ ap₂ (λ a z. a && is_spawning z) (same_number s) k.stage in
       record { allowed = ap₂ allows now k.says; next = λ still. absurd (cc) }
   step (greets k) h m =
-      let now : hand s events ≡ answered = ap (hand s) (k.place ∙ ap (with_cause before) k.from) ∙ greeted_hand before s k.answer k.first (subst (λ z. Link z (hand s before)) k.stage (h s)) in
+      let heard_part : server_part s (with_cause before (FromServer s k.answer)) ≡ server_part s before ++ heard (FromServer s k.answer) ∷ [] = filter-append (is_of_server s) before (heard (FromServer s k.answer) ∷ [])
+      ∙ ap (λ b. server_part s before ++ cond b (heard (FromServer s k.answer) ∷ []) []) (same_number s) in
+      let now : hand s events ≡ answered = ap handshake_of (k.part ∙ (ap (λ c. server_part s before ++ heard c ∷ []) k.from ∙ sym heard_part)) ∙ greeted_hand before s k.answer k.first (subst (λ z. Link z (hand s before)) k.stage (h s)) in
       let moving : moves before cause s ≡ true = ap (λ c. moves before c s) k.from ∙ ap₂ (λ a z. a && (is_initializing z && is_first_result (message_of k.answer))) (same_number s) k.stage ∙ k.first in
       record { allowed = ap₂ allows now k.says; next = λ still. absurd (cc) }
   step (forwarded k) h m = ready_step k.ready (ap (λ c. moves before c s) k.from) m (λ o. asked_on (hand s events) s body (message_of body) _ k.method k.params k.says o)
   step (notes k) h m = ready_step k.ready (ap (λ c. moves before c s) k.from) m (λ o. noted_on (hand s events) s body (message_of body) k.method k.params k.says (no_initialized k.method k.going) o)
-  step (tells k) h m = told_step k h m (λ o. tells_on settings range (hand s events) s body (message_of body) k.spoken o)
+  step (conveys k) h m = told_step k.ready k.turn h m (λ o. noted_on (hand s events) s body (message_of body) (codes "workspace/didChangeConfiguration") k.params k.says refl o)
+  step (tells k) h m = told_step k.ready k.turn h m (λ o. tells_on settings range (hand s events) s body (message_of body) k.spoken o)
   step (cancels k) h m = ready_step k.ready k.stays m (λ o. (ap₂ allows o k.says, still_open (requests (codes "shutdown") (message_of body)) (handshake_behind (hand s events) (said (ToServer s body))) (ap (λ z. handshake_behind z (said (ToServer s body))) o)))
   step (cancels_work k) h m = ready_step k.ready k.stays m (λ o. (ap₂ allows o k.says, still_open (requests (codes "shutdown") (message_of body)) (handshake_behind (hand s events) (said (ToServer s body))) (ap (λ z. handshake_behind z (said (ToServer s body))) o)))
   step (responds k) h m =
@@ -323,23 +329,42 @@ module _ (settings : Settings) (before : List Event) (n : ℕ) (none : Starts be
     abbrev now : List Event
     now = with_cause before (FromServer n body)
 
-    result_outs : (g : ℕ) → (rest : List Out) × (outs (result_in settings before n body g) now ≡ ToServer n initialized_text ∷ rest)
+    -- behind the links that are to be ended
+    closed_hand : (es : List ℕ) (events : List Event) → hand n (behind events (outs (close_each es) events)) ≡ hand n events
+    closed_hand [] events = ap (hand n) (append-nil events)
+    closed_hand (e ∷ es) events = ap (hand n) (sym (append_assoc events (said (CloseEditor e) ∷ []) (map said (outs (close_each es) (events ++ said (CloseEditor e) ∷ [])))))
+        ∙ (closed_hand es (events ++ said (CloseEditor e) ∷ []) ∙ ap handshake_of (filter-append (is_of_server n) events (said (CloseEditor e) ∷ []) ∙ append-nil (server_part n events)))
+
+    abbrev partings : ℕ → List Out
+    partings g = outs (part_row settings before body g) now
+
+    parted_hand : (g : ℕ) → hand n (behind now (partings g)) ≡ hand n now
+    parted_hand g = go (differs (given_of g before) body)
+      where
+        go : (b : Bool) → hand n (behind now (outs (choose b (close_each (shown_in settings g before)) nothing) now)) ≡ hand n now
+        go true = closed_hand (shown_in settings g before) now
+        go false = ap (hand n) (append-nil now)
+
+    result_outs : (g : ℕ) → (rest : List Out) × (outs (result_in settings before n body g) now ≡ partings g ++ ToServer n initialized_text ∷ rest)
     result_outs g = (_, refl)
 
     result_sends : (g : ℕ) → group_of n before ≡ Some g → outs_of settings before (FromServer n body) ≡ outs (result_in settings before n body g) now
     result_sends g home = rw (at, first, home) refl
 
-    greeting : (rest : List Out) × (outs_of settings before (FromServer n body) ≡ ToServer n initialized_text ∷ rest)
+    greeting : (g : ℕ) × ((rest : List Out) × (outs_of settings before (FromServer n body) ≡ partings g ++ ToServer n initialized_text ∷ rest))
     greeting = let home : IsHoused settings n before = housed n (was_spawned before n none (λ unspawned. let other : Initializing ≡ Unspawned = sym at ∙ unspawned in cc)) in
-        let r = result_outs home.group in (r.0, result_sends home.group home.is ∙ r.1)
+        let r = result_outs home.group in (home.group, (r.0, result_sends home.group home.is ∙ r.1))
 
     greeted_rests : hand n before ≡ asked → is_unready (life_of n (behind now (outs_of settings before (FromServer n body)))).stage ≡ false → HandAt n (behind now (outs_of settings before (FromServer n body)))
     greeted_rests h past = past_link (life_of n (behind now (outs_of settings before (FromServer n body)))).stage _ past
-        (ap (λ xs. hand n (behind now xs)) greeting.1
-        ∙ ap (hand n) (sym (append_assoc now (said (ToServer n initialized_text) ∷ []) (map said greeting.0)))
-        ∙ open_later (now ++ said (ToServer n initialized_text) ∷ []) greeting.0
-        (hand_more n now (said (ToServer n initialized_text)) ∙ ap (λ b. cond b (handshake_behind (hand n now) (said (ToServer n initialized_text))) (hand n now)) (same_number n)
-        ∙ ap (λ w. handshake_behind w (said (ToServer n initialized_text))) (greeted_hand before n body first h)))
+        (ap (λ xs. hand n (behind now xs)) greeting.1.1
+        ∙ (ap (hand n) (behind_both now (partings greeting.0) (ToServer n initialized_text ∷ greeting.1.0) ∙ sym (append_assoc mid (said (ToServer n initialized_text) ∷ []) (map said greeting.1.0)))
+        ∙ open_later (mid ++ said (ToServer n initialized_text) ∷ []) greeting.1.0
+        (hand_more n mid (said (ToServer n initialized_text)) ∙ (ap (λ b. cond b (handshake_behind (hand n mid) (said (ToServer n initialized_text))) (hand n mid)) (same_number n)
+        ∙ ap (λ w. handshake_behind w (said (ToServer n initialized_text))) (parted_hand greeting.0 ∙ greeted_hand before n body first h)))))
+      where
+        mid : List Event
+        mid = behind now (partings greeting.0)
 
 module _ (settings : Settings) (before : List Event) where
   abbrev after : Cause → List Event
@@ -367,7 +392,7 @@ module _ (settings : Settings) (before : List Event) where
 
 law : (settings : Settings) → InRange settings → RestLaw settings Hands Within
 law settings range = record {
-  took = λ before cause fits built known h. record { hands = λ s still. hand_took before cause s (same_moves before cause s ∙ still) (h s); moved = λ s on. moved_took before cause s on };
+  took = λ before cause fits known h. record { hands = λ s still. hand_took before cause s (same_moves before cause s ∙ still) (h s); moved = λ s on. moved_took before cause s on };
   to_editor = λ before cause events e body why known here h m. within_editor before cause events m e body;
   to_server = λ before cause events s body why known here h m. sent settings range before cause events s body (step settings range before cause events s body why h m) m;
   close = λ before cause events e turned there known here h m. within_close before cause events m e;

@@ -13,7 +13,7 @@ use Rattle.session_laws.proofs.Server3Law.{begun_numbered, free, known, told_num
 use Rattle.group_rows.specs.Forwarded.{forwarding_of}
 use Rattle.group_facts.specs.Facts.{is_unbegun}
 use Rattle.group_facts.specs.Legal.{Legal}
-use Rattle.group_facts.specs.Why.{WhyToServer, begins, greets, forwarded, notes, tells, shuts, cancels, responds, exits, resolves, cancels_work}
+use Rattle.group_facts.specs.Why.{WhyToServer, begins, greets, conveys, forwarded, notes, tells, shuts, cancels, responds, exits, resolves, cancels_work}
 use Rattle.group_facts.proofs.Facts.{Facts, Mid, TiedAt, begins_now}
 use Rattle.group_facts.proofs.RestLaws.{Inside}
 use Rattle.group_sessions.proofs.PartLaws.{ServerRule, no_law, server_history}
@@ -32,6 +32,7 @@ module _ (settings : Settings) (before : List Event) (cause : Cause) (events : L
   numbered : WhyToServer settings before cause events s body → Facts settings before → Mid settings before cause events → HasNumber (next_number s events) (message_of body)
   numbered (begins k) h here = begun_numbered before cause events s k.params (message_of body) ((h.steady).unbegun s (ap is_unbegun k.stage)).0 k.from k.place k.says
   numbered (greets k) h here = subst (HasNumber (next_number s events)) (sym k.says) tt
+  numbered (conveys k) h here = subst (HasNumber (next_number s events)) (sym k.says) tt
   numbered (forwarded k) h here =
       let tied : next_number s events ≡ (forwarding_of s events).next = subst (λ z. TiedAt z (next_number s events) (forwarding_of s events).next) k.ready (here.tied s (ap (λ c. begins_now c s) k.from)) in
       subst (HasNumber (next_number s events)) (sym k.says) (ap (λ n. integer (decimal n)) (sym tied))

@@ -13,7 +13,7 @@ use Rattle.session_laws.proofs.PartLaws.{No}
 use Rattle.session_laws.proofs.Server4Law.{by_part, free}
 use Rattle.group_rows.proofs.Going.{going_silent}
 use Rattle.group_facts.specs.Legal.{Legal}
-use Rattle.group_facts.specs.Why.{WhyToServer, begins, greets, forwarded, notes, tells, shuts, cancels, versions_at, responds, exits, resolves, cancels_work}
+use Rattle.group_facts.specs.Why.{WhyToServer, begins, greets, conveys, forwarded, notes, tells, shuts, cancels, versions_at, responds, exits, resolves, cancels_work}
 use Rattle.group_facts.proofs.RestLaws.{Inside}
 use Rattle.group_sessions.proofs.PartLaws.{ServerRule, no_law, server_history}
 use Rattle.group_facts.proofs.Numbers.{response_silent}
@@ -22,6 +22,7 @@ module _ (settings : Settings) (before : List Event) (cause : Cause) (events : L
   allowed : WhyToServer settings before cause events s body → AllowsSaying (versions_at s events) (saying_of (message_of body))
   allowed (begins k) = subst (λ m. AllowsSaying (versions_at s events) (saying_of m)) (sym k.says) tt
   allowed (greets k) = subst (λ m. AllowsSaying (versions_at s events) (saying_of m)) (sym k.says) tt
+  allowed (conveys k) = subst (λ m. AllowsSaying (versions_at s events) (saying_of m)) (sym k.says) tt
   allowed (forwarded k) = subst (λ m. AllowsSaying (versions_at s events) (saying_of m)) (sym k.says) tt
   allowed (notes k) = subst (AllowsSaying (versions_at s events)) (sym (ap saying_of k.says ∙ going_silent k.method k.going k.params)) tt
   allowed (tells k) = k.allowed

@@ -16,7 +16,7 @@ use Rattle.session_laws.proofs.PartLaws.{No, either_same, part_tied, same_if}
 use Rattle.session_laws.proofs.Server5Law.{answers_open, free}
 use Rattle.group_facts.specs.Facts.{asked_by, server_behind}
 use Rattle.group_facts.specs.Legal.{Legal}
-use Rattle.group_facts.specs.Why.{WhyToServer, begins, cancels, exits, forwarded, greets, notes, resolves, responds, shuts, tells, cancels_work}
+use Rattle.group_facts.specs.Why.{WhyToServer, begins, cancels, exits, forwarded, greets, conveys, notes, resolves, responds, shuts, tells, cancels_work}
 use Rattle.group_facts.proofs.RestLaws.{Inside}
 use Rattle.group_sessions.proofs.PartLaws.{ServerRule, no_law, server_history}
 
@@ -42,6 +42,7 @@ module _ (settings : Settings) (before : List Event) (cause : Cause) (events : L
   answers : WhyToServer settings before cause events s body → Answers (message_of body)
   answers (begins k) = subst Answers (sym k.says) refl
   answers (greets k) = subst Answers (sym k.says) refl
+  answers (conveys k) = subst Answers (sym k.says) refl
   answers (forwarded k) = subst Answers (sym k.says) refl
   answers (notes k) = subst Answers (sym k.says) refl
   answers (tells k) = let m : Spoken (message_of body) = spoken (message_of body) k.spoken in subst Answers (sym m.is) refl

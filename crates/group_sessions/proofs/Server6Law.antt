@@ -24,7 +24,7 @@ use Rattle.session_laws.proofs.Server6Law.{free, response_free, spoken_free, wai
 use Rattle.group_rows.specs.Forwarded.{Forwarded, Forwarding, Sender, answered_by, cancelled_by, forwarding_behind, forwarding_of, forwards, is_written, names, numbered}
 use Rattle.group_rows.proofs.Going.{not_cancel}
 use Rattle.group_facts.specs.Legal.{Legal}
-use Rattle.group_facts.specs.Why.{WhyToServer, begins, greets, forwarded, notes, tells, shuts, cancels, is_uncancelled, responds, exits, resolves, cancels_work}
+use Rattle.group_facts.specs.Why.{WhyToServer, begins, greets, conveys, forwarded, notes, tells, shuts, cancels, is_uncancelled, responds, exits, resolves, cancels_work}
 use Rattle.group_facts.proofs.Forwards.{forwarding_more}
 use Rattle.group_facts.proofs.RestLaws.{Inside, Law}
 use Rattle.group_sessions.proofs.PartLaws.{ServerRule, server_history}
@@ -174,6 +174,7 @@ module _ (settings : Settings) (before : List Event) (cause : Cause) (events : L
   numbered_by (shuts k) = subst (IsNumbered (forwarding_of s events).next) (sym k.says) (λ other. absurd (cc))
   numbered_by (forwarded k) = subst (IsNumbered (forwarding_of s events).next) (sym k.says) (λ other. refl)
   numbered_by (greets k) = subst (IsNumbered (forwarding_of s events).next) (sym k.says) tt
+  numbered_by (conveys k) = subst (IsNumbered (forwarding_of s events).next) (sym k.says) tt
   numbered_by (cancels k) = subst (IsNumbered (forwarding_of s events).next) (sym k.says) tt
   numbered_by (cancels_work k) = subst (IsNumbered (forwarding_of s events).next) (sym k.says) tt
   numbered_by (exits k) = subst (IsNumbered (forwarding_of s events).next) (sym k.says) tt
@@ -190,6 +191,7 @@ module _ (settings : Settings) (before : List Event) (cause : Cause) (events : L
   may_send (shuts k) h = subst May (sym k.says) refl
   may_send (forwarded k) h = subst May (sym k.says) refl
   may_send (greets k) h = subst May (sym k.says) refl
+  may_send (conveys k) h = subst May (sym k.says) refl
   may_send (exits k) h = subst May (sym k.says) refl
   may_send (notes k) h = subst May (sym k.says) (ap (λ b. not b || is_among (cancelled_id k.params) (waiting s events)) (not_cancel k.method k.going))
   may_send (tells k) h = spoken_free (waiting s events) (message_of body) k.spoken
@@ -200,7 +202,7 @@ module _ (settings : Settings) (before : List Event) (cause : Cause) (events : L
 
 law : (settings : Settings) → Law settings Ties
 law settings = record {
-  took = λ before cause fits built known h. took_it before cause h;
+  took = λ before cause fits known h. took_it before cause h;
   to_editor = λ before cause events e body why known here h i. λ s. more s events (said (ToEditor e body)) (i s);
   to_server = λ before cause events n body why known here h i. sent_it events n body (numbered_by settings before cause events n body why) i;
   close = λ before cause events e turned there known here h i. λ s. more s events (said (CloseEditor e)) (i s);

@@ -42,9 +42,8 @@ use Rattle.group_rows.specs.Forwarded.{Forwarded, forwarding_of, is_of}
 use Rattle.group_rows.specs.Rows.{outs_of}
 use Rattle.group_rows.specs.Tokens.{is_token_of, is_worked, mark, mark_text, marked_text, work_mark}
 use Rattle.group_rows.proofs.TokenTexts.{mark_is}
-use Rattle.group_facts.specs.Built.{built_behind}
 use Rattle.group_facts.specs.Legal.{Legal}
-use Rattle.group_facts.specs.Why.{IsWorkCancel, Why, WhyToServer, WorkMeant, begins, cancels, cancels_work, exits, forwarded, greets, notes, of_request, of_token, resolves, responds, shuts, tells}
+use Rattle.group_facts.specs.Why.{IsWorkCancel, Why, WhyToServer, WorkMeant, begins, cancels, cancels_work, exits, forwarded, greets, conveys, notes, of_request, of_token, resolves, responds, shuts, tells}
 use Rattle.group_facts.proofs.Facts.{Facts}
 use Rattle.group_facts.proofs.Known.{Here, here_did, here_took}
 use Rattle.group_facts.proofs.Reached.{Reached, facts_at, reached}
@@ -55,7 +54,7 @@ use Rattle.group_sessions.proofs.Creating.{IsCreated, all_created}
 use Rattle.group_sessions.proofs.Marked.{Marked, id_bare, marked}
 use Rattle.group_sessions.proofs.Walk.{KeepsSlow, walk}
 use Rattle.group_sessions.proofs.Working.{IsWorking, Ties, Waits, ties_free, ties_sent, ties_took, waits_behind, waits_took}
-use Rattle.group_facts.proofs.SlowRow.{parting_walk, quit_built, quit_works}
+use Rattle.group_facts.proofs.SlowRow.{parting_walk, quit_works}
 use Rattle.group_facts.specs.Why.{quitting}
 
 -- What goes on of an editor's own notifications cancels no work
@@ -99,7 +98,7 @@ marked_some : (s : ℕ) (token : Option Json) (ts : List Token) (t : Token) → 
 marked_some s (Some j) ts t h = refl
 marked_some s None ts t h = never (sym (found_true (is_marked s None) t ts h))
 
-module _ (settings : Settings) (range : InRange settings) (before : List Event) (facts : Facts settings before) (cause : Cause) (built : built_behind settings before cause ≡ true)
+module _ (settings : Settings) (range : InRange settings) (before : List Event) (facts : Facts settings before) (cause : Cause)
     (created : (s : ℕ) → (life_of s before).stage ≡ Ready → AllByRecursion (IsCreated s before) (created_of settings s before).tokens) where
   -- at a place inside of the entry
   record At (events : List Event) : Type 0 where
@@ -121,6 +120,7 @@ module _ (settings : Settings) (range : InRange settings) (before : List Event) 
     may_by : (IsWorkCancel settings before cause events s body → May (message_of body)) → WhyToServer settings before cause events s body → May (message_of body)
     may_by works (begins k) = subst May (sym k.says) refl
     may_by works (greets k) = subst May (sym k.says) refl
+    may_by works (conveys k) = subst May (sym k.says) refl
     may_by works (forwarded k) = subst May (sym k.says) refl
     may_by works (notes k) = subst May (sym k.says) (notice_free tokens k.method k.params (not_work k.method k.going))
     may_by works (tells k) = spoken_free tokens (message_of body) k.spoken
@@ -188,7 +188,7 @@ module _ (settings : Settings) (range : InRange settings) (before : List Event) 
 
   more : (events : List Event) (out : Out) → Why settings before cause events out → At events → Ties (events ++ said out ∷ []) → ((s : ℕ) → Always ServerRule7 (server_part s (events ++ said out ∷ []))) → At (events ++ said out ∷ [])
   more events out why i ties rules = record {
-    here = here_did settings range before cause facts built events out why i.here;
+    here = here_did settings range before cause facts events out why i.here;
     outs = i.outs ++ out ∷ [];
     place = ap (λ z. z ++ said out ∷ []) i.place ∙ sym (behind_both (with_cause before cause) i.outs (out ∷ []));
     first = i.first;
@@ -214,21 +214,20 @@ record Rests (events : List Event) : Type 0 where
   rules : (s : ℕ) → Always ServerRule7 (server_part s events)
 
 module _ (settings : Settings) (range : InRange settings) where
-  entry : (before : List Event) → Reached settings before → (cause : Cause) → fits_behind before cause ≡ true → built_behind settings before cause ≡ true
-      → Rests before → Rests (behind (with_cause before cause) (outs_of settings before cause))
-  entry before so_far cause fits built h =
+  entry : (before : List Event) → Reached settings before → (cause : Cause) → fits_behind before cause ≡ true → Rests before → Rests (behind (with_cause before cause) (outs_of settings before cause))
+  entry before so_far cause fits h =
       let facts : Facts settings before = facts_at settings range before so_far in
       let now : List Event = with_cause before cause in
       let created : (s : ℕ) → (life_of s before).stage ≡ Ready → AllByRecursion (IsCreated s before) (created_of settings s before).tokens = all_created settings range before so_far in
-      let last : At settings range before facts cause built created (behind now (outs_of settings before cause)) = reasons_keep (λ events out. Why settings before cause events out) (At settings range before facts cause built created)
-      (step settings range before facts cause built created) now (outs_of settings before cause) (reasons settings range before facts cause built).why
+      let last : At settings range before facts cause created (behind now (outs_of settings before cause)) = reasons_keep (λ events out. Why settings before cause events out) (At settings range before facts cause created)
+      (step settings range before facts cause created) now (outs_of settings before cause) (reasons settings range before facts cause).why
       (record {
-        here = here_took settings range before cause fits built facts;
+        here = here_took settings range before cause fits facts;
         outs = [];
         place = sym (behind_nothing now);
         first = h.ties;
         ties = ties_took before cause h.ties;
-        rules = rules_took settings range before facts cause built created cause h.rules;
+        rules = rules_took settings range before facts cause created cause h.rules;
       }) in
       record { ties = last.ties; rules = last.rules }
 
@@ -237,11 +236,11 @@ module _ (settings : Settings) (range : InRange settings) where
       let facts : Facts settings place = facts_at settings range place at in
       let created : (s : ℕ) → (life_of s place).stage ≡ Ready → AllByRecursion (IsCreated s place) (created_of settings s place).tokens = all_created settings range place at in
       parting_walk settings range place facts e is Rests
-      (λ i. record { ties = ties_free place (said (CloseEditor e)) refl (λ s. refl) i.ties; rules = free settings range place facts (quitting e) (quit_built settings place e) created place (said (CloseEditor e)) refl i.rules })
+      (λ i. record { ties = ties_free place (said (CloseEditor e)) refl (λ s. refl) i.ties; rules = free settings range place facts (quitting e) created place (said (CloseEditor e)) refl i.rules })
       (λ events n body why i. record {
         ties = ties_sent settings range place (quitting e) events n body why i.ties;
         rules = λ s. rule_more ServerRule7 (is_of_server s) events (said (ToServer n body)) (i.rules s) (λ same. subst (λ k. ServerRule7 (server_part k events) (said (ToServer n body))) (number_same n s same)
-            (may_by settings range place facts (quitting e) (quit_built settings place e) created events n body (λ k. absurd (quit_works settings place e events n body k)) why));
+            (may_by settings range place facts (quitting e) created events n body (λ k. absurd (quit_works settings place e events n body k)) why));
       }) h
 
   pub server_7_law : (history : List Entry) → Legal settings history → KeepsServer7 history

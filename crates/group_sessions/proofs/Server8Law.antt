@@ -26,7 +26,7 @@ use Rattle.group_rows.specs.Forwarded.{names}
 use Rattle.group_rows.specs.Rows.{outs_of}
 use Rattle.group_rows.proofs.Going.{no_exit}
 use Rattle.group_facts.specs.Legal.{Legal}
-use Rattle.group_facts.specs.Why.{IsExit, IsShutting, WhyToServer, begins, greets, forwarded, notes, tells, shuts, cancels, responds, exits, resolves, cancels_work}
+use Rattle.group_facts.specs.Why.{IsExit, IsShutting, WhyToServer, begins, greets, conveys, forwarded, notes, tells, shuts, cancels, responds, exits, resolves, cancels_work}
 use Rattle.group_facts.proofs.RestLaws.{RestLaw}
 use Rattle.group_sessions.proofs.PartLaws.{ServerRule, server_history}
 
@@ -218,6 +218,7 @@ module _ (settings : Settings) (before : List Event) (cause : Cause) (events : L
   step : WhyToServer settings before cause events s body → Ties before → Within before cause events → Step before cause events s body
   step (begins k) h m = calm_step Initializing (ap (λ es. (life_of s es).stage) (k.place ∙ ap (with_cause before) k.from) ∙ begun_stage before s k.stage) refl (calm_as _ k.says (record { stays = refl; goes_on = refl })) m
   step (greets k) h m = calm_step Ready k.ready refl (calm_as _ k.says (record { stays = refl; goes_on = refl })) m
+  step (conveys k) h m = calm_step Ready k.ready refl (calm_as _ k.says (record { stays = refl; goes_on = refl })) m
   step (forwarded k) h m = calm_step Ready k.ready refl (calm_as _ k.says (record { stays = not_own k.method k.other; goes_on = refl })) m
   step (notes k) h m = calm_step Ready k.ready refl (calm_as _ k.says (record { stays = refl; goes_on = no_exit k.method k.going })) m
   step (tells k) h m = calm_step Ready k.ready refl (spoken_calm (message_of body) k.spoken) m
@@ -261,7 +262,7 @@ module _ (settings : Settings) (before : List Event) where
 
 law : (settings : Settings) → RestLaw settings Ties Within
 law settings = record {
-  took = λ before cause fits built known h. record { ties = λ s still. took_it before cause s still (h s); past = λ s on. past_took before cause s on };
+  took = λ before cause fits known h. record { ties = λ s still. took_it before cause s still (h s); past = λ s on. past_took before cause s on };
   to_editor = λ before cause events e body why known here h m. within_editor before cause events m e body;
   to_server = λ before cause events s body why known here h m. sent settings before cause events s body (step settings before cause events s body why h m) m;
   close = λ before cause events e turned there known here h m. within_close before cause events m e;

@@ -12,7 +12,7 @@ use Rattle.group_facts.proofs.RestLaws.{Law, law_holds}
 
 law : (settings : Settings) → Law settings Once
 law settings = record {
-  took = λ before cause fits built known h. still before (heard cause) (λ s n. heard_still s n cause) (λ n. heard_starts n cause) h;
+  took = λ before cause fits known h. still before (heard cause) (λ s n. heard_still s n cause) (λ n. heard_starts n cause) h;
   to_editor = λ before cause events e body why known here h i. still events (said (ToEditor e body)) (λ s n. refl) (λ n. refl) i;
   to_server = λ before cause events s body why known here h i. still events (said (ToServer s body)) (λ k n. refl) (λ n. refl) i;
   close = λ before cause events e turned there known here h i. still events (said (CloseEditor e)) (λ s n. refl) (λ n. refl) i;

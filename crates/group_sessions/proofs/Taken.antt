@@ -1,7 +1,7 @@
 -- What editors were asked to take, by their own parts, in every legal history, as far as they run, at home in the group of the start; and so what they are told of it.
-use Rattle.std.proofs.Common.{◌≡◌, ℕ, ◌^◌, ◌<◌, ◌≤◌, Bool, true, false, not, ◌&&◌, List, [], ◌∷◌, ◌++◌, bytes_eq, codes, decimal, flat_map, is_some, nat_eq, if◌then◌else◌, Option, Some, None, ◌⊎◌, inl, inr, refl, sym, ◌∙◌, ap, ap₂, subst, arith}
+use Rattle.std.proofs.Common.{◌≡◌, ℕ, ◌^◌, ◌<◌, ◌≤◌, Bool, true, false, not, ◌&&◌, List, [], ◌∷◌, ◌++◌, bytes_eq, codes, decimal, flat_map, is_some, nat_eq, nat_le, if◌then◌else◌, Option, Some, None, ◌⊎◌, inl, inr, refl, sym, ◌∙◌, ap, ap₂, subst, arith}
 use Rattle.std.specs.List.{AllByRecursion, list_any}
-use Rattle.std.proofs.lemmas.Bool.{and_parts}
+use Rattle.std.proofs.lemmas.Bool.{and_parts, leb-false, leb-true}
 use Rattle.std.proofs.lemmas.Fmt.{decimal_injective}
 use Rattle.json_text.specs.Json.{Json}
 use Rattle.mux_history.specs.declared.cause.Cause.{Cause}
@@ -13,11 +13,11 @@ use Rattle.event_model.specs.declared.phase.Phase.{Phase}
 use Rattle.event_model.specs.declared.phase.Phase.TheVariants.{Answered, Running, Down, Gone}
 use Rattle.event_model.specs.Event.{Event, behind, did, heard, requests, said, same_id, took, with_cause}
 use Rattle.event_model.specs.Members.{named_of}
-use Rattle.event_model.specs.Phases.{Desk, desk_hears, desk_of, is_new, is_running, makes_running, needs_server}
+use Rattle.event_model.specs.Phases.{Desk, desk_hears, desk_of, is_begun, is_new, is_running, makes_running, needs_server}
 use Rattle.event_model.specs.Requests.{answered_id, is_open, without}
 use Rattle.event_model.specs.Settings.{Settings}
-use Rattle.event_model.specs.Spawns.{start_of}
-use Rattle.event_model.specs.Stages.{life_of, is_ready}
+use Rattle.event_model.specs.Spawns.{start_of, starts_of}
+use Rattle.event_model.specs.Stages.{is_ended, life_of, is_ready}
 use Rattle.event_model.proofs.Frames.{never}
 use Rattle.mux_model.specs.Fits.{fits_behind}
 use Rattle.mux_facts.specs.Allowed.{is_response}
@@ -31,18 +31,19 @@ use Rattle.session_laws.specs.Progress.{is_end, token_at}
 use Rattle.group_words.specs.Houses.{home_of}
 use Rattle.group_rows.specs.Asks.{next_ask}
 use Rattle.group_rows.specs.Created.{Created, Taking, Token, accepts, answered, asked, created_mark, created_next, created_of, created_text, is_answered, is_called, is_creating, is_numbered, left, lives, named_token, names_progress, progressed, settled, token_called, token_marked, with_asked, no_created}
+use Rattle.group_rows.specs.ExitRows.{begins_again}
 use Rattle.group_rows.specs.Forwarded.{forwarding_of}
 use Rattle.group_rows.specs.Rows.{outs_of}
 use Rattle.group_rows.specs.Tokens.{is_told, marked_text}
-use Rattle.group_facts.specs.Built.{built_behind}
 use Rattle.group_facts.specs.Facts.{shuts, is_exit}
-use Rattle.group_facts.specs.Settled.{Settled}
+use Rattle.group_facts.specs.Settled.{IsSeated, Settled, is_answered as is_answered_phase}
 use Rattle.group_facts.specs.Why.{IsNotified, IsTaken, Telling, Why, WhyToEditor, answers, asks, calls, of_held, of_request, of_token, passes, progresses, recalls, refuses, rejects, resumes, shows, spreads, turns_away, welcomes, loses, winds_up, Losing, ends, frees, empties}
 use Rattle.group_facts.proofs.Facts.{Facts}
 use Rattle.group_facts.proofs.Known.{Here, here_did, here_took}
 use Rattle.group_facts.proofs.Reached.{Reached, facts_at, settled_at}
-use Rattle.group_facts.proofs.OneStart.{OneStart}
+use Rattle.group_facts.proofs.LastStarts.{AllLast}
 use Rattle.group_facts.proofs.Table.{reasons}
+use Rattle.group_facts.proofs.Takings.{none_outs, uncreated_heard}
 use Rattle.group_sessions.proofs.Accepted.{NamesToken, accepted}
 use Rattle.group_sessions.proofs.Client6Law.{created_id, list_no_progress, not_progress, own_is}
 use Rattle.group_sessions.proofs.CreatedFold.{IsLive, created_orderly, is_free}
@@ -51,8 +52,8 @@ use Rattle.group_sessions.proofs.HeldFold.{Fair, IsAlive, IsFair, NameTokens, No
 use Rattle.group_sessions.proofs.Marked.{Marked, ends as is_last, is_ending, marked}
 use Rattle.group_sessions.proofs.Registered.{begins, is_answered as is_answered_desk}
 use Rattle.group_sessions.proofs.TakingTies.{IsTied, Spares, Tied, TiedIf, aside_all, is_aside, left_all, mark_of, tied_aside, tied_heard, tied_notified, tied_request, tied_response}
-use Rattle.group_sessions.proofs.TellingPlaces.{Known, KnownOut, Knows, RunsIn, all_known, one_start}
-use Rattle.group_sessions.proofs.Tied.{Place, all_back, has_run, not_run, place, ran, runs_on, stays, unrun}
+use Rattle.group_sessions.proofs.TellingPlaces.{Known, KnownOut, Knows, RunsIn, all_known, last_starts}
+use Rattle.group_sessions.proofs.Tied.{Place, all_back, exit_closes, has_run, next_start, not_run, place, ran, runs_on, stays, unrun}
 use Rattle.group_sessions.proofs.Unreserved.{IsFreeText, IsUnreserved, Unreserved, all_unreserved}
 use Rattle.group_sessions.proofs.Walk.{walk}
 use Rattle.group_facts.proofs.SlowRow.{parting, parting_calm, parting_keeps}
@@ -206,7 +207,7 @@ desk p i = record { phase = p; initialize = i }
 
 -- One entry
 
-module _ (settings : Settings) (range : InRange settings) (before : List Event) (facts : Facts settings before) (settled : Settled settings before) (free : Unreserved before) (single : OneStart before) (cause : Cause) (fits : fits_behind before cause ≡ true) (built : built_behind settings before cause ≡ true) where
+module _ (settings : Settings) (range : InRange settings) (before : List Event) (facts : Facts settings before) (settled : Settled settings before) (free : Unreserved before) (lasts : AllLast before) (cause : Cause) (fits : fits_behind before cause ≡ true) where
   abbrev now : List Event
   now = with_cause before cause
 
@@ -392,7 +393,7 @@ module _ (settings : Settings) (range : InRange settings) (before : List Event) 
       where
         over : (token : Token) (front back : List Token) → (created_of settings k.start before).tokens ≡ front ++ token ∷ back → Ended events n k.start token.number
         over token front back order = record {
-          at = record { running = (k.lost).ran; group = (k.lost).group; home = (k.lost).home; last = single k.start (k.lost).group (k.lost).kept };
+          at = record { running = (k.lost).ran; group = (k.lost).group; home = (k.lost).home; last = lasts k.start (k.lost).group (k.lost).kept (ap is_ended (k.lost).ready) };
           small = let low : token.number < x.next = ((all_at (IsLive x.next) front token back (subst (AllByRecursion (IsLive x.next)) order (created_orderly settings k.start before).live)).1).below in let top : x.next ≤ 2 ^ 64 = (fair_before k.start).small in omega (arith, low, top);
           gone = ap (list_any (is_numbered token.number)) (tokens_at events i k.start ∙ exit_tokens k.start cause (k.lost).from);
         }
@@ -411,7 +412,7 @@ module _ (settings : Settings) (range : InRange settings) (before : List Event) 
   has_later events out e h = run_later (has_run (desk_of e events).phase) (has_run (desk_of e (events ++ said out ∷ [])).phase) (all_back (λ p. not (has_run p)) not_run e events (out ∷ [])) h
 
   has_now : (e : ℕ) → HasRun before e → HasRun now e
-  has_now e h = run_later (has_run (desk_of e before).phase) (has_run (desk_of e now).phase) (unrun settings range before facts settled cause fits built e) h
+  has_now e h = run_later (has_run (desk_of e before).phase) (has_run (desk_of e now).phase) (unrun settings range before facts settled cause fits e) h
 
   ran_later : (events : List Event) (out : Out) → At events → (s : ℕ) → AllByRecursion (λ (c : Taking). HasRun (events ++ said out ∷ []) c.editor) (created_of settings s events).takings
   ran_later events out i s = all_of (λ (c : Taking). HasRun events c.editor) (λ (c : Taking). HasRun (events ++ said out ∷ []) c.editor) (λ c h. has_later events out c.editor h) (created_of settings s events).takings (i.ran s)
@@ -421,7 +422,7 @@ module _ (settings : Settings) (range : InRange settings) (before : List Event) 
 
   more : (events : List Event) (out : Out) → Why settings before cause events out → At events → Tied Stands settings (events ++ said out ∷ []) → AllRan settings (events ++ said out ∷ []) → At (events ++ said out ∷ [])
   more events out why i tied ran_so = record {
-    here = here_did settings range before cause facts built events out why i.here;
+    here = here_did settings range before cause facts events out why i.here;
     outs = i.outs ++ out ∷ [];
     place = ap (λ z. z ++ said out ∷ []) i.place ∙ sym (behind_both now i.outs (out ∷ []));
     tied = tied;
@@ -469,7 +470,7 @@ module _ (settings : Settings) (range : InRange settings) (before : List Event) 
 
   first : Rests settings before → At now
   first h = record {
-    here = here_took settings range before cause fits built facts;
+    here = here_took settings range before cause fits facts;
     outs = [];
     place = sym (behind_nothing now);
     tied = took_tied Stands settings before cause (stands_tied h);
@@ -502,25 +503,39 @@ module _ (settings : Settings) (range : InRange settings) (before : List Event) 
       by_cause (Drained n k) is = refl
       by_cause (Tick t) is = refl
 
-  stood : (s e : ℕ) → RunsIn settings later s e → Stands s e
-  stood s e h = go (ran settings range before facts settled cause fits built e here)
+  -- of a start that was there before
+  stood : (s e : ℕ) → s < starts_of before → RunsIn settings later s e → Stands s e
+  stood s e old_start h = go (ran settings range before facts settled cause fits e here)
     where
       here : is_running (desk_of e now).phase ≡ true
       here = all_back is_running runs_on e now (outs_of settings before cause) (ap is_running h.running)
 
-      at : needs_server (desk_of e before).phase ≡ true → is_new (desk_of e before).phase ≡ false → shuts cause e ≡ false → ((desk_of e before).phase ≡ Running) ⊎ (begins before cause e ≡ true) → Stands s e
-      at needs old shut was = let k : Place settings range before facts settled cause fits built e h.group s = place settings range before facts settled cause fits built e h.group s needs old shut h.home h.last in record { was = was; group = h.group; home = k.home; last = k.start }
+      at : needs_server (desk_of e before).phase ≡ true → is_answered_phase (desk_of e before).phase ≡ true → is_new (desk_of e before).phase ≡ false → shuts cause e ≡ false → ((desk_of e before).phase ≡ Running) ⊎ (begins before cause e ≡ true) → Stands s e
+      at needs served old shut was = let k : Place settings range before facts settled cause fits e h.group s = place settings range before facts settled cause fits lasts e h.group s needs old shut (λ k. goes_on k (is_exit cause k.start) refl) h.home h.last in record { was = was; group = h.group; home = k.home; last = k.start }
+        where
+          goes_on : (k : IsSeated settings before e) → (b : Bool) → is_exit cause k.start ≡ b → b ≡ false
+          goes_on k false off = refl
+          goes_on k true is = by_again (begins_again settings before k.start) refl
+            where
+              by_again : (b : Bool) → begins_again settings before k.start ≡ b → true ≡ false
+              by_again true again = absurd (let next : s ≡ starts_of before = next_start settings range before facts settled cause fits e h.group s k is again h.home h.last in omega (arith, next, old_start))
+              by_again false last = sym (ap is_begun h.running) ∙ exit_closes settings range before facts settled cause fits e k served is (ap not last)
 
       go : ((desk_of e before).phase ≡ Running) ⊎ (begins before cause e ≡ true) → Stands s e
-      go (inl was) = at (ap needs_server was) (ap is_new was) (stays settings range before facts settled cause fits built e was here) (inl was)
+      go (inl was) = at (ap needs_server was) (ap is_answered_phase was) (ap is_new was) (stays settings range before facts settled cause fits e was here) (inl was)
       go (inr begun) = let was : (desk_of e before).phase ≡ Answered = answered_is (desk_of e before).phase (and_parts (is_answered_desk (desk_of e before).phase) (is_running (desk_of e now).phase) begun).0 in
-          at (ap needs_server was) (ap is_new was) (unshut e was here) (inr begun)
+          at (ap needs_server was) (ap is_answered_phase was) (ap is_new was) (unshut e was here) (inr begun)
 
   entry_rests : Rests settings before → Rests settings later
-  entry_rests h = record { tied = λ s. all_of (TiedIf Stands s later) (TiedIf (RunsIn settings later) s later) (λ c tied at. tied (stood s c.editor at)) (created_of settings s later).takings (last.tied s); ran = last.ran }
+  entry_rests h = record { tied = λ s. tied_start s (nat_le (starts_of before) s) refl; ran = last.ran }
     where
       last : At later
-      last = reasons_keep Both At step now (outs_of settings before cause) (both now (outs_of settings before cause) (reasons settings range before facts cause built).why (all_known settings before single cause)) (first h)
+      last = reasons_keep Both At step now (outs_of settings before cause) (both now (outs_of settings before cause) (reasons settings range before facts cause).why (all_known settings before lasts cause)) (first h)
+
+      tied_start : (s : ℕ) (b : Bool) → nat_le (starts_of before) s ≡ b → AllByRecursion (TiedIf (RunsIn settings later) s later) (created_of settings s later).takings
+      tied_start s true past = subst (λ (x : Created). AllByRecursion (TiedIf (RunsIn settings later) s later) x.takings)
+          (sym (none_outs settings s now (outs_of settings before cause) (uncreated_heard settings before (facts.steady).starts cause settled.uncreated s (leb-true (starts_of before) s past)))) tt
+      tied_start s false below = all_of (TiedIf Stands s later) (TiedIf (RunsIn settings later) s later) (λ c tied at. tied (stood s c.editor (let le = leb-false (starts_of before) s below in omega (arith, le)) at)) (created_of settings s later).takings (last.tied s)
 
 -- An editor that is slow leaves
 
@@ -552,6 +567,6 @@ module _ (settings : Settings) (place : List Event) (e : ℕ) where
 
 pub all_rests : (settings : Settings) → InRange settings → (before : List Event) → Reached settings before → Rests settings before
 all_rests settings range before legal = walk settings (Rests settings)
-    (λ earlier so_far cause fits built h. entry_rests settings range earlier (facts_at settings range earlier so_far) (settled_at settings range earlier so_far) (all_unreserved settings range earlier so_far) (one_start settings range earlier so_far) cause fits built h)
+    (λ earlier so_far cause fits h. entry_rests settings range earlier (facts_at settings range earlier so_far) (settled_at settings range earlier so_far) (all_unreserved settings range earlier so_far) (last_starts settings range earlier so_far) cause fits h)
     (λ place at e is h. rests_slow settings place e h)
     (record { tied = λ s. tt; ran = λ s. tt }) before legal

@@ -23,7 +23,7 @@ use Rattle.event_model.specs.Requests.{answered_id}
 use Rattle.event_model.specs.Row.{each, outs}
 use Rattle.event_model.specs.Settings.{Settings}
 use Rattle.event_model.specs.Spawns.{group_of, start_of}
-use Rattle.event_model.specs.Stages.{life_of, is_ready}
+use Rattle.event_model.specs.Stages.{is_ended, life_of, is_ready}
 use Rattle.event_model.proofs.Frames.{never}
 use Rattle.mux_facts.specs.Ranges.{InRange}
 use Rattle.mux_facts.proofs.DocumentRow.{ready_is}
@@ -42,7 +42,7 @@ use Rattle.group_rows.specs.Rows.{from_editor, from_server, outs_of}
 use Rattle.group_rows.specs.Tokens.{is_told, marked_text, own_token}
 use Rattle.group_facts.specs.Why.{IsNotified, IsTaken, Telling, of_held, of_request, of_token}
 use Rattle.group_facts.proofs.AskingRows.{running_is}
-use Rattle.group_facts.proofs.OneStart.{OneStart}
+use Rattle.group_facts.proofs.LastStarts.{AllLast}
 use Rattle.group_facts.proofs.Reached.{Reached, rests_at}
 use Rattle.group_sessions.proofs.Accepted.{accepted}
 use Rattle.group_sessions.proofs.TakingTies.{accepted_more}
@@ -143,19 +143,19 @@ map_last f (y ∷ xs) x = ap (λ z. f y ∷ z) (map_last f xs x)
 
 -- S13
 
-module _ (settings : Settings) (before : List Event) (one : OneStart before) (s : ℕ) (body : List ℕ) where
+module _ (settings : Settings) (before : List Event) (lasts : AllLast before) (s : ℕ) (body : List ℕ) where
   abbrev heard_now : List Event
   heard_now = with_cause before (FromServer s body)
 
   abbrev Out_known : List Event → Out → Type 0
   Out_known = KnownOut settings before (FromServer s body)
 
-  running_at : (g : ℕ) → group_of s before ≡ Some g → AllByRecursion (RunsIn settings before s) (running_in settings g before)
-  running_at g kept = all_filtered (λ e. Unit {0}) (RunsIn settings before s) (λ e. is_running (desk_of e before).phase && is_home g (home_of settings e before)) at (range_with_len 0 (editors_of before)) (units (range_with_len 0 (editors_of before)))
+  running_at : (life_of s before).stage ≡ Ready → (g : ℕ) → group_of s before ≡ Some g → AllByRecursion (RunsIn settings before s) (running_in settings g before)
+  running_at ready g kept = all_filtered (λ e. Unit {0}) (RunsIn settings before s) (λ e. is_running (desk_of e before).phase && is_home g (home_of settings e before)) at (range_with_len 0 (editors_of before)) (units (range_with_len 0 (editors_of before)))
     where
       at : (e : ℕ) → (is_running (desk_of e before).phase && is_home g (home_of settings e before)) ≡ true → Unit {0} → RunsIn settings before s e
       at e on u = let both = and_parts (is_running (desk_of e before).phase) (is_home g (home_of settings e before)) on in
-          record { running = running_is settings before (desk_of e before).phase both.0; group = g; home = in_group g (home_of settings e before) both.1; last = one s g kept }
+          record { running = running_is settings before (desk_of e before).phase both.0; group = g; home = in_group g (home_of settings e before) both.1; last = lasts s g kept (ap is_ended ready) }
 
   module _ (stage : (life_of s before).stage ≡ Ready) (method : List ℕ) (params : Option Json) (says : message_of body ≡ notification method params) (class : class_of method Server true ≡ Progress) where
     notified : IsNotified before (FromServer s body) s body params
@@ -186,7 +186,7 @@ module _ (settings : Settings) (before : List Event) (one : OneStart before) (s 
           (takers_known es (events ++ said (ToEditor e text) ∷ []) takes.1 differ.1 (later e events es differ.0 untold.1))
 
       all_take : (g : ℕ) → group_of s before ≡ Some g → AllByRecursion Takes (takers settings before g s t)
-      all_take g kept = all_filtered (RunsIn settings before s) Takes (λ e. has_accepted e t.number (created_of settings s before)) (λ e on at. (on, at)) (running_in settings g before) (running_at g kept)
+      all_take g kept = all_filtered (RunsIn settings before s) Takes (λ e. has_accepted e t.number (created_of settings s before)) (λ e on at. (on, at)) (running_in settings g before) (running_at stage g kept)
 
       takers_differ : (g : ℕ) → Differ (takers settings before g s t)
       takers_differ g = some_differ (λ e. has_accepted e t.number (created_of settings s before)) (running_in settings g before)
@@ -299,17 +299,17 @@ module _ (settings : Settings) (before : List Event) (e : ℕ) (body : List ℕ)
 
 -- Every cause
 
-pub all_known : (settings : Settings) (before : List Event) → OneStart before → (cause : Cause) → Reasons (KnownOut settings before cause) (with_cause before cause) (outs_of settings before cause)
-all_known settings before one (FromServer s body) = heard_known settings before one s body
-all_known settings before one (FromEditor e body) = said_known settings before e body
-all_known settings before one (Joined e) = silent settings before (Joined e) refl refl
-all_known settings before one (EditorGone e why) = silent settings before (EditorGone e why) refl refl
-all_known settings before one (Started s) = silent settings before (Started s) refl refl
-all_known settings before one (StartFailed s) = silent settings before (StartFailed s) refl refl
-all_known settings before one (ServerGone s) = silent settings before (ServerGone s) refl refl
-all_known settings before one (Drained e k) = silent settings before (Drained e k) refl refl
-all_known settings before one (Tick t) = silent settings before (Tick t) refl refl
+pub all_known : (settings : Settings) (before : List Event) → AllLast before → (cause : Cause) → Reasons (KnownOut settings before cause) (with_cause before cause) (outs_of settings before cause)
+all_known settings before lasts (FromServer s body) = heard_known settings before lasts s body
+all_known settings before lasts (FromEditor e body) = said_known settings before e body
+all_known settings before lasts (Joined e) = silent settings before (Joined e) refl refl
+all_known settings before lasts (EditorGone e why) = silent settings before (EditorGone e why) refl refl
+all_known settings before lasts (Started s) = silent settings before (Started s) refl refl
+all_known settings before lasts (StartFailed s) = silent settings before (StartFailed s) refl refl
+all_known settings before lasts (ServerGone s) = silent settings before (ServerGone s) refl refl
+all_known settings before lasts (Drained e k) = silent settings before (Drained e k) refl refl
+all_known settings before lasts (Tick t) = silent settings before (Tick t) refl refl
 
--- A group has one start, in every legal history
-pub one_start : (settings : Settings) → InRange settings → (before : List Event) → Reached settings before → OneStart before
-one_start settings range before at = (rests_at settings range before at).one
+-- A start that didn't end is the last one of its group, in every legal history
+pub last_starts : (settings : Settings) → InRange settings → (before : List Event) → Reached settings before → AllLast before
+last_starts settings range before at = (rests_at settings range before at).lasts

@@ -26,7 +26,7 @@ use Rattle.session_laws.proofs.Tokens.{holds, holds_last, open_behind, or_first}
 use Rattle.group_rows.specs.Forwarded.{Forwarding, Sender, forwarding_behind, forwarding_of, forwards, no_forwarding, numbered, sender_of, token_in}
 use Rattle.group_rows.specs.Rows.{sync_bodies}
 use Rattle.group_rows.specs.Texts.{texts_of}
-use Rattle.group_facts.specs.Why.{IsForward, IsQuestion, WhyToServer, begins, cancels, cancels_work, exits, forwarded, greets, has_method, notes, resolves, responds, shuts, tells}
+use Rattle.group_facts.specs.Why.{IsForward, IsQuestion, WhyToServer, begins, cancels, cancels_work, exits, forwarded, greets, conveys, has_method, notes, resolves, responds, shuts, tells}
 use Rattle.group_facts.proofs.Apart.{grow, new}
 use Rattle.group_facts.proofs.Forwards.{forwarding_more, notified_sender}
 use Rattle.group_sessions.proofs.Brought.{Brought, brought, token_request}
@@ -222,6 +222,7 @@ module _ (settings : Settings) (before : List Event) (cause : Cause) (events : L
   pub ties_sent : WhyToServer settings before cause events n body → Ties events → Ties sent
   ties_sent (begins k) h = plain (request (integer (codes "1")) (codes "initialize") k.params) k.says refl h
   ties_sent (greets k) h = plain (notification (codes "initialized") k.params) k.says tt h
+  ties_sent (conveys k) h = plain (notification (codes "workspace/didChangeConfiguration") k.params) k.says tt h
   ties_sent (forwarded k) h = asked_now k h
   ties_sent (notes k) h = plain (notification k.method k.params) k.says tt h
   ties_sent (tells k) h = let m : Spoken (message_of body) = spoken (message_of body) k.spoken in plain (notification m.method m.params) m.is tt h

@@ -1,7 +1,5 @@
 -- What is registered at an editor that runs is what is live at its group's start, and at one that doesn't run yet nothing is.
-use Rattle.std.proofs.Common.{◌≡◌, ℕ, ◌+◌, ◌^◌, ◌<◌, Bool, true, false, not, ◌&&◌, List, [], ◌∷◌, ◌++◌, append-nil, append_assoc, map, codes, nat_eq, nat_lt, ltb-true, if◌then◌else◌, Some, None, ◌⊎◌, inl, inr, refl, sym, ◌∙◌, ap, ap₂, subst, subst₂, arith}
-use Rattle.std.proofs.lemmas.Bool.{ltb-false}
-use Rattle.std.proofs.lemmas.List.Sums.{fold-append}
+use Rattle.std.proofs.Common.{◌≡◌, ℕ, ◌<◌, Bool, true, false, not, ◌&&◌, List, [], ◌∷◌, ◌++◌, append-nil, append_assoc, map, codes, nat_eq, if◌then◌else◌, Option, Some, None, ◌⊎◌, inl, inr, refl, sym, ◌∙◌, ap, ap₂, subst, subst₂, arith}
 use Rattle.mux_history.specs.declared.cause.Cause.{Cause}
 use Rattle.mux_history.specs.declared.cause.Cause.TheVariants.{Joined, FromEditor, EditorGone, Started, StartFailed, FromServer, ServerGone, Drained, Tick}
 use Rattle.mux_history.specs.declared.out.Out.{Out}
@@ -14,45 +12,50 @@ use Rattle.rpc_message.specs.Message.{Message, request, notification, result, er
 use Rattle.event_model.specs.declared.phase.Phase.{Phase}
 use Rattle.event_model.specs.declared.phase.Phase.TheVariants.{Absent, New, Waiting, Answered, Running, Down, Closed, Gone}
 use Rattle.event_model.specs.Always.{Always}
-use Rattle.event_model.specs.Event.{Event, behind, did, heard, requests, said, took, with_cause}
+use Rattle.event_model.specs.Event.{Event, behind, heard, requests, said, took, with_cause}
 use Rattle.event_model.specs.Parts.{editor_part}
 use Rattle.event_model.specs.Phases.{Desk, desk_hears, desk_of, editors_of, has_id, is_begun, is_new, is_running, needs_server, phase_closed, phase_told}
 use Rattle.event_model.specs.Settings.{Settings}
-use Rattle.event_model.specs.Spawns.{group_of, start_of}
-use Rattle.event_model.specs.Stages.{life_of, is_ready}
+use Rattle.event_model.specs.Spawns.{group_of, start_of, starts_of}
+use Rattle.event_model.specs.Stages.{Life, is_ended, life_of, is_ready}
 use Rattle.event_model.proofs.Frames.{never}
 use Rattle.mux_model.specs.Fits.{fits_behind}
 use Rattle.mux_facts.specs.Ranges.{InRange}
 use Rattle.mux_facts.proofs.Folds.{desk_more}
+use Rattle.mux_facts.proofs.Reasons.{reasons_keep}
 use Rattle.mux_facts.proofs.Words.{number_same, same_number}
-use Rattle.session_laws.specs.ClientRules.{ClientRule7}
+use Rattle.session_laws.specs.ClientRules.{ClientRule7, has_id as has_name}
 use Rattle.registrations.specs.declared.registration.Registration.{Registration}
 use Rattle.group_words.specs.Houses.{home_of, is_home}
 use Rattle.group_words.proofs.Frames.{past_more}
-use Rattle.group_rows.specs.Asks.{asked_behind, has_number, next_ask}
+use Rattle.group_rows.specs.Asks.{has_number}
 use Rattle.group_rows.specs.Live.{changes_live, live_by, live_next, live_of}
 use Rattle.group_rows.specs.Rows.{outs_of}
 use Rattle.group_words.specs.Houses.{groups_of}
 use Rattle.group_rows.specs.Asks.{asking_of, is_taken}
 use Rattle.group_rows.specs.Live.{is_registering}
 use Rattle.std.specs.Option.{option_map_or}
-use Rattle.group_facts.specs.Built.{built_behind}
 use Rattle.group_facts.specs.Lively.{lives_at}
 use Rattle.group_facts.specs.Settled.{is_answered as answered_phase}
-use Rattle.group_facts.proofs.Lively.{lives_of}
-use Rattle.group_facts.specs.Facts.{ends_with, is_exit, is_put_out, is_unready, shuts}
+use Rattle.group_facts.proofs.AskEntries.{up_ready}
+use Rattle.group_facts.proofs.Lively.{begun_answered, lives_of, up_of}
+use Rattle.group_facts.specs.Facts.{ends_with, is_exit, is_unready, shuts}
 use Rattle.group_facts.specs.Settled.{IsSeated, Settled}
 use Rattle.group_facts.proofs.Facts.{Facts}
 use Rattle.group_facts.proofs.Homes.{took_home}
-use Rattle.group_facts.specs.Why.{IsLost}
-use Rattle.group_facts.proofs.Exits.{ends_live}
-use Rattle.group_facts.proofs.OneStart.{OneStart, start_kept}
+use Rattle.group_facts.specs.Why.{IsLost, Why}
+use Rattle.group_facts.proofs.Exits.{RenewsGroup, ends_live, renews_parts}
+use Rattle.group_facts.proofs.LastStarts.{AllLast, start_kept, start_renewed}
+use Rattle.group_facts.proofs.ExitEntry.{Exit, exit_by, exit_ends}
 use Rattle.group_facts.proofs.PutOut.{homes_stay}
-use Rattle.group_facts.proofs.StopEntry.{put_out_ends}
+use Rattle.group_facts.proofs.Table.{reasons}
 use Rattle.group_rows.specs.ExitRows.{begins_again}
-use Rattle.group_sessions.proofs.Enrolled.{Same, is_about}
+use Rattle.group_rows.specs.LiveRows.{has_some}
+use Rattle.group_sessions.proofs.Enrolled.{Same, is_about, names}
+use Rattle.group_sessions.proofs.Numbers.{out_rests, out_took}
 use Rattle.group_facts.proofs.AskingRows.{running_is}
-use Rattle.group_sessions.proofs.Registered.{At, Going, begins, entry_goes, ids, is_answered, is_change}
+use Rattle.group_sessions.proofs.Registered.{At, Cleared, Going, at_took, begins, clears_on, entry_goes, ids, is_answered, is_change, none_has}
+use Rattle.group_sessions.proofs.Renewed.{renewed_clear}
 
 -- it runs, or did
 abbrev pub has_run : Phase → Bool
@@ -199,43 +202,25 @@ same_class Register body live h = never h
 same_class Unregister body live h = never h
 same_class _ body live h = refl
 
--- Numbers of requests to an editor run out for good
-
-number_more : (e : ℕ) (n : ℕ) (b : Bool) → nat_lt n (2 ^ 64) ≡ false → nat_lt (if b then n + 1 else n) (2 ^ 64) ≡ false
-number_more e n false h = h
-number_more e n true h = go (nat_lt (n + 1) (2 ^ 64)) refl
-  where
-    go : (b : Bool) → nat_lt (n + 1) (2 ^ 64) ≡ b → b ≡ false
-    go false k = refl
-    go true k = absurd (let low : n + 1 < 2 ^ 64 = ltb-true (n + 1) (2 ^ 64) k in let high = ltb-false n (2 ^ 64) h in omega (arith, low, high))
-
-number_step : (e n : ℕ) (event : Event) → nat_lt n (2 ^ 64) ≡ false → nat_lt (asked_behind e n event) (2 ^ 64) ≡ false
-number_step e n (did (ToEditor k body) (request id method ps)) h = number_more e n (nat_eq k e) h
-number_step e n (did (ToEditor k body) (notification method ps)) h = h
-number_step e n (did (ToEditor k body) (result id r)) h = h
-number_step e n (did (ToEditor k body) (error id r)) h = h
-number_step e n (did (ToEditor k body) not_json) h = h
-number_step e n (did (ToEditor k body) not_message) h = h
-number_step e n (did (ToServer s body) m) h = h
-number_step e n (did (Spawn s g) m) h = h
-number_step e n (did (CloseEditor k) m) h = h
-number_step e n (did (EndServer s) m) h = h
-number_step e n (took cause m) h = h
-
-pub out_of_numbers : (e : ℕ) (events : List Event) (event : Event) → has_number e events ≡ false → has_number e (events ++ event ∷ []) ≡ false
-out_of_numbers e events event h = ap (λ n. nat_lt n (2 ^ 64)) (fold-append (asked_behind e) 1 events (event ∷ [])) ∙ number_step e (next_ask e events) event h
-
-pub out_rests : (e : ℕ) (events : List Event) (xs : List Out) → has_number e events ≡ false → has_number e (behind events xs) ≡ false
-out_rests e events [] h = ap (has_number e) (append-nil events) ∙ h
-out_rests e events (x ∷ xs) h = ap (has_number e) (sym (append_assoc events (said x ∷ []) (map said xs))) ∙ out_rests e (events ++ said x ∷ []) xs (out_of_numbers e events (said x) h)
-
-pub out_took : (e : ℕ) (before : List Event) (cause : Cause) → has_number e before ≡ false → has_number e (with_cause before cause) ≡ false
-out_took e before (Joined n) h = out_of_numbers e before (heard (Joined n)) h
-out_took e before cause h = out_of_numbers e before (heard cause) h
-
 pub live_took : (settings : Settings) (s : ℕ) (before : List Event) (cause : Cause) → live_of settings s (with_cause before cause) ≡ live_next settings s before (live_of settings s before) (heard cause)
 live_took settings s before (Joined n) = live_more settings s before (heard (Joined n))
 live_took settings s before cause = live_more settings s before (heard cause)
+
+nothing_some : (rs : List Registration) → has_some rs ≡ false → rs ≡ []
+nothing_some [] h = refl
+nothing_some (r ∷ rs) h = never h
+
+-- by a cause the program of one start ends
+one_exit : (cause : Cause) (s t : ℕ) → is_exit cause s ≡ true → is_exit cause t ≡ true → s ≡ t
+one_exit (StartFailed n) s t is h = sym (number_same n s is) ∙ number_same n t h
+one_exit (ServerGone n) s t is h = sym (number_same n s is) ∙ number_same n t h
+one_exit (Joined n) s t is h = never (sym is)
+one_exit (FromEditor n body) s t is h = never (sym is)
+one_exit (EditorGone n why) s t is h = never (sym is)
+one_exit (Started n) s t is h = never (sym is)
+one_exit (FromServer n body) s t is h = never (sym is)
+one_exit (Drained n k) s t is h = never (sym is)
+one_exit (Tick z) s t is h = never (sym is)
 
 -- Between entries
 
@@ -248,7 +233,7 @@ pub record All (settings : Settings) (events : List Event) : Type 0 where
   pub tied : (e g s : ℕ) → (desk_of e events).phase ≡ Running → home_of settings e events ≡ Some g → start_of g events ≡ Some s → IsTied settings e s (ids e events) events
   pub unready : (s : ℕ) → is_unready (life_of s events).stage ≡ true → live_of settings s events ≡ []
 
-module _ (settings : Settings) (range : InRange settings) (before : List Event) (facts : Facts settings before) (settled : Settled settings before) (cause : Cause) (fits : fits_behind before cause ≡ true) (built : built_behind settings before cause ≡ true) where
+module _ (settings : Settings) (range : InRange settings) (before : List Event) (facts : Facts settings before) (settled : Settled settings before) (cause : Cause) (fits : fits_behind before cause ≡ true) where
   abbrev now : List Event
   now = with_cause before cause
 
@@ -345,8 +330,8 @@ module _ (settings : Settings) (range : InRange settings) (before : List Event) 
       by_cause (Drained n k) is = refl
       by_cause (Tick t) is = refl
 
-  pub place : (e g s : ℕ) → needs_server (desk_of e before).phase ≡ true → is_new (desk_of e before).phase ≡ false → shuts cause e ≡ false → home_of settings e later ≡ Some g → start_of g later ≡ Some s → Place e g s
-  place e g s needs old shut home start = record { home = here; start = (subst (λ i. start_of i before ≡ Some k.start) group_is k.last) ∙ start_is }
+  pub place : AllLast before → (e g s : ℕ) → needs_server (desk_of e before).phase ≡ true → is_new (desk_of e before).phase ≡ false → shuts cause e ≡ false → ((k : IsSeated settings before e) → is_exit cause k.start ≡ false) → home_of settings e later ≡ Some g → start_of g later ≡ Some s → Place e g s
+  place lasts e g s needs old shut goes_on home start = record { home = here; start = (subst (λ i. start_of i before ≡ Some k.start) group_is k.last) ∙ start_is }
     where
       k : IsSeated settings before e
       k = settled.seated e needs
@@ -358,7 +343,7 @@ module _ (settings : Settings) (range : InRange settings) (before : List Event) 
       group_is = let both : Some k.group ≡ Some g = sym k.home ∙ here in let is : k.group ≡ g = cc in is
 
       start_is : Some k.start ≡ Some s
-      start_is = sym (start_kept settings before cause settled.begun built k.group k.start k.last) ∙ ap (λ i. start_of i later) group_is ∙ start
+      start_is = sym (start_kept settings before cause settled.begun fits lasts k.group k.start k.last (goes_on k)) ∙ ap (λ i. start_of i later) group_is ∙ start
 
   -- Entries in which nothing changes of what is live
 
@@ -385,38 +370,45 @@ module _ (settings : Settings) (range : InRange settings) (before : List Event) 
   heard_same n s body not_json live off = refl
   heard_same n s body not_message live off = refl
 
-  -- where the start of an editor's group ends, the editor is to be ended
-  exit_closes : (e g s : ℕ) → (desk_of e before).phase ≡ Running → home_of settings e before ≡ Some g → group_of s before ≡ Some g → is_exit cause s ≡ true → is_begun (desk_of e later).phase ≡ false
-  exit_closes e g s was home kept exit = by_cause cause refl exit
+  -- where the group of a start that ends does, its editors are to be ended
+  pub exit_closes : (e : ℕ) → (k : IsSeated settings before e) → answered_phase (desk_of e before).phase ≡ true → is_exit cause k.start ≡ true → not (begins_again settings before k.start) ≡ true → is_begun (desk_of e later).phase ≡ false
+  exit_closes e k was is last = exit_ends settings before cause k.start exit (facts.steady).editors e (exit.out e ∙ over)
     where
-      lives : lives_at g (groups_of settings before) ≡ true
-      lives = lives_of settings before settled.lively e g (ap answered_phase was) home
+      exit : Exit settings before cause k.start
+      exit = exit_by settings before cause k.start is
 
-      over : not (begins_again settings before s) ≡ true → (ends_with settings before s e && is_begun (desk_of e before).phase) ≡ true
-      over last = ap₂ (λ a b. a && b) (ap₂ (λ a b. a && b) (ends_live settings before s last g kept lives) (ap (λ o. option_map_or (λ i. is_home i (home_of settings e before)) o false) kept ∙ (ap (is_home g) home ∙ same_number g))) (ap is_begun was)
+      kept : group_of k.start before ≡ Some k.group
+      kept = ((settled.lively).last k.group k.start k.last).0
 
-      by_cause : (c : Cause) → cause ≡ c → is_exit c s ≡ true → is_begun (desk_of e later).phase ≡ false
-      by_cause (StartFailed n) is h = let same : n ≡ s = number_same n s h in
-          put_out_ends settings before cause (facts.steady).editors e (ap (λ c. is_put_out settings before c e) (is ∙ ap (λ i. StartFailed i) same) ∙ over (ap (built_behind settings before) (sym (is ∙ ap (λ i. StartFailed i) same)) ∙ built))
-      by_cause (ServerGone n) is h = let same : n ≡ s = number_same n s h in
-          put_out_ends settings before cause (facts.steady).editors e (ap (λ c. is_put_out settings before c e) (is ∙ ap (λ i. ServerGone i) same) ∙ over (ap (built_behind settings before) (sym (is ∙ ap (λ i. ServerGone i) same)) ∙ built))
-      by_cause (Joined n) is h = never (sym h)
-      by_cause (FromEditor n body) is h = never (sym h)
-      by_cause (EditorGone n why) is h = never (sym h)
-      by_cause (Started n) is h = never (sym h)
-      by_cause (FromServer n body) is h = never (sym h)
-      by_cause (Drained n k) is h = never (sym h)
-      by_cause (Tick t) is h = never (sym h)
+      lives : lives_at k.group (groups_of settings before) ≡ true
+      lives = lives_of settings before settled.lively e k.group was k.home
 
-  -- so one that runs behind the entry didn't lose its start
-  pub unlost : (e : ℕ) → (desk_of e later).phase ≡ Running → (s : ℕ) → IsLost settings before cause e s → ⊥
-  unlost e runs s k = never (sym (ap is_begun runs) ∙ exit_closes e k.group s k.ran k.home k.kept k.from)
+      over : (ends_with settings before k.start e && is_begun (desk_of e before).phase) ≡ true
+      over = ap₂ (λ a b. a && b) (ap₂ (λ a b. a && b) (ends_live settings before k.start last k.group kept lives) (ap (λ o. option_map_or (λ i. is_home i (home_of settings e before)) o false) kept ∙ (ap (is_home k.group) k.home ∙ same_number k.group)))
+          (begun_answered (desk_of e before).phase was)
 
-  live_same : (e g s : ℕ) → is_change before cause ≡ false → (desk_of e before).phase ≡ Running → (desk_of e later).phase ≡ Running → Place e g s → live_of settings s later ≡ live_of settings s before
-  live_same e g s off was runs k = live_here s ∙ by_cause cause refl
+  -- where it goes on, its next start serves them
+  pub next_start : (e g s : ℕ) → (k : IsSeated settings before e) → is_exit cause k.start ≡ true → begins_again settings before k.start ≡ true → home_of settings e later ≡ Some g → start_of g later ≡ Some s → s ≡ starts_of before
+  next_start e g s k is again home start = let both : ◌≡◌ {A = Option ℕ} (Some s) (Some (starts_of before)) = sym start ∙ (ap (λ i. start_of i later) (sym group_is) ∙ start_renewed settings before cause settled.begun k.group k.start ((settled.lively).last k.group k.start k.last).0 is again) in cc
+    where
+      group_is : k.group ≡ g
+      group_is = let both : ◌≡◌ {A = Option ℕ} (Some k.group) (Some g) = sym k.home ∙ (sym (homes_stay settings e now (outs_of settings before cause) ∙ (exit_by settings before cause k.start is).home e) ∙ home) in cc
+
+  -- an editor whose start doesn't end loses none
+  unlost : AllLast before → (e g s : ℕ) → Place e g s → is_exit cause s ≡ false → (t : ℕ) → IsLost settings before cause e t → ⊥
+  unlost lasts e g s k goes_on t l = never (sym l.from ∙ (ap (is_exit cause) same ∙ goes_on))
+    where
+      groups : l.group ≡ g
+      groups = let both : ◌≡◌ {A = Option ℕ} (Some l.group) (Some g) = sym l.home ∙ k.home in cc
+
+      same : t ≡ s
+      same = let both : ◌≡◌ {A = Option ℕ} (Some t) (Some s) = sym (lasts t l.group l.kept (ap is_ended l.ready)) ∙ (ap (λ i. start_of i before) groups ∙ k.start) in cc
+
+  live_same : (s : ℕ) → is_change before cause ≡ false → is_exit cause s ≡ false → live_of settings s later ≡ live_of settings s before
+  live_same s off still = live_here s ∙ by_cause cause refl
     where
       goes_on : is_exit cause s ≡ true → ⊥
-      goes_on h = never (sym (ap is_begun runs) ∙ exit_closes e g s was k.home (settled.lively.last g s k.start).0 h)
+      goes_on h = never (sym h ∙ still)
 
       by_cause : (c : Cause) → cause ≡ c → live_next settings s before (live_of settings s before) (heard c) ≡ live_of settings s before
       by_cause (FromServer n body) is = heard_same n s body (message_of body) (live_of settings s before) (ap (is_change before) (sym is) ∙ off)
@@ -446,25 +438,87 @@ module _ (settings : Settings) (range : InRange settings) (before : List Event) 
   tied_still e g s same at (inr h) = inr (no_number e h)
 
   module _ (all : All settings before) (off : is_change before cause ≡ false) where
-    pub tied_by : OneStart before → (e s : ℕ) → IsLost settings before cause e s → has_number e before ≡ true → Same (ids e before) (live_of settings s before)
-    tied_by one e s k room = go (all.tied e k.group s k.ran k.home (one s k.group k.kept))
+    pub tied_by : AllLast before → (e s : ℕ) → IsLost settings before cause e s → has_number e before ≡ true → Same (ids e before) (live_of settings s before)
+    tied_by lasts e s k room = go (all.tied e k.group s k.ran k.home (lasts s k.group k.kept (ap is_ended k.ready)))
       where
         go : IsTied settings e s (ids e before) before → Same (ids e before) (live_of settings s before)
         go (inl same) = same
         go (inr none) = never (sym room ∙ none)
 
-    pub ordinary : (one : OneStart before) (e : ℕ) (runs : begins before cause e ≡ false) → Going settings before cause off e runs (tied_by one e) later
-    ordinary one e runs = entry_goes settings before cause off e runs (tied_by one e) range facts built (all.always e)
+    pub ordinary : (lasts : AllLast before) (e : ℕ) (runs : begins before cause e ≡ false) → Going settings before cause off e runs (tied_by lasts e) later
+    ordinary lasts e runs = entry_goes settings before cause off e runs (tied_by lasts e) range facts (all.always e)
 
-    pub ordinary_tied : OneStart before → (e g s : ℕ) → begins before cause e ≡ false → (desk_of e later).phase ≡ Running → home_of settings e later ≡ Some g → start_of g later ≡ Some s → IsTied settings e s (ids e later) later
-    ordinary_tied one e g s runs at home start = go (ran e here)
+    -- nothing is registered at an editor that the next start of its group serves, or it can be asked nothing more
+    all_cleared : (lasts : AllLast before) (e : ℕ) (runs : begins before cause e ≡ false) (k : IsSeated settings before e) → (desk_of e before).phase ≡ Running → is_exit cause k.start ≡ true → begins_again settings before k.start ≡ true
+        → Cleared settings before cause off e runs (tied_by lasts e) later
+    all_cleared lasts e runs k was is again = by_stage (is_unready (life_of k.start before).stage) refl
+      where
+        exit : Exit settings before cause k.start
+        exit = exit_by settings before cause k.start is
+
+        renews : RenewsGroup settings before k.start
+        renews = renews_parts settings before k.start again
+
+        group_is : renews.group ≡ k.group
+        group_is = let both : ◌≡◌ {A = Option ℕ} (Some renews.group) (Some k.group) = sym renews.home ∙ ((settled.lively).last k.group k.start k.last).0 in cc
+
+        -- of a start that registered nothing
+        early : live_of settings k.start before ≡ [] → Cleared settings before cause off e runs (tied_by lasts e) later
+        early none = reasons_keep (λ events out. Why settings before cause events out) (Cleared settings before cause off e runs (tied_by lasts e)) (clears_on settings before cause off e runs (tied_by lasts e)) now (outs_of settings before cause) (reasons settings range before facts cause).why
+            (go (all.tied e k.group k.start was k.home k.last))
+          where
+            go : IsTied settings e k.start (ids e before) before → Cleared settings before cause off e runs (tied_by lasts e) now
+            go (inl same) = inl ((at_took e (ids e before) before cause (record { always = all.always e; has = refl })).has ∙ none_has (ids e before) (λ x. same x ∙ ap (λ rs. has_name (names rs) x) none))
+            go (inr full) = inr (out_took e before cause full)
+
+        by_live : is_ready (life_of k.start before).stage ≡ true → (b : Bool) → has_some (live_of settings k.start before) ≡ b → Cleared settings before cause off e runs (tied_by lasts e) later
+        by_live ready true some = renewed_clear settings before cause off e runs (tied_by lasts e) k.start some range facts exit renews ready (all.always e) (ap is_running was) (k.home ∙ ap (λ i. Some i) (sym group_is))
+        by_live ready false none = early (nothing_some (live_of settings k.start before) none)
+
+        by_stage : (b : Bool) → is_unready (life_of k.start before).stage ≡ b → Cleared settings before cause off e runs (tied_by lasts e) later
+        by_stage true unready = early (all.unready k.start unready)
+        by_stage false begun = by_live (ap is_ready (up_ready (life_of k.start before).stage (up_of settings before settled.lively e k.group k.start (ap answered_phase was) k.home k.last) begun)) (has_some (live_of settings k.start before)) refl
+
+    served_next : (lasts : AllLast before) (e g s : ℕ) → begins before cause e ≡ false → (k : IsSeated settings before e) → (desk_of e before).phase ≡ Running → is_exit cause k.start ≡ true → (desk_of e later).phase ≡ Running → home_of settings e later ≡ Some g → start_of g later ≡ Some s
+        → IsTied settings e s (ids e later) later
+    served_next lasts e g s runs k was is at home start = by_again (begins_again settings before k.start) refl
+      where
+        clear : Cleared settings before cause off e runs (tied_by lasts e) later → live_of settings s later ≡ [] → IsTied settings e s (ids e later) later
+        clear (inl bare) none = inl (λ x. ap (λ xs. has_name xs x) bare ∙ sym (ap (λ rs. has_name (names rs) x) none))
+        clear (inr full) none = inr full
+
+        by_again : (b : Bool) → begins_again settings before k.start ≡ b → IsTied settings e s (ids e later) later
+        by_again false last = never (sym (ap is_begun at) ∙ exit_closes e k (ap answered_phase was) is (ap not last))
+        by_again true again = clear (all_cleared lasts e runs k was is again) (live_same s off goes_on ∙ all.unready s (ap (λ (l : Life). is_unready l.stage) ((facts.steady).starts s (omega (arith, next)))))
+          where
+            next : s ≡ starts_of before
+            next = next_start e g s k is again home start
+
+            other : (b : Bool) → is_exit cause s ≡ b → b ≡ false
+            other false h = refl
+            other true h = absurd (let it : k.start ≡ s = one_exit cause k.start s is h in let below : k.start < starts_of before = ((settled.lively).last k.group k.start k.last).1 in omega (arith, it, next, below))
+
+            goes_on : is_exit cause s ≡ false
+            goes_on = other (is_exit cause s) refl
+
+    pub ordinary_tied : AllLast before → (e g s : ℕ) → begins before cause e ≡ false → (desk_of e later).phase ≡ Running → home_of settings e later ≡ Some g → start_of g later ≡ Some s → IsTied settings e s (ids e later) later
+    ordinary_tied lasts e g s runs at home start = go (ran e here)
       where
         here : is_running (desk_of e now).phase ≡ true
         here = all_back is_running runs_on e now (outs_of settings before cause) (ap is_running at)
 
         go : ((desk_of e before).phase ≡ Running) ⊎ (begins before cause e ≡ true) → IsTied settings e s (ids e later) later
-        go (inl was) = let k : Place e g s = place e g s (ap needs_server was) (ap is_new was) (stays e was here) home start in
-            tied_still e g s (live_same e g s off was at k) (record { always = (ordinary one e runs).always; has = (ordinary one e runs).kept (unlost e at) }) (all.tied e g s was k.home k.start)
+        go (inl was) = by_exit (is_exit cause (settled.seated e (ap needs_server was)).start) refl
+          where
+            same_seat : (i j : IsSeated settings before e) → i.start ≡ j.start
+            same_seat i j = let homes : ◌≡◌ {A = Option ℕ} (Some i.group) (Some j.group) = sym i.home ∙ j.home in let groups : i.group ≡ j.group = cc in
+                let both : ◌≡◌ {A = Option ℕ} (Some i.start) (Some j.start) = sym i.last ∙ (ap (λ n. start_of n before) groups ∙ j.last) in cc
+
+            by_exit : (b : Bool) → is_exit cause (settled.seated e (ap needs_server was)).start ≡ b → IsTied settings e s (ids e later) later
+            by_exit false goes_on = let k : Place e g s = place lasts e g s (ap needs_server was) (ap is_new was) (stays e was here) (λ j. ap (is_exit cause) (same_seat j (settled.seated e (ap needs_server was))) ∙ goes_on) home start in
+                let still : is_exit cause s ≡ false = ap (is_exit cause) (same_seat (record { group = g; start = s; home = k.home; last = k.start }) (settled.seated e (ap needs_server was))) ∙ goes_on in
+                tied_still e g s (live_same s off still) (record { always = (ordinary lasts e runs).always; has = (ordinary lasts e runs).kept (unlost lasts e g s k still) }) (all.tied e g s was k.home k.start)
+            by_exit true ends = served_next lasts e g s runs (settled.seated e (ap needs_server was)) was ends at home start
         go (inr begun) = never (sym begun ∙ runs)
 
   pub early_here : (e : ℕ) → has_run (desk_of e later).phase ≡ false → (has_run (desk_of e before).phase ≡ false) × (begins before cause e ≡ false)

@@ -18,7 +18,7 @@ use Rattle.event_model.specs.Phases.{Desk, desk_of, editors_of, is_new, is_runni
 use Rattle.event_model.specs.Row.{choose, each, nothing, on, outs, ◌⨾◌}
 use Rattle.event_model.specs.Settings.{Settings}
 use Rattle.event_model.specs.Spawns.{group_of, start_of}
-use Rattle.event_model.specs.Stages.{life_of, is_ready}
+use Rattle.event_model.specs.Stages.{is_ended, life_of, is_ready}
 use Rattle.event_model.proofs.Frames.{never}
 use Rattle.mux_model.specs.Fits.{fits_behind}
 use Rattle.mux_facts.specs.Ranges.{InRange}
@@ -35,19 +35,19 @@ use Rattle.group_rows.specs.Live.{changes_live, unregister_text, is_heard, is_re
 use Rattle.group_rows.specs.LiveRows.{accept, call, decline, registering}
 use Rattle.group_rows.specs.Rows.{from_server, outs_of}
 use Rattle.group_rows.proofs.LiveTexts.{live_written, registered_written}
-use Rattle.group_facts.specs.Built.{built_behind}
 use Rattle.group_facts.specs.Settled.{Settled}
 use Rattle.group_facts.proofs.Facts.{Facts}
-use Rattle.group_facts.proofs.OneStart.{OneStart}
+use Rattle.group_facts.proofs.LastStarts.{AllLast}
 use Rattle.group_sessions.proofs.Changes.{Holds, Some_hold, registers_all, registers_none, takes_all, takes_none}
 use Rattle.group_sessions.proofs.Enrolled.{Same}
 use Rattle.group_sessions.proofs.Registered.{At, at_free, at_took, begins, ids}
-use Rattle.group_sessions.proofs.Tied.{All, IsTied, Place, all_back, live_here, out_rests, out_took, place, ran, runs_on, stays}
+use Rattle.group_sessions.proofs.Numbers.{out_rests, out_took}
+use Rattle.group_sessions.proofs.Tied.{All, IsTied, Place, all_back, live_here, place, ran, runs_on, stays}
 
 -- A request of a ready start about registrations
 
-module _ (settings : Settings) (range : InRange settings) (before : List Event) (facts : Facts settings before) (settled : Settled settings before) (one : OneStart before) (all : All settings before)
-    (s : ℕ) (body : List ℕ) (fits : fits_behind before (FromServer s body) ≡ true) (built : built_behind settings before (FromServer s body) ≡ true) (ready : (life_of s before).stage ≡ Ready)
+module _ (settings : Settings) (range : InRange settings) (before : List Event) (facts : Facts settings before) (settled : Settled settings before) (lasts : AllLast before) (all : All settings before)
+    (s : ℕ) (body : List ℕ) (fits : fits_behind before (FromServer s body) ≡ true) (ready : (life_of s before).stage ≡ Ready)
     (id : Id) (method : List ℕ) (params : Option Json) (says : message_of body ≡ request id method params) where
   abbrev now : List Event
   now = with_cause before (FromServer s body)
@@ -63,14 +63,14 @@ module _ (settings : Settings) (range : InRange settings) (before : List Event) 
 
   -- what is live behind it
   live_is : (t : ℕ) → live_of settings t later ≡ (if nat_eq s t && is_heard settings t before id then live_by (class_of method Server false) body (live_of settings t before) else live_of settings t before)
-  live_is t = live_here settings range before facts settled (FromServer s body) fits built t ∙ ap (λ m. live_next settings t before (live_of settings t before) (took (FromServer s body) m)) says
+  live_is t = live_here settings range before facts settled (FromServer s body) fits t ∙ ap (λ m. live_next settings t before (live_of settings t before) (took (FromServer s body) m)) says
 
   other_live : (t : ℕ) → nat_eq s t ≡ false → live_of settings t later ≡ live_of settings t before
   other_live t other = live_is t ∙ ap (λ b. if b && is_heard settings t before id then live_by (class_of method Server false) body (live_of settings t before) else live_of settings t before) other
 
   -- an editor that runs behind it ran before, and where it was
   was_running : (e : ℕ) → (desk_of e later).phase ≡ Running → (desk_of e before).phase ≡ Running
-  was_running e at = go (ran settings range before facts settled (FromServer s body) fits built e here)
+  was_running e at = go (ran settings range before facts settled (FromServer s body) fits e here)
     where
       here : is_running (desk_of e now).phase ≡ true
       here = all_back is_running runs_on e now (outs_of settings before (FromServer s body)) (ap is_running at)
@@ -86,10 +86,10 @@ module _ (settings : Settings) (range : InRange settings) (before : List Event) 
           clash Running at h = at
           clash _ at h = never (sym h)
 
-  where_it_was : (e g t : ℕ) → (desk_of e later).phase ≡ Running → home_of settings e later ≡ Some g → start_of g later ≡ Some t → Place settings range before facts settled (FromServer s body) fits built e g t
+  where_it_was : (e g t : ℕ) → (desk_of e later).phase ≡ Running → home_of settings e later ≡ Some g → start_of g later ≡ Some t → Place settings range before facts settled (FromServer s body) fits e g t
   where_it_was e g t at home start = let was : (desk_of e before).phase ≡ Running = was_running e at in
-      place settings range before facts settled (FromServer s body) fits built e g t (ap needs_server was) (ap is_new was)
-      (stays settings range before facts settled (FromServer s body) fits built e was (all_back is_running runs_on e now (outs_of settings before (FromServer s body)) (ap is_running at))) home start
+      place settings range before facts settled (FromServer s body) fits lasts e g t (ap needs_server was) (ap is_new was)
+      (stays settings range before facts settled (FromServer s body) fits e was (all_back is_running runs_on e now (outs_of settings before (FromServer s body)) (ap is_running at))) (λ k. refl) home start
 
   at_now : (e : ℕ) → At e (ids e before) now
   at_now e = at_took e (ids e before) before (FromServer s body) (record { always = all.always e; has = refl })
@@ -111,10 +111,10 @@ module _ (settings : Settings) (range : InRange settings) (before : List Event) 
       go (inr h) = inr (out_rests e now (outs_of settings before (FromServer s body)) (out_took e before (FromServer s body) h))
 
   -- it isn't told, and what is live at the start of its group stays
-  unchanged : (e : ℕ) → At e (ids e before) later → ((g t : ℕ) → Place settings range before facts settled (FromServer s body) fits built e g t → (desk_of e before).phase ≡ Running → nat_eq s t ≡ true → live_of settings t later ≡ live_of settings t before) → Outcome e
+  unchanged : (e : ℕ) → At e (ids e before) later → ((g t : ℕ) → Place settings range before facts settled (FromServer s body) fits e g t → (desk_of e before).phase ≡ Running → nat_eq s t ≡ true → live_of settings t later ≡ live_of settings t before) → Outcome e
   unchanged e at same = record { xs = ids e before; at = at; still = λ off. at; tied = λ g t runs home start. let k = where_it_was e g t runs home start in let was = was_running e runs in tied_same e g t at (by_number g t k was (nat_eq s t) refl) was k.home k.start }
     where
-      by_number : (g t : ℕ) → Place settings range before facts settled (FromServer s body) fits built e g t → (desk_of e before).phase ≡ Running → (b : Bool) → nat_eq s t ≡ b → live_of settings t later ≡ live_of settings t before
+      by_number : (g t : ℕ) → Place settings range before facts settled (FromServer s body) fits e g t → (desk_of e before).phase ≡ Running → (b : Bool) → nat_eq s t ≡ b → live_of settings t later ≡ live_of settings t before
       by_number g t k was false other = other_live t other
       by_number g t k was true is = same g t k was is
 
@@ -148,7 +148,7 @@ module _ (settings : Settings) (range : InRange settings) (before : List Event) 
             let k = where_it_was e h t runs home start in
             let houses : Some h ≡ Some g = sym k.home ∙ in_group (home_of settings e before) both.1 in
             let same : h ≡ g = cc in
-            let starts : Some t ≡ Some s = sym k.start ∙ ap (λ n. start_of n before) same ∙ one s g kept in
+            let starts : Some t ≡ Some s = sym k.start ∙ ap (λ n. start_of n before) same ∙ lasts s g kept (ap is_ended ready) in
             let is : t ≡ s = cc in
             subst (λ n. IsTied settings e n (ids e later) later) (sym is) (go (done.holds).same)
           where
@@ -158,7 +158,7 @@ module _ (settings : Settings) (range : InRange settings) (before : List Event) 
 
     -- what holds of it behind the answer
     holds_sent : (e : ℕ) → p e ≡ true → (text : List ℕ) → Holds e live (live_written settings s before) (ids e before) live (behind now (ToServer s text ∷ []))
-    holds_sent e on text = record { at = at_sent e text; same = go (all.tied e g s (running_is settings before (desk_of e before).phase both.0) (in_group (home_of settings e before) both.1) (one s g kept)) }
+    holds_sent e on text = record { at = at_sent e text; same = go (all.tied e g s (running_is settings before (desk_of e before).phase both.0) (in_group (home_of settings e before) both.1) (lasts s g kept (ap is_ended ready))) }
       where
         both : (is_running (desk_of e before).phase ≡ true) × (is_home g (home_of settings e before) ≡ true)
         both = and_parts (is_running (desk_of e before).phase) (is_home g (home_of settings e before)) on

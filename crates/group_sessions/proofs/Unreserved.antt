@@ -24,8 +24,7 @@ use Rattle.group_rows.specs.Forwarded.{Forwarded, Forwarding, answered_by, cance
 use Rattle.group_rows.specs.Rows.{outs_of, sync_bodies}
 use Rattle.group_rows.specs.Texts.{texts_of}
 use Rattle.group_rows.specs.Tokens.{is_reserved}
-use Rattle.group_facts.specs.Built.{built_behind}
-use Rattle.group_facts.specs.Why.{IsForward, Why, WhyToServer, begins, cancels, cancels_work, exits, forwarded, greets, notes, resolves, responds, shuts, tells}
+use Rattle.group_facts.specs.Why.{IsForward, Why, WhyToServer, begins, cancels, cancels_work, exits, forwarded, greets, conveys, notes, resolves, responds, shuts, tells}
 use Rattle.group_facts.proofs.Apart.{grow, new}
 use Rattle.group_facts.proofs.Forwards.{forwarding_more}
 use Rattle.group_facts.proofs.Reached.{Reached, facts_at}
@@ -151,6 +150,7 @@ module _ (settings : Settings) (before : List Event) (cause : Cause) (events : L
   unreserved_sent : WhyToServer settings before cause events n body → Unreserved events → Unreserved sent
   unreserved_sent (begins k) h = plain (request (integer (codes "1")) (codes "initialize") k.params) k.says refl h
   unreserved_sent (greets k) h = plain (notification (codes "initialized") k.params) k.says tt h
+  unreserved_sent (conveys k) h = plain (notification (codes "workspace/didChangeConfiguration") k.params) k.says tt h
   unreserved_sent (forwarded k) h = λ s. grow settings before cause events n body k s IsUnreserved (h s) (λ same. new_unreserved k)
   unreserved_sent (notes k) h = plain (notification k.method k.params) k.says tt h
   unreserved_sent (tells k) h = let m : Spoken (message_of body) = spoken (message_of body) k.spoken in plain (notification m.method m.params) m.is tt h
@@ -171,10 +171,9 @@ module _ (settings : Settings) (range : InRange settings) where
   did before cause events (CloseEditor e) why h = by_event events (events ++ said (CloseEditor e) ∷ []) (said (CloseEditor e)) refl h
   did before cause events (EndServer n) why h = by_event events (events ++ said (EndServer n) ∷ []) (said (EndServer n)) refl h
 
-  entry : (before : List Event) → Reached settings before → (cause : Cause) → fits_behind before cause ≡ true → built_behind settings before cause ≡ true
-      → Unreserved before → Unreserved (behind (with_cause before cause) (outs_of settings before cause))
-  entry before so_far cause fits built h = reasons_keep (λ events out. Why settings before cause events out) Unreserved (did before cause) (with_cause before cause) (outs_of settings before cause)
-      (reasons settings range before (facts_at settings range before so_far) cause built).why (took before cause h)
+  entry : (before : List Event) → Reached settings before → (cause : Cause) → fits_behind before cause ≡ true → Unreserved before → Unreserved (behind (with_cause before cause) (outs_of settings before cause))
+  entry before so_far cause fits h = reasons_keep (λ events out. Why settings before cause events out) Unreserved (did before cause) (with_cause before cause) (outs_of settings before cause)
+      (reasons settings range before (facts_at settings range before so_far) cause).why (took before cause h)
 
   slow : KeepsSlow settings Unreserved
   slow place at e is h = reasons_keep (Why settings place (quitting e)) Unreserved (did place (quitting e)) place (parting settings place e) (parting_why settings range place (facts_at settings range place at) e is) h

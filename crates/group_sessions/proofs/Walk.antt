@@ -6,13 +6,12 @@ use Rattle.event_model.specs.Settings.{Settings}
 use Rattle.mux_model.specs.Fits.{fits_behind}
 use Rattle.group_rows.specs.Rows.{outs_of}
 use Rattle.group_facts.specs.SlowRows.{is_slow}
-use Rattle.group_facts.specs.Built.{built_behind}
 use Rattle.group_facts.proofs.Reached.{Reached, reached_keeps}
 use Rattle.group_facts.proofs.SlowRow.{parting}
 
 -- what is to be shown: a row keeps it
 abbrev pub Keeps : Settings → (List Event → Type 0) → Type 0
-Keeps settings I = (before : List Event) → Reached settings before → (cause : Cause) → fits_behind before cause ≡ true → built_behind settings before cause ≡ true → I before → I (behind (with_cause before cause) (outs_of settings before cause))
+Keeps settings I = (before : List Event) → Reached settings before → (cause : Cause) → fits_behind before cause ≡ true → I before → I (behind (with_cause before cause) (outs_of settings before cause))
 
 -- and an editor that is slow, as it leaves
 abbrev pub KeepsSlow : Settings → (List Event → Type 0) → Type 0
@@ -20,4 +19,4 @@ KeepsSlow settings I = (place : List Event) → Reached settings place → (e : 
 
 module _ (settings : Settings) (I : List Event → Type 0) (keeps : Keeps settings I) (slow : KeepsSlow settings I) where
   pub walk : I [] → (events : List Event) → Reached settings events → I events
-  walk start = reached_keeps settings I start (λ before cause fits built at h. keeps before at cause fits built h) (λ place e is at h. slow place at e is h)
+  walk start = reached_keeps settings I start (λ before cause fits at h. keeps before at cause fits h) (λ place e is at h. slow place at e is h)

@@ -27,7 +27,7 @@ use Rattle.group_rows.specs.Forwarded.{Forwarded, Forwarding, answered_by, cance
 use Rattle.group_rows.specs.Rows.{sync_bodies}
 use Rattle.group_rows.specs.Texts.{texts_of}
 use Rattle.group_rows.specs.Tokens.{mark, work_mark}
-use Rattle.group_facts.specs.Why.{IsForward, WhyToServer, begins, cancels, cancels_work, exits, forwarded, greets, notes, resolves, responds, shuts, tells}
+use Rattle.group_facts.specs.Why.{IsForward, WhyToServer, begins, cancels, cancels_work, exits, forwarded, greets, conveys, notes, resolves, responds, shuts, tells}
 use Rattle.group_facts.proofs.Apart.{grow, new}
 use Rattle.group_facts.proofs.Forwards.{forwarding_more}
 use Rattle.group_sessions.proofs.SentWork.{SentWork, sent_work}
@@ -221,6 +221,7 @@ module _ (settings : Settings) (range : InRange settings) (before : List Event) 
   pub ties_sent : WhyToServer settings before cause events n body → Ties events → Ties sent
   ties_sent (begins k) h = plain (request (integer (codes "1")) (codes "initialize") k.params) k.says refl h
   ties_sent (greets k) h = plain (notification (codes "initialized") k.params) k.says tt h
+  ties_sent (conveys k) h = plain (notification (codes "workspace/didChangeConfiguration") k.params) k.says tt h
   ties_sent (forwarded k) h = asked_now k h
   ties_sent (notes k) h = plain (notification k.method k.params) k.says tt h
   ties_sent (tells k) h = let m : Spoken (message_of body) = spoken (message_of body) k.spoken in plain (notification m.method m.params) m.is tt h

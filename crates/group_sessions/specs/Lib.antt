@@ -6,3 +6,4 @@ pub use Rattle.group_rows
 pub use Rattle.session_laws
 pub mod Due
 pub mod LastLists
+pub mod ExitReplay

@@ -8,6 +8,7 @@ ghost use Rattle.event_model.specs.Spawns.{starts_of};
 ghost use Rattle.mux_facts.specs.Ranges.{InRange};
 ghost use Rattle.group_facts.specs.Legal.{Legal};
 ghost use Rattle.group_sessions.specs.Due.{KeepsDue};
+ghost use Rattle.group_sessions.specs.ExitReplay.{ExitsEnd, Replays};
 ghost use Rattle.group_sessions.specs.LastLists.{KeepsLists};
 ghost use Rattle.session_laws.specs.ClientRules.{KeepsClient1, KeepsClient2, KeepsClient3, KeepsClient4, KeepsClient5, KeepsClient6, KeepsClient7};
 ghost use Rattle.session_laws.specs.ServerRules.{KeepsServer1, KeepsServer2, KeepsServer3, KeepsServer4, KeepsServer5, KeepsServer6, KeepsServer7, KeepsServer8};
@@ -111,6 +112,22 @@ pub fn progress_due()
 /// open there (LSP 3.17, Publish Diagnostics).
 pub fn last_lists()
     ensures { (settings : Settings) → InRange settings → (history : List Entry) → Legal settings history → KeepsLists settings history }
+{}
+
+/// A law: where a start exits whose group lives, each request that an editor of the group sent on to it is answered by an error in that entry, and
+/// behind the entry none that was sent on to it is open at an editor that is there. Where it was ready, of each editor that ran there each token
+/// that it accepted and that began is ended, what the start asked it alone is cancelled, the last list of each document that it was sent is an
+/// empty one, and nothing is registered. There is a new start for the group, as long as an editor needs it and starts of the group ended no more
+/// often than they may; else the link of each editor of the group is ordered to be ended, and the group lives no more (LSP 3.17, Response Message,
+/// Work Done Progress, Cancellation Support, Publish Diagnostics and Unregister Capability).
+pub fn exits_end()
+    ensures { (settings : Settings) → InRange settings → (history : List Entry) → Legal settings history → ExitsEnd settings history }
+{}
+
+/// A law: behind the row of a start's first result the start has just the documents that are open at an editor of its group, each opened once, under
+/// version 1, in the holder's language and with its text, in the order of the earliest opening (LSP 3.17, Text Document Synchronization).
+pub fn replays()
+    ensures { (settings : Settings) → InRange settings → (history : List Entry) → Legal settings history → Replays settings history }
 {}
 
 /// A law: no start is spawned twice, whatever group it is for. It is no rule of a session; that each lane of a server

@@ -54,30 +54,30 @@ drive_append settings k before h [] rest e =
     ap (λ b. drive_from settings k b rest) i ∙ ap (λ j. drive_from settings j h rest) n
 drive_append settings k before h (line ∷ front) rest e =
     let n : k + 1 + length front ≡ k + length (line ∷ front) = omega arith in
-    behind_line settings k before h front rest (reading settings before line) (λ c. drive_append settings (k + 1) (after settings before c) h front rest) e
+    behind_line settings k before h front rest (reading before line) (λ c. drive_append settings (k + 1) (after settings before c) h front rest) e
     ∙ ap (λ j. drive_from settings j h rest) n
 
 -- a line that ends within the limit
-reading_near : (settings : Settings) (history : List Entry) (bytes : List ℕ) (upto : ℕ) → upto ≤ 2 ^ 40 → reading settings history (record { bytes = bytes; upto = upto }) ≡ reading_bytes settings history bytes
-reading_near settings history bytes upto h = let e : nat_lt (2 ^ 40) upto ≡ false = grind (arith, nat_tests) in rw e refl
+reading_near : (history : List Entry) (bytes : List ℕ) (upto : ℕ) → upto ≤ 2 ^ 40 → reading history (record { bytes = bytes; upto = upto }) ≡ reading_bytes history bytes
+reading_near history bytes upto h = let e : nat_lt (2 ^ 40) upto ≡ false = grind (arith, nat_tests) in rw e refl
 
-reading_far : (settings : Settings) (history : List Entry) (line : Line) → 2 ^ 40 < line.upto → reading settings history line ≡ Err Form
-reading_far settings history line h = let e : nat_lt (2 ^ 40) line.upto ≡ true = grind (arith, nat_tests) in rw e refl
+reading_far : (history : List Entry) (line : Line) → 2 ^ 40 < line.upto → reading history line ≡ Err Form
+reading_far history line h = let e : nat_lt (2 ^ 40) line.upto ≡ true = grind (arith, nat_tests) in rw e refl
 
-reading_long : (settings : Settings) (history : List Entry) (line : Line) → (2 ^ 40 < line.upto) ⊎ (longest < length line.bytes) → reading settings history line ≡ Err Form
-reading_long settings history line (inl h) = reading_far settings history line h
-reading_long settings history line (inr h) = choice (nat_lt (2 ^ 40) line.upto) refl
+reading_long : (history : List Entry) (line : Line) → (2 ^ 40 < line.upto) ⊎ (longest < length line.bytes) → reading history line ≡ Err Form
+reading_long history line (inl h) = reading_far history line h
+reading_long history line (inr h) = choice (nat_lt (2 ^ 40) line.upto) refl
   where
-    choice : (b : Bool) → nat_lt (2 ^ 40) line.upto ≡ b → reading settings history line ≡ Err Form
+    choice : (b : Bool) → nat_lt (2 ^ 40) line.upto ≡ b → reading history line ≡ Err Form
     choice true e = rw e refl
-    choice false e = rw e (long_bytes settings history line.bytes h)
+    choice false e = rw e (long_bytes history line.bytes h)
 
 -- one more line taken
 regroup : (front : List Line) (line : Line) (rest : Option (List Line)) → option_map (λ ls. front ++ ls) (onto_known line rest) ≡ option_map (λ ls. (front ++ line ∷ []) ++ ls) rest
 regroup front line None = refl
 regroup front line (Some ls) = ap (λ l. Some l) (sym (append_assoc front (line ∷ []) ls))
 
-run_more : (settings : Settings) (all now rest : Option (List Line)) (history : List Entry) (line : Line) (cause : Cause) → IsRunOf settings all now history → now ≡ onto_known line rest → reading settings history line ≡ Ok cause
+run_more : (settings : Settings) (all now rest : Option (List Line)) (history : List Entry) (line : Line) (cause : Cause) → IsRunOf settings all now history → now ≡ onto_known line rest → reading history line ≡ Ok cause
     → IsRunOf settings all rest (after settings history cause)
 run_more settings all now rest history line cause run e r = record {
   front = run.front ++ line ∷ [];
@@ -95,7 +95,7 @@ given_done settings all (Some ls) history front e r h =
 
 -- a line that is refused
 given_refused : (settings : Settings) (all rest : Option (List Line)) (history : List Entry) (front : List Line) (line : Line) (refusal : Refusal) → all ≡ option_map (λ ls. front ++ ls) (onto_known line rest)
-    → drive_from settings 1 [] front ≡ record { history = history; refused = None } → reading settings history line ≡ Err refusal
+    → drive_from settings 1 [] front ≡ record { history = history; refused = None } → reading history line ≡ Err refusal
     → Gives settings all (record { history = history; refused = Some (record { line = 1 + length front; refusal = refusal }) })
 given_refused settings all None history front line refusal e r h = subst (λ a. Gives settings a (record { history = history; refused = Some (record { line = 1 + length front; refusal = refusal }) })) (sym e) tt
 given_refused settings all (Some ls) history front line refusal e r h =
@@ -107,7 +107,7 @@ given_passed : (settings : Settings) (all now : Option (List Line)) (history : L
     → Gives settings all (record { history = history; refused = Some (record { line = 1 + length front; refusal = Form }) })
 given_passed settings all None history front e r h = subst (λ a. Gives settings a (record { history = history; refused = Some (record { line = 1 + length front; refusal = Form }) })) (sym e) tt
 given_passed settings all (Some []) history front e r h = absurd h
-given_passed settings all (Some (line ∷ ls)) history front e r h = given_refused settings all (Some ls) history front line Form e r (reading_long settings history line h)
+given_passed settings all (Some (line ∷ ls)) history front e r h = given_refused settings all (Some ls) history front line Form e r (reading_long history line h)
 
 -- what was written
 pub append_both : (w : Option (List ℕ)) (a b : List ℕ) → append_known (append_known w a) b ≡ append_known w (a ++ b)
@@ -164,9 +164,9 @@ wrote_behind settings given history cause w v u s o e = e ∙ (ap (λ o. append_
 module _ {J : Type 0} (told : J → Option (List Entry)) (settings : Settings) (input left next_left : Option (List ℕ)) (buffer next_buffer : BufferView) (taken : ℕ) (w v u : Option (List ℕ)) (hub next : HubView J) (bytes : List ℕ)
     (d : Driving told settings input left buffer taken w v hub) (same : hub.settings ≡ settings) (first : known_lines buffer left ≡ onto_known (record { bytes = bytes; upto = next_buffer.used }) (known_lines next_buffer next_left))
     (near : next_buffer.used ≤ 2 ^ 40) where
-  run_behind : (cause : Cause) → reading_bytes settings d.history bytes ≡ Ok cause → IsRunOf settings (option_map lines_of input) (known_lines next_buffer next_left) (after settings d.history cause)
+  run_behind : (cause : Cause) → reading_bytes d.history bytes ≡ Ok cause → IsRunOf settings (option_map lines_of input) (known_lines next_buffer next_left) (after settings d.history cause)
   run_behind cause reads = run_more settings (option_map lines_of input) (known_lines buffer left) (known_lines next_buffer next_left) d.history (record { bytes = bytes; upto = next_buffer.used }) cause d.run first
-      (reading_near settings d.history bytes next_buffer.used near ∙ reads)
+      (reading_near d.history bytes next_buffer.used near ∙ reads)
 
   pub goes_on : ((history : List Entry) → HubStands told hub history → LineTaken told history bytes hub next v u) → Came (10 ∷ []) bytes buffer next_buffer left next_left
       → Driving told settings input next_left next_buffer (taken + 1) w u next
@@ -176,7 +176,7 @@ module _ {J : Type 0} (told : J → Option (List Entry)) (settings : Settings) (
       record {
         history = after settings d.history t.cause;
         stands = subst (λ q. HubStands told next (after q d.history t.cause)) same t.stands;
-        run = run_behind t.cause (subst (λ q. reading_bytes q d.history bytes ≡ Ok t.cause) same t.reads);
+        run = run_behind t.cause t.reads;
         consumed = consumed_more input left next_left buffer next_buffer d.run.front bytes d.consumed came;
         count = taken_more d.run.front (record { bytes = bytes; upto = next_buffer.used }) taken d.count;
         wrote = wrote_behind settings hub.settings d.history t.cause w v u same d.wrote t.wrote;
@@ -188,7 +188,7 @@ module _ {J : Type 0} (told : J → Option (List Entry)) (settings : Settings) (
   ends_behind f none =
       let t : LineTaken told d.history bytes hub next v u = f d.history d.stands in
       let o : u ≡ append_known w (outs_text (after settings d.history t.cause)) = wrote_behind settings hub.settings d.history t.cause w v u same d.wrote t.wrote in
-      let r : IsRunOf settings (option_map lines_of input) (known_lines next_buffer next_left) (after settings d.history t.cause) = run_behind t.cause (subst (λ q. reading_bytes q d.history bytes ≡ Ok t.cause) same t.reads) in
+      let r : IsRunOf settings (option_map lines_of input) (known_lines next_buffer next_left) (after settings d.history t.cause) = run_behind t.cause t.reads in
       record {
         history = after settings d.history t.cause;
         stands = subst (λ q. HubStands told next (after q d.history t.cause)) same t.stands;
@@ -256,7 +256,7 @@ module _ {J : Type 0} (told : J → Option (List Entry)) (settings : Settings) (
     history = after settings d.history cause;
     stands = subst (λ z. HubStands told next (after z d.history cause)) same stands;
     rest = known_lines next_buffer next_left;
-    run = run_behind told settings input left next_left buffer next_buffer taken w v u hub next bytes d same first near cause (subst (λ q. reading_bytes q d.history bytes ≡ Ok cause) same reads);
+    run = run_behind told settings input left next_left buffer next_buffer taken w v u hub next bytes d same first near cause reads;
     wrote = front_of_more w v u (outs_text d.history) (out_lines (emits hub.settings d.history cause)) (outs_text (after settings d.history cause)) count d.wrote o
         (outs_more settings d.history cause ∙ ap (λ z. outs_text d.history ++ out_lines (emits z d.history cause)) (sym same));
     done = tt;
@@ -275,23 +275,23 @@ module _ {J : Type 0} (told : J → Option (List Entry)) (settings : Settings) (
   }
 
   -- the line at which a journal failed
-  first_taken : (rest : Option (List Line)) → IsTaken settings d.history bytes → IfSome (onto_known (record { bytes = bytes; upto = next_buffer.used }) rest) (TakesFirst settings d.history)
+  first_taken : (rest : Option (List Line)) → IsTaken d.history bytes → IfSome (onto_known (record { bytes = bytes; upto = next_buffer.used }) rest) (TakesFirst d.history)
   first_taken None t = tt
-  first_taken (Some lines) t = (t.cause, reading_near settings d.history bytes next_buffer.used near ∙ t.reads)
+  first_taken (Some lines) t = (t.cause, reading_near d.history bytes next_buffer.used near ∙ t.reads)
 
   -- the line with which the causes and outs would be too many
   first_passes : (rest : Option (List Line)) → IsTooMany settings d.history bytes → IfSome (onto_known (record { bytes = bytes; upto = next_buffer.used }) rest) (PassesFirst settings d.history)
   first_passes None t = tt
-  first_passes (Some lines) t = (t.cause, reading_near settings d.history bytes next_buffer.used near ∙ t.reads, t.passes)
+  first_passes (Some lines) t = (t.cause, reading_near d.history bytes next_buffer.used near ∙ t.reads, t.passes)
 
   pub faults : (number : ℕ) (fault : TakeFault) → number ≡ taken + 1 → LineLeft told d.history bytes hub next v u → (LeavesWritten fault → HubStands told next d.history × (u ≡ v))
-      → ((r : Refusal) → fault ≡ take_fault.Refused r → reading_bytes hub.settings d.history bytes ≡ Err r) → (fault ≡ take_fault.Journal → IsTaken hub.settings d.history bytes) → (fault ≡ take_fault.Numbers → IsTooMany hub.settings d.history bytes)
+      → ((r : Refusal) → fault ≡ take_fault.Refused r → reading_bytes d.history bytes ≡ Err r) → (fault ≡ take_fault.Journal → IsTaken d.history bytes) → (fault ≡ take_fault.Numbers → IsTooMany hub.settings d.history bytes)
       → Driven told settings input next_left w u next (Err (fault_at number fault))
   faults number take_fault.Memory n left_line kept refused taken_line passing = left_at stop.Memory (λ h r. tt) left_line
   faults number take_fault.Output n left_line kept refused taken_line passing = left_at stop.Output (λ h r. tt) left_line
   faults number take_fault.Journal n left_line kept refused taken_line passing =
       let k : HubStands told next d.history × (u ≡ v) = kept tt in
-      kept_at stop.Journal k.0 k.1 (k.1 ∙ d.wrote, subst (λ rest. IfSome rest (TakesFirst settings d.history)) (sym first) (first_taken (known_lines next_buffer next_left) (subst (λ q. IsTaken q d.history bytes) same (taken_line refl))))
+      kept_at stop.Journal k.0 k.1 (k.1 ∙ d.wrote, subst (λ rest. IfSome rest (TakesFirst d.history)) (sym first) (first_taken (known_lines next_buffer next_left) (taken_line refl)))
   faults number take_fault.Numbers n left_line kept refused taken_line passing =
       let k : HubStands told next d.history × (u ≡ v) = kept tt in
       kept_at stop.Numbers k.0 k.1 (k.1 ∙ d.wrote, subst (λ rest. IfSome rest (PassesFirst settings d.history)) (sym first) (first_passes (known_lines next_buffer next_left) (subst (λ q. IsTooMany q d.history bytes) same (passing refl))))
@@ -301,7 +301,7 @@ module _ {J : Type 0} (told : J → Option (List Entry)) (settings : Settings) (
         k.1 ∙ d.wrote,
         numbered_as settings (option_map lines_of input) d.history d.run.front r number taken n d.count
             (given_refused settings (option_map lines_of input) (known_lines next_buffer next_left) d.history d.run.front (record { bytes = bytes; upto = next_buffer.used }) r (d.run.whole ∙ ap (option_map (λ ls. d.run.front ++ ls)) first) d.run.runs
-            (reading_near settings d.history bytes next_buffer.used near ∙ subst (λ q. reading_bytes q d.history bytes ≡ Err r) same (refused r refl))),
+            (reading_near d.history bytes next_buffer.used near ∙ refused r refl)),
       )
 
 memory_not_passed : line_stop.Memory ≡ line_stop.Passed → ⊥

@@ -150,7 +150,7 @@ whole_behind w v u a b failed e (inr f) = inr f
 
 -- a stop with one, behind all outs
 spoken : {J : Type 0} (told : J → Option (List Entry)) (journal : J) (input left w v u : Option (List ℕ)) (failed : Type 0) (s : Stop) (status : ℕ) (r : Ran told journal input left w v (Err s))
-    → 5 ≤ status → v ≡ append_known w (outs_text r.history) → Wrote v u (status_line status) failed → (status ≡ 6 → IfSome r.rest (TakesFirst built_in r.history)) → (status ≡ 7 → IsRunOfRead built_in input left r.history)
+    → 5 ≤ status → v ≡ append_known w (outs_text r.history) → Wrote v u (status_line status) failed → (status ≡ 6 → IfSome r.rest (TakesFirst r.history)) → (status ≡ 7 → IsRunOfRead built_in input left r.history)
     → (status ≡ 9 → IfSome r.rest (PassesFirst built_in r.history))
     → Drove told (Some journal) input left w u failed status
 spoken told journal input left w v u failed s status r m o f six seven nine = record {

@@ -5,7 +5,6 @@ use Rattle.std.proofs.lemmas.Bool.Decides.{nat_tests}
 use Rattle.mux_history.specs.Cores.{body_length}
 use Rattle.mux_history.specs.declared.cause.Cause.{Cause}
 use Rattle.mux_history.specs.declared.entry.Entry.{Entry}
-use Rattle.event_model.specs.Settings.{Settings}
 use Rattle.drive_text.specs.Causes.{cause_of}
 use Rattle.drive_text.specs.Forms.{within}
 use Rattle.drive_text.specs.Options.{then_option}
@@ -15,15 +14,15 @@ use Rattle.lspmux_program.specs.Buffers.{BufferView, known_lines, begun_lines, F
 use Rattle.lspmux_program.specs.Lines.{Line, longest, onto_line}
 use Rattle.lspmux_program.specs.Runs.{content, judged, reading_bytes}
 
-pub long_bytes : (settings : Settings) (history : List Entry) (bytes : List ℕ) → longest < length bytes → reading_bytes settings history bytes ≡ Err Form
+pub long_bytes : (history : List Entry) (bytes : List ℕ) → longest < length bytes → reading_bytes history bytes ≡ Err Form
 unfolding reading_bytes
-long_bytes settings history bytes h = go (cause_of bytes) refl
+long_bytes history bytes h = go (cause_of bytes) refl
   where
-    choice : (c : Cause) (b : Bool) → cause_of bytes ≡ Some c → nat_lt content (body_length c) ≡ b → judged settings history (within content c) ≡ Err Form
+    choice : (c : Cause) (b : Bool) → cause_of bytes ≡ Some c → nat_lt content (body_length c) ≡ b → judged history (within content c) ≡ Err Form
     choice c true e t = rw t refl
     choice c false e t = let l = cause_length bytes c content (omega arith) e (grind (arith, nat_tests, t)) in absurd (omega (arith, l, h))
 
-    go : (o : Option Cause) → cause_of bytes ≡ o → judged settings history (then_option o (within content)) ≡ Err Form
+    go : (o : Option Cause) → cause_of bytes ≡ o → judged history (then_option o (within content)) ≡ Err Form
     go None e = refl
     go (Some c) e = choice c (nat_lt content (body_length c)) e refl
 

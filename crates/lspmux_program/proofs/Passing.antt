@@ -32,7 +32,7 @@ read_grows settings k history lines (Ok cause) more =
 
 drive_grows : (settings : Settings) (k : ℕ) (history : List Entry) (lines : List Line) → Grows history (drive_from settings k history lines)
 drive_grows settings k history [] = omega arith
-drive_grows settings k history (line ∷ lines) = read_grows settings k history lines (reading settings history line) (λ cause. drive_grows settings (k + 1) (after settings history cause) lines)
+drive_grows settings k history (line ∷ lines) = read_grows settings k history lines (reading history line) (λ cause. drive_grows settings (k + 1) (after settings history cause) lines)
 
 many_of : (n : ℕ) → nat_lt most_events n ≡ true → n ≤ most_events → ⊥
 many_of n e few = grind (arith, nat_tests)
@@ -42,7 +42,7 @@ first_too_many settings k history [] p few = p
 first_too_many settings k history (line ∷ lines) p few =
     let more : Grows (after settings history p.0) (drive_from settings (k + 1) (after settings history p.0) lines) = drive_grows settings (k + 1) (after settings history p.0) lines in
     let one : length (events_of (after settings history p.0)) ≡ length (events_of history) + (1 + length (emits settings history p.0)) = after_grows settings history p.0 in
-    let same : length (events_of (driven_by settings k history lines (reading settings history line)).history) ≡ length (events_of (drive_from settings (k + 1) (after settings history p.0) lines).history)
+    let same : length (events_of (driven_by settings k history lines (reading history line)).history) ≡ length (events_of (drive_from settings (k + 1) (after settings history p.0) lines).history)
     = ap (λ r. length (events_of (driven_by settings k history lines r).history)) p.1 in
     many_of (length (events_of history) + (1 + length (emits settings history p.0))) p.2 (omega (arith, more, one, same, few))
 

@@ -24,7 +24,7 @@ unfolding after
 behind told history settings now cause s = s
 
 pub taken_of : {J : Type 0} (told : J → Option (List Entry)) (history : List Entry) (line : List ℕ) (hub now : HubView J) (w v : Option (List ℕ)) (cause : Cause) (outs : List Out) (text : List ℕ)
-    → reading_bytes hub.settings history line ≡ Ok cause → HubStands told now (history ++ entry_of hub.settings history cause ∷ []) → outs ≡ emits hub.settings history cause → text ≡ out_lines outs → v ≡ append_known w text
+    → reading_bytes history line ≡ Ok cause → HubStands told now (history ++ entry_of hub.settings history cause ∷ []) → outs ≡ emits hub.settings history cause → text ≡ out_lines outs → v ≡ append_known w text
     → LineTaken told history line hub now w v
 taken_of told history line hub now w v cause outs text r s o t e = record {
   cause = cause;
@@ -34,7 +34,7 @@ taken_of told history line hub now w v cause outs text r s o t e = record {
 }
 
 pub cut_of : {J : Type 0} (told : J → Option (List Entry)) (history : List Entry) (line : List ℕ) (hub now : HubView J) (w v : Option (List ℕ)) (cause : Cause) (outs : List Out) (text : List ℕ) (count : ℕ)
-    → reading_bytes hub.settings history line ≡ Ok cause → HubStands told now (history ++ entry_of hub.settings history cause ∷ []) → outs ≡ emits hub.settings history cause → text ≡ out_lines outs → v ≡ append_known w (take count text)
+    → reading_bytes history line ≡ Ok cause → HubStands told now (history ++ entry_of hub.settings history cause ∷ []) → outs ≡ emits hub.settings history cause → text ≡ out_lines outs → v ≡ append_known w (take count text)
     → LineLeft told history line hub now w v
 cut_of told history line hub now w v cause outs text count r s o t e =
     stepped cause count r (behind told history hub.settings now cause s) (e ∙ ap (λ l. append_known w (take count l)) (t ∙ ap out_lines o))
@@ -44,6 +44,6 @@ nothing_more None text = refl
 nothing_more (Some bytes) text = ap (λ l. Some l) (sym (append-nil bytes))
 
 pub unwritten_of : {J : Type 0} (told : J → Option (List Entry)) (history : List Entry) (line : List ℕ) (hub now : HubView J) (w : Option (List ℕ)) (cause : Cause)
-    → reading_bytes hub.settings history line ≡ Ok cause → HubStands told now (history ++ entry_of hub.settings history cause ∷ []) → LineLeft told history line hub now w w
+    → reading_bytes history line ≡ Ok cause → HubStands told now (history ++ entry_of hub.settings history cause ∷ []) → LineLeft told history line hub now w w
 unwritten_of told history line hub now w cause r s =
     stepped cause 0 r (behind told history hub.settings now cause s) (nothing_more w (out_lines (emits hub.settings history cause)))

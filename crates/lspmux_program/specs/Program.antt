@@ -15,7 +15,7 @@ use Rattle.mux_hub.specs.group_facts.specs.OwnVersions.{OwnVersions}
 use Rattle.mux_hub.specs.group_facts.specs.Switches.{Switches}
 use Rattle.outside_io.specs.Faults.{Rose}
 use Rattle.lspmux_program.specs.declared.refusal.Refusal.{Refusal}
-use Rattle.lspmux_program.specs.declared.refusal.Refusal.TheVariants.{Form, Absent, Unbuilt}
+use Rattle.lspmux_program.specs.declared.refusal.Refusal.TheVariants.{Form, Absent}
 use Rattle.lspmux_program.specs.declared.stop.Stop.{Stop}
 use Rattle.lspmux_program.specs.declared.stop.Stop.TheVariants as stop
 use Rattle.lspmux_program.specs.Lines.{Line, lines_of}
@@ -35,7 +35,6 @@ status_of stop.Numbers = 9
 abbrev pub refusal_word : Refusal → List ℕ
 refusal_word Form = codes "form"
 refusal_word Absent = codes "absent"
-refusal_word Unbuilt = codes "unbuilt"
 
 -- the line about a refused line
 abbrev pub refused_line : Refused → List ℕ
@@ -114,7 +113,7 @@ pub record CutOff (input left before now : Option (List ℕ)) (failed : Type 0) 
   -- status 6, 7 and 9: all of it, unless the output failed
   pub whole : (status ≡ 6) ⊎ (status ≡ 7) ⊎ (status ≡ 9) → (now ≡ append_known before (outs_text history ++ status_line status)) ⊎ failed
   -- status 6: the next line isn't refused; its entry was not appended
-  pub journal_failed : status ≡ 6 → IfSome rest (TakesFirst built_in history)
+  pub journal_failed : status ≡ 6 → IfSome rest (TakesFirst history)
   -- status 7: the lines are all that end in what was read
   pub input_failed : status ≡ 7 → IsRunOfRead built_in input left history
   -- status 9: the next line isn't refused; with its entry the causes and outs would be more than 2^63 - 1

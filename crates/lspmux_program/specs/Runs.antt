@@ -6,10 +6,9 @@ use Rattle.mux_history.specs.declared.cause.Cause.{Cause}
 use Rattle.mux_history.specs.declared.entry.Entry.{Entry}
 use Rattle.mux_model.specs.Fits.{fits}
 use Rattle.event_model.specs.Settings.{Settings}
-use Rattle.mux_hub.specs.group_facts.specs.Built.{built}
 use Rattle.mux_hub.specs.Entries.{entry_of, passes}
 use Rattle.lspmux_program.specs.declared.refusal.Refusal.{Refusal}
-use Rattle.lspmux_program.specs.declared.refusal.Refusal.TheVariants.{Form, Absent, Unbuilt}
+use Rattle.lspmux_program.specs.declared.refusal.Refusal.TheVariants.{Form, Absent}
 use Rattle.drive_text.specs.Forms.{cause_within}
 use Rattle.lspmux_program.specs.Lines.{Line, lines_of, ended_lines}
 
@@ -25,17 +24,17 @@ built_in = record {
 abbrev pub content : ℕ
 content = 67108864
 
-abbrev pub judged : Settings → List Entry → Option Cause → Result Cause Refusal
-judged settings history None = Err Form
-judged settings history (Some cause) = if fits history cause then (if built settings history cause then Ok cause else Err Unbuilt) else Err Absent
+abbrev pub judged : List Entry → Option Cause → Result Cause Refusal
+judged history None = Err Form
+judged history (Some cause) = if fits history cause then Ok cause else Err Absent
 
 -- the cause that these bytes write, or why the line is refused
-unfoldable pub reading_bytes : Settings → List Entry → List ℕ → Result Cause Refusal
-reading_bytes settings history bytes = judged settings history (cause_within content bytes)
+unfoldable pub reading_bytes : List Entry → List ℕ → Result Cause Refusal
+reading_bytes history bytes = judged history (cause_within content bytes)
 
 -- the same of a line; one in which the input passes 2^40 bytes is in no form
-abbrev pub reading : Settings → List Entry → Line → Result Cause Refusal
-reading settings history line = if nat_lt (2 ^ 40) line.upto then Err Form else reading_bytes settings history line.bytes
+abbrev pub reading : List Entry → Line → Result Cause Refusal
+reading history line = if nat_lt (2 ^ 40) line.upto then Err Form else reading_bytes history line.bytes
 
 -- a history with the entry of this cause behind it
 unfoldable pub after : Settings → List Entry → Cause → List Entry
@@ -57,7 +56,7 @@ on_reading (Ok cause) f g = g cause
 -- these lines, of which the first has this number, driven behind a history
 abbrev pub drive_from : Settings → ℕ → List Entry → List Line → Outcome
 drive_from settings k history [] = record { history = history; refused = None }
-drive_from settings k history (line ∷ lines) = on_reading (reading settings history line)
+drive_from settings k history (line ∷ lines) = on_reading (reading history line)
     (λ refusal. record { history = history; refused = Some (record { line = k; refusal = refusal }) })
     (λ cause. drive_from settings (k + 1) (after settings history cause) lines)
 
@@ -71,14 +70,14 @@ pub record IsRunOf (settings : Settings) (all rest : Option (List Line)) (histor
   pub runs : drive_from settings 1 [] front ≡ record { history = history; refused = None }
 
 -- the first of these lines isn't refused behind the history
-abbrev pub TakesFirst : Settings → List Entry → List Line → Type 0
-TakesFirst settings history [] = ⊥
-TakesFirst settings history (line ∷ lines) = (cause : Cause) × (reading settings history line ≡ Ok cause)
+abbrev pub TakesFirst : List Entry → List Line → Type 0
+TakesFirst history [] = ⊥
+TakesFirst history (line ∷ lines) = (cause : Cause) × (reading history line ≡ Ok cause)
 
 -- nor is it, but with its entry the causes and outs would be more than 2^63 - 1
 abbrev pub PassesFirst : Settings → List Entry → List Line → Type 0
 PassesFirst settings history [] = ⊥
-PassesFirst settings history (line ∷ lines) = (cause : Cause) × (reading settings history line ≡ Ok cause) × (passes settings history cause ≡ true)
+PassesFirst settings history (line ∷ lines) = (cause : Cause) × (reading history line ≡ Ok cause) × (passes settings history cause ≡ true)
 
 -- the history is that of all lines that end in the bytes which were read of the input, and none of them is refused
 pub record IsRunOfRead (settings : Settings) (input left : Option (List ℕ)) (history : List Entry) : Type 0 where

@@ -13,23 +13,23 @@ use Rattle.lspmux_program.specs.Runs.{reading_bytes, after}
 -- its cause was taken and its outs were written
 pub record LineTaken {J : Type 0} (told : J → Option (List Entry)) (history : List Entry) (line : List ℕ) (hub now : HubView J) (written written_now : Option (List ℕ)) : Type 0 where
   pub cause : Cause
-  pub reads : reading_bytes hub.settings history line ≡ Ok cause
+  pub reads : reading_bytes history line ≡ Ok cause
   pub stands : HubStands told now (after hub.settings history cause)
   pub wrote : written_now ≡ append_known written (out_lines (emits hub.settings history cause))
 
 -- the line isn't refused behind this history
-pub record IsTaken (settings : Settings) (history : List Entry) (line : List ℕ) : Type 0 where
+pub record IsTaken (history : List Entry) (line : List ℕ) : Type 0 where
   pub cause : Cause
-  pub reads : reading_bytes settings history line ≡ Ok cause
+  pub reads : reading_bytes history line ≡ Ok cause
 
 -- nor is it refused, but with its entry the causes and outs would be too many
 pub record IsTooMany (settings : Settings) (history : List Entry) (line : List ℕ) : Type 0 where
   pub cause : Cause
-  pub reads : reading_bytes settings history line ≡ Ok cause
+  pub reads : reading_bytes history line ≡ Ok cause
   pub passes : passes settings history cause ≡ true
 
 -- nothing was done, or its cause was taken and a front of its outs was written
 pub data LineLeft {J : Type 0} (told : J → Option (List Entry)) (history : List Entry) (line : List ℕ) (hub now : HubView J) (written written_now : Option (List ℕ)) : Type 0 where
   untouched : HubStands told now history → written_now ≡ written → LineLeft told history line hub now written written_now
-  stepped : (cause : Cause) (count : ℕ) → reading_bytes hub.settings history line ≡ Ok cause → HubStands told now (after hub.settings history cause)
+  stepped : (cause : Cause) (count : ℕ) → reading_bytes history line ≡ Ok cause → HubStands told now (after hub.settings history cause)
       → written_now ≡ append_known written (take count (out_lines (emits hub.settings history cause))) → LineLeft told history line hub now written written_now

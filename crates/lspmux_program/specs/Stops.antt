@@ -55,7 +55,7 @@ Gives settings all outcome = IfSome all (λ lines. drive_from settings 1 [] line
 abbrev pub StopsAt : Settings → Option (List ℕ) → Option (List ℕ) → Option (List Line) → Option (List ℕ) → Option (List ℕ) → List Entry → Stop → Type 0
 StopsAt settings input left rest written now history stop.Memory = Unit {0}
 StopsAt settings input left rest written now history stop.Output = Unit {0}
-StopsAt settings input left rest written now history stop.Journal = (now ≡ append_known written (outs_text history)) × IfSome rest (TakesFirst settings history)
+StopsAt settings input left rest written now history stop.Journal = (now ≡ append_known written (outs_text history)) × IfSome rest (TakesFirst history)
 StopsAt settings input left rest written now history stop.Numbers = (now ≡ append_known written (outs_text history)) × IfSome rest (PassesFirst settings history)
 StopsAt settings input left rest written now history stop.Input = (now ≡ append_known written (outs_text history)) × IsRunOfRead settings input left history
 StopsAt settings input left rest written now history (stop.Refused k r) =

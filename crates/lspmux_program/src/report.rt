@@ -18,7 +18,6 @@ fn refusal_word(refusal: Refusal) -> &'static str
     match refusal {
         Refusal::Form => "form",
         Refusal::Absent => "absent",
-        Refusal::Unbuilt => "unbuilt",
     }
 }
 

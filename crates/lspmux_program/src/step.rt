@@ -5,7 +5,6 @@ ghost use Rattle.mux_history.specs.declared.entry.Entry.{Entry};
 ghost use Rattle.mux_history.specs.Cores.{body_length};
 ghost use Rattle.mux_hub.specs.Hubs.{HubView, HubStands};
 ghost use Rattle.mux_model.specs.Fits.{fits};
-ghost use Rattle.mux_hub.specs.group_facts.specs.Built.{built};
 ghost use Rattle.lspmux_program.specs.Runs.{reading_bytes};
 ghost use Rattle.lspmux_program.specs.Steps.{IsTaken, IsTooMany, LineTaken, LineLeft};
 ghost use Rattle.lspmux_program.specs.Faults.{LeavesWritten};
@@ -79,10 +78,8 @@ fn read_line<J: Journal>(
     hub: &Hub<J>,
 ) -> Result<Result<Cause, Refusal>, Memory>
     requires ready { hub.now.spent ≡ false }
-    ensures reads { (history : List Entry) → HubStands J.told hub.now history → IfOk result (λ read. read ≡ reading_bytes hub.now.settings history line.items) }
+    ensures reads { (history : List Entry) → HubStands J.told hub.now history → IfOk result (λ read. read ≡ reading_bytes history line.items) }
     ensures fits { (history : List Entry) → HubStands J.told hub.now history → IfOk result (λ read. IfOk read (λ cause. IsTrue (fits history cause))) }
-    ensures is_built { (history : List Entry) → HubStands J.told hub.now history
-        → IfOk result (λ read. IfOk read (λ cause. IsTrue (built hub.now.settings history cause))) }
     ensures small { IfOk result (λ read. IfOk read (λ cause. body_length cause ≤ 67108864)) }
 {
     let read = cause_of_line(alloc, &line, CONTENT)?;
@@ -90,7 +87,7 @@ fn read_line<J: Journal>(
     let Some(cause) = read else {
         return Ok(Err(Refusal::Form));
     };
-    match refusal_of(&cause, hub)? {
+    match refusal_of(&cause, hub) {
         Some(refusal) => Ok(Err(refusal)),
         None => Ok(Ok(cause)),
     }
@@ -107,8 +104,8 @@ pub fn take_line<J: Journal, O: Sink>(
     ensures taken { (history : List Entry) → HubStands J.told hub.old history
         → OnOk result (LineTaken J.told history line.items hub.old hub.new (O.written output.old) (O.written output.new)) }
     ensures refused { (history : List Entry) (r : Refusal) → HubStands J.told hub.old history → IsErrOf result (TakeFault.Refused r)
-        → reading_bytes hub.old.settings history line.items ≡ Err r }
-    ensures entry { (history : List Entry) → HubStands J.told hub.old history → IsErrOf result TakeFault.Journal → IsTaken hub.old.settings history line.items }
+        → reading_bytes history line.items ≡ Err r }
+    ensures entry { (history : List Entry) → HubStands J.told hub.old history → IsErrOf result TakeFault.Journal → IsTaken history line.items }
     ensures numbers { (history : List Entry) → HubStands J.told hub.old history → IsErrOf result TakeFault.Numbers → IsTooMany hub.old.settings history line.items }
     ensures left { (history : List Entry) → HubStands J.told hub.old history
         → OnErr result (LineLeft J.told history line.items hub.old hub.new (O.written output.old) (O.written output.new)) }

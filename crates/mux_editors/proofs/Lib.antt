@@ -5,6 +5,7 @@ pub mod Asking
 pub mod Beginning
 pub mod Cancelling
 pub mod Classes
+pub mod Configuring
 pub mod CreatedWork
 pub mod Doubling
 pub mod Initializing

@@ -25,7 +25,7 @@ pub use mux_turns::{asks_lspmux, doubles};
 pub use notices::take_notice;
 pub use opened::take_open;
 pub use parting::{take_down, take_exit, take_gone, take_shutdown};
-pub use passed::take_passed;
+pub use passed::{keep_configuration, take_passed};
 pub use quiet::{take_closed, take_early, take_malformed, take_quiet, take_wrong};
 pub use requests::take_request;
 pub use status::take_status;

@@ -4,3 +4,4 @@ pub mod EditorRows
 pub mod Said
 pub mod Questions
 pub mod Joining
+pub mod Carried

@@ -2,8 +2,8 @@
 ghost use Rattle.std.specs.Prelude.{◌≡◌, ◌≤◌, ◌<◌, ◌&&◌, ℕ, List, [], Option, Some, true, false, codes, length, OnOk};
 ghost use Rattle.event_model.specs.declared.phase.Phase.TheVariants.{Down, New};
 ghost use Rattle.event_model.specs.Does.{Done};
-ghost use Rattle.event_model.specs.Event.{Event, requests, with_cause};
-ghost use Rattle.event_model.specs.Phases.{desk_of, is_begun, is_served, is_there};
+ghost use Rattle.event_model.specs.Event.{Event, behind, requests, with_cause};
+ghost use Rattle.event_model.specs.Phases.{desk_of, is_begun, is_malformed, is_served, is_there};
 ghost use Rattle.event_model.specs.Row.{◌⨾◌};
 ghost use Rattle.event_model.specs.Settings.{Settings};
 ghost use Rattle.mux_starts.specs.group_facts.specs.Built.{is_standard};
@@ -21,6 +21,7 @@ ghost use Rattle.mux_history.specs.declared.cause.Why.{Why};
 ghost use Rattle.mux_model.specs.Fits.{fits_behind};
 ghost use Rattle.mux_starts.specs.mux_tables.specs.Documents.{AllStand, DocumentsStand, nothing_owed};
 ghost use Rattle.mux_starts.specs.mux_tables.specs.Stands.{AnswersNone, Stands};
+ghost use Rattle.mux_turns.specs.Carried.{CarriedStand};
 ghost use Rattle.rpc_message.specs.declared.sort.Sort.TheVariants.{Request};
 ghost use Rattle.rpc_message.specs.Message.{Id, message_of, notification, request};
 ghost use Rattle.rpc_message.specs.Parsed.{IsRead};
@@ -30,16 +31,17 @@ use event_model::{Phase, Server};
 use lsp_method::Class;
 use message_body::{Body, Memory};
 use mux_editors::{
-    asks_lspmux, doubles, take_cancel, take_closed, take_doubled, take_doubled_own, take_down,
-    take_early, take_exit, take_gone, take_initialize, take_malformed, take_notice, take_open,
-    take_passed, take_quiet, take_reply, take_request, take_shutdown, take_status, take_stop,
-    take_work_cancel, take_wrong,
+    asks_lspmux, doubles, keep_configuration, take_cancel, take_closed, take_doubled,
+    take_doubled_own, take_down, take_early, take_exit, take_gone, take_initialize, take_malformed,
+    take_notice, take_open, take_passed, take_quiet, take_reply, take_request, take_shutdown,
+    take_status, take_stop, take_work_cancel, take_wrong,
 };
 use mux_history::Outs;
 use mux_starts::mux_members::{
     cancels_work, class_in, goes_on, is_cancel, is_exit, is_initialize, is_open, is_stop,
 };
 use mux_starts::mux_tables::Tables;
+use mux_turns::Carries;
 use rpc_message::{Malformed, Message, Sort};
 use std::alloc::Global;
 
@@ -511,6 +513,7 @@ fn from_malformed(
     requires { e < length tables.old.editors }
     ensures same_limit { tables.new.requests ≡ tables.old.requests }
     ensures same_versions { tables.new.versions ≡ tables.old.versions }
+    ensures malformed { (body : List ℕ) → Refuses fault (message_of body) → OnOk result (is_malformed (message_of body) ≡ true) }
     ensures does { (settings : Settings) (before : List Event) (body : List ℕ) → Refuses fault (message_of body) → outs.old ≡ []
         → Stands settings tables.old before → DocumentsStand settings nothing_owed tables.old before
         → OnOk result (Done (λ k events. AllStand settings k events) (row_of settings before (FromEditor e body))
@@ -529,6 +532,7 @@ fn from_malformed(
 /// one of the multiplexer's own; else E7 to E10, or E12 to E17, by where the editor stands, or nothing.
 pub fn from_editor(
     tables: &mut Tables,
+    carries: &mut Carries,
     alloc: Global,
     servers: &[Server],
     default: u32,
@@ -547,12 +551,16 @@ pub fn from_editor(
         → Stands settings tables.old before → DocumentsStand settings nothing_owed tables.old before
         → OnOk result (Done (λ k events. AllStand settings k events) (row_of settings before (FromEditor e body.now))
         (with_cause before (FromEditor e body.now)) [] (tables.new, nothing_owed) outs.new) }
+    ensures carried { (settings : Settings) (before : List Event) → Known settings before → Settled settings before
+        → fits_behind before (FromEditor e body.now) ≡ true → CarriedStand settings carries.old before → Stands settings tables.old before
+        → OnOk result (CarriedStand settings carries.new (behind (with_cause before (FromEditor e body.now)) outs.new)) }
 {
     if e >= tables.editors.count() {
         return Ok(());
     }
     match Message::read(alloc, body.bytes()) {
         Ok(message) => {
+            keep_configuration(tables, carries, alloc, e, &message)?;
             from_message(tables, alloc, servers, default, outs, e, &message)?;
             Ok(())
         }

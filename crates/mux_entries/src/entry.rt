@@ -3,7 +3,6 @@ ghost use Rattle.std.specs.Prelude.{◌≡◌, ◌≤◌, true, List, [], IfOk, 
 ghost use Rattle.event_model.specs.Does.{Done};
 ghost use Rattle.event_model.specs.Event.{Event, behind, with_cause};
 ghost use Rattle.event_model.specs.Settings.{Settings};
-ghost use Rattle.mux_starts.specs.group_facts.specs.Built.{built_behind};
 ghost use Rattle.mux_starts.specs.group_facts.specs.Facts.{Known};
 ghost use Rattle.mux_starts.specs.group_facts.specs.Settled.{Settled};
 ghost use Rattle.group_rows.specs.Rows.{outs_of, row_of};
@@ -12,6 +11,7 @@ ghost use Rattle.mux_history.specs.Cores.{body_length};
 ghost use Rattle.mux_model.specs.Fits.{fits_behind};
 ghost use Rattle.mux_starts.specs.mux_tables.specs.Documents.{AllStand, DocumentsStand, nothing_owed};
 ghost use Rattle.mux_starts.specs.mux_tables.specs.Stands.{Stands};
+ghost use Rattle.mux_turns.specs.Carried.{CarriedStand};
 
 use crate::editors::{from_editor, gone, joined};
 use crate::servers::from_server;
@@ -21,11 +21,13 @@ use mux_exits::{take_exit, take_failure};
 use mux_history::{Cause, Outs};
 use mux_starts::mux_tables::Tables;
 use mux_starts::{take_started, take_tick};
+use mux_turns::Carries;
 use std::alloc::Global;
 
-// The row of a cause that is built, from the first of its outs.
+// The row of a cause, from the first of its outs.
 fn follow(
     tables: &mut Tables,
+    carries: &mut Carries,
     alloc: Global,
     limits: &Limits,
     servers: &[Server],
@@ -40,10 +42,14 @@ fn follow(
     ensures same_limit { tables.new.requests ≡ tables.old.requests }
     ensures same_versions { tables.new.versions ≡ tables.old.versions }
     ensures does { (settings : Settings) (before : List Event) → settings.limits ≡ limits.now → settings.servers ≡ servers.now → settings.default ≡ default
-        → outs.old ≡ [] → Known settings before → Settled settings before → fits_behind before cause.now ≡ true → built_behind settings before cause.now ≡ true
+        → outs.old ≡ [] → Known settings before → Settled settings before → fits_behind before cause.now ≡ true → CarriedStand settings carries.old before
         → Stands settings tables.old before → DocumentsStand settings nothing_owed tables.old before
         → OnOk result (Done (λ k events. AllStand settings k events)
         (row_of settings before cause.now) (with_cause before cause.now) [] (tables.new, nothing_owed) outs.new) }
+    ensures carried { (settings : Settings) (before : List Event) → settings.limits ≡ limits.now → settings.servers ≡ servers.now → settings.default ≡ default
+        → outs.old ≡ [] → Known settings before → Settled settings before → fits_behind before cause.now ≡ true → CarriedStand settings carries.old before
+        → Stands settings tables.old before → DocumentsStand settings nothing_owed tables.old before
+        → OnOk result (CarriedStand settings carries.new (behind (with_cause before cause.now) outs.new)) }
 {
     match cause {
         Cause::Joined(e) => {
@@ -55,7 +61,7 @@ fn follow(
             Ok(())
         }
         Cause::FromEditor(e, body) => {
-            from_editor(tables, alloc, servers, default, outs, *e, body)?;
+            from_editor(tables, carries, alloc, servers, default, outs, *e, body)?;
             Ok(())
         }
         Cause::Started(s) => {
@@ -63,7 +69,7 @@ fn follow(
             Ok(())
         }
         Cause::FromServer(s, body) => {
-            from_server(tables, alloc, outs, *s, body)?;
+            from_server(tables, carries, alloc, outs, *s, body)?;
             Ok(())
         }
         Cause::StartFailed(s) => {
@@ -83,10 +89,11 @@ fn follow(
     }
 }
 
-/// Takes a cause that can come, and that meets rows which are built: its outs are those of its row. Where the answer is an error the
-/// tables stand for nothing any more.
+/// Takes a cause that can come: its outs are those of its row. What groups carry stands behind them.
+/// Where the answer is an error the tables stand for nothing any more.
 pub fn take(
     tables: &mut Tables,
+    carries: &mut Carries,
     alloc: Global,
     limits: &Limits,
     servers: &[Server],
@@ -100,12 +107,18 @@ pub fn take(
     ensures same_limit { tables.new.requests ≡ tables.old.requests }
     ensures same_versions { tables.new.versions ≡ tables.old.versions }
     ensures takes { (settings : Settings) (before : List Event) → settings.limits ≡ limits.now → settings.servers ≡ servers.now → settings.default ≡ default
-        → Known settings before → Settled settings before → fits_behind before cause.now ≡ true → built_behind settings before cause.now ≡ true
+        → Known settings before → Settled settings before → fits_behind before cause.now ≡ true → CarriedStand settings carries.old before
         → Stands settings tables.old before → DocumentsStand settings nothing_owed tables.old before
         → IfOk result (λ outs. (outs ≡ outs_of settings before cause.now)
         × AllStand settings (tables.new, nothing_owed) (behind (with_cause before cause.now) outs)) }
+    ensures carried { (settings : Settings) (before : List Event) → settings.limits ≡ limits.now → settings.servers ≡ servers.now → settings.default ≡ default
+        → Known settings before → Settled settings before → fits_behind before cause.now ≡ true → CarriedStand settings carries.old before
+        → Stands settings tables.old before → DocumentsStand settings nothing_owed tables.old before
+        → IfOk result (λ outs. CarriedStand settings carries.new (behind (with_cause before cause.now) outs)) }
 {
     let mut outs = Outs::new(alloc);
-    follow(tables, alloc, limits, servers, default, &mut outs, cause)?;
+    follow(
+        tables, carries, alloc, limits, servers, default, &mut outs, cause,
+    )?;
     Ok(outs)
 }

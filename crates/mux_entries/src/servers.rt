@@ -2,7 +2,8 @@
 ghost use Rattle.std.specs.Prelude.{◌≡◌, ◌<◌, ◌≤◌, ℕ, List, [], map, Option, Some, false, true, length, OnOk, slice_get};
 ghost use Rattle.event_model.specs.declared.stage.Stage.TheVariants.{Initializing, Ready};
 ghost use Rattle.event_model.specs.Does.{Alike, Done};
-ghost use Rattle.event_model.specs.Event.{Event, heard, with_cause};
+ghost use Rattle.event_model.specs.Event.{Event, behind, heard, with_cause};
+ghost use Rattle.event_model.specs.Phases.{is_malformed};
 ghost use Rattle.event_model.specs.Requests.{answered_id};
 ghost use Rattle.event_model.specs.Row.{nothing};
 ghost use Rattle.event_model.specs.Settings.{Settings};
@@ -21,6 +22,7 @@ ghost use Rattle.mux_model.specs.Fits.{fits_behind};
 ghost use Rattle.mux_starts.specs.mux_tables.specs.declared.tables.Start.{Start};
 ghost use Rattle.mux_starts.specs.mux_tables.specs.Documents.{AllStand, DocumentsStand, nothing_owed};
 ghost use Rattle.mux_starts.specs.mux_tables.specs.Stands.{ListsStay, NamesAt, Stands, is_request, number_in};
+ghost use Rattle.mux_turns.specs.Carried.{CarriedStand};
 ghost use Rattle.rpc_message.specs.Message.{Id, message_of, notification, request};
 ghost use Rattle.rpc_message.specs.Parsed.{IsRead};
 ghost use Rattle.rpc_message.specs.Sorts.{Refuses};
@@ -38,6 +40,7 @@ use mux_starts::{
     take_recall, take_refresh, take_refused, take_register, take_repeated, take_result,
     take_stopping, take_unregister,
 };
+use mux_turns::Carries;
 use rpc_message::{Malformed, Message, Sort};
 use std::alloc::Global;
 
@@ -64,6 +67,7 @@ fn ignore(tables: &mut Tables, g: usize, fault: Malformed) -> Result<(), Memory>
     requires { g < length tables.old.lasts.items }
     ensures same_limit { tables.new.requests ≡ tables.old.requests }
     ensures same_versions { tables.new.versions ≡ tables.old.versions }
+    ensures malformed { (body : List ℕ) → Refuses fault (message_of body) → OnOk result (is_malformed (message_of body) ≡ true) }
     ensures does { (settings : Settings) (before : List Event) (body : List ℕ) (s : ℕ) → Refuses fault (message_of body)
         → slice_get (map number_in tables.old.lasts.items) g ≡ Some s → runs (life_of s before) ≡ true → Stands settings tables.old before
         → DocumentsStand settings nothing_owed tables.old before
@@ -112,6 +116,7 @@ fn take_other(
 // S2, with the replay X4, S3 and S4: a message comes from a start that gave no result of its `initialize` yet.
 fn take_first(
     tables: &mut Tables,
+    carries: &mut Carries,
     alloc: Global,
     outs: &mut Outs,
     g: usize,
@@ -122,13 +127,18 @@ fn take_first(
     ensures same_limit { tables.new.requests ≡ tables.old.requests }
     ensures same_versions { tables.new.versions ≡ tables.old.versions }
     ensures does { (settings : Settings) (before : List Event) (body : List ℕ) (s : ℕ) → IsRead message.now body → outs.old ≡ []
-        → slice_get (map number_in tables.old.lasts.items) g ≡ Some s → Known settings before → runs (life_of s before) ≡ true
+        → slice_get (map number_in tables.old.lasts.items) g ≡ Some s → Known settings before → Settled settings before
+        → CarriedStand settings carries.old before → runs (life_of s before) ≡ true
         → Stands settings tables.old before → DocumentsStand settings nothing_owed tables.old before
         → OnOk result (Done (λ k events. AllStand settings k events) (row_of settings before (FromServer s body))
         (with_cause before (FromServer s body)) [] (tables.new, nothing_owed) outs.new) }
+    ensures carried { (settings : Settings) (before : List Event) (body : List ℕ) (s : ℕ) → IsRead message.now body → outs.old ≡ []
+        → slice_get (map number_in tables.old.lasts.items) g ≡ Some s → Known settings before → Settled settings before
+        → CarriedStand settings carries.old before → Stands settings tables.old before → DocumentsStand settings nothing_owed tables.old before
+        → OnOk result (CarriedStand settings carries.new (behind (with_cause before (FromServer s body)) outs.new)) }
 {
     if is_first_result(message) {
-        take_result(tables, alloc, outs, g, message)?;
+        take_result(tables, carries, alloc, outs, g, message)?;
         Ok(())
     } else if is_first_error(message) {
         take_refused(tables, alloc, outs, g, message)?;
@@ -297,6 +307,7 @@ fn take_ready(
 // behind its end, gives nothing (S4); a start whose program runs is in no other stage than these.
 fn take_message(
     tables: &mut Tables,
+    carries: &mut Carries,
     alloc: Global,
     outs: &mut Outs,
     g: usize,
@@ -306,15 +317,20 @@ fn take_message(
     ensures same_limit { tables.new.requests ≡ tables.old.requests }
     ensures same_versions { tables.new.versions ≡ tables.old.versions }
     ensures does { (settings : Settings) (before : List Event) (body : List ℕ) (s : ℕ) → IsRead message.now body → outs.old ≡ []
-        → slice_get (map number_in tables.old.lasts.items) g ≡ Some s → Known settings before → Settled settings before → runs (life_of s before) ≡ true
+        → slice_get (map number_in tables.old.lasts.items) g ≡ Some s → Known settings before → Settled settings before
+        → CarriedStand settings carries.old before → runs (life_of s before) ≡ true
         → Stands settings tables.old before → DocumentsStand settings nothing_owed tables.old before
         → OnOk result (Done (λ k events. AllStand settings k events) (row_of settings before (FromServer s body))
         (with_cause before (FromServer s body)) [] (tables.new, nothing_owed) outs.new) }
+    ensures carried { (settings : Settings) (before : List Event) (body : List ℕ) (s : ℕ) → IsRead message.now body → outs.old ≡ []
+        → slice_get (map number_in tables.old.lasts.items) g ≡ Some s → Known settings before → Settled settings before
+        → CarriedStand settings carries.old before → Stands settings tables.old before → DocumentsStand settings nothing_owed tables.old before
+        → OnOk result (CarriedStand settings carries.new (behind (with_cause before (FromServer s body)) outs.new)) }
 {
     let stage = stage_at(tables, g);
     match stage {
         Stage::Initializing => {
-            take_first(tables, alloc, outs, g, message)?;
+            take_first(tables, carries, alloc, outs, g, message)?;
             Ok(())
         }
         Stage::Ready => {
@@ -336,6 +352,7 @@ fn take_message(
 // A body comes from the group's last start.
 fn take_body(
     tables: &mut Tables,
+    carries: &mut Carries,
     alloc: Global,
     outs: &mut Outs,
     g: usize,
@@ -346,14 +363,19 @@ fn take_body(
     ensures same_limit { tables.new.requests ≡ tables.old.requests }
     ensures same_versions { tables.new.versions ≡ tables.old.versions }
     ensures does { (settings : Settings) (before : List Event) (s : ℕ) → outs.old ≡ []
-        → slice_get (map number_in tables.old.lasts.items) g ≡ Some s → Known settings before → Settled settings before → runs (life_of s before) ≡ true
+        → slice_get (map number_in tables.old.lasts.items) g ≡ Some s → Known settings before → Settled settings before
+        → CarriedStand settings carries.old before → runs (life_of s before) ≡ true
         → Stands settings tables.old before → DocumentsStand settings nothing_owed tables.old before
         → OnOk result (Done (λ k events. AllStand settings k events) (row_of settings before (FromServer s body.now))
         (with_cause before (FromServer s body.now)) [] (tables.new, nothing_owed) outs.new) }
+    ensures carried { (settings : Settings) (before : List Event) (s : ℕ) → outs.old ≡ []
+        → slice_get (map number_in tables.old.lasts.items) g ≡ Some s → Known settings before → Settled settings before
+        → CarriedStand settings carries.old before → Stands settings tables.old before → DocumentsStand settings nothing_owed tables.old before
+        → OnOk result (CarriedStand settings carries.new (behind (with_cause before (FromServer s body.now)) outs.new)) }
 {
     match Message::read(alloc, body.bytes()) {
         Ok(message) => {
-            take_message(tables, alloc, outs, g, &message)?;
+            take_message(tables, carries, alloc, outs, g, &message)?;
             Ok(())
         }
         Err(fault) => {
@@ -369,6 +391,7 @@ fn take_body(
 /// gives nothing. Only a start that is the last of its group has a program that runs.
 pub fn from_server(
     tables: &mut Tables,
+    carries: &mut Carries,
     alloc: Global,
     outs: &mut Outs,
     s: u64,
@@ -378,15 +401,19 @@ pub fn from_server(
     ensures same_limit { tables.new.requests ≡ tables.old.requests }
     ensures same_versions { tables.new.versions ≡ tables.old.versions }
     ensures does { (settings : Settings) (before : List Event) → outs.old ≡ [] → Known settings before → Settled settings before
-        → fits_behind before (FromServer s body.now) ≡ true
+        → fits_behind before (FromServer s body.now) ≡ true → CarriedStand settings carries.old before
         → Stands settings tables.old before → DocumentsStand settings nothing_owed tables.old before
         → OnOk result (Done (λ k events. AllStand settings k events) (row_of settings before (FromServer s body.now))
         (with_cause before (FromServer s body.now)) [] (tables.new, nothing_owed) outs.new) }
+    ensures carried { (settings : Settings) (before : List Event) → outs.old ≡ [] → Known settings before → Settled settings before
+        → fits_behind before (FromServer s body.now) ≡ true → CarriedStand settings carries.old before
+        → Stands settings tables.old before → DocumentsStand settings nothing_owed tables.old before
+        → OnOk result (CarriedStand settings carries.new (behind (with_cause before (FromServer s body.now)) outs.new)) }
 {
     match tables.last(s) {
         None => Ok(()),
         Some(g) => {
-            take_body(tables, alloc, outs, g, body)?;
+            take_body(tables, carries, alloc, outs, g, body)?;
             Ok(())
         }
     }

@@ -22,7 +22,7 @@ use Rattle.event_model.proofs.Turns.{does_knowing, does_then}
 use Rattle.group_rows.specs.Asks.{Ask, asks_of, members_in, running_in}
 use Rattle.group_rows.specs.Created.{Taking, created_of}
 use Rattle.group_rows.specs.diagnostics_route.specs.declared.last_list.LastList.{LastList}
-use Rattle.group_rows.specs.ExitRows.{begins_again, ends_group, is_full, lose_sent, lose_start, turn_out}
+use Rattle.group_rows.specs.ExitRows.{begins_again, ends_group, is_full, lose_sent, lose_start, lost_row, turn_out}
 use Rattle.group_rows.specs.Forwarded.{forwarding_of}
 use Rattle.group_rows.specs.Lists.{is_publishing, lists_of}
 use Rattle.group_rows.specs.Live.{live_of}
@@ -34,14 +34,15 @@ use Rattle.group_rows.proofs.Cancels.{cancel_says}
 use Rattle.group_rows.proofs.ExitTexts.{end_says}
 use Rattle.group_rows.proofs.ListsKept.{IsList, lists_kept}
 use Rattle.group_rows.proofs.LiveTexts.{live_written}
-use Rattle.group_words.specs.Houses.{groups_of}
+use Rattle.group_words.specs.Houses.{groups_lose, groups_of, house_of}
+use Rattle.group_words.specs.Rows.{spawn}
 use Rattle.mux_exits.specs.declared.losses.Loss.{Loss}
 use Rattle.mux_exits.specs.declared.losses.Loss.TheVariants.{Emptied, Unregistered}
 use Rattle.mux_exits.specs.declared.partings.Parting.{Parting}
 use Rattle.mux_exits.specs.Losses.{CanLose, Runs, cancelled, emptied, ended, is_mild, live_at, loss_row, lost_at, lost_sent, lost_start, refused}
-use Rattle.mux_exits.specs.Partings.{AreHome, CanPart, IsOver, IsParting, parting_row}
+use Rattle.mux_exits.specs.Partings.{AreHome, CanPart, IsOver, IsParting, parting_row, renewing_row}
 use Rattle.mux_exits.proofs.Gathering.{all_join, all_run, any_of}
-use Rattle.mux_exits.proofs.Rows.{parting_alike}
+use Rattle.mux_exits.proofs.Rows.{losing_alike, parting_alike}
 use Rattle.mux_exits.proofs.Turning.{adds_row, asking_on, housed_on}
 use Rattle.mux_starts.specs.Refusing.{IsUnready}
 use Rattle.mux_starts.specs.group_facts.specs.Built.{is_left}
@@ -49,7 +50,7 @@ use Rattle.mux_starts.specs.group_facts.specs.Facts.{AllForwarded, IsAsked, IsTa
 use Rattle.mux_starts.specs.group_facts.specs.Lively.{lives_at}
 use Rattle.mux_starts.specs.group_facts.specs.Settled.{Settled}
 use Rattle.mux_starts.specs.group_facts.proofs.ExitEntry.{Exit}
-use Rattle.mux_starts.specs.group_facts.proofs.Exits.{EndsGroup, ends_live, ends_parts, lost_outs}
+use Rattle.mux_starts.specs.group_facts.proofs.Exits.{EndsGroup, RenewsGroup, ends_live, ends_parts, lost_is, lost_outs, lost_over, renewed_lives, renews_parts}
 use Rattle.mux_starts.proofs.PutOut.{all_at_home, same_home, unready_at}
 use Rattle.mux_tables.specs.declared.tables.Start.{Start}
 use Rattle.mux_tables.specs.declared.tables.Tables.{Tables}
@@ -57,6 +58,7 @@ use Rattle.mux_tables.specs.Documents.{AllStand, DocumentsStand, nothing_owed}
 use Rattle.mux_tables.specs.Halts.{ids_at}
 use Rattle.mux_tables.specs.Losses.{open_asks}
 use Rattle.mux_tables.specs.Stands.{Exits, Stands}
+use Rattle.mux_tables.proofs.DocumentOwed.{all_does}
 use Rattle.mux_tables.specs.mux_tokens.specs.Ends.{begun_tokens, unanswered_takes}
 use Rattle.mux_turns.specs.Initials.{AllHoused, IsNamed}
 use Rattle.mux_turns.specs.Welcomes.{AllAsking}
@@ -69,7 +71,7 @@ use Rattle.mux_turns.proofs.Matched.{whole_entry}
 -- The last start in this place, as it is kept behind the end of its program
 
 module _ (restarts : ℕ) (t u : Tables) (g : ℕ) (z : Start) (within : g < length t.lasts.items) (e : Exits restarts t g z u) where
-  here : slice_get u.lasts.items g ≡ Some e.start
+  pub here : slice_get u.lasts.items g ≡ Some e.start
   here = ap (λ ls. slice_get ls g) e.lasts ∙ get_set_same t.lasts.items g e.start within
 
   pub exit_over : IsOver g u.lasts.items
@@ -77,8 +79,11 @@ module _ (restarts : ℕ) (t u : Tables) (g : ℕ) (z : Start) (within : g < len
       let is : x ≡ e.start = same_item (sym at ∙ here) in
       (ap (λ (w : Start). w.life.stage) is ∙ ap (λ l. l.stage) e.life, ap (λ (w : Start). w.ids.requests) is ∙ e.requests_gone)
 
+  pub exit_group : e.start.life.group ≡ z.life.group
+  exit_group = ap (λ l. l.group) e.life
+
   pub exit_unready : (settings : Settings) (events : List Event) → Stands settings u events → IsUnready z.life.group u.lasts.items
-  exit_unready settings events st = subst (λ h. IsUnready h u.lasts.items) (ap (λ l. l.group) e.life)
+  exit_unready settings events st = subst (λ h. IsUnready h u.lasts.items) exit_group
       (unready_at g u.lasts.items e.start st.lasts.rise here (ap (λ l. is_ready l.stage) e.life))
 
 -- What was gathered is said
@@ -96,6 +101,13 @@ part_does settings t u v w base h xs ys zs p live members lives those can tells 
     (turns (asking_on base xs ys said can.asking) (housed_on base xs ys said settings can.housed) (subst (AreHome settings (behind base ys) h) (sym those) homes)) in
     let both = does_then first second in
     record { done = λ s. let one = both.done s in record { outs = one.outs; stands = (forgets one.stands.0, docs one.stands.1) } })
+
+pub renew_does : (settings : Settings) (t u v : Tables) (base : List Event) (h : ℕ) (xs ys zs : List Out) (p : Parting) (live : List Registration) → live ≡ p.live.items
+    → Does (λ k events. AllStand settings k events) (each (loss_row live) p.losses.items) base (t, nothing_owed) xs (u, nothing_owed) ys
+    → Does (λ t events. Stands settings t events) (spawn h) base u ys v zs → (Stands settings u (behind base ys) → DocumentsStand settings nothing_owed u (behind base ys) → DocumentsStand settings nothing_owed v (behind base zs))
+    → Does (λ k events. AllStand settings k events) (renewing_row h p) base (t, nothing_owed) xs (v, nothing_owed) zs
+renew_does settings t u v base h xs ys zs p live lives tells spawns docs =
+    does_then (subst (λ l. Does (λ k events. AllStand settings k events) (each (loss_row l) p.losses.items) base (t, nothing_owed) xs (u, nothing_owed) ys) lives tells) (all_does settings u v nothing_owed nothing_owed base ys zs spawns docs)
 
 -- It may be said
 
@@ -207,8 +219,8 @@ module _ (settings : Settings) (before : List Event) (cause : Cause) (s : ℕ) (
     }
 
     row_sends : not (begins_again settings before s) ≡ true → outs (row_of settings before cause) now ≡ outs (parting_row p) now
-    row_sends built =
-        let over : ends_group settings before s ≡ true = ends_live settings before s built h home live in
+    row_sends last =
+        let over : ends_group settings before s ≡ true = ends_live settings before s last h home live in
         let k : EndsGroup settings before s = ends_parts settings before s over in
         exit.row ∙ (lost_outs settings before s now k ∙ (ap (λ g. outs (group_row g) now) (same_item (sym k.home ∙ home)) ∙ (parting_alike settings before s h p is).sends now))
       where
@@ -216,13 +228,56 @@ module _ (settings : Settings) (before : List Event) (cause : Cause) (s : ℕ) (
         group_row g = each (lose_sent before s) (members_in settings g before)
             ⨾ (choose (is_ready (life_of s before).stage) (each (lose_start settings before s) (running_in settings g before)) nothing ⨾ each turn_out (members_in settings g before))
 
-    pub entry_done : (t u : Tables) (xs ys : List Out) → not (begins_again settings before s) ≡ true → xs ≡ [] → AllStand settings (t, nothing_owed) now
-        → (CanPart settings (behind now xs) h p → Does (λ k events. AllStand settings k events) (parting_row p) now (t, nothing_owed) xs (u, nothing_owed) ys)
+    row_renews : begins_again settings before s ≡ true → outs (row_of settings before cause) now ≡ outs (renewing_row h p) now
+    row_renews again = exit.row ∙ (goes_on ∙ (ap (λ g. outs (group_row g) now) (same_item (sym k.home ∙ home)) ∙ (losing_alike settings before s h (spawn h) p is).sends now))
+      where
+        k : RenewsGroup settings before s
+        k = renews_parts settings before s again
+
+        group_row : ℕ → Row
+        group_row g = each (lose_sent before s) (members_in settings g before)
+            ⨾ (choose (is_ready (life_of s before).stage) (each (lose_start settings before s) (running_in settings g before)) nothing ⨾ spawn g)
+
+        goes_on : outs (lost_row settings before s) now ≡ outs (group_row k.group) now
+        goes_on = rw (k.home, k.found, k.live, k.again) refl
+
+    -- the row of what was gathered is the entry's
+    entry_by : (row : Row) (t u : Tables) (xs ys : List Out) → outs (row_of settings before cause) now ≡ outs row now → xs ≡ [] → AllStand settings (t, nothing_owed) now
+        → (CanPart settings (behind now xs) h p → Does (λ k events. AllStand settings k events) row now (t, nothing_owed) xs (u, nothing_owed) ys)
         → Done (λ k events. AllStand settings k events) (row_of settings before cause) now [] (u, nothing_owed) ys
-    entry_done t u xs ys built first stands says =
+    entry_by row t u xs ys same first stands says =
         let can : CanPart settings (behind now xs) h p = subst (λ es. CanPart settings es h p) (sym (behind_first now xs first)) can_part in
-        let done = whole_entry (λ k events. AllStand settings k events) (parting_row p) now (t, nothing_owed) (u, nothing_owed) xs ys first stands (says can) in
-        record { outs = done.outs ∙ (ap (outs (parting_row p)) (append-nil now) ∙ (sym (row_sends built) ∙ ap (outs (row_of settings before cause)) (sym (append-nil now)))); stands = done.stands }
+        let done = whole_entry (λ k events. AllStand settings k events) row now (t, nothing_owed) (u, nothing_owed) xs ys first stands (says can) in
+        record { outs = done.outs ∙ (ap (outs row) (append-nil now) ∙ (sym same ∙ ap (outs (row_of settings before cause)) (sym (append-nil now)))); stands = done.stands }
+
+    -- where the group lives behind the cause it goes on with a new start, else it ends
+    module _ (t : Tables) (st : Stands settings t now) (groups : groups_of settings now ≡ groups_lose settings before s (house_of settings before)) where
+      lives_now : lives_at h t.groups.groups ≡ lives_at h (groups_lose settings before s (house_of settings before))
+      lives_now = ap (lives_at h) (sym st.house.groups.groups ∙ groups)
+
+      goes_again : lives_at h t.groups.groups ≡ true → begins_again settings before s ≡ true
+      goes_again on = go (begins_again settings before s) refl
+        where
+          go : (b : Bool) → begins_again settings before s ≡ b → b ≡ true
+          go true again = refl
+          go false last = never (sym on ∙ (lives_now ∙ (ap (lives_at h) (lost_is settings before s (ap not last)) ∙ lost_over settings before s h home)))
+
+      ends_now : lives_at h t.groups.groups ≡ false → not (begins_again settings before s) ≡ true
+      ends_now off = go (begins_again settings before s) refl
+        where
+          go : (b : Bool) → begins_again settings before s ≡ b → not b ≡ true
+          go false last = refl
+          go true again = never (sym live ∙ (sym (renewed_lives settings before s (renews_parts settings before s again) h) ∙ (sym lives_now ∙ off)))
+
+      pub entry_renewed : (u : Tables) (xs ys : List Out) → lives_at h t.groups.groups ≡ true → xs ≡ [] → DocumentsStand settings nothing_owed t now
+          → (CanPart settings (behind now xs) h p → Does (λ k events. AllStand settings k events) (renewing_row h p) now (t, nothing_owed) xs (u, nothing_owed) ys)
+          → Done (λ k events. AllStand settings k events) (row_of settings before cause) now [] (u, nothing_owed) ys
+      entry_renewed u xs ys on first ds says = entry_by (renewing_row h p) t u xs ys (row_renews (goes_again on)) first (st, ds) says
+
+      pub entry_done : (u : Tables) (xs ys : List Out) → lives_at h t.groups.groups ≡ false → xs ≡ [] → DocumentsStand settings nothing_owed t now
+          → (CanPart settings (behind now xs) h p → Does (λ k events. AllStand settings k events) (parting_row p) now (t, nothing_owed) xs (u, nothing_owed) ys)
+          → Done (λ k events. AllStand settings k events) (row_of settings before cause) now [] (u, nothing_owed) ys
+      entry_done u xs ys off first ds says = entry_by (parting_row p) t u xs ys (row_sends (ends_now off)) first (st, ds) says
 
 -- A start whose group lives no more
 

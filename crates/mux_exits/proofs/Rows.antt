@@ -133,22 +133,24 @@ module _ (settings : Settings) (before : List Event) (s : ℕ) where
     abbrev started : List Loss
     started = flat_map (lost_start settings before s) (running_in settings g before)
 
-    abbrev turned : Row
-    turned = each turn_out (members_in settings g before)
+    -- before what becomes of the group
+    module _ (last : Row) where
+      by_stage : (b : Bool) → Alike (each (lose_sent before s) (members_in settings g before) ⨾ (choose b (each (lose_start settings before s) (running_in settings g before)) nothing ⨾ last))
+          (each (loss_row (if b then live else [])) (sent ++ (if b then started else [])) ⨾ last)
+      by_stage true = alike_then (after_alike (each_flat (lose_sent before s) (loss_row live) (lost_sent before s) (sent_alike before live s) (members_in settings g before))
+          (after_alike (alike_then alike_true (each_flat (lose_start settings before s) (loss_row live) (lost_start settings before s) start_alike (running_in settings g before))) (alike {r = last} refl)))
+          (alike_then (alike_back after_joined) (after_alike (alike_back (each_join (loss_row live) sent started)) (alike {r = last} refl)))
+      by_stage false = alike_then (after_alike (each_flat (lose_sent before s) (loss_row []) (lost_sent before s) (sent_alike before [] s) (members_in settings g before))
+          (after_alike (alike_then alike_false (alike {r = nothing} refl)) (alike {r = last} refl)))
+          (alike_then (alike_back after_joined) (after_alike (alike_back (each_join (loss_row []) sent [])) (alike {r = last} refl)))
 
-    by_stage : (b : Bool) → Alike (each (lose_sent before s) (members_in settings g before) ⨾ (choose b (each (lose_start settings before s) (running_in settings g before)) nothing ⨾ turned))
-        (each (loss_row (if b then live else [])) (sent ++ (if b then started else [])) ⨾ turned)
-    by_stage true = alike_then (after_alike (each_flat (lose_sent before s) (loss_row live) (lost_sent before s) (sent_alike before live s) (members_in settings g before))
-        (after_alike (alike_then alike_true (each_flat (lose_start settings before s) (loss_row live) (lost_start settings before s) start_alike (running_in settings g before))) (alike {r = turned} refl)))
-        (alike_then (alike_back after_joined) (after_alike (alike_back (each_join (loss_row live) sent started)) (alike {r = turned} refl)))
-    by_stage false = alike_then (after_alike (each_flat (lose_sent before s) (loss_row []) (lost_sent before s) (sent_alike before [] s) (members_in settings g before))
-        (after_alike (alike_then alike_false (alike {r = nothing} refl)) (alike {r = turned} refl)))
-        (alike_then (alike_back after_joined) (after_alike (alike_back (each_join (loss_row []) sent [])) (alike {r = turned} refl)))
+      pub losing_alike : (p : Parting) → IsParting settings before g s p
+          → Alike (each (lose_sent before s) (members_in settings g before) ⨾ (choose (is_ready (life_of s before).stage) (each (lose_start settings before s) (running_in settings g before)) nothing ⨾ last)) (each (loss_row p.live.items) p.losses.items ⨾ last)
+      losing_alike p is = alike_then (by_stage (is_ready (life_of s before).stage)) (alike (ap₂ (λ l ls. each (loss_row l) ls ⨾ last) (sym is.live) (sym is.losses)))
 
     pub parting_alike : (p : Parting) → IsParting settings before g s p
-        → Alike (each (lose_sent before s) (members_in settings g before) ⨾ (choose (is_ready (life_of s before).stage) (each (lose_start settings before s) (running_in settings g before)) nothing ⨾ turned)) (parting_row p)
-    parting_alike p is = alike_then (by_stage (is_ready (life_of s before).stage))
-        (alike (ap₂ (λ l ls. each (loss_row l) ls ⨾ turned) (sym is.live) (sym is.losses) ∙ ap (λ ms. each (loss_row p.live.items) p.losses.items ⨾ each turn_out ms) (sym is.members)))
+        → Alike (each (lose_sent before s) (members_in settings g before) ⨾ (choose (is_ready (life_of s before).stage) (each (lose_start settings before s) (running_in settings g before)) nothing ⨾ each turn_out (members_in settings g before))) (parting_row p)
+    parting_alike p is = alike_then (losing_alike (each turn_out (members_in settings g before)) p is) (alike (ap (λ ms. each (loss_row p.live.items) p.losses.items ⨾ each turn_out ms) (sym is.members)))
 
 -- What is gathered, by where the start stands
 

@@ -1,4 +1,4 @@
--- X1 to X3: what is said as a group ends with the program of its last start.
+-- X1 to X3: what is said as the program of a group's last start ends.
 use Rattle.std.specs.Prelude.{◌≡◌, ℕ, ◌<◌, List, [], get_or, length, None, Some, slice_get}
 use Rattle.std.specs.List.{AllByRecursion}
 use Rattle.event_model.specs.declared.stage.Stage.TheVariants.{Ended}
@@ -9,6 +9,7 @@ use Rattle.group_rows.specs.Asks.{asking_of, members_in}
 use Rattle.group_rows.specs.ExitRows.{turn_out}
 use Rattle.group_rows.specs.Live.{unregister_text}
 use Rattle.group_words.specs.Houses.{home_of}
+use Rattle.group_words.specs.Rows.{spawn}
 use Rattle.mux_exits.specs.declared.partings.Parting.{Parting}
 use Rattle.mux_exits.specs.Losses.{CanLose, live_at, loss_row, lost_at}
 use Rattle.mux_tables.specs.declared.tables.Start.{Start}
@@ -25,6 +26,10 @@ pub record IsParting (settings : Settings) (before : List Event) (g s : ℕ) (p 
 -- the row of it
 abbrev pub parting_row : Parting → Row
 parting_row p = each (loss_row p.live.items) p.losses.items ⨾ each turn_out p.members.items
+
+-- the same where the group goes on
+abbrev pub renewing_row : ℕ → Parting → Row
+renewing_row g p = each (loss_row p.live.items) p.losses.items ⨾ spawn g
 
 -- these editors are in group g
 abbrev pub AreHome : Settings → List Event → ℕ → List ℕ → Type 0

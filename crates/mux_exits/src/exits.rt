@@ -1,16 +1,16 @@
-//! X1 to X3: the program of a start ended, or couldn't be run, and its group doesn't go on.
+//! X1 to X3: the program of a start ended, or couldn't be run.
 ghost use Rattle.std.specs.Prelude.{◌≡◌, ◌<◌, ◌≤◌, ◌^◌, ℕ, List, [], Some, true, length, map, nat_lt, OnOk, slice_get};
 ghost use Rattle.std.specs.List.{All, AllByRecursion};
 ghost use Rattle.event_model.specs.Does.{Does, Done};
 ghost use Rattle.event_model.specs.Event.{Event, behind, with_cause};
 ghost use Rattle.event_model.specs.Settings.{Settings};
+ghost use Rattle.event_model.specs.declared.stage.Stage.TheVariants.{Ended};
 ghost use Rattle.group_rows.specs.Rows.{row_of};
 ghost use Rattle.group_words.specs.declared.kept.Kept.{Kept};
 ghost use Rattle.mux_exits.specs.Losses.{IsInside};
-ghost use Rattle.mux_exits.specs.Partings.{CanPart, IsOver, parting_row};
+ghost use Rattle.mux_exits.specs.Partings.{CanPart, IsOver, parting_row, renewing_row};
 ghost use Rattle.mux_history.specs.declared.cause.Cause.TheVariants.{ServerGone, StartFailed};
 ghost use Rattle.mux_starts.specs.Refusing.{IsUnready};
-ghost use Rattle.mux_starts.specs.group_facts.specs.Built.{built_behind};
 ghost use Rattle.mux_starts.specs.group_facts.specs.Facts.{Known};
 ghost use Rattle.mux_starts.specs.group_facts.specs.Lively.{lives_at};
 ghost use Rattle.mux_starts.specs.group_facts.specs.Settled.{Settled};
@@ -81,7 +81,32 @@ fn part(
     Ok(())
 }
 
-// X1 to X3: the group in this place lives, and ends as the program of its last start ended.
+// What was gathered is said but for who is turned out, and the group goes on with a new start.
+fn renew(
+    tables: &mut Tables,
+    alloc: Global,
+    outs: &mut Outs,
+    g: usize,
+    parting: Parting,
+) -> Result<(), Memory>
+    requires group { g < length tables.old.lasts.items }
+    requires limit { 2 ≤ tables.old.requests }
+    requires over { (x : Start) → slice_get tables.old.lasts.items g ≡ Some x → x.life.stage ≡ Ended }
+    requires inside { AllByRecursion (IsInside (length tables.old.editors)) parting.losses.items }
+    ensures requests { tables.new.requests ≡ tables.old.requests }
+    ensures versions { tables.new.versions ≡ tables.old.versions }
+    ensures does { (settings : Settings) (base : List Event) (x : Start) → slice_get tables.old.lasts.items g ≡ Some x
+        → CanPart settings (behind base outs.old) x.life.group parting
+        → OnOk result (Does (λ k events. AllStand settings k events)
+        (renewing_row x.life.group parting) base (tables.old, nothing_owed) outs.old (tables.new, nothing_owed) outs.new) }
+{
+    let Parting { losses, live, .. } = parting;
+    tell_losses(tables, alloc, outs, losses, &live)?;
+    tables.respawn(alloc, outs, g)?;
+    Ok(())
+}
+
+// X1 to X3: the group in this place lives, and the program of its last start ended.
 fn exit_group(
     tables: &mut Tables,
     alloc: Global,
@@ -96,7 +121,7 @@ fn exit_group(
     ensures exit { (settings : Settings) (before : List Event) (x : Start) → slice_get tables.old.lasts.items g ≡ Some x
         → lives_at x.life.group tables.old.groups.groups ≡ true → settings.limits.restarts ≡ restarts → outs.old ≡ []
         → Known settings before → Settled settings before
-        → fits_behind before (ServerGone x.life.start) ≡ true → built_behind settings before (ServerGone x.life.start) ≡ true
+        → fits_behind before (ServerGone x.life.start) ≡ true
         → Stands settings tables.old before → DocumentsStand settings nothing_owed tables.old before
         → OnOk result (Done (λ k events. AllStand settings k events) (row_of settings before (ServerGone x.life.start))
         (with_cause before (ServerGone x.life.start)) [] (tables.new, nothing_owed) outs.new) }
@@ -109,8 +134,13 @@ fn exit_group(
     }
     let parting = gather(tables, alloc, g)?;
     tables.hear_exit(alloc, restarts, g)?;
-    part(tables, alloc, outs, g, parting)?;
-    Ok(())
+    if lives(tables, tables.group_number(g)) {
+        renew(tables, alloc, outs, g, parting)?;
+        Ok(())
+    } else {
+        part(tables, alloc, outs, g, parting)?;
+        Ok(())
+    }
 }
 
 // The same where it couldn't be run.
@@ -128,7 +158,7 @@ fn fail_group(
     ensures failure { (settings : Settings) (before : List Event) (x : Start) → slice_get tables.old.lasts.items g ≡ Some x
         → lives_at x.life.group tables.old.groups.groups ≡ true → settings.limits.restarts ≡ restarts → outs.old ≡ []
         → Known settings before → Settled settings before
-        → fits_behind before (StartFailed x.life.start) ≡ true → built_behind settings before (StartFailed x.life.start) ≡ true
+        → fits_behind before (StartFailed x.life.start) ≡ true
         → Stands settings tables.old before → DocumentsStand settings nothing_owed tables.old before
         → OnOk result (Done (λ k events. AllStand settings k events) (row_of settings before (StartFailed x.life.start))
         (with_cause before (StartFailed x.life.start)) [] (tables.new, nothing_owed) outs.new) }
@@ -141,8 +171,13 @@ fn fail_group(
     }
     let parting = gather(tables, alloc, g)?;
     tables.hear_failure(alloc, restarts, g)?;
-    part(tables, alloc, outs, g, parting)?;
-    Ok(())
+    if lives(tables, tables.group_number(g)) {
+        renew(tables, alloc, outs, g, parting)?;
+        Ok(())
+    } else {
+        part(tables, alloc, outs, g, parting)?;
+        Ok(())
+    }
 }
 
 // The program of the last start of the group in this place ended.
@@ -160,7 +195,7 @@ fn exit_at(
     ensures versions { tables.new.versions ≡ tables.old.versions }
     ensures exit { (settings : Settings) (before : List Event) → slice_get (map number_in tables.old.lasts.items) g ≡ Some s
         → settings.limits.restarts ≡ restarts → outs.old ≡ [] → Known settings before → Settled settings before
-        → fits_behind before (ServerGone s) ≡ true → built_behind settings before (ServerGone s) ≡ true
+        → fits_behind before (ServerGone s) ≡ true
         → Stands settings tables.old before → DocumentsStand settings nothing_owed tables.old before
         → OnOk result (Done (λ k events. AllStand settings k events) (row_of settings before (ServerGone s))
         (with_cause before (ServerGone s)) [] (tables.new, nothing_owed) outs.new) }
@@ -188,7 +223,7 @@ fn failure_at(
     ensures versions { tables.new.versions ≡ tables.old.versions }
     ensures failure { (settings : Settings) (before : List Event) → slice_get (map number_in tables.old.lasts.items) g ≡ Some s
         → settings.limits.restarts ≡ restarts → outs.old ≡ [] → Known settings before → Settled settings before
-        → fits_behind before (StartFailed s) ≡ true → built_behind settings before (StartFailed s) ≡ true
+        → fits_behind before (StartFailed s) ≡ true
         → Stands settings tables.old before → DocumentsStand settings nothing_owed tables.old before
         → OnOk result (Done (λ k events. AllStand settings k events) (row_of settings before (StartFailed s))
         (with_cause before (StartFailed s)) [] (tables.new, nothing_owed) outs.new) }
@@ -201,9 +236,9 @@ fn failure_at(
     Ok(())
 }
 
-/// X1 to X3: the program of a start ended. Where its group lives, and doesn't go on with a new start, each editor of it is told that its
-/// requests fail; each that runs, where the start is ready, what ends with it; and each is turned out. Else nothing is sent. It takes time
-/// n log n in what is sent, and, for each editor that runs, in how many documents the start has lists of.
+/// X1 to X3: the program of a start ended. Where its group lives, each editor of it is told that its requests fail, and each that runs, where
+/// the start is ready, what ends with it; then the group goes on with a new start, or each editor of it is turned out. Else nothing is sent.
+/// It takes time n log n in what is sent, and, for each editor that runs, in how many documents the start has lists of.
 pub fn take_exit(
     tables: &mut Tables,
     alloc: Global,
@@ -216,7 +251,7 @@ pub fn take_exit(
     ensures versions { tables.new.versions ≡ tables.old.versions }
     ensures exit { (settings : Settings) (before : List Event) → settings.limits.restarts ≡ restarts → outs.old ≡ []
         → Known settings before → Settled settings before
-        → fits_behind before (ServerGone s) ≡ true → built_behind settings before (ServerGone s) ≡ true
+        → fits_behind before (ServerGone s) ≡ true
         → Stands settings tables.old before → DocumentsStand settings nothing_owed tables.old before
         → OnOk result (Done (λ k events. AllStand settings k events) (row_of settings before (ServerGone s))
         (with_cause before (ServerGone s)) [] (tables.new, nothing_owed) outs.new) }
@@ -243,7 +278,7 @@ pub fn take_failure(
     ensures versions { tables.new.versions ≡ tables.old.versions }
     ensures failure { (settings : Settings) (before : List Event) → settings.limits.restarts ≡ restarts → outs.old ≡ []
         → Known settings before → Settled settings before
-        → fits_behind before (StartFailed s) ≡ true → built_behind settings before (StartFailed s) ≡ true
+        → fits_behind before (StartFailed s) ≡ true
         → Stands settings tables.old before → DocumentsStand settings nothing_owed tables.old before
         → OnOk result (Done (λ k events. AllStand settings k events) (row_of settings before (StartFailed s))
         (with_cause before (StartFailed s)) [] (tables.new, nothing_owed) outs.new) }

@@ -3,7 +3,7 @@ use Rattle.std.proofs.Common.{◌≡◌, ℕ, ◌<◌, ◌^◌, true, List, [], 
 use Rattle.std.specs.Prelude.{Option, Some, None, slice_get}
 use Rattle.std.specs.List.{AllByRecursion}
 use Rattle.mux_history.specs.declared.cause.Cause.{Cause}
-use Rattle.mux_history.specs.declared.cause.Cause.TheVariants.{FromEditor}
+use Rattle.mux_history.specs.declared.cause.Cause.TheVariants.{FromEditor, FromServer}
 use Rattle.mux_history.specs.declared.entry.Entry.{Entry}
 use Rattle.mux_history.specs.declared.out.Out.{Out}
 use Rattle.mux_history.specs.declared.out.Out.TheVariants.{ToEditor, ToServer, Spawn, CloseEditor, EndServer}
@@ -33,7 +33,7 @@ use Rattle.group_sessions.specs.group_rows.proofs.Frames.{texts_more}
 use Rattle.group_sessions.specs.group_rows.specs.Texts.{is_synced, texts_of, worker_behind, worker_of}
 use Rattle.group_sessions.specs.group_facts.specs.Legal.{Legal}
 use Rattle.group_sessions.specs.group_facts.specs.OwnTexts.{AllHaveHolders, AllOnOwnTexts, HasHolders, OnOwnTexts, OwnTexts, OwnTextsFrom, HasOwn}
-use Rattle.group_sessions.specs.group_facts.specs.Why.{AllSlow, AllWhy, HasParts, IsBehindSync, IsQuestion, ReasonsFrom, SlowOuts, Why, WhyToServer, begins, cancels, cancels_work, exits, forwarded, greets, notes, quitting, resolves, responds, shuts, tells}
+use Rattle.group_sessions.specs.group_facts.specs.Why.{AllSlow, AllWhy, HasParts, IsBehindSync, IsQuestion, ReasonsFrom, SlowOuts, Why, WhyToServer, begins, cancels, cancels_work, conveys, exits, forwarded, greets, notes, quitting, resolves, responds, shuts, tells}
 use Rattle.group_sessions.specs.group_facts.proofs.Asides.{answer_aside, spoken_aside, unsynced}
 use Rattle.group_sessions.specs.group_facts.proofs.Everywhere.{reasons_hold}
 use Rattle.group_sessions.specs.group_facts.proofs.Same.{IsBody, same_behind, same_held, same_questions}
@@ -154,35 +154,45 @@ module _ (settings : Settings) (t : Tables) (before : List Event) (st : Stands s
       agrees : (k : Option HeldText) (h : HeldText) → k ≡ Some h → Agrees o h → HasOwn o k
       agrees k h is same = subst (HasOwn o) (sym is) same
 
-  by_reason : (cause : Cause) (events : List Event) (s : ℕ) (body : List ℕ) → WhyToServer settings before cause events s body → is_synced (message_of body) ≡ true → (w g : ℕ) → worker_of events ≡ Some w → group_of s events ≡ Some g
+  -- S2's configuration goes where no editor's message is at work
+  by_reason : (cause : Cause) (events : List Event) (s : ℕ) (body : List ℕ) → worker_of events ≡ worker_of (with_cause before cause) → WhyToServer settings before cause events s body → is_synced (message_of body) ≡ true → (w g : ℕ) → worker_of events ≡ Some w → group_of s events ≡ Some g
       → (u : List ℕ) (o : Open) → found w u (texts_of settings g events) ≡ Some o → HasOwn o (held_at s u events)
-  by_reason cause events s body (begins k) goes = unsynced body _ k.says refl goes
-  by_reason cause events s body (greets k) goes = unsynced body _ k.says refl goes
-  by_reason cause events s body (forwarded k) goes = behind_sync events s k.sender.editor k.asked k.synced
-  by_reason cause events s body (notes k) goes = behind_sync events s k.editor body k.synced
-  by_reason cause events s body (tells k) goes = never (sym goes ∙ spoken_aside (message_of body) k.spoken)
-  by_reason cause events s body (shuts k) goes = unsynced body _ k.says refl goes
-  by_reason cause events s body (cancels k) goes = unsynced body _ k.says refl goes
-  by_reason cause events s body (cancels_work k) goes = unsynced body _ k.says refl goes
-  by_reason cause events s body (responds k) goes = never (sym goes ∙ answer_aside (message_of body) k.response)
-  by_reason cause events s body (resolves k) goes = never (sym goes ∙ answer_aside (message_of body) k.response)
-  by_reason cause events s body (exits k) goes = unsynced body _ k.says refl goes
+  by_reason cause events s body still (begins k) goes = unsynced body _ k.says refl goes
+  by_reason cause events s body still (greets k) goes = unsynced body _ k.says refl goes
+  by_reason cause events s body still (conveys k) goes = λ w g works home u o is.
+      let none : worker_of events ≡ None = still ∙ (ap (λ c. worker_of (with_cause before c)) k.from ∙ one_more worker_behind None (worker_of before) before (heard (FromServer s k.answer)) refl) in absurd (cc)
+  by_reason cause events s body still (forwarded k) goes = behind_sync events s k.sender.editor k.asked k.synced
+  by_reason cause events s body still (notes k) goes = behind_sync events s k.editor body k.synced
+  by_reason cause events s body still (tells k) goes = never (sym goes ∙ spoken_aside (message_of body) k.spoken)
+  by_reason cause events s body still (shuts k) goes = unsynced body _ k.says refl goes
+  by_reason cause events s body still (cancels k) goes = unsynced body _ k.says refl goes
+  by_reason cause events s body still (cancels_work k) goes = unsynced body _ k.says refl goes
+  by_reason cause events s body still (responds k) goes = never (sym goes ∙ answer_aside (message_of body) k.response)
+  by_reason cause events s body still (resolves k) goes = never (sym goes ∙ answer_aside (message_of body) k.response)
+  by_reason cause events s body still (exits k) goes = unsynced body _ k.says refl goes
 
-  by_why : (cause : Cause) (events : List Event) (out : Out) → Why settings before cause events out → OnOwnTexts settings events out
-  by_why cause events (ToServer s body) why = by_reason cause events s body why
-  by_why cause events (ToEditor e body) why = tt
-  by_why cause events (Spawn s g) why = tt
-  by_why cause events (CloseEditor e) why = tt
-  by_why cause events (EndServer s) why = tt
+  by_why : (cause : Cause) (events : List Event) (out : Out) → worker_of events ≡ worker_of (with_cause before cause) → Why settings before cause events out → OnOwnTexts settings events out
+  by_why cause events (ToServer s body) still why = by_reason cause events s body still why
+  by_why cause events (ToEditor e body) still why = tt
+  by_why cause events (Spawn s g) still why = tt
+  by_why cause events (CloseEditor e) still why = tt
+  by_why cause events (EndServer s) still why = tt
 
-  row_own : (cause : Cause) (events : List Event) (outs : List Out) → AllWhy settings before cause events outs → AllOnOwnTexts settings events outs
-  row_own cause events [] why = tt
-  row_own cause events (out ∷ outs) why = (by_why cause events out why.0, row_own cause (events ++ said out ∷ []) outs why.1)
+  worker_stays : (events : List Event) (out : Out) → worker_of (events ++ said out ∷ []) ≡ worker_of events
+  worker_stays events (ToServer s body) = one_more worker_behind None (worker_of events) events (said (ToServer s body)) refl
+  worker_stays events (ToEditor e body) = one_more worker_behind None (worker_of events) events (said (ToEditor e body)) refl
+  worker_stays events (Spawn s g) = one_more worker_behind None (worker_of events) events (said (Spawn s g)) refl
+  worker_stays events (CloseEditor e) = one_more worker_behind None (worker_of events) events (said (CloseEditor e)) refl
+  worker_stays events (EndServer s) = one_more worker_behind None (worker_of events) events (said (EndServer s)) refl
+
+  row_own : (cause : Cause) (events : List Event) (outs : List Out) → worker_of events ≡ worker_of (with_cause before cause) → AllWhy settings before cause events outs → AllOnOwnTexts settings events outs
+  row_own cause events [] still why = tt
+  row_own cause events (out ∷ outs) still why = (by_why cause events out still why.0, row_own cause (events ++ said out ∷ []) outs (worker_stays events out ∙ still) why.1)
 
   -- the outs of an entry, with those of the editors that are slow behind its row
   pub entry_own : (cause : Cause) (outs : List Out) → HasParts settings before cause outs → AllOnOwnTexts settings (with_cause before cause) outs
   entry_own cause outs h = subst (AllOnOwnTexts settings (with_cause before cause)) (sym h.parts)
-      (both_own settings (with_cause before cause) h.row (flat_map (λ (x : SlowOuts). x.outs) h.slow) (row_own cause (with_cause before cause) h.row h.why) (slow_own settings (behind (with_cause before cause) h.row) h.slow h.leave))
+      (both_own settings (with_cause before cause) h.row (flat_map (λ (x : SlowOuts). x.outs) h.slow) (row_own cause (with_cause before cause) h.row refl h.why) (slow_own settings (behind (with_cause before cause) h.row) h.slow h.leave))
 
   -- what a ready start of a group has
   pub holders : AllHaveHolders settings before

@@ -16,6 +16,8 @@ use Rattle.group_sessions.specs.group_facts.specs.SlowRows.{slow_row}
 use Rattle.mux_causes.specs.Backlogs.{BacklogsStand, bytes_in}
 use Rattle.mux_causes.specs.mux_tables.specs.declared.tables.Tables.{Tables}
 use Rattle.mux_causes.specs.mux_tables.specs.Stands.{Stands}
+use Rattle.mux_causes.specs.mux_turns.specs.Carried.{CarriedStand, CarriesView}
+use Rattle.mux_causes.specs.mux_turns.proofs.CarriedOn.{carried_behind}
 use Rattle.mux_slow.specs.Told.{Quick}
 use Rattle.mux_slow.proofs.Joined.{there_joined}
 use Rattle.mux_slow.proofs.Quick.{quick_rests}
@@ -37,3 +39,8 @@ joins_clear counts before cause stands fit n is =
 pub quick_behind : (settings : Settings) (kept : Tables) (base : List Event) (xs ys : List Out) → Stands settings kept (behind base xs) → ys ≡ xs ++ outs (slow_row settings) (behind base xs) → Quick settings (behind base ys)
 quick_behind settings kept base xs ys st is =
     subst (Quick settings) (sym (ap (behind base) is ∙ behind_both base xs (outs (slow_row settings) (behind base xs)))) (quick_rests settings (behind base xs) (there_joined settings kept (behind base xs) st))
+
+-- what groups carry, where those leave
+pub carried_slow : (settings : Settings) (carries : CarriesView) (base : List Event) (xs ys : List Out) → ys ≡ xs ++ outs (slow_row settings) (behind base xs) → CarriedStand settings carries (behind base xs) → CarriedStand settings carries (behind base ys)
+carried_slow settings carries base xs ys is h =
+    subst (CarriedStand settings carries) (sym (ap (behind base) is ∙ behind_both base xs (outs (slow_row settings) (behind base xs)))) (carried_behind settings carries (behind base xs) (outs (slow_row settings) (behind base xs)) h)

@@ -7,7 +7,6 @@ ghost use Rattle.mux_history.specs.Cores.{body_length, joined, spawns};
 ghost use Rattle.event_model.specs.Event.{Event, behind, events_of, with_cause};
 ghost use Rattle.event_model.specs.Settings.{Settings};
 ghost use Rattle.mux_model.specs.Fits.{fits, fits_behind};
-ghost use Rattle.group_sessions.specs.group_facts.specs.Built.{built, built_behind};
 ghost use Rattle.group_sessions.specs.group_facts.specs.Facts.{Known};
 ghost use Rattle.group_sessions.specs.group_facts.specs.Settled.{Settled};
 ghost use Rattle.group_sessions.specs.group_facts.specs.SlowRows.{entry_outs};
@@ -20,13 +19,13 @@ use crate::fault::StepFault;
 use crate::starts::note_spawns;
 use event_model::{Limits, Server};
 use message_body::Memory;
-use mux_causes::Backlogs;
 use mux_causes::mux_tables::Tables;
+use mux_causes::{Backlogs, Carries};
 use mux_history::{Cause, Entry, Journal, Outs, StepFault as CoreFault, Steps};
 use std::alloc::Global;
 use std::marker::Model;
 
-// The outs of a cause, behind them those of editors that are slow there, and the tables and the counts behind all of these. Where the
+// The outs of a cause, behind them those of editors that are slow there, and the tables, what groups carry, and the counts behind all of these. Where the
 // answer is an error they stand for nothing any more.
 fn turn(
     alloc: Global,
@@ -34,6 +33,7 @@ fn turn(
     servers: &[Server],
     default: u32,
     tables: &mut Tables,
+    carries: &mut Carries,
     backlogs: &mut Backlogs,
     starts: &mut Vec<u32>,
     cause: &Cause,
@@ -46,12 +46,12 @@ fn turn(
     ensures same_versions { tables.new.versions ≡ tables.old.versions }
     ensures takes { (settings : Settings) (before : List Event) → settings.limits ≡ limits.now → settings.servers ≡ servers.now → settings.default ≡ default
         → Known settings before → Settled settings before
-        → fits_behind before cause.now ≡ true → built_behind settings before cause.now ≡ true
-        → TablesStand settings tables.old backlogs.old starts.old.items before
+        → fits_behind before cause.now ≡ true
+        → TablesStand settings tables.old carries.old backlogs.old starts.old.items before
         → IfOk result (λ outs. (outs ≡ entry_outs settings before cause.now)
-        × TablesStand settings tables.new backlogs.new starts.new.items (behind (with_cause before cause.now) outs)) }
+        × TablesStand settings tables.new carries.new backlogs.new starts.new.items (behind (with_cause before cause.now) outs)) }
 {
-    let mut outs = mux_entries::take(tables, alloc, limits, servers, default, cause)?;
+    let mut outs = mux_entries::take(tables, carries, alloc, limits, servers, default, cause)?;
     backlogs.take(cause, &outs)?;
     mux_slow::leave_slow(tables, alloc, backlogs, limits.backlog, &mut outs)?;
     note_spawns(starts, tables, default, &outs)?;
@@ -79,6 +79,7 @@ pub struct Hub<J: Journal> {
     servers: Vec<Server>,
     default: u32,
     tables: Tables,
+    carries: Carries,
     backlogs: Backlogs,
     starts: Vec<u32>,
     events: u64,
@@ -91,7 +92,7 @@ impl<J: Journal> Model for Hub<J> {
 
     ghost Value = { HubView J };
 
-    ghost view = { λ h. record { settings = record { limits = h.limits; servers = h.servers.items; default = h.default }; tables = h.tables; backlogs = h.backlogs; starts = h.starts.items; events = h.events; spent = h.spent; journal = h.journal } };
+    ghost view = { λ h. record { settings = record { limits = h.limits; servers = h.servers.items; default = h.default }; tables = h.tables; carries = h.carries; backlogs = h.backlogs; starts = h.starts.items; events = h.events; spent = h.spent; journal = h.journal } };
 
     ghost invariant = { λ h. IsSound (record { limits = h.limits; servers = h.servers.items; default = h.default }) h.tables };
 }
@@ -130,6 +131,7 @@ impl<J: Journal> Hub<J> {
             servers,
             default,
             tables,
+            carries: Carries::new(alloc),
             backlogs: Backlogs::new(alloc),
             starts: Vec::new(alloc),
             events: 0,
@@ -180,22 +182,11 @@ impl<J: Journal> Hub<J> {
         self.tables.is_stopped()
     }
 
-    /// Whether this cause, which fits, meets only rows of the routing table that are built: all but the end of a program whose group goes on
-    /// with a new start.
-    pub fn built(&self, cause: &Cause) -> Result<bool, Memory>
-        ensures { (history : List Entry) → HubStands J.told self.now history → self.now.spent ≡ false
-            → IfOk result (λ answer. answer ≡ built self.now.settings history cause.now) }
-    {
-        mux_causes::built(&self.tables, self.limits.restarts as u64, cause)
-    }
-
     /// Takes a cause and gives its outs: those of the routing table. The entry was appended to the journal. Where the causes and outs
     /// would be more than 2^63 - 1, the answer is `Numbers`, and nothing is appended.
     pub fn step(&mut self, cause: Cause) -> Result<Outs, StepFault>
         requires small { body_length cause ≤ 268435456 }
         requires fits { (history : List Entry) → HubStands J.told self.old history → self.old.spent ≡ false → IsTrue (fits history cause) }
-        requires is_built { (history : List Entry) → HubStands J.told self.old history → self.old.spent ≡ false
-            → IsTrue (built self.old.settings history cause) }
         ensures settings { self.new.settings ≡ self.old.settings }
         ensures outs { (history : List Entry) → HubStands J.told self.old history → IfOk result (λ outs. outs ≡ emits self.old.settings history cause) }
         ensures stands { (history : List Entry) → HubStands J.told self.old history
@@ -219,6 +210,7 @@ impl<J: Journal> Hub<J> {
             self.servers.as_slice(),
             self.default,
             &mut self.tables,
+            &mut self.carries,
             &mut self.backlogs,
             &mut self.starts,
             &cause,
@@ -234,8 +226,7 @@ impl<J: Journal> Hub<J> {
     }
 }
 
-/// What threads may know of the hub: an editor that is there asks it to stop (E6). Where a cause meets a row of the routing table
-/// that isn't built, its step answers that memory is wanted.
+/// What threads may know of the hub: an editor that is there asks it to stop (E6).
 impl<J: Journal> Steps for Hub<J> {
     ghost use Rattle.mux_model.specs.Fits.{fits};
     ghost use Rattle.mux_hub.specs.Entries.{asks_stop, was_stopped};
@@ -270,13 +261,6 @@ impl<J: Journal> Steps for Hub<J> {
     }
 
     fn step(&mut self, cause: Cause) -> Result<Outs, CoreFault> {
-        if self.spent {
-            return Err(CoreFault::Spent);
-        }
-        if !matches!(self.built(&cause), Ok(true)) {
-            self.spent = true;
-            return Err(CoreFault::Memory);
-        }
         match Hub::step(self, cause) {
             Ok(outs) => Ok(outs),
             Err(StepFault::Memory) => Err(CoreFault::Memory),

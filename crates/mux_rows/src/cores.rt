@@ -44,7 +44,7 @@ fn a_hub_is_a_core(rt: HostRuntime) -> Result<(), Fail> {
 }
 
 #[test]
-fn what_no_row_takes_yet_wants_memory(rt: HostRuntime) -> Result<(), Fail> {
+fn a_start_that_failed_is_renewed_once(rt: HostRuntime) -> Result<(), Fail> {
     let alloc = rt.alloc();
     let journal = MemJournal::new(alloc, Vec::new(alloc));
     let Ok(mut hub) = Hub::new(alloc, limits(4, 4), Vec::new(alloc), 0, journal) else {
@@ -54,10 +54,23 @@ fn what_no_row_takes_yet_wants_memory(rt: HostRuntime) -> Result<(), Fail> {
     let initialize = b"{\"jsonrpc\":\"2.0\",\"id\":1,\"method\":\"initialize\",\"params\":{}}";
     let body = Body::new(Vec::from_slice(alloc, initialize)?);
     assert_eq!(rt; outs_of(&mut hub, Cause::FromEditor(0, body)), Some(Ok(1)));
-    // The group of the start lives.
+    assert_eq!(rt; hub.server_of(1), None);
+    assert_eq!(rt; outs_of(&mut hub, Cause::StartFailed(0)), Some(Ok(1)));
+    assert_eq!(rt; hub.server_of(1), Some(0));
+    assert_eq!(rt; outs_of(&mut hub, Cause::StartFailed(0)), None);
+    Ok(())
+}
+
+#[test]
+fn a_core_whose_journal_failed_is_spent(rt: HostRuntime) -> Result<(), Fail> {
+    let alloc = rt.alloc();
+    let journal = MemJournal::new(alloc, vec![in alloc; 0]?);
+    let Ok(mut hub) = Hub::new(alloc, limits(4, 4), Vec::new(alloc), 0, journal) else {
+        return Err(Fail::from("no hub"));
+    };
     assert_eq!(rt;
-        outs_of(&mut hub, Cause::StartFailed(0)),
-        Some(Err(StepFault::Memory))
+        outs_of(&mut hub, Cause::Joined(0)),
+        Some(Err(StepFault::Journal))
     );
     assert_eq!(rt;
         outs_of(&mut hub, Cause::Tick(1)),

@@ -1,5 +1,5 @@
-// The program of a start ends for good, whose editors run, got their result, and are down: what was open at it fails, and each that runs is told what ends with it.
-pub const LOST: [(&str, &str); 20] = [
+// What a start began at editors that run, got their result, and are down.
+pub const BEGUN: [(&str, &str); 16] = [
     (
         "ed 0 {\"jsonrpc\":\"2.0\",\"method\":\"textDocument/didOpen\",\"params\":{\"textDocument\":{\"uri\":\"file:///u\",\"languageId\":\"x\",\"version\":1,\"text\":\"a\"}}}\n",
         ">sv 0 {\"jsonrpc\":\"2.0\",\"method\":\"textDocument/didOpen\",\"params\":{\"textDocument\":{\"uri\":\"file:///u\",\"languageId\":\"x\",\"version\":1,\"text\":\"a\"}}}\n",
@@ -55,6 +55,10 @@ pub const LOST: [(&str, &str); 20] = [
         "ed 3 {\"jsonrpc\":\"2.0\",\"id\":2,\"method\":\"shutdown\"}\n",
         ">ed 3 {\"jsonrpc\":\"2.0\",\"id\":2,\"result\":null}\n>sv 0 {\"jsonrpc\":\"2.0\",\"method\":\"$/cancelRequest\",\"params\":{\"id\":5}}\n",
     ),
+];
+
+// Behind that its program ends for good: what was open at it fails, and each that runs is told what ends with it.
+pub const LOST: [(&str, &str); 4] = [
     (
         "exit 0\n",
         ">ed 0 {\"jsonrpc\":\"2.0\",\"id\":1,\"error\":{\"code\":-32803,\"message\":\"Request failed\"}}\n>ed 0 {\"jsonrpc\":\"2.0\",\"id\":2,\"error\":{\"code\":-32803,\"message\":\"Request failed\"}}\n>ed 1 {\"jsonrpc\":\"2.0\",\"id\":7,\"error\":{\"code\":-32803,\"message\":\"Request failed\"}}\n>ed 3 {\"jsonrpc\":\"2.0\",\"id\":1,\"error\":{\"code\":-32803,\"message\":\"Request failed\"}}\n>ed 0 {\"jsonrpc\":\"2.0\",\"method\":\"$/progress\",\"params\":{\"token\":\"lspmux:0:1\",\"value\":{\"kind\":\"end\"}}}\n>ed 0 {\"jsonrpc\":\"2.0\",\"method\":\"$/cancelRequest\",\"params\":{\"id\":3}}\n>ed 0 {\"jsonrpc\":\"2.0\",\"id\":4,\"method\":\"client/unregisterCapability\",\"params\":{\"unregisterations\":[{\"id\":\"r\",\"method\":\"m\"}]}}\n>ed 0 {\"jsonrpc\":\"2.0\",\"method\":\"textDocument/publishDiagnostics\",\"params\":{\"uri\":\"file:///u\",\"diagnostics\":[]}}\n>ed 1 {\"jsonrpc\":\"2.0\",\"method\":\"$/cancelRequest\",\"params\":{\"id\":2}}\n>ed 1 {\"jsonrpc\":\"2.0\",\"id\":3,\"method\":\"client/unregisterCapability\",\"params\":{\"unregisterations\":[{\"id\":\"r\",\"method\":\"m\"}]}}\n>ed 1 {\"jsonrpc\":\"2.0\",\"method\":\"textDocument/publishDiagnostics\",\"params\":{\"uri\":\"file:///u\",\"diagnostics\":[]}}\n>close 0\n>close 1\n>close 2\n>close 3\n",

@@ -22,6 +22,8 @@ mod play;
 #[cfg(test)]
 mod registered;
 #[cfg(test)]
+mod restarts;
+#[cfg(test)]
 mod slow;
 #[cfg(test)]
 mod statuses;

@@ -1,4 +1,4 @@
-use crate::exits::{LOST, LOST_DOWN, LOST_EARLY, LOST_IDLE, NOT_RUN};
+use crate::exits::{BEGUN, LOST, LOST_DOWN, LOST_EARLY, LOST_IDLE, NOT_RUN};
 use crate::offers::OFFERING;
 use crate::play::{limits, play};
 use crate::slow::{BOTH_SLOW, FILLED, TAKEN, TOO_MANY_TAKEN};
@@ -646,9 +646,6 @@ const IDLING: [(&str, &str); 10] = [
     ("tick 406\n", ""),
 ];
 
-// A line that fits, and that no row takes yet.
-const UNBUILT: &str = "exit 0\n";
-
 #[test]
 fn sessions_bring_their_lines(rt: HostRuntime) -> Result<(), Fail> {
     let alloc = rt.alloc();
@@ -717,7 +714,11 @@ fn an_idle_group_ends_for_another(rt: HostRuntime) -> Result<(), Fail> {
 #[test]
 fn a_group_ends_with_its_last_start(rt: HostRuntime) -> Result<(), Fail> {
     let alloc = rt.alloc();
-    let once: [&[&[(&str, &str)]]; 3] = [&[&TWO_EDITORS, &LOST], &[&LOST_EARLY], &[&NOT_RUN]];
+    let once: [&[&[(&str, &str)]]; 3] = [
+        &[&TWO_EDITORS, &BEGUN, &LOST],
+        &[&LOST_EARLY],
+        &[&NOT_RUN],
+    ];
     for parts in once {
         let mut few = limits(MOST, MOST);
         few.restarts = 0;
@@ -762,19 +763,6 @@ fn bytes_are_drained_once(rt: HostRuntime) -> Result<(), Fail> {
 }
 
 #[test]
-fn a_line_that_no_row_takes_is_refused(rt: HostRuntime) -> Result<(), Fail> {
-    let alloc = rt.alloc();
-    let end = Err(Stop::Refused(6, Refusal::Unbuilt));
-    play(
-        &rt,
-        alloc,
-        limits(MOST, MOST),
-        &[&OPENING, &[(UNBUILT, "")]],
-        end,
-    )
-}
-
-#[test]
 fn a_hub_whose_journal_failed_is_spent(rt: HostRuntime) -> Result<(), Fail> {
     let alloc = rt.alloc();
     let journal = MemJournal::new(alloc, vec![in alloc; 0]?);
@@ -783,8 +771,6 @@ fn a_hub_whose_journal_failed_is_spent(rt: HostRuntime) -> Result<(), Fail> {
     };
     let cause = Cause::Joined(0);
     assert!(rt; hub.fits(&cause));
-    let built = hub.built(&cause)?;
-    assert!(rt; built);
     assert!(rt; matches!(hub.step(cause), Err(StepFault::Journal)));
     assert!(rt; hub.close().entries().is_empty());
     Ok(())

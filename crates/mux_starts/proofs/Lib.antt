@@ -17,3 +17,5 @@ pub mod Unlisted
 pub mod Refreshing
 pub mod Recalls
 pub mod Registering
+pub mod Parting
+pub mod Resulting

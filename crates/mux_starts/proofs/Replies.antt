@@ -12,25 +12,16 @@ use Rattle.rpc_message.specs.Texts.{initialized_text}
 use Rattle.rpc_message.proofs.Fixed.{initialized_law}
 use Rattle.position_codec.specs.declared.Encoding.{Encoding}
 use Rattle.document_model.specs.Sayings.{nothing, saying_of}
-use Rattle.event_model.specs.Does.{Does, Done}
-use Rattle.event_model.specs.Row.{each, look, on, send}
-use Rattle.event_model.specs.Row.{nothing as none_sent}
-use Rattle.event_model.specs.Spawns.{group_of}
 use Rattle.event_model.specs.Event.{Event, behind, heard, requests, said, with_cause}
 use Rattle.event_model.specs.Phases.{Desk, desk_behind, desk_of}
-use Rattle.event_model.specs.Settings.{Settings}
 use Rattle.event_model.specs.Stages.{is_first_result}
 use Rattle.event_model.proofs.Frames.{one_more}
 use Rattle.group_rows.specs.Forwarded.{moves_ids}
-use Rattle.group_rows.specs.Rows.{first_result, result_in, waiting_in, welcome}
 use Rattle.group_rows.specs.Texts.{is_synced}
 use Rattle.mux_model.specs.Documents.{encoding_by, encoding_in}
-use Rattle.event_model.proofs.Turns.{alike, behind_more, does_alike, does_then}
-use Rattle.mux_model.specs.Rows.{to_start}
-use Rattle.mux_tables.specs.declared.tables.Tables.{Tables}
-use Rattle.mux_tables.specs.Documents.{AllStand, nothing_owed, owes, replaying, to}
+use Rattle.event_model.proofs.Turns.{behind_more}
+use Rattle.mux_tables.specs.Documents.{to}
 use Rattle.mux_tables.specs.Stands.{is_answer}
-use Rattle.mux_turns.proofs.Matched.{whole_entry}
 use Rattle.mux_turns.specs.Welcomes.{AllAsking}
 
 -- how positions count, as the first result says
@@ -75,17 +66,3 @@ module _ (before : List Event) (s : ℕ) (body : List ℕ) (bodies : List (List 
   still_asking asking e waits =
       let a = asking e (ap (λ (d : Desk). d.phase) (sym (same_desk e)) ∙ waits) in
       record { name = a.name; method = a.method; params = a.params; says = ap (λ (d : Desk). message_of d.initialize) (same_desk e) ∙ a.says }
-
--- the parts of the entry, one after the other
-pub begun_entry : (settings : Settings) (before : List Event) (s g : ℕ) (body : List ℕ) (t u : Tables) (xs ys zs ws : List Out) → group_of s before ≡ Some g → xs ≡ [] → AllStand settings (t, owes g (replaying settings before g)) (with_cause before (FromServer s body))
-    → Does (λ k events. AllStand settings k events) (send (ToServer s initialized_text)) (with_cause before (FromServer s body)) (t, owes g (replaying settings before g)) xs (t, owes g (replaying settings before g)) ys
-    → Does (λ k events. AllStand settings k events) (to_start s (replaying settings before g)) (with_cause before (FromServer s body)) (t, owes g (replaying settings before g)) ys (t, nothing_owed) zs
-    → Does (λ k events. AllStand settings k events) (look (λ events. each (welcome body) (waiting_in settings g events))) (with_cause before (FromServer s body)) (t, nothing_owed) zs (u, nothing_owed) ws
-    → Done (λ k events. AllStand settings k events) (first_result settings before s body) (with_cause before (FromServer s body)) [] (u, nothing_owed) ws
-begun_entry settings before s g body t u xs ys zs ws home first all begins replays greets =
-    whole_entry (λ k events. AllStand settings k events) (first_result settings before s body) (with_cause before (FromServer s body)) (t, owes g (replaying settings before g)) (u, nothing_owed) xs ws first all
-    (does_alike (λ _. alike (ap (λ o. on o none_sent (result_in settings before s body)) home)) (does_then begins (does_then replays greets)))
-
--- what the start was sent before editors are answered
-pub sent_so : (s : ℕ) (text : List ℕ) (bodies : List (List ℕ)) (xs ys zs owed : List Out) → xs ≡ [] → ys ≡ xs ++ ToServer s text ∷ [] → owed ≡ to s bodies → zs ≡ ys ++ owed → zs ≡ to s (text ∷ bodies)
-sent_so s text bodies xs ys zs owed first one are two = two ∙ (ap (λ ws. ws ++ owed) (one ∙ ap (λ ws. ws ++ ToServer s text ∷ []) first) ∙ ap (λ ws. ToServer s text ∷ ws) are)

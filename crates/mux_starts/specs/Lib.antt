@@ -2,6 +2,7 @@ pub mod Answers
 pub mod Creates
 pub mod Lists
 pub mod Openings
+pub mod Parted
 pub mod Progress
 pub mod Refusing
 pub mod Replies

@@ -28,7 +28,7 @@ pub use hasty::{is_first_error, take_hasty};
 pub use lists::take_list;
 pub use mux_members;
 pub use mux_tables;
-pub use mux_turns::{answered_number, stage_at};
+pub use mux_turns::{Carries, answered_number, stage_at};
 pub use progress::{Telling, take_progress};
 pub use recalled::take_recall;
 pub use refreshed::take_refresh;

@@ -16,7 +16,7 @@ use Rattle.document_model.specs.Texts.{Texts, no_texts}
 use Rattle.event_model.specs.declared.stage.Stage.{Stage}
 use Rattle.event_model.specs.declared.stage.Stage.TheVariants.{Unspawned, Spawning, Initializing, Ready, Stopping, Ending, Ended}
 use Rattle.event_model.specs.Event.{Event, behind, did, heard, requests, said, took}
-use Rattle.event_model.specs.Phases.{desk_of, is_served}
+use Rattle.event_model.specs.Phases.{desk_of, is_running, is_served}
 use Rattle.event_model.specs.Settings.{Settings}
 use Rattle.event_model.specs.Spawns.{start_of}
 use Rattle.event_model.specs.Stages.{Life, is_ready, life_of}
@@ -42,7 +42,7 @@ use Rattle.mux_tables.specs.Documents.{AllTell, DocumentsStand, IsOwned, Leaves,
 use Rattle.mux_tables.specs.Stands.{IsLost, IsPlace, Stands, group_in, of_life, start_for}
 use Rattle.mux_tables.proofs.DocumentFrames.{SentSame, all_owned, owner_served, owner_stays, parts, sent_stays, shared_stays, start_stays, touches_sent, untold_stays}
 use Rattle.mux_tables.proofs.Noting.{asks_on, joins, left_stays, moment_stays}
-use Rattle.mux_tables.proofs.DocumentMoves.{Rest, documents_all, documents_at, documents_set, founds_kept, set_same, starts_kept}
+use Rattle.mux_tables.proofs.DocumentMoves.{Rest, documents_all, documents_at, documents_set, founds_kept, rest_none, set_same, starts_kept}
 use Rattle.mux_tables.proofs.Lasts.{lost_ended}
 use Rattle.mux_tables.proofs.Placed.{groups_apart}
 use Rattle.mux_tables.proofs.DocumentOwed.{nothing_owes, owes_here, owes_there}
@@ -190,6 +190,26 @@ home_seen settings t events e home l is st = st.house.editors.home e ∙ (ap gro
 other_way : (a b : ℕ) → nat_eq a b ≡ false → nat_eq b a ≡ false
 other_way a b h = grind (arith, nat_tests)
 
+-- nor does it owe anything where it has none
+no_uris : (e : ℕ) (os : List Open) → AllByRecursion (λ (o : Open). nat_eq o.editor e ≡ false) os → uris_of e os ≡ []
+no_uris e [] h = refl
+no_uris e (o ∷ os) h = ap₂ (λ b us. (if b then o.uri ∷ [] else []) ++ us) h.0 (no_uris e os h.1)
+
+no_step : (e : ℕ) (d : Documents) → AllByRecursion (λ (o : Open). nat_eq o.editor e ≡ false) d.opens → leave_row e d ≡ record { outs = []; after = d }
+no_step e d h = ap (λ us. fold (close_next e) (record { outs = []; after = d }) us) (no_uris e d.opens h)
+
+module _ (settings : Settings) (owed : Owed) (t u : Tables) (events : List Event) (e : ℕ) (outs : List Out) (nowhere : (j : ℕ) (o : Open) → IsOwned settings events j o → nat_eq o.editor e ≡ false) where
+  step_at : (g : ℕ) (o : Option Documents) → slice_get t.documents.items g ≡ o → StepAt (leave_row e) g o t.documents.items outs u.documents.items → DocumentsStand settings owed t events → (outs ≡ []) × (u.documents.items ≡ t.documents.items)
+  step_at g None at left s = left
+  step_at g (Some d) at left s =
+      let x = item_at t.lasts.items g (subst (λ n. g < n) s.count (slice_get_within t.documents.items g d at)) in
+      let k = no_step e d (all_owned (IsOwned settings events x.0.life.group) (λ (o : Open). nat_eq o.editor e ≡ false) d.opens (nowhere x.0.life.group) (s.each g x.0 d x.1 at).owned) in
+      (left.0 ∙ ap (λ (z : Step). z.outs) k, left.1 ∙ (ap (λ (z : Step). slice_set t.documents.items g z.after) k ∙ set_same t.documents.items g d at))
+
+  quiet_step : (o : Option ℕ) → StepFrom (leave_row e) o t.documents.items outs u.documents.items → DocumentsStand settings owed t events → (outs ≡ []) × (u.documents.items ≡ t.documents.items)
+  quiet_step None left s = left
+  quiet_step (Some g) left s = step_at g (slice_get t.documents.items g) refl left s
+
 asks_unsent : (ev : Event) → touches_sent ev ≡ false → asks_on ev ≡ false
 asks_unsent (did (ToServer s body) m) h = never h
 asks_unsent other h = refl
@@ -247,26 +267,8 @@ module _ (settings : Settings) (t u : Tables) (events : List Event) (ev : Event)
         (encoding_stays j events ev encodes) (start_stays s (owed j) c events later (sent_stays s events ev sends) stage)
         (λ k. all_owned (IsOwned settings events j) (IsOwned settings later j) c.opens (λ o q. owner j o (nowhere j o q) q) k) h
 
-    no_uris : (os : List Open) → AllByRecursion (λ (o : Open). nat_eq o.editor e ≡ false) os → uris_of e os ≡ []
-    no_uris [] h = refl
-    no_uris (o ∷ os) h = ap₂ (λ b us. (if b then o.uri ∷ [] else []) ++ us) h.0 (no_uris os h.1)
-
-    no_step : (d : Documents) → AllByRecursion (λ (o : Open). nat_eq o.editor e ≡ false) d.opens → leave_row e d ≡ record { outs = []; after = d }
-    no_step d h = ap (λ us. fold (close_next e) (record { outs = []; after = d }) us) (no_uris d.opens h)
-
-    step_at : (g : ℕ) (o : Option Documents) → slice_get t.documents.items g ≡ o → StepAt (leave_row e) g o t.documents.items outs u.documents.items → DocumentsStand settings owed t events → (outs ≡ []) × (u.documents.items ≡ t.documents.items)
-    step_at g None at left s = left
-    step_at g (Some d) at left s =
-        let x = item_at t.lasts.items g (subst (λ n. g < n) s.count (slice_get_within t.documents.items g d at)) in
-        let k = no_step d (none_of x.0.life.group d.opens (s.each g x.0 d x.1 at).owned) in
-        (left.0 ∙ ap (λ (z : Step). z.outs) k, left.1 ∙ (ap (λ (z : Step). slice_set t.documents.items g z.after) k ∙ set_same t.documents.items g d at))
-
-    step_from : (o : Option ℕ) → StepFrom (leave_row e) o t.documents.items outs u.documents.items → DocumentsStand settings owed t events → (outs ≡ []) × (u.documents.items ≡ t.documents.items)
-    step_from None left s = left
-    step_from (Some g) left s = step_at g (slice_get t.documents.items g) refl left s
-
     unserved_documents : (place : Option ℕ) → StepFrom (leave_row e) place t.documents.items outs u.documents.items → DocumentsStand settings owed t events → (outs ≡ []) × DocumentsStand settings owed u later
-    unserved_documents place left s = let k = step_from place left s in (k.0, documents_all settings owed owed t u events later rest vs ls k.1 (λ g x d at h. still x.life.group x.life.start x.life.stage d h) s)
+    unserved_documents place left s = let k = quiet_step settings owed t u events e outs nowhere place left s in (k.0, documents_all settings owed owed t u events later rest vs ls k.1 (λ g x d at h. still x.life.group x.life.start x.life.stage d h) s)
 
 pub gone_documents : (settings : Settings) (t u : Tables) (events : List Event) (e : ℕ) (why : Why) (home place : Option ℕ) (outs : List Out) → e < length t.editors → home ≡ (session_of t.editors e).group → IsPlace t.lasts.items home place → u.lasts ≡ t.lasts → u.versions ≡ t.versions → StepFrom (leave_row e) place t.documents.items outs u.documents.items
     → Stands settings t events → DocumentsStand settings nothing_owed t events → Leaves settings events e (home_of settings e events) (start_for settings e events) outs u (events ++ heard (EditorGone e why) ∷ [])
@@ -322,18 +324,38 @@ closed_rest settings t events e = record {
 }
 
 -- another group
-pub closed_away : (settings : Settings) (t : Tables) (events : List Event) (e : ℕ) (home : Option ℕ) (owed : Owed) → e < length t.editors → home ≡ (session_of t.editors e).group → Stands settings t events
-    → (j s : ℕ) (stage : Stage) (c : Documents) → is_home j home ≡ false → SharedStands settings events (owed j) j s stage c → SharedStands settings (events ++ said (CloseEditor e) ∷ []) (owed j) j s stage c
-closed_away settings t events e home owed l is st j s stage c off h =
-    let none : AllByRecursion (λ (o : Open). nat_eq o.editor e ≡ false) c.opens = all_owned (IsOwned settings events j) (λ (o : Open). nat_eq o.editor e ≡ false) c.opens (λ o k. elsewhere settings events e j o (ap (is_home j) (home_seen settings t events e home l is st) ∙ off) k) h.owned in
-    shared_stays settings events (events ++ said (CloseEditor e) ∷ []) (owed j) j s stage c
+pub closed_elsewhere : (settings : Settings) (events : List Event) (e : ℕ) (owed : List (List ℕ)) (j s : ℕ) (stage : Stage) (c : Documents) → is_home j (home_of settings e events) ≡ false → SharedStands settings events owed j s stage c → SharedStands settings (events ++ said (CloseEditor e) ∷ []) owed j s stage c
+closed_elsewhere settings events e owed j s stage c off h =
+    let none : AllByRecursion (λ (o : Open). nat_eq o.editor e ≡ false) c.opens = all_owned (IsOwned settings events j) (λ (o : Open). nat_eq o.editor e ≡ false) c.opens (λ o k. elsewhere settings events e j o off k) h.owned in
+    shared_stays settings events (events ++ said (CloseEditor e) ∷ []) owed j s stage c
     (texts_more settings j events (said (CloseEditor e)) ∙ (ap (without_editor e) h.texts.texts ∙ (ap (λ (os : List Open). record { turn = c.turn; opens = os }) (none_left e c.opens none) ∙ sym h.texts.texts)))
-    (encoding_stays j events (said (CloseEditor e)) refl) (start_stays s (owed j) c events (events ++ said (CloseEditor e) ∷ []) (sent_stays s events (said (CloseEditor e)) refl) stage)
+    (encoding_stays j events (said (CloseEditor e)) refl) (start_stays s owed c events (events ++ said (CloseEditor e) ∷ []) (sent_stays s events (said (CloseEditor e)) refl) stage)
     (λ k. both_owned (λ (o : Open). nat_eq o.editor e ≡ false) (IsOwned settings events j) (IsOwned settings (events ++ said (CloseEditor e) ∷ []) j) c.opens (λ o away q. owner_stays settings events j o (said (CloseEditor e)) (other_way o.editor e away) q) none k) h
   where
     both_owned : (N P Q : Open → Type 0) (os : List Open) → ((o : Open) → N o → P o → Q o) → AllByRecursion N os → AllByRecursion P os → AllByRecursion Q os
     both_owned N P Q [] f n k = tt
     both_owned N P Q (o ∷ os) f n k = (f o n.0 k.0, both_owned N P Q os f n.1 k.1)
+
+pub closed_away : (settings : Settings) (t : Tables) (events : List Event) (e : ℕ) (home : Option ℕ) (owed : Owed) → e < length t.editors → home ≡ (session_of t.editors e).group → Stands settings t events
+    → (j s : ℕ) (stage : Stage) (c : Documents) → is_home j home ≡ false → SharedStands settings events (owed j) j s stage c → SharedStands settings (events ++ said (CloseEditor e) ∷ []) (owed j) j s stage c
+closed_away settings t events e home owed l is st j s stage c off = closed_elsewhere settings events e (owed j) j s stage c (ap (is_home j) (home_seen settings t events e home l is st) ∙ off)
+
+-- where the documents are ahead of the events by the end of its link and of others, it has none already
+pub closed_ahead : (settings : Settings) (owing : Owed) (t u : Tables) (base : List Event) (xs ys more : List Out) (e : ℕ) (place : Option ℕ) (outs : List Out) → u.lasts ≡ t.lasts → u.versions ≡ t.versions → StepFrom (leave_row e) place t.documents.items outs u.documents.items → ys ≡ xs ++ CloseEditor e ∷ []
+    → is_running (desk_of e (behind (behind base xs) (CloseEditor e ∷ more))).phase ≡ false → DocumentsStand settings owing t (behind (behind base xs) (CloseEditor e ∷ more)) → DocumentsStand settings owing u (behind (behind base ys) more)
+closed_ahead settings owing t u base xs ys more e place outs ls vs left said_so off s =
+    subst (DocumentsStand settings owing u) (behind_more (behind base xs) (CloseEditor e ∷ []) more ∙ ap (λ es. behind es more) (sym (ap (behind base) said_so ∙ behind_more base xs (CloseEditor e ∷ []))))
+    (documents_all settings owing owing t u later later (rest_none settings t later) vs (ap (λ v. v.items) ls) (quiet_step settings owing t u later e outs nowhere place left s).1 (λ g x d at h. h) s)
+  where
+    later : List Event
+    later = behind (behind base xs) (CloseEditor e ∷ more)
+
+    nowhere : (j : ℕ) (o : Open) → IsOwned settings later j o → nat_eq o.editor e ≡ false
+    nowhere j o k = go (nat_eq o.editor e) refl
+      where
+        go : (b : Bool) → nat_eq o.editor e ≡ b → b ≡ false
+        go false q = refl
+        go true q = let w : o.editor ≡ e = grind (arith, nat_tests) in never (sym (subst (λ n. is_running (desk_of n later).phase ≡ true) w k.1) ∙ off)
 
 -- E9: it asks to shut down
 module _ (settings : Settings) (t u : Tables) (events : List Event) (e : ℕ) (body : List ℕ) (m : Message) (home : Option ℕ) (outs : List Out) (served : is_served (desk_of e events).phase ≡ true) (asks : requests (codes "shutdown") m ≡ true) (is : home_of settings e events ≡ home) (ls : u.lasts.items ≡ t.lasts.items) (vs : u.versions ≡ t.versions) (st : Stands settings t events) where

@@ -24,7 +24,7 @@ use Rattle.mux_tables.specs.declared.tables.Tables.{Tables}
 use Rattle.mux_tables.specs.Documents.{DocumentsStand, IsOwned, Owed, SharedStands}
 use Rattle.mux_tables.specs.Notes.{NotesStand, has_left}
 use Rattle.mux_tables.proofs.DocumentEvents.{encoding_untouched, sent_untouched, shared_quiet, texts_untouched, touches_documents}
-use Rattle.mux_tables.proofs.DocumentFrames.{SentSame, parts, sent_stays, untold_stays}
+use Rattle.mux_tables.proofs.DocumentFrames.{SentSame, parts, sent_at, sent_stays, untold_stays}
 use Rattle.mux_tables.proofs.Frames.{spawns, start_alone, starts_alone}
 use Rattle.mux_tables.proofs.Placed.{left_there, length_left, place_before}
 use Rattle.mux_tables.proofs.Noting.{asks_on, moment_stays, noted_stays}
@@ -39,6 +39,10 @@ pub record Rest (settings : Settings) (t : Tables) (events later : List Event) :
   -- and of what was noted of the open requests
   pub moments : (g : ℕ) (x : Start) (n : ℕ) (p : Pending) → slice_get t.lasts.items g ≡ Some x → pending_of n x.ids.requests ≡ Some p → moment_of x.life.start n later ≡ moment_of x.life.start n events
   pub left : (e : ℕ) → has_left (desk_of e events).phase ≡ true → has_left (desk_of e later).phase ≡ true
+
+-- no event
+pub rest_none : (settings : Settings) (t : Tables) (events : List Event) → Rest settings t events events
+rest_none settings t events = record { texts = λ g l h. h; encoding = λ g l. refl; founds = λ g h. h; starts = λ s l. l; sent = λ s l. sent_at s events events refl; moments = λ g x n p at there. refl; left = λ e h. h }
 
 pub notes_stay : (settings : Settings) (owed : Owed) (t : Tables) (events later : List Event) → Rest settings t events later → DocumentsStand settings owed t events → (g : ℕ) (x : Start) → slice_get t.lasts.items g ≡ Some x → NotesStand settings x.life.start x.ids.requests later
 notes_stay settings owed t events later rest s g x at n p there = noted_stays settings x.life.start n p.editor events later p.noted (rest.moments g x n p at there) (rest.left p.editor) (s.notes g x at n p there)

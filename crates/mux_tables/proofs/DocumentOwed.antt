@@ -28,9 +28,9 @@ use Rattle.mux_tables.specs.declared.tables.Tables.{Tables}
 use Rattle.mux_tables.specs.Documents.{AllStand, AllTell, DocumentsStand, Owed, SharedStands, nothing_owed, owes, to}
 use Rattle.mux_tables.specs.Stands.{Stands, is_answer, number_in}
 use Rattle.mux_tables.proofs.DocumentEvents.{shared_beside, shared_next}
-use Rattle.mux_tables.proofs.DocumentFrames.{sent_apart, sent_at}
+use Rattle.mux_tables.proofs.DocumentFrames.{sent_apart}
 use Rattle.mux_tables.proofs.Noting.{asks_told, left_stays, moment_stays}
-use Rattle.mux_tables.proofs.DocumentMoves.{Rest, documents_all, documents_at, documents_last, founds_kept, set_same, starts_kept}
+use Rattle.mux_tables.proofs.DocumentMoves.{Rest, documents_all, documents_at, documents_last, founds_kept, rest_none, set_same, starts_kept}
 use Rattle.mux_tables.proofs.Placed.{groups_apart}
 use Rattle.mux_tables.proofs.Frames.{itself}
 use Rattle.mux_tables.proofs.Lasts.{apart, known}
@@ -53,11 +53,11 @@ owes_none g j = go (nat_eq g j)
 -- a group that owes nothing
 pub owes_nothing : (settings : Settings) (t : Tables) (g : ℕ) (events : List Event) → DocumentsStand settings (owes g []) t events → DocumentsStand settings nothing_owed t events
 owes_nothing settings t g events ds =
-    documents_all settings (owes g []) nothing_owed t t events events (record { texts = λ j l k. k; encoding = λ j l. refl; founds = λ j k. k; starts = λ n l. l; sent = λ n l. sent_at n events events refl; moments = λ j x n p at there. refl; left = λ e h. h }) refl refl refl (λ j z d there k. subst (λ w. SharedStands settings events w z.life.group z.life.start z.life.stage d) (owes_none g z.life.group) k) ds
+    documents_all settings (owes g []) nothing_owed t t events events (rest_none settings t events) refl refl refl (λ j z d there k. subst (λ w. SharedStands settings events w z.life.group z.life.start z.life.stage d) (owes_none g z.life.group) k) ds
 
 pub nothing_owes : (settings : Settings) (t : Tables) (g : ℕ) (events : List Event) → DocumentsStand settings nothing_owed t events → DocumentsStand settings (owes g []) t events
 nothing_owes settings t g events ds =
-    documents_all settings nothing_owed (owes g []) t t events events (record { texts = λ j l k. k; encoding = λ j l. refl; founds = λ j k. k; starts = λ n l. l; sent = λ n l. sent_at n events events refl; moments = λ j x n p at there. refl; left = λ e h. h }) refl refl refl (λ j z d there k. subst (λ w. SharedStands settings events w z.life.group z.life.start z.life.stage d) (sym (owes_none g z.life.group)) k) ds
+    documents_all settings nothing_owed (owes g []) t t events events (rest_none settings t events) refl refl refl (λ j z d there k. subst (λ w. SharedStands settings events w z.life.group z.life.start z.life.stage d) (sym (owes_none g z.life.group)) k) ds
 
 -- what an out does to each of the two relations, it does to both
 pub all_does : {row : Row} (settings : Settings) (t u : Tables) (owed after : Owed) (base : List Event) (xs ys : List Out) → Does (λ t events. Stands settings t events) row base t xs u ys

@@ -1,5 +1,5 @@
 -- The documents of all groups, where an out is said that tells of none, or a start ends.
-use Rattle.std.proofs.Common.{◌≡◌, ℕ, ◌<◌, true, false, List, [], ◌∷◌, ◌++◌, length, get_or, codes, refl, sym, ap, subst, ◌∙◌}
+use Rattle.std.proofs.Common.{◌≡◌, ℕ, ◌<◌, Bool, true, false, ◌&&◌, List, [], ◌∷◌, ◌++◌, length, get_or, codes, if◌then◌else◌, refl, sym, ap, subst, ◌∙◌}
 use Rattle.std.specs.Prelude.{Option, Some, None, bytes_eq, slice_get, slice_set}
 use Rattle.std.proofs.lemmas.Slice.Eq.{bytes_eq-Decides}
 use Rattle.json_text.specs.Json.{Json}
@@ -15,19 +15,21 @@ use Rattle.event_model.specs.Settings.{Settings}
 use Rattle.event_model.proofs.Turns.{behind_more}
 use Rattle.focus_switch.specs.Documents.{Documents}
 use Rattle.focus_switch.specs.Rows.{unready_row}
-use Rattle.group_laws.specs.group_rows.specs.Texts.{is_synced}
-use Rattle.group_laws.specs.group_rows.proofs.Frames.{encoding_stays, texts_stay}
+use Rattle.event_model.specs.Spawns.{group_of}
+use Rattle.group_words.specs.Houses.{is_home}
+use Rattle.group_laws.specs.group_rows.specs.Texts.{is_synced, texts_of, touch_all, worker_of}
+use Rattle.group_laws.specs.group_rows.proofs.Frames.{encoding_stays, texts_more, texts_stay}
 use Rattle.restart_replay.specs.Standings.{Standing, moved, stopped}
 use Rattle.id_rewrite.specs.Tables.{with_cancelled}
 use Rattle.mux_tables.specs.declared.tables.Start.{Start}
 use Rattle.mux_tables.specs.declared.tables.Tables.{Tables}
-use Rattle.mux_tables.specs.Documents.{DocumentsStand, Owed, SharedStands, StartTold}
+use Rattle.mux_tables.specs.Documents.{DocumentsStand, IsOwned, Owed, SharedStands, StartTold}
 use Rattle.mux_tables.specs.Notes.{NotesStand}
 use Rattle.mux_tables.specs.Stands.{Exits}
 use Rattle.mux_tables.proofs.DocumentEvents.{shared_notified, shared_quiet}
-use Rattle.mux_tables.proofs.DocumentFrames.{sent_silent}
+use Rattle.mux_tables.proofs.DocumentFrames.{all_owned, owner_stays, sent_silent, shared_stays, start_stays}
 use Rattle.mux_tables.proofs.DocumentMoves.{Rest, documents_all, documents_at, documents_last, documents_set, founds_kept, quiet_documents, rest_quiet, starts_kept}
-use Rattle.mux_tables.proofs.Noting.{asks_aside, left_stays, moment_stays, notes_cancelled, notes_gone}
+use Rattle.mux_tables.proofs.Noting.{asks_aside, asks_on, left_stays, moment_stays, notes_cancelled, notes_gone}
 use Rattle.mux_tables.proofs.Starts.{read_here}
 
 -- one out behind those before it
@@ -60,6 +62,40 @@ notified_documents settings owed t u base xs ys n text silent aside ls ds vs is 
     (λ g x d at h. shared_notified settings (behind base xs) (owed x.life.group) x.life.group x.life.start x.life.stage d n text (message_of text) silent aside h))
 
 -- a cancel
+-- a notification to a start that tells of no document, while no editor's message goes on
+module _ (settings : Settings) (events : List Event) (n : ℕ) (body : List ℕ) (method : List ℕ) (ps : Option Json) (m : Message) (says : m ≡ notification method ps) (silent : saying_of m ≡ nothing) (idle : worker_of events ≡ None) where
+  abbrev idle_later : List Event
+  idle_later = events ++ did (ToServer n body) m ∷ []
+
+  idle_texts : (g : ℕ) → texts_of settings g idle_later ≡ texts_of settings g events
+  idle_texts g = texts_more settings g events (did (ToServer n body) m)
+      ∙ (ap (λ w. if is_home g (group_of n events) && is_synced m then touch_all w (texts_of settings g events) else texts_of settings g events) idle ∙ either (is_home g (group_of n events) && is_synced m))
+    where
+      either : (b : Bool) → (if b then texts_of settings g events else texts_of settings g events) ≡ texts_of settings g events
+      either true = refl
+      either false = refl
+
+  rest_idle : (t : Tables) → Rest settings t events idle_later
+  rest_idle t = record {
+    texts = λ g l h. idle_texts g ∙ h;
+    encoding = λ g l. encoding_stays g events (did (ToServer n body) m) refl;
+    founds = founds_kept events (did (ToServer n body) m) refl;
+    starts = starts_kept events (did (ToServer n body) m) refl;
+    sent = λ s l. sent_silent s n body m events silent;
+    moments = λ g x k p at there. moment_stays x.life.start k events (did (ToServer n body) m) (ap (λ w. asks_on (did (ToServer n body) w)) says);
+    left = left_stays events (did (ToServer n body) m) refl;
+  }
+
+  shared_idle : (owed : List (List ℕ)) (g s : ℕ) (stage : Stage) (d : Documents) → SharedStands settings events owed g s stage d → SharedStands settings idle_later owed g s stage d
+  shared_idle owed g s stage d h = shared_stays settings events idle_later owed g s stage d (idle_texts g) (encoding_stays g events (did (ToServer n body) m) refl) (start_stays s owed d events idle_later (sent_silent s n body m events silent) stage)
+      (λ k. all_owned (IsOwned settings events g) (IsOwned settings idle_later g) d.opens (λ o q. owner_stays settings events g o (did (ToServer n body) m) refl q) k) h
+
+pub idle_documents : (settings : Settings) (owed : Owed) (t u : Tables) (base : List Event) (xs ys : List Out) (n : ℕ) (text method : List ℕ) (ps : Option Json) → message_of text ≡ notification method ps → saying_of (message_of text) ≡ nothing → worker_of (behind base xs) ≡ None
+    → u.lasts ≡ t.lasts → u.documents ≡ t.documents → u.versions ≡ t.versions → ys ≡ xs ++ ToServer n text ∷ [] → DocumentsStand settings owed t (behind base xs) → DocumentsStand settings owed u (behind base ys)
+idle_documents settings owed t u base xs ys n text method ps says silent idle ls ds vs is = documents_said settings owed owed t u (ToServer n text) base xs ys is
+    (documents_all settings owed owed t u (behind base xs) (behind base xs ++ said (ToServer n text) ∷ []) (rest_idle settings (behind base xs) n text method ps (message_of text) says silent idle t) vs (ap (λ v. v.items) ls) (ap (λ v. v.items) ds)
+    (λ g x d at h. shared_idle settings (behind base xs) n text method ps (message_of text) says silent idle (owed x.life.group) x.life.group x.life.start x.life.stage d h))
+
 pub cancel_silent : (method : List ℕ) (ps : Option Json) → bytes_eq method (codes "$/cancelRequest") ≡ true → (saying_by method ps ≡ nothing) × (is_synced (notification method ps) ≡ false)
 cancel_silent method ps h = subst (λ w. (saying_by w ps ≡ nothing) × (is_synced (notification w ps) ≡ false)) (sym ((bytes_eq-Decides method (codes "$/cancelRequest")).0 h)) (refl, refl)
 

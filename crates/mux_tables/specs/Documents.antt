@@ -1,9 +1,9 @@
 -- When the documents of each group stand for events (LSP 3.17, Text Document Synchronization).
-use Rattle.std.specs.Prelude.{◌≡◌, ℕ, ◌<◌, ◌≤◌, ◌^◌, Bool, true, ◌&&◌, ◌||◌, List, [], map, length, codes, nat_eq, if◌then◌else◌}
+use Rattle.std.specs.Prelude.{◌≡◌, ℕ, ◌<◌, ◌≤◌, ◌^◌, Bool, true, ◌&&◌, ◌||◌, List, [], ◌∷◌, map, length, codes, nat_eq, if◌then◌else◌}
 use Rattle.std.specs.Prelude.{Option, Some, None, slice_get, slice_set}
 use Rattle.std.specs.List.{AllByRecursion}
 use Rattle.mux_history.specs.declared.out.Out.{Out}
-use Rattle.mux_history.specs.declared.out.Out.TheVariants.{ToServer}
+use Rattle.mux_history.specs.declared.out.Out.TheVariants.{CloseEditor, ToServer}
 use Rattle.rpc_message.specs.Message.{Message, message_of}
 use Rattle.position_codec.specs.declared.Encoding.{Encoding}
 use Rattle.document_model.specs.Opens.{Open}
@@ -17,7 +17,7 @@ use Rattle.event_model.specs.Settings.{Settings}
 use Rattle.event_model.specs.Spawns.{start_of, starts_of}
 use Rattle.event_model.specs.Stages.{is_ready, life_of}
 use Rattle.focus_switch.specs.Documents.{Documents}
-use Rattle.focus_switch.specs.Rows.{Step}
+use Rattle.focus_switch.specs.Rows.{Step, leave_row}
 use Rattle.group_laws.specs.mux_model.specs.Documents.{held_at, sent_of}
 use Rattle.group_words.specs.Houses.{home_of}
 use Rattle.group_laws.specs.group_rows.specs.Leaves.{leave_bodies}
@@ -110,6 +110,19 @@ StepAt row g (Some d) old outs new = (outs ≡ (row d).outs) × (new ≡ slice_s
 abbrev pub StepFrom : (Documents → Step) → Option ℕ → List Documents → List Out → List Documents → Type 0
 StepFrom row None old outs new = (outs ≡ []) × (new ≡ old)
 StepFrom row (Some g) old outs new = StepAt row g (slice_get old g) old outs new
+
+-- these editors leave, one after the other
+abbrev pub left_all : List ℕ → Documents → Documents
+left_all [] d = d
+left_all (e ∷ es) d = left_all es (leave_row e d).after
+
+-- their links are to be ended
+abbrev pub closes : List ℕ → List Out
+closes es = map (λ e. CloseEditor e) es
+
+-- the same, while the documents are ahead of the events by these outs
+abbrev pub AheadStand : Settings → Tables × (Owed × List Out) → List Event → Type 0
+AheadStand settings k events = Stands settings k.0 events × DocumentsStand settings k.1.0 k.0 (behind events k.1.1)
 
 -- X4: what a start is owed of the documents of its group where it is ready
 abbrev pub replaying : Settings → List Event → ℕ → List (List ℕ)

@@ -1,5 +1,5 @@
 // The documents of the groups, by their places.
-ghost use Rattle.std.specs.Prelude.{◌≡◌, ◌<◌, ℕ, List, Some, IfOk, length, slice_get, slice_set};
+ghost use Rattle.std.specs.Prelude.{◌≡◌, ◌<◌, ℕ, List, Some, IfOk, OnOk, length, slice_get, slice_set};
 ghost use Rattle.std.specs.List.{remove};
 ghost use Rattle.document_model.specs.Sayings.{saying_of};
 ghost use Rattle.focus_switch.specs.Documents.{Documents};
@@ -7,7 +7,7 @@ ghost use Rattle.focus_switch.specs.Rows.{leave_row, ready_row, sync_row, unread
 ghost use Rattle.group_laws.specs.Steps.{document_step};
 ghost use Rattle.rpc_message.specs.Message.{message_of};
 ghost use Rattle.rpc_message.specs.Parsed.{IsRead};
-ghost use Rattle.mux_tables.specs.Documents.{StepAt, StepFrom};
+ghost use Rattle.mux_tables.specs.Documents.{StepAt, StepFrom, left_all};
 
 use focus_switch::Shared;
 use group_laws::mux_members::{Notice, notice_in};
@@ -37,20 +37,33 @@ pub fn remove(documents: &mut Vec<Shared<PieceText>>, g: usize)
     }
 }
 
-// A start of the group is ready, and counts positions in this encoding: what it is owed.
+// Editors leave a group, of which no start is told anything of it.
+fn leave_each(documents: &mut Shared<PieceText>, editors: &[u64]) -> Result<(), Memory>
+    ensures { OnOk result (documents.new ≡ left_all editors.now documents.old) }
+{
+    for e in editors {
+        documents.leave(*e)?;
+    }
+    Ok(())
+}
+
+// A start of the group is ready, and counts positions in this encoding, and these editors leave before it is told anything: what it is owed.
 pub fn ready(
     alloc: Global,
     documents: &mut Vec<Shared<PieceText>>,
     g: usize,
+    parted: &[u64],
     start: u64,
     encoding: Encoding,
 ) -> Result<Outs, Memory>
-    ensures { IfOk result (λ outs. StepAt (ready_row start encoding) g (slice_get documents.old.items g) documents.old.items outs documents.new.items) }
+    ensures { IfOk result (λ outs. StepAt (λ d. ready_row start encoding (left_all parted.now d)) g (slice_get documents.old.items g) documents.old.items outs documents.new.items) }
 {
     if g >= documents.len() {
         return Ok(Outs::new(alloc));
     }
-    let owed = documents[g].ready(start, encoding)?;
+    let shared = &mut documents[g];
+    leave_each(shared, parted)?;
+    let owed = shared.ready(start, encoding)?;
     Ok(owed)
 }
 

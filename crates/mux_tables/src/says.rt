@@ -1,10 +1,10 @@
 // What each out does to the tables.
-ghost use Rattle.std.specs.Prelude.{◌≡◌, ◌≢◌, ◌<◌, ◌≤◌, ◌^◌, ◌++◌, ◌∷◌, [], ℕ, List, map, Option, Some, false, true, length, IfOk, OnOk, codes, bytes_eq, slice_get, nat_eq};
+ghost use Rattle.std.specs.Prelude.{◌≡◌, ◌≢◌, ◌<◌, ◌≤◌, ◌^◌, ◌++◌, ◌∷◌, [], ℕ, List, map, None, Option, Some, false, true, length, IfOk, OnOk, codes, bytes_eq, slice_get, nat_eq};
 ghost use Rattle.std.specs.List.{AllByRecursion};
 ghost use Rattle.event_model.specs.declared.stage.Stage.TheVariants.{Ended, Ready};
 ghost use Rattle.event_model.specs.Does.{Does};
 ghost use Rattle.event_model.specs.Event.{Event, behind, requests};
-ghost use Rattle.event_model.specs.Phases.{desk_of, is_served, phase_closed};
+ghost use Rattle.event_model.specs.Phases.{desk_of, is_running, is_served, phase_closed};
 ghost use Rattle.event_model.specs.Requests.{answered_id, is_own};
 ghost use Rattle.event_model.specs.Row.{look, send, ◌⨾◌};
 ghost use Rattle.event_model.specs.Settings.{Settings};
@@ -13,6 +13,7 @@ ghost use Rattle.group_words.specs.Houses.{home_of};
 ghost use Rattle.group_words.specs.Rows.{spawn};
 ghost use Rattle.group_laws.specs.mux_model.specs.Rows.{to_start};
 ghost use Rattle.json_text.specs.Json.{Json};
+ghost use Rattle.mux_history.specs.declared.out.Out.{Out};
 ghost use Rattle.mux_history.specs.declared.out.Out.TheVariants.{CloseEditor, EndServer, ToEditor, ToServer};
 ghost use Rattle.event_model.specs.Members.{named_of};
 ghost use Rattle.rpc_message.specs.Message as message;
@@ -107,6 +108,11 @@ impl Tables {
         ensures unserved { (settings : Settings) (owing : Owed) (base : List Event) → Stands settings self.old (behind base outs.old)
             → is_served (desk_of e (behind base outs.old)).phase ≡ false → DocumentsStand settings owing self.old (behind base outs.old)
             → IfOk result (λ owed. (owed ≡ []) × DocumentsStand settings owing self.new (behind base outs.new)) }
+        // where the documents are ahead of the events, by the end of this link and of others
+        ensures ahead { (settings : Settings) (owing : Owed) (base : List Event) (more : List Out)
+            → is_running (desk_of e (behind (behind base outs.old) (CloseEditor e ∷ more))).phase ≡ false
+            → DocumentsStand settings owing self.old (behind (behind base outs.old) (CloseEditor e ∷ more))
+            → OnOk result (DocumentsStand settings owing self.new (behind (behind base outs.new) more)) }
     {
         let phase = self.editors.phase(e);
         let home = self.editors.group(e);
@@ -142,6 +148,11 @@ impl Tables {
             → OnOk result (Does (λ t events. Stands settings t events) (send (ToServer s text)) base self.now outs.old self.now outs.new) }
         ensures documents { (settings : Settings) (owed : Owed) (base : List Event) → saying_of (message_of text) ≡ nothing
             → is_synced (message_of text) ≡ false → DocumentsStand settings owed self.now (behind base outs.old)
+            → OnOk result (DocumentsStand settings owed self.now (behind base outs.new)) }
+        // by which no editor's message goes on
+        ensures idle { (settings : Settings) (owed : Owed) (base : List Event) (method : List ℕ) (ps : Option Json)
+            → message_of text ≡ message.notification method ps → saying_of (message_of text) ≡ nothing
+            → worker_of (behind base outs.old) ≡ None → DocumentsStand settings owed self.now (behind base outs.old)
             → OnOk result (DocumentsStand settings owed self.now (behind base outs.new)) }
     {
         outs.push(Out::ToServer(self.lasts[g].life.start(), text))?;
@@ -383,6 +394,8 @@ impl Tables {
         requires limit { 2 ≤ self.old.requests }
         requires group { g < length self.old.lasts.items }
         requires ended { (x : Start) → slice_get self.old.lasts.items g ≡ Some x → x.life.stage ≡ Ended }
+        ensures requests { self.new.requests ≡ self.old.requests }
+        ensures versions { self.new.versions ≡ self.old.versions }
         ensures does { (settings : Settings) (base : List Event) (x : Start) → slice_get self.old.lasts.items g ≡ Some x
             → OnOk result (Does (λ t events. Stands settings t events) (spawn x.life.group) base self.old outs.old self.new outs.new) }
         ensures documents { (settings : Settings) (owed : Owed) (base : List Event) → Stands settings self.old (behind base outs.old)

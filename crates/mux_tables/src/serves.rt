@@ -1,7 +1,8 @@
 // What each cause about a start does to the tables.
 ghost use Rattle.std.specs.Prelude.{◌≡◌, ◌≢◌, ◌+◌, ◌<◌, ◌≤◌, ◌^◌, IfOk, OnOk, ◌++◌, ◌∷◌, [], ℕ, List, map, Some, false, true, length, nat_lt, option_map, slice_get, slice_set, find, MatchOption, ◌&&◌};
+ghost use Rattle.std.specs.List.{AllByRecursion};
 ghost use Rattle.event_model.specs.declared.stage.Stage.TheVariants.{Ended, Initializing, Ready, Spawning};
-ghost use Rattle.event_model.specs.Event.{Event, heard};
+ghost use Rattle.event_model.specs.Event.{Event, behind, heard};
 ghost use Rattle.event_model.specs.Phases.{needs_server};
 ghost use Rattle.event_model.specs.Requests.{answered_id};
 ghost use Rattle.group_words.specs.declared.kept.Kept.{Kept};
@@ -15,7 +16,7 @@ ghost use Rattle.mux_history.specs.declared.cause.Cause.TheVariants.{FromServer,
 ghost use Rattle.rpc_message.specs.Message.{message_of, result_bytes};
 ghost use Rattle.mux_tables.specs.declared.tables.Start.{Start};
 ghost use Rattle.group_laws.specs.mux_model.specs.Documents.{encoding_by};
-ghost use Rattle.mux_tables.specs.Documents.{DocumentsStand, Owed, nothing_owed, owes, replaying, to};
+ghost use Rattle.mux_tables.specs.Documents.{DocumentsStand, Owed, closes, nothing_owed, owes, replaying, to};
 ghost use Rattle.group_laws.specs.group_rows.specs.Forwarded.{forwarding_of, is_under};
 ghost use Rattle.mux_tokens.specs.Stands.{CreatedStay};
 ghost use Rattle.mux_tables.specs.Stands.{Exits, ListsStay, LiveStay, NamesAt, ParkedStay, Stands, any_in, begun_at, forwarded_as, is_early, number_in, stage_in};
@@ -70,8 +71,9 @@ impl Tables {
     }
 
     /// S2: the group's last start gave the result of its `initialize`, and counts positions in this encoding; `n` is the number that
-    /// its id writes, and `shown` what editors are shown of it. The bodies that it is owed for the documents that are open. Where the
-    /// answer is an error the tables stand for nothing any more.
+    /// its id writes, and `shown` what editors are shown of it; and the links of these editors of the group are to be ended before it is
+    /// told anything. The bodies that it is owed for the documents that are open at the others. The documents are ahead of the events by the
+    /// ends of these links. Where the answer is an error the tables stand for nothing any more.
     pub fn hear_result(
         &mut self,
         alloc: Global,
@@ -79,6 +81,7 @@ impl Tables {
         n: Option<u32>,
         encoding: Encoding,
         shown: Body,
+        parted: &[u64],
     ) -> Result<Outs, Memory>
         requires group { g < length self.old.lasts.items }
         requires stage { (x : Start) → slice_get self.old.lasts.items g ≡ Some x → x.life.stage ≡ Initializing }
@@ -94,15 +97,18 @@ impl Tables {
         ensures documents { (settings : Settings) (events : List Event) (s : ℕ) (body : List ℕ)
             → slice_get (map number_in self.old.lasts.items) g ≡ Some s → encoding_by (message_of body) ≡ Some encoding
             → Stands settings self.old events → DocumentsStand settings nothing_owed self.old events
-            → (x : Start) → slice_get self.old.lasts.items g ≡ Some x → IfOk result (λ owed. (owed ≡ to s (replaying settings events x.life.group))
-            × DocumentsStand settings (owes x.life.group (replaying settings events x.life.group)) self.new (events ++ heard (FromServer s body) ∷ [])) }
+            → (x : Start) → slice_get self.old.lasts.items g ≡ Some x
+            → AllByRecursion (λ e. home_of settings e events ≡ Some x.life.group) parted.now
+            → IfOk result (λ owed. (owed ≡ to s (replaying settings (behind (events ++ heard (FromServer s body) ∷ []) (closes parted.now)) x.life.group))
+            × DocumentsStand settings (owes x.life.group (replaying settings (behind (events ++ heard (FromServer s body) ∷ []) (closes parted.now)) x.life.group))
+            self.new (behind (events ++ heard (FromServer s body) ∷ []) (closes parted.now))) }
     {
         let last = &mut self.lasts[g];
         last.life.result();
         last.shown = Some(shown);
         forget(&mut last.ids, n);
         let start = last.life.start();
-        let owed = ready(alloc, &mut self.documents, g, start, encoding)?;
+        let owed = ready(alloc, &mut self.documents, g, parted, start, encoding)?;
         Ok(owed)
     }
 

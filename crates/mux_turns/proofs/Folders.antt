@@ -76,7 +76,7 @@ other_kind (Some (array s js)) h = refl
 other_kind (Some (object s ms)) h = refl
 other_kind None h = refl
 
-named_so : (name : List ℕ) (o : Option Json) → chars name ≡ name → option_and_then (named_in (chars name)) o ≡ named_of name o
+pub named_so : (name : List ℕ) (o : Option Json) → chars name ≡ name → option_and_then (named_in (chars name)) o ≡ named_of name o
 named_so name None e = refl
 named_so name (Some j) e = ap (λ cs. named_in cs j) e
 

@@ -4,6 +4,8 @@ pub mod CreatedMarks
 pub mod KindTexts
 pub mod Asked
 pub mod Called
+pub mod CarriedOn
+pub mod Carrying
 pub mod Cancels
 pub mod Departing
 pub mod Evictions

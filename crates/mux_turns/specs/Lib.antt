@@ -1,4 +1,5 @@
 pub mod Calls
+pub mod Carried
 pub mod Creates
 pub mod Founding
 pub mod Initials

@@ -302,10 +302,10 @@ fn refuses_the_first_line_that_it_cannot_take(rt: HostRuntime) -> Result<(), Fai
         ("hello\n", 1, "!line 1 form\n", 0),
         ("\n", 1, "!line 1 form\n", 0),
         (
-            "join 0\ned 0 {\"jsonrpc\":\"2.0\",\"id\":1,\"method\":\"initialize\",\"params\":{}}\nnostart 0\n",
+            "join 0\ned 0 {\"jsonrpc\":\"2.0\",\"id\":1,\"method\":\"initialize\",\"params\":{}}\nnostart 0\nnostart 0\n",
             1,
-            ">spawn 0 0\n!line 3 unbuilt\n",
-            2,
+            ">spawn 0 0\n>spawn 1 0\n!line 4 absent\n",
+            3,
         ),
         ("join 0\njoin 0", 1, "!line 2 absent\n", 1),
         ("join 0\ned 0", 1, "!line 2 form\n", 1),

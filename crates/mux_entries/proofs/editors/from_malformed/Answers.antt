@@ -8,3 +8,6 @@ pub returns-in_ok-take_malformed-in-NotJson-clause-does : goal.returns-in_ok-tak
 returns-in_ok-take_malformed-in-NotJson-clause-does c = λ settings before body refuses first st ds.
     done_alike (λ k events. AllStand settings k events) (malformed settings before c.args.e body (refused_malformed c.args.fault (message_of body) c.in-NotJson.is refuses))
     (c.in_ok-take_malformed-in-NotJson.ensures.does settings before body refuses first st ds)
+
+pub returns-in_ok-take_malformed-in-NotJson-clause-malformed : goal.returns-in_ok-take_malformed-in-NotJson-clause-malformed
+returns-in_ok-take_malformed-in-NotJson-clause-malformed c = λ body refuses. refused_malformed c.args.fault (message_of body) c.in-NotJson.is refuses

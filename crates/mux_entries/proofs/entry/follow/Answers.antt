@@ -2,47 +2,83 @@
 use Rattle.std.proofs.Common.{◌≡◌, [], ap, sym, subst, true}
 use Rattle.event_model.specs.declared.settings.Limits.{Limits}
 use Rattle.event_model.specs.Does.{Done}
-use Rattle.event_model.specs.Event.{with_cause}
-use Rattle.mux_starts.specs.group_facts.specs.Built.{built_behind}
+use Rattle.event_model.specs.Event.{behind, with_cause}
 use Rattle.group_rows.specs.Rows.{row_of}
 use Rattle.mux_model.specs.Fits.{fits_behind}
 use Rattle.mux_starts.specs.mux_tables.specs.Documents.{AllStand, nothing_owed}
+use Rattle.mux_turns.specs.Carried.{CarriedStand}
+use Rattle.mux_entries.proofs.Carried.{IsAside, aside_carried}
 use Rattle.mux_entries.proofs.EditorRows.{done_quietly, drained_entry}
 use Rattle.mux_entries.proofs.entry.follow.Goals as goal
 
 pub returns-in-Drained-clause-does : goal.returns-in-Drained-clause-does
-returns-in-Drained-clause-does c = λ settings before limits servers default first known settled fits built st ds.
+returns-in-Drained-clause-does c = λ settings before limits servers default first known settled fits kept st ds.
     let t = c.args.tables.now in
     subst (λ cause. Done (λ k events. AllStand settings k events) (row_of settings before cause) (with_cause before cause) [] (t, nothing_owed) c.args.outs.now) (sym c.in-Drained.is)
     (done_quietly (λ k events. AllStand settings k events) first (drained_entry settings before c.in-Drained.field-0 c.in-Drained.field-1 t st ds))
 
 pub returns-in_ok-gone-in-EditorGone-clause-does : goal.returns-in_ok-gone-in-EditorGone-clause-does
-returns-in_ok-gone-in-EditorGone-clause-does c = λ settings before limits servers default first known settled fits built st ds.
+returns-in_ok-gone-in-EditorGone-clause-does c = λ settings before limits servers default first known settled fits kept st ds.
     let here = subst (λ cause. fits_behind before cause ≡ true) c.in-EditorGone.is fits in
     subst (λ cause. Done (λ k events. AllStand settings k events) (row_of settings before cause) (with_cause before cause) [] (c.gone.new.tables, nothing_owed) c.gone.new.outs) (sym c.in-EditorGone.is)
     (c.in_ok-gone-in-EditorGone.ensures.does settings before c.in-EditorGone.field-1 first known here st ds)
 
 pub returns-in_ok-from_editor-in-FromEditor-clause-does : goal.returns-in_ok-from_editor-in-FromEditor-clause-does
-returns-in_ok-from_editor-in-FromEditor-clause-does c = λ settings before limits servers default first known settled fits built st ds.
+returns-in_ok-from_editor-in-FromEditor-clause-does c = λ settings before limits servers default first known settled fits kept st ds.
     let is = c.in-FromEditor.is in
     subst (λ cause. Done (λ k events. AllStand settings k events) (row_of settings before cause) (with_cause before cause) [] (c.from_editor.new.tables, nothing_owed) c.from_editor.new.outs) (sym is)
     (c.in_ok-from_editor-in-FromEditor.ensures.does settings before servers default first known settled (subst (λ cause. fits_behind before cause ≡ true) is fits) st ds)
 
 pub returns-in_ok-take_failure-in-StartFailed-clause-does : goal.returns-in_ok-take_failure-in-StartFailed-clause-does
-returns-in_ok-take_failure-in-StartFailed-clause-does c = λ settings before limits servers default first known settled fits built st ds.
+returns-in_ok-take_failure-in-StartFailed-clause-does c = λ settings before limits servers default first known settled fits kept st ds.
     let is = c.in-StartFailed.is in
     subst (λ cause. Done (λ k events. AllStand settings k events) (row_of settings before cause) (with_cause before cause) [] (c.take_failure.new.tables, nothing_owed) c.take_failure.new.outs) (sym is)
     (c.in_ok-take_failure-in-StartFailed.ensures.failure settings before (ap (λ (l : Limits). l.restarts) limits) first known settled
-    (subst (λ cause. fits_behind before cause ≡ true) is fits) (subst (λ cause. built_behind settings before cause ≡ true) is built) st ds)
+    (subst (λ cause. fits_behind before cause ≡ true) is fits) st ds)
 
 pub returns-in_ok-take_exit-in-ServerGone-clause-does : goal.returns-in_ok-take_exit-in-ServerGone-clause-does
-returns-in_ok-take_exit-in-ServerGone-clause-does c = λ settings before limits servers default first known settled fits built st ds.
+returns-in_ok-take_exit-in-ServerGone-clause-does c = λ settings before limits servers default first known settled fits kept st ds.
     let is = c.in-ServerGone.is in
     subst (λ cause. Done (λ k events. AllStand settings k events) (row_of settings before cause) (with_cause before cause) [] (c.take_exit.new.tables, nothing_owed) c.take_exit.new.outs) (sym is)
     (c.in_ok-take_exit-in-ServerGone.ensures.exit settings before (ap (λ (l : Limits). l.restarts) limits) first known settled
-    (subst (λ cause. fits_behind before cause ≡ true) is fits) (subst (λ cause. built_behind settings before cause ≡ true) is built) st ds)
+    (subst (λ cause. fits_behind before cause ≡ true) is fits) st ds)
 
 pub returns-in_ok-take_tick-in-Tick-clause-does : goal.returns-in_ok-take_tick-in-Tick-clause-does
-returns-in_ok-take_tick-in-Tick-clause-does c = λ settings before limits servers default first known settled fits built st ds.
+returns-in_ok-take_tick-in-Tick-clause-does c = λ settings before limits servers default first known settled fits kept st ds.
     subst (λ cause. Done (λ k events. AllStand settings k events) (row_of settings before cause) (with_cause before cause) [] (c.take_tick.new.tables, nothing_owed) c.take_tick.new.outs) (sym c.in-Tick.is)
     (c.in_ok-take_tick-in-Tick.ensures.does settings before first (ap (λ (l : Limits). l.grace) limits) known st ds)
+
+-- What groups carry
+
+pub returns-in_ok-joined-in-Joined-clause-carried : goal.returns-in_ok-joined-in-Joined-clause-carried
+returns-in_ok-joined-in-Joined-clause-carried c = λ settings before limits servers default first known settled fits kept st ds. aside_carried settings c.args.carries.now before c.args.cause.now c.joined.new.outs (subst IsAside (sym c.in-Joined.is) tt) kept
+
+pub returns-in_ok-gone-in-EditorGone-clause-carried : goal.returns-in_ok-gone-in-EditorGone-clause-carried
+returns-in_ok-gone-in-EditorGone-clause-carried c = λ settings before limits servers default first known settled fits kept st ds. aside_carried settings c.args.carries.now before c.args.cause.now c.gone.new.outs (subst IsAside (sym c.in-EditorGone.is) tt) kept
+
+pub returns-in_ok-take_started-in-Started-clause-carried : goal.returns-in_ok-take_started-in-Started-clause-carried
+returns-in_ok-take_started-in-Started-clause-carried c = λ settings before limits servers default first known settled fits kept st ds. aside_carried settings c.args.carries.now before c.args.cause.now c.take_started.new.outs (subst IsAside (sym c.in-Started.is) tt) kept
+
+pub returns-in_ok-take_failure-in-StartFailed-clause-carried : goal.returns-in_ok-take_failure-in-StartFailed-clause-carried
+returns-in_ok-take_failure-in-StartFailed-clause-carried c = λ settings before limits servers default first known settled fits kept st ds. aside_carried settings c.args.carries.now before c.args.cause.now c.take_failure.new.outs (subst IsAside (sym c.in-StartFailed.is) tt) kept
+
+pub returns-in_ok-take_exit-in-ServerGone-clause-carried : goal.returns-in_ok-take_exit-in-ServerGone-clause-carried
+returns-in_ok-take_exit-in-ServerGone-clause-carried c = λ settings before limits servers default first known settled fits kept st ds. aside_carried settings c.args.carries.now before c.args.cause.now c.take_exit.new.outs (subst IsAside (sym c.in-ServerGone.is) tt) kept
+
+pub returns-in_ok-take_tick-in-Tick-clause-carried : goal.returns-in_ok-take_tick-in-Tick-clause-carried
+returns-in_ok-take_tick-in-Tick-clause-carried c = λ settings before limits servers default first known settled fits kept st ds. aside_carried settings c.args.carries.now before c.args.cause.now c.take_tick.new.outs (subst IsAside (sym c.in-Tick.is) tt) kept
+
+pub returns-in-Drained-clause-carried : goal.returns-in-Drained-clause-carried
+returns-in-Drained-clause-carried c = λ settings before limits servers default first known settled fits kept st ds. aside_carried settings c.args.carries.now before c.args.cause.now c.args.outs.now (subst IsAside (sym c.in-Drained.is) tt) kept
+
+pub returns-in_ok-from_editor-in-FromEditor-clause-carried : goal.returns-in_ok-from_editor-in-FromEditor-clause-carried
+returns-in_ok-from_editor-in-FromEditor-clause-carried c = λ settings before limits servers default first known settled fits kept st ds.
+    let is = c.in-FromEditor.is in
+    subst (λ cause. CarriedStand settings c.from_editor.new.carries (behind (with_cause before cause) c.from_editor.new.outs)) (sym is)
+    (c.in_ok-from_editor-in-FromEditor.ensures.carried settings before known settled (subst (λ cause. fits_behind before cause ≡ true) is fits) kept st)
+
+pub returns-in_ok-from_server-in-FromServer-clause-carried : goal.returns-in_ok-from_server-in-FromServer-clause-carried
+returns-in_ok-from_server-in-FromServer-clause-carried c = λ settings before limits servers default first known settled fits kept st ds.
+    let is = c.in-FromServer.is in
+    subst (λ cause. CarriedStand settings c.from_server.new.carries (behind (with_cause before cause) c.from_server.new.outs)) (sym is)
+    (c.in_ok-from_server-in-FromServer.ensures.carried settings before first known settled (subst (λ cause. fits_behind before cause ≡ true) is fits) kept st ds)

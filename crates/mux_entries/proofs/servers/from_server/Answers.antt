@@ -4,8 +4,17 @@ use Rattle.event_model.proofs.Frames.{never}
 use Rattle.mux_entries.proofs.servers.from_server.Goals as goal
 
 pub returns-in-None-clause-does : goal.returns-in-None-clause-does
-returns-in-None-clause-does c = λ settings before first known settled fits st ds. never (sym fits ∙ c.in-None.ensures.halted settings before st)
+returns-in-None-clause-does c = λ settings before first known settled fits kept st ds. never (sym fits ∙ c.in-None.ensures.halted settings before st)
 
 pub returns-in_ok-take_body-in-Some-clause-does : goal.returns-in_ok-take_body-in-Some-clause-does
-returns-in_ok-take_body-in-Some-clause-does c = λ settings before first known settled fits st ds.
-    c.in_ok-take_body-in-Some.ensures.does settings before c.args.s first c.in-Some.ensures.found known settled fits st ds
+returns-in_ok-take_body-in-Some-clause-does c = λ settings before first known settled fits kept st ds.
+    c.in_ok-take_body-in-Some.ensures.does settings before c.args.s first c.in-Some.ensures.found known settled kept fits st ds
+
+-- What groups carry
+
+pub returns-in-None-clause-carried : goal.returns-in-None-clause-carried
+returns-in-None-clause-carried c = λ settings before first known settled fits kept st ds. never (sym fits ∙ c.in-None.ensures.halted settings before st)
+
+pub returns-in_ok-take_body-in-Some-clause-carried : goal.returns-in_ok-take_body-in-Some-clause-carried
+returns-in_ok-take_body-in-Some-clause-carried c = λ settings before first known settled fits kept st ds.
+    c.in_ok-take_body-in-Some.ensures.carried settings before c.args.s first c.in-Some.ensures.found known settled kept st ds

@@ -12,6 +12,11 @@ use Rattle.mux_starts.proofs.Unlisted.{malformed_unlisted}
 use Rattle.mux_entries.proofs.servers.ignore.Goals as goal
 use Rattle.mux_entries.proofs.servers.ignore.Goals.{in-Memory, in_default}
 
+pub returns-clause-malformed : goal.returns-clause-malformed
+returns-clause-malformed c = λ body refuses.
+    let other : c.args.fault ≡ Memory → ⊥ = λ is. elim c.match-matches.branch [ in-Memory w ↦ never (sym w.matches-is ∙ c.if-matches.false) | in_default w ↦ w.in_default.not-Memory is ] in
+    refused c.args.fault (message_of body) other refuses
+
 pub returns-clause-does : goal.returns-clause-does
 returns-clause-does c = λ settings before body s refuses at run st ds.
     let other : c.args.fault ≡ Memory → ⊥ = λ is. elim c.match-matches.branch [ in-Memory w ↦ never (sym w.matches-is ∙ c.if-matches.false) | in_default w ↦ w.in_default.not-Memory is ] in

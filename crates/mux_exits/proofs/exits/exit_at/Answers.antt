@@ -6,7 +6,6 @@ use Rattle.group_rows.specs.Rows.{row_of}
 use Rattle.mux_exits.proofs.Ending.{left_by}
 use Rattle.mux_history.specs.declared.cause.Cause.TheVariants.{ServerGone}
 use Rattle.mux_model.specs.Fits.{fits_behind}
-use Rattle.mux_starts.specs.group_facts.specs.Built.{built_behind}
 use Rattle.mux_starts.specs.group_facts.specs.Lively.{lives_at}
 use Rattle.mux_tables.specs.Documents.{AllStand, nothing_owed}
 use Rattle.mux_tables.proofs.Homes.{group_seen}
@@ -15,7 +14,7 @@ use Rattle.mux_turns.proofs.Ready.{start_from}
 use Rattle.mux_exits.proofs.exits.exit_at.Goals as goal
 
 pub returns-then-not-lives-clause-exit : goal.returns-then-not-lives-clause-exit
-returns-then-not-lives-clause-exit c = λ settings before at restarts first known settled fit built st ds.
+returns-then-not-lives-clause-exit c = λ settings before at restarts first known settled fit st ds.
     let t = c.args.tables.now in
     let x = start_from t.lasts.items c.args.g c.args.s at in
     let h = x.0.life.group in
@@ -24,10 +23,10 @@ returns-then-not-lives-clause-exit c = λ settings before at restarts first know
     (c.take_left.ensures.exit settings before fit (left_by settings before c.args.s h (group_seen settings t before c.args.g c.args.s x.0 st x.1 at).0 over) st ds)
 
 pub returns-clause-exit : goal.returns-clause-exit
-returns-clause-exit c = λ settings before at restarts first known settled fit built st ds.
+returns-clause-exit c = λ settings before at restarts first known settled fit st ds.
     let t = c.args.tables.now in
     let x = start_from t.lasts.items c.args.g c.args.s at in
     let own = start_at_place t.lasts.items c.args.g c.args.s x.0 x.1 at in
     let live = ap (λ n. lives_at n t.groups.groups) (sym (c.group_number.ensures x.0 x.1)) ∙ (sym c.lives.ensures ∙ c.if-not-lives.false) in
     subst (λ s. Done (λ k events. AllStand settings k events) (row_of settings before (ServerGone s)) (with_cause before (ServerGone s)) [] (c.exit_group.new.tables, nothing_owed) c.exit_group.new.outs) own
-    (c.in_ok-exit_group.ensures.exit settings before x.0 x.1 live restarts first known settled (subst (λ s. fits_behind before (ServerGone s) ≡ true) (sym own) fit) (subst (λ s. built_behind settings before (ServerGone s) ≡ true) (sym own) built) st ds)
+    (c.in_ok-exit_group.ensures.exit settings before x.0 x.1 live restarts first known settled (subst (λ s. fits_behind before (ServerGone s) ≡ true) (sym own) fit) st ds)

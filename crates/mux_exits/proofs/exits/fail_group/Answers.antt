@@ -1,25 +1,28 @@
--- A group ends with its last start, whose program couldn't be run.
+-- A group goes on or ends with its last start, whose program couldn't be run.
 use Rattle.std.proofs.Common.{◌<◌, ◌^◌, length, ltb-true, ap, sym, subst, ◌∙◌}
 use Rattle.std.specs.Prelude.{slice_get}
 use Rattle.std.specs.List.{All, AllByRecursion}
 use Rattle.std.proofs.lemmas.List.{length-set}
-use Rattle.event_model.specs.Event.{with_cause}
+use Rattle.event_model.specs.Does.{Does}
+use Rattle.event_model.specs.Event.{behind, heard, with_cause}
 use Rattle.event_model.specs.Stages.{is_ended, life_of}
 use Rattle.event_model.proofs.Frames.{never}
 use Rattle.event_model.proofs.Places.{item_at}
 use Rattle.mux_exits.specs.Losses.{IsInside}
-use Rattle.mux_exits.proofs.Ending.{entry_done, exit_over, exit_unready}
+use Rattle.mux_exits.proofs.Ending.{entry_done, entry_renewed, exit_group, exit_over, exit_unready, here}
+use Rattle.mux_exits.specs.Partings.{CanPart, renewing_row}
 use Rattle.mux_history.specs.declared.cause.Cause.TheVariants.{StartFailed}
 use Rattle.mux_starts.specs.group_facts.specs.Lively.{lives_at}
+use Rattle.group_words.proofs.Frames.{groups_more}
 use Rattle.mux_starts.specs.group_facts.proofs.ExitEntry.{failed_exit}
 use Rattle.mux_starts.proofs.Stopped.{ended_unbegun, last_life}
-use Rattle.mux_tables.specs.Documents.{nothing_owed}
+use Rattle.mux_tables.specs.Documents.{AllStand, nothing_owed}
 use Rattle.mux_tables.proofs.DocumentOwed.{number_there}
 use Rattle.mux_tables.proofs.Homes.{group_seen}
 use Rattle.mux_exits.proofs.exits.fail_group.Goals as goal
 
 pub returns-then-is_ended-clause-failure : goal.returns-then-is_ended-clause-failure
-returns-then-is_ended-clause-failure c = λ settings before x here live restarts first known settled fit built st ds.
+returns-then-is_ended-clause-failure c = λ settings before x here live restarts first known settled fit st ds.
     let t = c.args.tables.now in
     ended_unbegun (life_of x.life.start before) x.life.stage x.started (last_life settings t before c.args.g x.life.start x here (number_there t.lasts.items c.args.g x here) st) (ap is_ended (sym (c.stage_at.ensures x here)) ∙ (sym c.is_ended.ensures ∙ c.if-is_ended.true)) fit
 
@@ -29,6 +32,31 @@ hear_failure-requires-clause-runs c = λ x here ended. never (sym (ap is_ended (
 pub hear_failure-requires-clause-room : goal.hear_failure-requires-clause-room
 hear_failure-requires-clause-room c = λ z x here at.
     ltb-true x.exits (2 ^ 63) (sym (c.is_counted.ensures x (ap (λ h. slice_get c.args.tables.now.groups.groups h) (c.group_number.ensures z here) ∙ at)) ∙ c.if-not-is_counted.false)
+
+pub group_number-requires-2 : goal.group_number-requires-2
+group_number-requires-2 c =
+    let lasts = c.args.tables.now.lasts.items in
+    let z = item_at lasts c.args.g c.requires.group in
+    let e = c.in_ok-hear_failure.ensures.exits z.0 z.1 in
+    subst (λ n. c.args.g < n) (sym (ap length e.lasts ∙ length-set lasts c.args.g e.start)) c.requires.group
+
+pub renew-requires-clause-group : goal.renew-requires-clause-group
+renew-requires-clause-group c =
+    let lasts = c.args.tables.now.lasts.items in
+    let z = item_at lasts c.args.g c.requires.group in
+    let e = c.in_ok-hear_failure.ensures.exits z.0 z.1 in
+    subst (λ n. c.args.g < n) (sym (ap length e.lasts ∙ length-set lasts c.args.g e.start)) c.requires.group
+
+pub renew-requires-clause-over : goal.renew-requires-clause-over
+renew-requires-clause-over c = λ x at.
+    let z = item_at c.args.tables.now.lasts.items c.args.g c.requires.group in
+    (exit_over c.args.restarts c.args.tables.now c.hear_failure.new.self c.args.g z.0 c.requires.group (c.in_ok-hear_failure.ensures.exits z.0 z.1) x at).0
+
+pub renew-requires-clause-inside : goal.renew-requires-clause-inside
+renew-requires-clause-inside c =
+    let z = item_at c.args.tables.now.lasts.items c.args.g c.requires.group in
+    let e = c.in_ok-hear_failure.ensures.exits z.0 z.1 in
+    subst (λ n. AllByRecursion (IsInside n) c.in_ok-parting.parting.losses.items) (sym (ap length e.editors)) c.in_ok-parting.ensures.inside
 
 pub part-requires-clause-group : goal.part-requires-clause-group
 part-requires-clause-group c =
@@ -49,18 +77,42 @@ part-requires-clause-inside c =
     let e = c.in_ok-hear_failure.ensures.exits z.0 z.1 in
     subst (λ n. AllByRecursion (IsInside n) c.in_ok-parting.parting.losses.items) (sym (ap length e.editors)) c.in_ok-parting.ensures.inside
 
-pub returns-clause-failure : goal.returns-clause-failure
-returns-clause-failure c = λ settings before x here live restarts first known settled fit built st ds.
+pub returns-in_ok-renew-clause-failure : goal.returns-in_ok-renew-clause-failure
+returns-in_ok-renew-clause-failure c = λ settings before x at_g live restarts first known settled fit st ds.
     let t = c.args.tables.now in
     let u = c.hear_failure.new.self in
     let g = c.args.g in
     let s = x.life.start in
     let h = x.life.group in
     let now = with_cause before (StartFailed s) in
-    let at = number_there t.lasts.items g x here in
-    let e = c.in_ok-hear_failure.ensures.exits x here in
+    let at = number_there t.lasts.items g x at_g in
+    let e = c.in_ok-hear_failure.ensures.exits x at_g in
+    let there = here c.args.restarts t u g x c.requires.group e in
+    let same = exit_group c.args.restarts t u g x c.requires.group e in
     let stands = c.in_ok-hear_failure.ensures.stands settings before s restarts at st in
-    entry_done settings before (StartFailed s) s (failed_exit settings before s) h (group_seen settings t before g s x st here at).0 (ap (lives_at h) st.house.groups.groups ∙ live) known settled
-    c.in_ok-parting.parting (c.in_ok-parting.ensures.parts settings before x here st) u c.part.new.tables c.args.outs.now c.part.new.outs built first
-    (stands, c.in_ok-hear_failure.ensures.documents settings nothing_owed before s ds)
+    let parting = c.in_ok-parting.parting in
+    let can : CanPart settings (behind now c.args.outs.now) h parting → Does (λ k events. AllStand settings k events) (renewing_row h parting) now (u, nothing_owed) c.args.outs.now (c.renew.new.tables, nothing_owed) c.renew.new.outs =
+    subst (λ n. CanPart settings (behind now c.args.outs.now) n parting → Does (λ k events. AllStand settings k events) (renewing_row n parting) now (u, nothing_owed) c.args.outs.now (c.renew.new.tables, nothing_owed) c.renew.new.outs) same
+    (λ may. c.in_ok-renew.ensures.does settings now e.start there may) in
+    entry_renewed settings before (StartFailed s) s (failed_exit settings before s) h (group_seen settings t before g s x st at_g at).0 (ap (lives_at h) st.house.groups.groups ∙ live) known settled
+    parting (c.in_ok-parting.ensures.parts settings before x at_g st) u stands (groups_more settings before (heard (StartFailed s))) c.renew.new.tables c.args.outs.now c.renew.new.outs
+    (ap (λ n. lives_at n u.groups.groups) (sym (c.group_number-2.ensures e.start there ∙ same)) ∙ (sym c.lives.ensures ∙ c.if-lives.true)) first (c.in_ok-hear_failure.ensures.documents settings nothing_owed before s ds) can
+
+pub returns-in_ok-part-clause-failure : goal.returns-in_ok-part-clause-failure
+returns-in_ok-part-clause-failure c = λ settings before x at_g live restarts first known settled fit st ds.
+    let t = c.args.tables.now in
+    let u = c.hear_failure.new.self in
+    let g = c.args.g in
+    let s = x.life.start in
+    let h = x.life.group in
+    let now = with_cause before (StartFailed s) in
+    let at = number_there t.lasts.items g x at_g in
+    let e = c.in_ok-hear_failure.ensures.exits x at_g in
+    let there = here c.args.restarts t u g x c.requires.group e in
+    let same = exit_group c.args.restarts t u g x c.requires.group e in
+    let stands = c.in_ok-hear_failure.ensures.stands settings before s restarts at st in
+    let parting = c.in_ok-parting.parting in
+    entry_done settings before (StartFailed s) s (failed_exit settings before s) h (group_seen settings t before g s x st at_g at).0 (ap (lives_at h) st.house.groups.groups ∙ live) known settled
+    parting (c.in_ok-parting.ensures.parts settings before x at_g st) u stands (groups_more settings before (heard (StartFailed s))) c.part.new.tables c.args.outs.now c.part.new.outs
+    (ap (λ n. lives_at n u.groups.groups) (sym (c.group_number-2.ensures e.start there ∙ same)) ∙ (sym c.lives.ensures ∙ c.if-lives.false)) first (c.in_ok-hear_failure.ensures.documents settings nothing_owed before s ds)
     (λ can. c.in_ok-part.ensures.does settings now h (exit_over c.args.restarts t u g x c.requires.group e) (exit_unready c.args.restarts t u g x c.requires.group e settings now stands) can)

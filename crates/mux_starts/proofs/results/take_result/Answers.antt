@@ -1,48 +1,101 @@
 -- The first result of a start.
-use Rattle.std.proofs.Common.{◌≡◌, ◌∷◌, refl, ap, sym, subst, ◌∙◌}
+use Rattle.std.proofs.Common.{◌≡◌, ◌<◌, ◌++◌, List, [], length, map, refl, ap, ap₂, sym, subst, ◌∙◌}
 use Rattle.std.specs.Prelude.{Some, slice_get}
+use Rattle.std.specs.List.{All, AllByRecursion}
 use Rattle.mux_history.specs.declared.cause.Cause.TheVariants.{FromServer}
 use Rattle.mux_history.specs.declared.out.Out.TheVariants.{ToServer}
 use Rattle.rpc_message.specs.Message.{message_of}
 use Rattle.event_model.specs.Does.{Does}
-use Rattle.event_model.specs.Event.{heard, with_cause}
-use Rattle.event_model.specs.Spawns.{group_behind}
+use Rattle.event_model.specs.Event.{behind, heard, with_cause}
+use Rattle.event_model.specs.Row.{send}
+use Rattle.event_model.specs.Spawns.{group_behind, start_of}
+use Rattle.event_model.specs.Stages.{Life, is_initializing, life_of}
 use Rattle.event_model.proofs.Frames.{one_more}
 use Rattle.event_model.proofs.Places.{item_at, same_item}
-use Rattle.event_model.specs.Row.{send}
+use Rattle.mux_starts.specs.group_facts.specs.Facts.{is_up}
+use Rattle.group_rows.specs.Earlier.{given_of}
+use Rattle.group_rows.specs.StopRows.{close_each}
+use Rattle.group_words.specs.Houses.{home_of}
 use Rattle.group_words.specs.Rows.{shown_of}
 use Rattle.mux_model.specs.Rows.{to_start}
-use Rattle.mux_tables.specs.Documents.{AllStand, DocumentsStand, nothing_owed, owes, replaying, to}
+use Rattle.mux_tables.specs.Documents.{AheadStand, AllStand, DocumentsStand, closes, nothing_owed, owes, replaying, to}
+use Rattle.mux_tables.specs.Stands.{number_in, of_life}
 use Rattle.mux_tables.proofs.DocumentOwed.{all_does}
 use Rattle.mux_tables.proofs.Homes.{group_seen}
 use Rattle.mux_tables.proofs.Starts.{start_at_place}
+use Rattle.mux_turns.specs.declared.carried.Carried.{Carried}
+use Rattle.mux_turns.specs.Carried.{CarriedStand}
+use Rattle.mux_turns.proofs.CarriedOn.{gave}
+use Rattle.mux_turns.proofs.Listed.{meant_same}
 use Rattle.mux_turns.proofs.Ready.{start_from}
-use Rattle.mux_starts.proofs.Replies.{begun_entry, first_encoding, initialized_quiet, initialized_silent, sent_so, still_asking}
+use Rattle.mux_starts.specs.Parted.{configured_row, parted}
+use Rattle.mux_starts.proofs.Parting.{parted_home}
+use Rattle.mux_starts.proofs.Replies.{first_encoding, initialized_quiet, initialized_silent}
+use Rattle.mux_starts.proofs.Resulting.{asking_behind, configured_so, given_so, idle_behind, result_entry, up_lives}
 use Rattle.mux_starts.proofs.results.take_result.Goals as goal
 
+pub part_each-requires : goal.part_each-requires
+part_each-requires c = subst (All (λ e. e < length c.hear_result.new.self.editors)) (sym c.deref-2.ensures.value)
+    (subst (λ xs. All (λ e. e < length xs) c.in_ok-parted.parted.items) (sym c.in_ok-owed.ensures.editors) c.in_ok-parted.ensures.inside)
+
 pub returns-clause-does : goal.returns-clause-does
-returns-clause-does c = λ settings before body id value s read says first at none shown asking st ds.
+returns-clause-does c = λ settings before body id value s read says first at none shown asking known settled carried st ds.
     let i = c.args.g in
+    let t = c.args.tables.now in
     let g = c.group_number-group.result in
-    let z = item_at c.args.tables.now.lasts.items i c.requires.group in
+    let z = item_at t.lasts.items i c.requires.group in
     let base = with_cause before (FromServer s body) in
-    let bodies = replaying settings before g in
-    let u = c.hear_result.new.self in
+    let number = sym (c.group_number-group.ensures z.0 z.1) in
+    let seen = group_seen settings t before i s z.0 st z.1 at in
+    let home = seen.0 ∙ ap Some number in
+    let own_start = st.lasts.each i z.0 z.1 in
+    let live = up_lives settings before g z.0.life.start settled (subst (λ n. start_of n before ≡ Some z.0.life.start) number own_start.start) (ap (λ (l : Life). is_up l.stage) (own_start.parts of_life) ∙ ap is_up (c.requires.stage z.0 z.1)) in
     let shows = c.in_ok-told.ensures ∙ ap shown_of (c.result_bytes.ensures body read) in
+    let those = c.in_ok-parted.ensures.those settings before body st carried live (c.bytes.ensures ∙ shows) in
+    let es = c.deref.result.now in
+    let es_are = c.deref.ensures.value ∙ those in
+    let same = c.deref-2.ensures.value ∙ sym c.deref.ensures.value in
+    let bodies = replaying settings (behind base (closes es)) g in
+    let u = c.hear_result.new.self in
+    let v = c.part_each.new.tables in
     let stands = c.in_ok-owed.ensures.stands settings before s body at first (c.answered_number-n.ensures body read) (c.in_ok-kept.ensures ∙ shows) st in
-    let home = (group_seen settings c.args.tables.now before i s z.0 st z.1 at).0 ∙ ap Some (sym (c.group_number-group.ensures z.0 z.1)) in
-    let owed = subst (λ n. (c.in_ok-owed.owed ≡ to s (replaying settings before n)) × DocumentsStand settings (owes n (replaying settings before n)) u base) (sym (c.group_number-group.ensures z.0 z.1))
-    (c.in_ok-owed.ensures.documents settings before s body at (first_encoding (message_of body) id value c.encoding.result says first (c.encoding.ensures body id value read says)) st ds z.0 z.1) in
-    let there = ap (λ ns. slice_get ns i) c.in_ok-owed.ensures.starts ∙ at in
+    let homes : AllByRecursion (λ e. home_of settings e before ≡ Some z.0.life.group) es = subst (λ n. AllByRecursion (λ e. home_of settings e before ≡ Some n) es) (sym number) (subst (AllByRecursion (λ e. home_of settings e before ≡ Some g)) (sym es_are) (parted_home settings before body g)) in
+    let owed = subst (λ n. (c.in_ok-owed.owed ≡ to s (replaying settings (behind base (closes es)) n)) × DocumentsStand settings (owes n (replaying settings (behind base (closes es)) n)) u (behind base (closes es))) number
+    (c.in_ok-owed.ensures.documents settings before s body at (first_encoding (message_of body) id value c.encoding.result says first (c.encoding.ensures body id value read says)) st ds z.0 z.1 homes) in
+    let due = owes g bodies in
+    let parts = subst (λ ns. Does (λ k events. AheadStand settings k events) (close_each ns) base (u, (due, closes ns)) c.args.outs.now (v, (due, [])) c.part_each.new.outs) same (c.in_ok-part_each.ensures.does settings due base) in
+    let there = ap (λ ls. slice_get (map number_in ls.items) i) c.part_each.ensures.lasts ∙ (ap (λ ns. slice_get ns i) c.in_ok-owed.ensures.starts ∙ at) in
     let q = initialized_quiet c.in_ok-text.text c.in_ok-text.ensures in
-    let begins = all_does settings u u (owes g bodies) (owes g bodies) base c.args.outs.now c.notify.new.outs (c.in_ok-notify.ensures.does settings base s there q.runs q.counts (λ _ _ _. initialized_silent c.in_ok-text.text c.in_ok-text.ensures)) (λ _ d. c.in_ok-notify.ensures.documents settings (owes g bodies) base q.says q.aside d) in
-    let x = start_from u.lasts.items i s there in
-    let own = start_at_place u.lasts.items i s x.0 x.1 there in
-    let mine : x.0.life.group ≡ g = same_item (sym (group_seen settings u base i s x.0 stands x.1 there).0 ∙ (one_more (group_behind s) _ _ before (heard (FromServer s body)) refl ∙ home)) in
-    let pays = subst (λ n. Does (λ k events. AllStand settings k events) (to_start n bodies) base (u, owes g bodies) c.notify.new.outs (u, nothing_owed) c.pay.new.outs) own
-    (subst (λ m. Does (λ k events. AllStand settings k events) (to_start x.0.life.start bodies) base (u, owes m bodies) c.notify.new.outs (u, nothing_owed) c.pay.new.outs) mine (c.in_ok-pay.ensures.does settings base i x.0 bodies x.1 (c.in_ok-owed.ensures.ready x.0 x.1) (owed.0 ∙ ap (λ n. to n bodies) (sym own)))) in
-    let sent = sent_so s c.in_ok-text.text bodies c.args.outs.now c.notify.new.outs c.pay.new.outs c.in_ok-owed.owed none (c.in_ok-notify.ensures.outs s there) owed.0 c.in_ok-pay.ensures.outs in
-    let greets = c.in_ok-greet_all.ensures.does settings base body (c.bytes.ensures ∙ shows) shown
-    (still_asking before s body (c.in_ok-text.text ∷ bodies) c.pay.new.outs sent asking) in
-    begun_entry settings before s g body u c.greet_all.new.tables c.args.outs.now c.notify.new.outs c.pay.new.outs c.greet_all.new.outs home none (stands, owed.1)
-    (subst (λ w. Does (λ k events. AllStand settings k events) (send (ToServer s w)) base (u, owes g bodies) c.args.outs.now (u, owes g bodies) c.notify.new.outs) c.in_ok-text.ensures begins) pays greets
+    let begins = subst (λ w. Does (λ k events. AllStand settings k events) (send (ToServer s w)) base (v, due) c.part_each.new.outs (v, due) c.notify.new.outs) c.in_ok-text.ensures
+    (all_does settings v v due due base c.part_each.new.outs c.notify.new.outs (c.in_ok-notify.ensures.does settings base s there q.runs q.counts (λ _ _ _. initialized_silent c.in_ok-text.text c.in_ok-text.ensures)) (λ _ d. c.in_ok-notify.ensures.documents settings due base q.says q.aside d)) in
+    let kept = c.configuration.ensures ∙ carried.configuration g live in
+    let configures = subst (λ o. Does (λ k events. AllStand settings k events) (configured_row s o) base (v, due) c.notify.new.outs (v, due) c.configure.new.outs) kept
+    (c.in_ok-configure.ensures settings due base s there (configured_so settings before g _ kept (meant_same before known.meant)) (idle_behind before s body c.notify.new.outs)) in
+    let x = start_from v.lasts.items i s there in
+    let own = start_at_place v.lasts.items i s x.0 x.1 there in
+    let x_at = ap (λ ls. slice_get ls.items i) (sym c.part_each.ensures.lasts) ∙ x.1 in
+    let mine : x.0.life.group ≡ g = same_item (sym (group_seen settings u base i s x.0 stands x_at (ap (λ ns. slice_get ns i) c.in_ok-owed.ensures.starts ∙ at)).0 ∙ (one_more (group_behind s) _ _ before (heard (FromServer s body)) refl ∙ home)) in
+    let pays = subst (λ n. Does (λ k events. AllStand settings k events) (to_start n bodies) base (v, due) c.configure.new.outs (v, nothing_owed) c.pay.new.outs) own
+    (subst (λ m. Does (λ k events. AllStand settings k events) (to_start x.0.life.start bodies) base (v, owes m bodies) c.configure.new.outs (v, nothing_owed) c.pay.new.outs) mine
+    (c.in_ok-pay.ensures.does settings base i x.0 bodies x.1 (c.in_ok-owed.ensures.ready x.0 x_at) (owed.0 ∙ ap (λ n. to n bodies) (sym own)))) in
+    let greets = c.in_ok-greet_all.ensures.does settings base body (c.bytes-2.ensures ∙ shows) shown (asking_behind before s body c.pay.new.outs asking) in
+    result_entry settings before s g body es bodies v i x.0 home es_are refl x.1 mine u c.greet_all.new.tables c.args.outs.now c.part_each.new.outs c.notify.new.outs c.configure.new.outs c.pay.new.outs c.greet_all.new.outs
+    none (c.in_ok-part_each.ensures.outs ∙ ap (λ ns. c.args.outs.now ++ closes ns) same) (stands, owed.1) parts begins configures pays greets
+
+pub returns-clause-carried : goal.returns-clause-carried
+returns-clause-carried c = λ settings before body id value s read says first at none shown asking known settled carried st ds.
+    let i = c.args.g in
+    let t = c.args.tables.now in
+    let g = c.group_number-group.result in
+    let z = item_at t.lasts.items i c.requires.group in
+    let number = sym (c.group_number-group.ensures z.0 z.1) in
+    let home = (group_seen settings t before i s z.0 st z.1 at).0 ∙ ap Some number in
+    let own = st.lasts.each i z.0 z.1 in
+    let same = start_at_place t.lasts.items i s z.0 z.1 at in
+    let initializes = ap (λ n. is_initializing (life_of n before).stage) (sym same) ∙ (ap (λ (l : Life). is_initializing l.stage) (own.parts of_life) ∙ ap is_initializing (c.requires.stage z.0 z.1)) in
+    let live = up_lives settings before g z.0.life.start settled (subst (λ n. start_of n before ≡ Some z.0.life.start) number own.start) (ap (λ (l : Life). is_up l.stage) (own.parts of_life) ∙ ap is_up (c.requires.stage z.0 z.1)) in
+    let done = returns-clause-does c settings before body id value s read says first at none shown asking known settled carried st ds in
+    let told = c.in_ok-told.ensures ∙ ap shown_of (c.result_bytes.ensures body read) in
+    subst (λ v. CarriedStand settings v (behind (with_cause before (FromServer s body)) c.greet_all.new.outs)) (ap₂ (λ (a b : List Carried). record { shown = a; configurations = b }) (sym c.in_ok-give.ensures.shown) (sym c.give.ensures.configurations))
+    (gave settings c.args.carries.now before (FromServer s body) c.greet_all.new.outs g c.greet_all.new.tables.groups.groups live carried c.in_ok-told.told body done.stands.0.house.groups.groups told
+    (λ h. given_so before s g body home initializes first h (given_of h before)) (λ h. refl))

@@ -11,4 +11,4 @@ invariant_of-result g c =
 pub returns-clause-stands : goal.returns-clause-stands
 returns-clause-stands g c =
     let settings : Settings = record { limits = c.args.limits; servers = c.args.servers.items; default = c.args.default } in
-    begins g.J.Journal.told settings c.in-Ok.tables c.new-2.result c.new-3.result.items c.args.journal c.requires.told (c.in-Ok.ensures.stands settings refl refl refl) (c.in-Ok.ensures.documents settings refl) c.new-2.ensures c.new-3.ensures.items
+    begins g.J.Journal.told settings c.in-Ok.tables c.new-2.result c.new-3.result c.new-4.result.items c.args.journal c.requires.told (c.in-Ok.ensures.stands settings refl refl refl) (c.in-Ok.ensures.documents settings refl) (c.new-2.ensures settings) c.new-3.ensures c.new-4.ensures.items

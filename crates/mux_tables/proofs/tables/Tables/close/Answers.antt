@@ -17,7 +17,7 @@ use Rattle.event_model.specs.Phases.{phase_closed}
 use Rattle.mux_tables.proofs.Phased.{closed_id}
 use Rattle.mux_tables.proofs.Said.{close_does}
 use Rattle.mux_tables.proofs.Waits.{ids_kept}
-use Rattle.mux_tables.proofs.DocumentLeft.{closed_documents, closed_unserved}
+use Rattle.mux_tables.proofs.DocumentLeft.{closed_ahead, closed_documents, closed_unserved}
 use Rattle.mux_tables.proofs.DocumentOwing.{closed_owing}
 use Rattle.mux_tables.proofs.tables.Tables.close.Goals as goal
 
@@ -47,3 +47,8 @@ pub returns-clause-unserved : goal.returns-clause-unserved
 returns-clause-unserved c = λ settings owing base st unserved ds.
     closed_unserved settings owing c.args.self.now _ base c.args.outs.now c.push.new.self c.args.e c.group-home.result c.place_in-place.result c.in_ok-owed.owed c.requires c.group-home.ensures c.in_ok-empty.ensures.lasts c.in_ok-empty.ensures.versions
     (subst (λ (v : List Documents). StepFrom (leave_row c.args.e) c.place_in-place.result v c.in_ok-owed.owed c.leave.new.documents.items) (ap (λ v. v.items) c.in_ok-empty.ensures.documents) c.in_ok-owed.ensures) c.in_ok-push.ensures.ok st unserved ds
+
+pub returns-clause-ahead : goal.returns-clause-ahead
+returns-clause-ahead c = λ settings owing base more off ds.
+    closed_ahead settings owing c.args.self.now _ base c.args.outs.now c.push.new.self more c.args.e c.place_in-place.result c.in_ok-owed.owed c.in_ok-empty.ensures.lasts c.in_ok-empty.ensures.versions
+    (subst (λ (v : List Documents). StepFrom (leave_row c.args.e) c.place_in-place.result v c.in_ok-owed.owed c.leave.new.documents.items) (ap (λ v. v.items) c.in_ok-empty.ensures.documents) c.in_ok-owed.ensures) c.in_ok-push.ensures.ok off ds

@@ -1,0 +1,272 @@
+-- X3 of every exit: the group of the start gets a new one, or each editor of it is closed and it lives no more; and X1 to X3 of every legal history.
+use Rattle.std.proofs.Common.{◌≡◌, ℕ, Bool, true, false, not, ◌&&◌, ◌||◌, List, [], ◌∷◌, ◌++◌, flat_map, nat_eq, if◌then◌else◌, append-nil, append_assoc, Some, None, Option, inl, inr, refl, sym, ◌∙◌, ap, subst, arith}
+use Rattle.std.specs.Prelude.{slice_get}
+use Rattle.std.specs.List.{AllByRecursion, list_any}
+use Rattle.std.specs.Option.{option_map_or}
+use Rattle.mux_history.specs.declared.cause.Cause.{Cause}
+use Rattle.mux_history.specs.declared.cause.Cause.TheVariants.{Joined, FromEditor, EditorGone, Started, StartFailed, FromServer, ServerGone, Drained, Tick}
+use Rattle.mux_history.specs.declared.entry.Entry.{Entry}
+use Rattle.mux_history.specs.declared.out.Out.{Out}
+use Rattle.mux_history.specs.declared.out.Out.TheVariants.{CloseEditor, Spawn}
+use Rattle.event_model.specs.declared.phase.Phase.TheVariants.{Running}
+use Rattle.event_model.specs.Event.{Event, behind, events_of, heard, with_cause}
+use Rattle.event_model.specs.Parts.{editor_part}
+use Rattle.event_model.specs.Phases.{desk_of, is_running}
+use Rattle.event_model.specs.Row.{choose, each, outs}
+use Rattle.event_model.specs.Settings.{Settings}
+use Rattle.event_model.specs.Spawns.{group_of, start_of, starts_of}
+use Rattle.event_model.specs.Stages.{Life}
+use Rattle.event_model.proofs.Frames.{never}
+use Rattle.mux_facts.specs.Ranges.{InRange}
+use Rattle.mux_facts.proofs.Keeps.{behind_both, events_more}
+use Rattle.mux_facts.proofs.Words.{number_same, same_number}
+use Rattle.group_words.specs.Houses.{groups_of, home_of, is_home}
+use Rattle.group_words.specs.Rows.{spawn}
+use Rattle.group_rows.specs.Asks.{asks_of, has_number, members_in}
+use Rattle.group_rows.specs.Created.{created_of}
+use Rattle.group_rows.specs.ExitRows.{begins_again, comes_again, lost_row, starts_again, turn_out}
+use Rattle.group_rows.specs.Lists.{lists_of}
+use Rattle.group_rows.specs.Live.{live_next, live_of}
+use Rattle.group_rows.specs.Rows.{outs_of}
+use Rattle.session_laws.specs.ClientRules.{has_id, registered_of}
+use Rattle.group_rows.specs.StopRows.{refuse_initialize}
+use Rattle.group_facts.specs.Facts.{is_exit, is_unready}
+use Rattle.group_facts.specs.Legal.{Legal, LegalFrom}
+use Rattle.group_facts.specs.Lively.{lives_at}
+use Rattle.group_facts.specs.Settled.{Settled, is_answered}
+use Rattle.group_facts.specs.SlowRows.{slow_row}
+use Rattle.group_facts.proofs.AskingRows.{running_is}
+use Rattle.group_facts.proofs.Begun.{NoSpawn, starts_stay}
+use Rattle.group_facts.proofs.LastStarts.{AllLast, start_renewed}
+use Rattle.group_facts.proofs.Lively.{lives_of}
+use Rattle.group_facts.proofs.Downs.{lives_outs}
+use Rattle.group_facts.proofs.ExitEntry.{Exit, exit_by}
+use Rattle.group_facts.proofs.Exits.{failed_groups, gone_groups, lost_over}
+use Rattle.group_facts.proofs.Facts.{Facts}
+use Rattle.group_facts.proofs.PutOut.{homes_stay}
+use Rattle.group_facts.proofs.SlowRow.{slow_all}
+use Rattle.group_facts.proofs.Reached.{Reached, facts_at, reached, settled_at}
+use Rattle.group_sessions.proofs.Client7Law.{all_at}
+use Rattle.group_sessions.proofs.Enrolled.{names}
+use Rattle.group_sessions.proofs.ExitOuts.{Lives, any_each, any_first, any_second, ending, errors, exit_parts, lives_parts, losses, member_named, one_named, told}
+use Rattle.group_sessions.proofs.ExitsCleared.{asks_back, home, lists_emptied, takes_back, tokens_ended}
+use Rattle.group_sessions.proofs.ExitsRefused.{refuses_all}
+use Rattle.group_sessions.proofs.ListsLaw.{legal_parts, lists_law}
+use Rattle.group_sessions.proofs.Registered.{ids, none_has}
+use Rattle.group_sessions.proofs.TellingPlaces.{last_starts}
+use Rattle.group_sessions.proofs.Tied.{All, IsTied, live_rests, live_took}
+use Rattle.group_sessions.specs.ExitReplay.{Chosen, Clears, ExitsEnd, IsAskBack, IsEnded, IsTakeBack, KeepsCleared, GoesOn, KeepsGroups, KeepsRefused, Refuses, closes, is_housed, is_member, spawns_for}
+use Rattle.group_sessions.specs.LastLists.{due_ending, emptied, is_hearing, lists_due, lists_to}
+
+module _ (settings : Settings) (before : List Event) (facts : Facts settings before) (cause : Cause) (s : ℕ) (exit : Exit settings before cause s) (k : Lives settings before s) (slow : List Out) where
+  abbrev now : List Event
+  now = with_cause before cause
+
+  abbrev row : List Out
+  row = outs (lost_row settings before s) now
+
+  abbrev last : List Event
+  last = behind (told settings before s k now) (losses settings before s k now)
+
+  -- the choice
+  chosen : begins_again settings before s ≡ starts_again settings before k.group k.kept
+  chosen = ap (λ o. option_map_or (λ g. option_map_or (comes_again settings before g) (slice_get (groups_of settings before) g) false) o false) k.home
+      ∙ (ap (λ o. option_map_or (comes_again settings before k.group) o false) k.found ∙ ap (λ b. b && starts_again settings before k.group k.kept) k.live)
+
+  -- what X3 sends is sent
+  among : (test : Out → Bool) → list_any test (outs (ending settings before s k now) last) ≡ true → list_any test (row ++ slow) ≡ true
+  among test h = any_first test row slow (subst (λ z. list_any test z ≡ true) (sym (exit_parts settings before s k now))
+      (any_second test (errors settings before s k now) (losses settings before s k now ++ outs (ending settings before s k now) last)
+      (any_second test (losses settings before s k now) (outs (ending settings before s k now) last) h)))
+
+  renewed : starts_again settings before k.group k.kept ≡ true → list_any (spawns_for (group_of s before)) (row ++ slow) ≡ true
+  renewed again = among (spawns_for (group_of s before)) (ap (λ b. list_any (spawns_for (group_of s before)) (outs (choose b (spawn k.group) (each turn_out (members_in settings k.group before))) last)) again
+      ∙ (ap (λ o. spawns_for o (Spawn (starts_of last) k.group) || false) k.home ∙ ap (λ b. b || false) (same_number k.group)))
+
+  turned : (e n : ℕ) (events : List Event) → n ≡ e → list_any (closes e) (outs (turn_out n) events) ≡ true
+  turned e n events is = any_second (closes e) (outs (refuse_initialize n) events) (CloseEditor n ∷ []) (ap (λ z. nat_eq z e || false) is ∙ ap (λ b. b || false) (same_number e))
+
+  shut : starts_again settings before k.group k.kept ≡ false → (e : ℕ) → is_member settings before s e ≡ true → list_any (closes e) (row ++ slow) ≡ true
+  shut over e member = among (closes e) (ap (λ b. list_any (closes e) (outs (choose b (spawn k.group) (each turn_out (members_in settings k.group before))) last)) over
+      ∙ any_each (closes e) turn_out (λ (n : ℕ). n ≡ e) (turned e) (members_in settings k.group before) (one_named e (members_in settings k.group before) (member_named settings before s k (facts.steady).editors e member)) last)
+
+  -- the group lives no more
+  over_now : not (begins_again settings before s) ≡ true → (g : ℕ) → group_of s before ≡ Some g → lives_at g (groups_of settings now) ≡ false
+  over_now ends g home = go cause exit.is
+    where
+      at : (n : ℕ) → n ≡ s → not (begins_again settings before n) ≡ true
+      at n is = ap (λ z. not (begins_again settings before z)) is ∙ ends
+
+      go : (c : Cause) → is_exit c s ≡ true → lives_at g (groups_of settings (with_cause before c)) ≡ false
+      go (StartFailed n) is = let same = number_same n s is in ap (lives_at g) (failed_groups settings before n (at n same)) ∙ lost_over settings before n g (ap (λ z. group_of z before) same ∙ home)
+      go (ServerGone n) is = let same = number_same n s is in ap (lives_at g) (gone_groups settings before n (at n same)) ∙ lost_over settings before n g (ap (λ z. group_of z before) same ∙ home)
+      go (Joined n) is = never (sym is)
+      go (FromEditor n body) is = never (sym is)
+      go (EditorGone n why) is = never (sym is)
+      go (Started n) is = never (sym is)
+      go (FromServer n body) is = never (sym is)
+      go (Drained n b) is = never (sym is)
+      go (Tick t) is = never (sym is)
+
+  pub goes_on : (xs : List Out) → xs ≡ row ++ slow → GoesOn settings before s xs (behind now xs)
+  goes_on xs is = go (begins_again settings before s) refl
+    where
+      go : (b : Bool) → begins_again settings before s ≡ b → Chosen settings before s xs (behind now xs) b
+      go true again = ap (list_any (spawns_for (group_of s before))) is ∙ renewed (sym chosen ∙ again)
+      go false over = record {
+        closed = λ e member. ap (list_any (closes e)) is ∙ shut (sym chosen ∙ over) e member;
+        over = λ g home. lives_outs settings g now xs ∙ over_now (ap not over) g home;
+      }
+
+-- A whole history
+
+module _ (settings : Settings) (range : InRange settings) (before later : List Entry) (entry : Entry) (so_far : Legal settings before) (legal : LegalFrom settings before (entry ∷ later)) (s : ℕ) (is : is_exit entry.cause s ≡ true) (housed : is_housed settings (events_of before) s ≡ true) where
+  abbrev old : List Event
+  old = events_of before
+
+  abbrev slow : List Out
+  slow = outs (slow_row settings) (behind (with_cause old entry.cause) (outs_of settings old entry.cause))
+
+  exit : Exit settings old entry.cause s
+  exit = exit_by settings old entry.cause s is
+
+  facts : Facts settings old
+  facts = facts_at settings range old (reached settings before so_far)
+
+  sent : entry.outs ≡ outs (lost_row settings old s) (with_cause old entry.cause) ++ slow
+  sent = legal.1 ∙ ap (λ z. z ++ slow) exit.row
+
+  reached_after : Reached settings (behind (with_cause old entry.cause) entry.outs)
+  reached_after = subst (Reached settings) (events_more before entry) (reached settings (before ++ entry ∷ []) (legal_more before entry so_far legal))
+    where
+      legal_from : (early rest : List Entry) (x : Entry) → LegalFrom settings early rest → LegalFrom settings (early ++ rest) (x ∷ []) → LegalFrom settings early (rest ++ x ∷ [])
+      legal_from early [] x a b = subst (λ z. LegalFrom settings z (x ∷ [])) (append-nil early) b
+      legal_from early (y ∷ rest) x a b = (a.0, a.1, legal_from (early ++ y ∷ []) rest x a.2 (subst (λ z. LegalFrom settings z (x ∷ [])) (sym (append_assoc early (y ∷ []) rest)) b))
+
+      legal_more : (xs : List Entry) (x : Entry) → Legal settings xs → LegalFrom settings xs (x ∷ later) → Legal settings (xs ++ x ∷ [])
+      legal_more xs x a b = legal_from [] xs x a (b.0, b.1, tt)
+
+  refused_there : Refuses settings old s entry.outs (behind (with_cause old entry.cause) entry.outs)
+  refused_there = refuses_all settings old facts entry.cause s exit slow (lives_parts settings old s housed) entry.outs sent (settled_at settings range (behind (with_cause old entry.cause) entry.outs) reached_after)
+
+  goes_on_there : GoesOn settings old s entry.outs (behind (with_cause old entry.cause) entry.outs)
+  goes_on_there = goes_on settings old facts entry.cause s exit (lives_parts settings old s housed) slow entry.outs sent
+
+  -- X2
+  module _ (e : ℕ) (hears : is_hearing settings s e old ≡ true) where
+    settled : Settled settings old
+    settled = settled_at settings range old (reached settings before so_far)
+
+    lasts : AllLast old
+    lasts = last_starts settings range old (reached settings before so_far)
+
+    -- as many lists as it is due
+    due : (c : Cause) (after : List Event) → is_exit c s ≡ true → lists_due settings e old c after ≡ flat_map (emptied e old) (lists_of s old)
+    due (StartFailed n) after exits = ap (λ z. due_ending settings z e old) (number_same n s exits) ∙ ap (λ b. if b then flat_map (emptied e old) (lists_of s old) else []) hears
+    due (ServerGone n) after exits = ap (λ z. due_ending settings z e old) (number_same n s exits) ∙ ap (λ b. if b then flat_map (emptied e old) (lists_of s old) else []) hears
+    due (Joined n) after exits = never (sym exits)
+    due (FromEditor n body) after exits = never (sym exits)
+    due (EditorGone n why) after exits = never (sym exits)
+    due (Started n) after exits = never (sym exits)
+    due (FromServer n body) after exits = never (sym exits)
+    due (Drained n b) after exits = never (sym exits)
+    due (Tick t) after exits = never (sym exits)
+
+    abbrev after : List Event
+    after = behind (with_cause old entry.cause) entry.outs
+
+    -- nothing is registered there
+    bare : is_running (desk_of e after).phase ≡ true → has_number e after ≡ true → registered_of (editor_part e after) ≡ []
+    bare runs left = go (all_after.tied e k.group (starts_of old) at home_after start_after)
+      where
+        k : Lives settings old s
+        k = lives_parts settings old s housed
+
+        settled_after : Settled settings after
+        settled_after = settled_at settings range after reached_after
+
+        all_after : All settings after
+        all_after = all_at settings range after reached_after
+
+        all_old : All settings old
+        all_old = all_at settings range old (reached settings before so_far)
+
+        at : (desk_of e after).phase ≡ Running
+        at = running_is settings after (desk_of e after).phase runs
+
+        home_some : (o : Option ℕ) → is_home k.group o ≡ true → o ≡ Some k.group
+        home_some None h = never (sym h)
+        home_some (Some g) h = ap (λ n. Some n) (number_same g k.group h)
+
+        home_after : home_of settings e after ≡ Some k.group
+        home_after = homes_stay settings e (with_cause old entry.cause) entry.outs ∙ (exit.home e ∙ home_some (home_of settings e old) (home settings old facts settled lasts entry.cause s exit k slow e hears))
+
+        -- its group goes on, since it is in one that lives
+        again : begins_again settings old s ≡ true
+        again = by_choice (begins_again settings old s) refl
+          where
+            by_choice : (b : Bool) → begins_again settings old s ≡ b → b ≡ true
+            by_choice true h = refl
+            by_choice false h = never (sym (lives_of settings after settled_after.lively e k.group (ap is_answered at) home_after) ∙ (subst (Chosen settings old s entry.outs after) h goes_on_there).over k.group k.home)
+
+        start_after : start_of k.group after ≡ Some (starts_of old)
+        start_after = ap (λ z. start_of k.group (behind (with_cause old entry.cause) z)) legal.1
+            ∙ (ap (start_of k.group) (behind_both (with_cause old entry.cause) (outs_of settings old entry.cause) slow)
+            ∙ (starts_stay k.group (behind (with_cause old entry.cause) (outs_of settings old entry.cause)) slow (slow_all settings NoSpawn (λ n. tt) (λ n body. tt) (behind (with_cause old entry.cause) (outs_of settings old entry.cause)))
+            ∙ start_renewed settings old entry.cause settled.begun k.group s k.home is again))
+
+        -- of the new start nothing is registered
+        none_old : live_of settings (starts_of old) old ≡ []
+        none_old = all_old.unready (starts_of old) (ap (λ (l : Life). is_unready l.stage) ((facts.steady).starts (starts_of old) (omega arith)))
+
+        none_by : (c : Cause) → is_exit c s ≡ true → live_next settings (starts_of old) old (live_of settings (starts_of old) old) (heard c) ≡ []
+        none_by (StartFailed n) exits = kept (nat_eq n (starts_of old))
+          where
+            kept : (b : Bool) → (if b then [] else live_of settings (starts_of old) old) ≡ []
+            kept true = refl
+            kept false = none_old
+        none_by (ServerGone n) exits = kept (nat_eq n (starts_of old))
+          where
+            kept : (b : Bool) → (if b then [] else live_of settings (starts_of old) old) ≡ []
+            kept true = refl
+            kept false = none_old
+        none_by (Joined n) exits = never (sym exits)
+        none_by (FromEditor n body) exits = never (sym exits)
+        none_by (EditorGone n why) exits = never (sym exits)
+        none_by (Started n) exits = never (sym exits)
+        none_by (FromServer n body) exits = never (sym exits)
+        none_by (Drained n b) exits = never (sym exits)
+        none_by (Tick t) exits = never (sym exits)
+
+        none_after : live_of settings (starts_of old) after ≡ []
+        none_after = live_rests settings (starts_of old) (with_cause old entry.cause) entry.outs ∙ (live_took settings (starts_of old) old entry.cause ∙ none_by entry.cause is)
+
+        go : IsTied settings e (starts_of old) (ids e after) after → ids e after ≡ []
+        go (inr full) = never (sym left ∙ full)
+        go (inl same) = none_has (ids e after) (λ x. same x ∙ ap (λ rs. has_id (names rs) x) none_after)
+
+    cleared_there : lists_to e entry.outs ≡ lists_due settings e old entry.cause (behind (with_cause old entry.cause) (outs_of settings old entry.cause)) → Clears settings old s entry.outs after e
+    cleared_there told_lists = record {
+      ended = subst (λ z. AllByRecursion (IsEnded settings old s z e) (created_of settings s old).tokens) (sym sent) (tokens_ended settings old facts settled lasts entry.cause s exit (lives_parts settings old s housed) slow e hears);
+      takes = subst (λ z. AllByRecursion (IsTakeBack e z) (created_of settings s old).takings) (sym sent) (takes_back settings old facts settled lasts entry.cause s exit (lives_parts settings old s housed) slow e hears);
+      asks = subst (λ z. AllByRecursion (IsAskBack e z) (asks_of settings s old)) (sym sent) (asks_back settings old facts settled lasts entry.cause s exit (lives_parts settings old s housed) slow e hears);
+      lists = lists_emptied settings old facts settled lasts entry.cause s exit (lives_parts settings old s housed) slow e hears entry.outs (told_lists ∙ due entry.cause (behind (with_cause old entry.cause) (outs_of settings old entry.cause)) is);
+      registered = bare;
+    }
+
+module _ (settings : Settings) (range : InRange settings) (history : List Entry) (legal : Legal settings history) where
+  at_entry : (before later : List Entry) (entry : Entry) → history ≡ before ++ entry ∷ later → LegalFrom settings [] before × LegalFrom settings before (entry ∷ later)
+  at_entry before later entry is = legal_parts settings [] before (entry ∷ later) (subst (Legal settings) is legal)
+
+  refused_law : KeepsRefused settings history
+  refused_law before later entry is s exits housed = let parts = at_entry before later entry is in refused_there settings range before later entry parts.0 parts.1 s exits housed
+
+  groups_law : KeepsGroups settings history
+  groups_law before later entry is s exits housed = let parts = at_entry before later entry is in goes_on_there settings range before later entry parts.0 parts.1 s exits housed
+
+  cleared_law : KeepsCleared settings history
+  cleared_law before later entry is s exits housed e hears = let parts = at_entry before later entry is in
+      cleared_there settings range before later entry parts.0 parts.1 s exits housed e hears (lists_law settings range history legal before later entry is e)
+
+  pub exits_law : ExitsEnd settings history
+  exits_law = record { refused = refused_law; cleared = cleared_law; groups = groups_law }

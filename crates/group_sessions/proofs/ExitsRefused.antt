@@ -1,0 +1,214 @@
+-- X1 of every exit: the requests that the start had to answer are answered by an error, and behind the entry none of them is open.
+use Rattle.std.proofs.Common.{◌≡◌, ℕ, ◌+◌, Bool, true, false, ◌&&◌, ◌||◌, if◌then◌else◌, List, [], ◌∷◌, ◌++◌, filter, map, nat_eq, append-nil, append_assoc, None, refl, sym, ◌∙◌, ap, ap₂, subst}
+use Rattle.std.specs.List.{AllByRecursion, list_any}
+use Rattle.std.proofs.lemmas.Slice.Eq.{bytes_eq-Decides}
+use Rattle.mux_history.specs.declared.cause.Cause.{Cause}
+use Rattle.mux_history.specs.declared.cause.Cause.TheVariants.{Joined, FromEditor, EditorGone, Started, StartFailed, FromServer, ServerGone, Drained, Tick}
+use Rattle.mux_history.specs.declared.out.Out.{Out}
+use Rattle.mux_history.specs.declared.out.Out.TheVariants.{ToEditor, ToServer, Spawn, CloseEditor, EndServer}
+use Rattle.rpc_message.specs.Message.{Id, Message, error, message_of, not_json, not_message, notification, request, result}
+use Rattle.rpc_message.specs.Texts.{error_text, request_failed}
+use Rattle.rpc_message.specs.ValueTexts.{IsIdText}
+use Rattle.event_model.specs.declared.phase.Phase.{Phase}
+use Rattle.event_model.specs.declared.phase.Phase.TheVariants.{Absent, New, Waiting, Answered, Running, Down, Closed, Gone}
+use Rattle.event_model.specs.Event.{Event, behind, heard, said, with_cause}
+use Rattle.event_model.specs.Phases.{Desk, desk_of, is_there, phase_closed, phase_told}
+use Rattle.event_model.specs.Requests.{is_open, is_own, open_of}
+use Rattle.event_model.specs.Row.{outs}
+use Rattle.event_model.specs.Settings.{Settings}
+use Rattle.event_model.proofs.Frames.{never}
+use Rattle.mux_facts.proofs.Lists.{all_of}
+use Rattle.mux_facts.proofs.Words.{same_number}
+use Rattle.group_rows.specs.Asks.{members_in}
+use Rattle.group_rows.specs.ExitRows.{lose_sent, lost_row}
+use Rattle.group_rows.specs.Forwarded.{Forwarded, Forwarding, forwarding_of, forwards, is_of, no_forwarding, numbered}
+use Rattle.group_rows.specs.StopRows.{lose_request}
+use Rattle.group_facts.specs.Facts.{IsForwarded, OneRequest, is_early, is_exit}
+use Rattle.group_facts.specs.Settled.{IsSent, Settled, is_answered}
+use Rattle.group_facts.proofs.ExitEntry.{Exit}
+use Rattle.group_facts.proofs.Facts.{Facts}
+use Rattle.group_facts.proofs.Forwards.{forwarding_more, get_all, notified_all, notified_sender}
+use Rattle.group_facts.proofs.PutOut.{outs_tested}
+use Rattle.group_facts.proofs.Quits.{not_stopped}
+use Rattle.group_facts.proofs.Sent.{OneOf}
+use Rattle.group_facts.proofs.StopEntry.{there_outs}
+use Rattle.group_sessions.proofs.ExitOuts.{Lives, all_of_one, all_ones, any_each, any_first, errors, exit_parts, losses, ending, member_named, one_kept, one_named, told}
+use Rattle.group_sessions.specs.ExitReplay.{IsClosed, IsRefused, Refuses, sends}
+
+-- Behind outs, where no request is at work, a start has no more requests to answer
+
+module _ (t : ℕ) (Q : ℕ → ℕ → List ℕ → Type 0) where
+  abbrev AllQ : List Forwarded → Type 0
+  AllQ fs = AllByRecursion (λ (f : Forwarded). Q f.number f.editor f.id) fs
+
+  record Holds (x : Forwarding) : Type 0 where
+    sender : x.sender ≡ None
+    all : AllQ x.open_requests
+
+  holds_sent : (x : Forwarding) (m : Message) → Holds x → Holds (forwards x m)
+  holds_sent x (request id method ps) h = go (is_own method)
+    where
+      go : (b : Bool) → Holds (if b then x else record { sender = x.sender; next = x.next + 1; open_requests = x.open_requests ++ numbered x.sender x.next })
+      go true = h
+      go false = record { sender = h.sender; all = subst (λ o. AllQ (x.open_requests ++ numbered o x.next)) (sym h.sender) (subst AllQ (sym (append-nil x.open_requests)) h.all) }
+  holds_sent x (notification method ps) h = record { sender = notified_sender x method ps ∙ h.sender; all = notified_all x method ps Q h.all }
+  holds_sent x (result id r) h = h
+  holds_sent x (error id y) h = h
+  holds_sent x not_json h = h
+  holds_sent x not_message h = h
+
+  holds_did : (events : List Event) (out : Out) → Holds (forwarding_of t events) → Holds (forwarding_of t (events ++ said out ∷ []))
+  holds_did events (ToServer n body) h = subst Holds (sym (forwarding_more t events (said (ToServer n body)))) (go (nat_eq n t))
+    where
+      go : (b : Bool) → Holds (if b then forwards (forwarding_of t events) (message_of body) else forwarding_of t events)
+      go true = holds_sent (forwarding_of t events) (message_of body) h
+      go false = h
+  holds_did events (ToEditor n body) h = subst Holds (sym (forwarding_more t events (said (ToEditor n body)))) h
+  holds_did events (Spawn n g) h = subst Holds (sym (forwarding_more t events (said (Spawn n g)))) h
+  holds_did events (CloseEditor n) h = subst Holds (sym (forwarding_more t events (said (CloseEditor n)))) h
+  holds_did events (EndServer n) h = subst Holds (sym (forwarding_more t events (said (EndServer n)))) h
+
+  holds_outs : (events : List Event) (xs : List Out) → Holds (forwarding_of t events) → Holds (forwarding_of t (behind events xs))
+  holds_outs events [] h = subst (λ z. Holds (forwarding_of t z)) (sym (append-nil events)) h
+  holds_outs events (x ∷ xs) h = subst (λ z. Holds (forwarding_of t z)) (append_assoc events (said x ∷ []) (map said xs)) (holds_outs (events ++ said x ∷ []) xs (holds_did events x h))
+
+-- by an exit none is at work
+idle_by : (t : ℕ) (before : List Event) (cause : Cause) (s : ℕ) → is_exit cause s ≡ true → (forwarding_of t (with_cause before cause)).sender ≡ None
+idle_by t before (StartFailed n) s is = ap (λ (x : Forwarding). x.sender) (forwarding_more t before (heard (StartFailed n))) ∙ go (nat_eq n t)
+  where
+    go : (b : Bool) → (if b then no_forwarding else record { sender = None; next = (forwarding_of t before).next; open_requests = (forwarding_of t before).open_requests }).sender ≡ None
+    go true = refl
+    go false = refl
+idle_by t before (ServerGone n) s is = ap (λ (x : Forwarding). x.sender) (forwarding_more t before (heard (ServerGone n))) ∙ go (nat_eq n t)
+  where
+    go : (b : Bool) → (if b then no_forwarding else record { sender = None; next = (forwarding_of t before).next; open_requests = (forwarding_of t before).open_requests }).sender ≡ None
+    go true = refl
+    go false = refl
+idle_by t before (Joined n) s is = never (sym is)
+idle_by t before (FromEditor n body) s is = never (sym is)
+idle_by t before (EditorGone n why) s is = never (sym is)
+idle_by t before (Started n) s is = never (sym is)
+idle_by t before (FromServer n body) s is = never (sym is)
+idle_by t before (Drained n k) s is = never (sym is)
+idle_by t before (Tick k) s is = never (sym is)
+
+-- An editor that is there, and got no result yet
+
+abbrev is_fresh : Phase → Bool
+is_fresh New = true
+is_fresh Waiting = true
+is_fresh _ = false
+
+fresh_told : (phase : Phase) (initialize : List ℕ) (m : Message) → is_fresh (phase_told phase initialize m) ≡ true → is_fresh phase ≡ true
+fresh_told Waiting initialize m h = refl
+fresh_told New initialize m h = refl
+fresh_told Absent initialize m h = h
+fresh_told Answered initialize m h = h
+fresh_told Running initialize m h = h
+fresh_told Down initialize m h = h
+fresh_told Closed initialize m h = h
+fresh_told Gone initialize m h = h
+
+fresh_closed : (phase : Phase) → is_fresh (phase_closed phase) ≡ false
+fresh_closed Gone = refl
+fresh_closed other = refl
+
+fresh_early : (phase : Phase) → is_fresh phase ≡ true → is_early phase ≡ true
+fresh_early New h = refl
+fresh_early Waiting h = refl
+fresh_early Absent h = never (sym h)
+fresh_early Answered h = never (sym h)
+fresh_early Running h = never (sym h)
+fresh_early Down h = never (sym h)
+fresh_early Closed h = never (sym h)
+fresh_early Gone h = never (sym h)
+
+answered_there : (phase : Phase) → is_there phase ≡ true → (is_fresh phase ≡ true → ⊥) → is_answered phase ≡ true
+answered_there New there late = absurd (late refl)
+answered_there Waiting there late = absurd (late refl)
+answered_there Answered there late = refl
+answered_there Running there late = refl
+answered_there Down there late = refl
+answered_there Absent there late = never (sym there)
+answered_there Closed there late = never (sym there)
+answered_there Gone there late = never (sym there)
+
+module _ (settings : Settings) (before : List Event) (facts : Facts settings before) (cause : Cause) (s : ℕ) (exit : Exit settings before cause s) (slow : List Out) where
+  abbrev now : List Event
+  now = with_cause before cause
+
+  abbrev fs : List Forwarded
+  fs = (forwarding_of s before).open_requests
+
+  abbrev sent : List Out
+  sent = outs (lost_row settings before s) now ++ slow
+
+  -- Each is answered
+
+  module _ (k : Lives settings before s) (f : Forwarded) (among : OneOf (λ (g : Forwarded). g ≡ f) fs) where
+    abbrev answers : Out → Bool
+    answers = sends f.editor (error_text f.id request_failed)
+
+    its_own : (g : Forwarded) (events : List Event) → g ≡ f → list_any answers (outs (lose_request g) events) ≡ true
+    its_own g events is = subst (λ z. list_any answers (outs (lose_request z) events) ≡ true) (sym is)
+        (ap₂ (λ a b. (a && b) || false) (same_number f.editor) ((bytes_eq-Decides (error_text f.id request_failed) (error_text f.id request_failed)).1 refl))
+
+    its_editor : (n : ℕ) (events : List Event) → n ≡ f.editor → list_any answers (outs (lose_sent before s n) events) ≡ true
+    its_editor n events is = subst (λ z. list_any answers (outs (lose_sent before s z) events) ≡ true) (sym is)
+        (any_each answers lose_request (λ (g : Forwarded). g ≡ f) its_own (filter (is_of f.editor) fs)
+        (one_kept (is_of f.editor) (λ (g : Forwarded). g ≡ f) (λ g same. ap (λ (z : Forwarded). nat_eq z.editor f.editor) same ∙ same_number f.editor) fs among) events)
+
+    its_answer : IsRefused settings before s sent f
+    its_answer member = any_first answers (outs (lost_row settings before s) now) slow (subst (λ z. list_any answers z ≡ true) (sym (exit_parts settings before s k now))
+        (any_first answers (errors settings before s k now) (losses settings before s k now ++ outs (ending settings before s k now) (behind (told settings before s k now) (losses settings before s k now)))
+        (any_each answers (lose_sent before s) (λ (n : ℕ). n ≡ f.editor) its_editor (members_in settings k.group before) (one_named f.editor (members_in settings k.group before) (member_named settings before s k (facts.steady).editors f.editor member)) now)))
+
+  -- and is open no more
+
+  module _ (xs : List Out) (settled : Settled settings (behind now xs)) (f : Forwarded) (among : OneOf (λ (g : Forwarded). g ≡ f) fs) where
+    abbrev after : List Event
+    after = behind now xs
+
+    module _ (id : Id) (text : IsIdText id f.id) (there : is_there (desk_of f.editor after).phase ≡ true) where
+      there_before : is_there (desk_of f.editor before).phase ≡ true
+      there_before = sym (ap (λ (d : Desk). is_there d.phase) (exit.desk f.editor)) ∙ there_outs f.editor now xs there
+
+      asker : IsForwarded before f
+      asker = all_of_one (IsForwarded before) f fs ((facts.steady).asked (not_stopped before facts.quit f.editor there_before) s) among
+
+      alone_of : (t : ℕ) → AllByRecursion (OneRequest s f t) (forwarding_of t before).open_requests
+      alone_of = all_of_one (λ (g : Forwarded). (t : ℕ) → AllByRecursion (OneRequest s g t) (forwarding_of t before).open_requests) f fs ((facts.steady).apart s) among
+
+      late : is_fresh (desk_of f.editor after).phase ≡ true → ⊥
+      late fresh = never (sym (fresh_early (desk_of f.editor before).phase (sym (ap (λ (d : Desk). is_fresh d.phase) (exit.desk f.editor)) ∙ outs_tested is_fresh fresh_told fresh_closed f.editor now xs fresh)) ∙ asker.late)
+
+      abbrev Away : ℕ → ℕ → List ℕ → Type 0
+      Away n e i = e ≡ f.editor → IsIdText id i → ⊥
+
+      alone_now : (t : ℕ) → AllByRecursion (λ (g : Forwarded). Away g.number g.editor g.id) (forwarding_of t now).open_requests
+      alone_now t = subst (AllByRecursion (λ (g : Forwarded). Away g.number g.editor g.id)) (sym (exit.forwards t)) (go (nat_eq s t) refl)
+        where
+          go : (b : Bool) → nat_eq s t ≡ b → AllByRecursion (λ (g : Forwarded). Away g.number g.editor g.id) (if b then [] else (forwarding_of t before).open_requests)
+          go true same = tt
+          go false other = all_of (OneRequest s f t) (λ (g : Forwarded). Away g.number g.editor g.id) (λ g one editor mine. never (sym (ap (λ z. nat_eq s z) (one id editor text mine).0 ∙ same_number s) ∙ other)) (forwarding_of t before).open_requests (alone_of t)
+
+      alone_after : (t : ℕ) → AllByRecursion (λ (g : Forwarded). Away g.number g.editor g.id) (forwarding_of t after).open_requests
+      alone_after t = (holds_outs t Away now xs (record { sender = idle_by t before cause s exit.is; all = alone_now t })).all
+
+      none_open : is_open id (open_of f.editor after) ≡ true → ⊥
+      none_open still =
+          let k : IsSent settings after f.editor id = settled.sent f.editor id (answered_there (desk_of f.editor after).phase there late) still in
+          get_all (λ (g : Forwarded). Away g.number g.editor g.id) (forwarding_of k.start after).open_requests k.place k.request (alone_after k.start) k.at k.editor k.text
+
+    its_close : IsClosed after f
+    its_close id text there = go (is_open id (open_of f.editor after)) refl
+      where
+        go : (b : Bool) → is_open id (open_of f.editor after) ≡ b → b ≡ false
+        go true still = absurd (none_open id text there still)
+        go false over = refl
+
+  pub refuses_all : Lives settings before s → (xs : List Out) → xs ≡ sent → Settled settings (behind now xs) → Refuses settings before s xs (behind now xs)
+  refuses_all k xs is settled = record {
+    refused = subst (λ z. AllByRecursion (IsRefused settings before s z) fs) (sym is) (all_ones (IsRefused settings before s sent) fs (λ f among. its_answer k f among));
+    closed = all_ones (IsClosed (behind now xs)) fs (λ f among. its_close xs settled f among);
+  }
