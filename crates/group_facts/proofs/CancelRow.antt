@@ -17,7 +17,8 @@ use Rattle.mux_facts.specs.Ranges.{InRange}
 use Rattle.mux_facts.proofs.DocumentRow.{ready_is}
 use Rattle.mux_facts.proofs.Reasons.{Because, by_choose, by_nothing, by_on, by_send}
 use Rattle.mux_facts.proofs.Words.{same_number}
-use Rattle.group_rows.specs.Cancelling.{cancelling_at, cancelling_row, is_called, named_id, number_called, number_named, numbered_text, uncancelled_number}
+use Rattle.group_rows.specs.Cancelling.{cancelling_at, cancelling_row, is_called, number_called, number_named, numbered_text, uncancelled_number}
+use Rattle.group_rows.specs.Waiting.{named_id}
 use Rattle.group_rows.specs.Forwarded.{Forwarded, Forwarding, forwarding_of}
 use Rattle.group_rows.proofs.Cancelling.{Renumbered, renumbered}
 use Rattle.group_facts.specs.Facts.{Bounded}

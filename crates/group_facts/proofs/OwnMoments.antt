@@ -15,7 +15,8 @@ use Rattle.event_model.specs.Settings.{Settings}
 use Rattle.event_model.specs.Spawns.{group_of}
 use Rattle.mux_facts.proofs.Keeps.{events_more}
 use Rattle.mux_model.specs.Documents.{held_at}
-use Rattle.group_rows.specs.Texts.{is_synced, texts_of, worker_of}
+use Rattle.group_rows.specs.Texts.{is_synced, texts_of}
+use Rattle.group_rows.specs.Waiting.{worker_of}
 use Rattle.group_facts.specs.OwnTexts.{AllOnOwnTexts, HasOwn, OnOwnTexts, OwnTexts, OwnTextsFrom}
 use Rattle.group_facts.specs.OwnVersions.{HasOwnTexts, IsSentOn, IsUnder}
 use Rattle.group_facts.proofs.SentOn.{worker_still}

@@ -34,7 +34,8 @@ use Rattle.mux_facts.proofs.Why.{is_early}
 use Rattle.mux_facts.proofs.Words.{id_same, same_number}
 use Rattle.group_words.specs.Houses.{server_asked}
 use Rattle.group_rows.specs.Forwarded.{Forwarding, forwarding_of, sender_of, token_in}
-use Rattle.group_rows.specs.Tokens.{forwarded_text, reserves}
+use Rattle.group_rows.specs.Tokens.{forwarded_text}
+use Rattle.group_rows.specs.Reserved.{reserves}
 use Rattle.group_rows.proofs.TokenTexts.{forwarded_says}
 use Rattle.group_rows.specs.Rows.{answer_error, can_ask, forward, named_row, open_row, request_at, request_row, status_row, sync_row}
 use Rattle.group_rows.specs.Status.{items_of, status_text}

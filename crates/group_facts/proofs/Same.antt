@@ -32,7 +32,8 @@ use Rattle.group_rows.specs.Answers.{shared_texts}
 use Rattle.group_rows.specs.Forwarded.{forwarding_behind, forwarding_of}
 use Rattle.group_rows.specs.Lists.{agreement_at, agreement_by, changed_next, changed_of, is_about, lists_next, lists_of, sayings_behind, sayings_of, version_at}
 use Rattle.group_rows.specs.diagnostics_route.specs.declared.last_list.LastList.{LastList}
-use Rattle.group_rows.specs.Texts.{is_synced, texts_next, texts_of, touch_all, worker_behind, worker_of}
+use Rattle.group_rows.specs.Texts.{is_synced, texts_next, texts_of, touch_all}
+use Rattle.group_rows.specs.Waiting.{worker_behind, worker_of}
 use Rattle.group_rows.proofs.Frames.{texts_more}
 use Rattle.group_facts.specs.Facts.{asked_by, server_behind}
 use Rattle.group_facts.specs.Why.{IsQuestion, has_method}

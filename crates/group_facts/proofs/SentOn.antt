@@ -23,7 +23,8 @@ use Rattle.mux_facts.proofs.Words.{number_same, same_number}
 use Rattle.group_rows.specs.Answers.{moment_of}
 use Rattle.group_rows.specs.Forwarded.{Forwarded, Forwarding, Sender, forwarding_behind, forwarding_of, forwards, no_forwarding, numbered, sender_of, token_in}
 use Rattle.group_rows.specs.Rows.{sync_bodies}
-use Rattle.group_rows.specs.Texts.{texts_of, worker_behind, worker_of}
+use Rattle.group_rows.specs.Texts.{texts_of}
+use Rattle.group_rows.specs.Waiting.{worker_behind, worker_of}
 use Rattle.group_rows.proofs.Moments.{asks, moment_other, moment_apart, moment_quiet, moment_sent}
 use Rattle.group_facts.specs.Legal.{Legal}
 use Rattle.group_facts.specs.OwnVersions.{IsSentOn}

@@ -14,7 +14,8 @@ use Rattle.event_model.specs.Settings.{Settings}
 use Rattle.event_model.specs.Spawns.{group_of, start_of}
 use Rattle.event_model.specs.Stages.{is_ready, life_of}
 use Rattle.mux_model.specs.Documents.{held_at}
-use Rattle.group_rows.specs.Texts.{is_synced, texts_of, worker_of}
+use Rattle.group_rows.specs.Texts.{is_synced, texts_of}
+use Rattle.group_rows.specs.Waiting.{worker_of}
 
 -- a start that has this of a document agrees with an editor
 abbrev pub HasOwn : Open → Option HeldText → Type 0

@@ -60,7 +60,8 @@ use Rattle.group_facts.specs.SlowRows.{is_slow}
 use Rattle.group_rows.specs.StopRows.{stopped as is_stopped}
 use Rattle.group_rows.specs.Earlier.{configuration_of}
 use Rattle.group_rows.specs.Texts.{texts_of}
-use Rattle.group_rows.specs.Tokens.{forwarded_text, is_told, is_worked, listens, mark_text, marked_text, own_token, reserves, work_mark}
+use Rattle.group_rows.specs.Tokens.{forwarded_text, is_told, is_worked, listens, mark_text, marked_text, own_token, work_mark}
+use Rattle.group_rows.specs.Reserved.{reserves}
 use Rattle.group_facts.specs.Built.{is_left}
 use Rattle.group_facts.specs.Facts.{IsAlone, IsWaiting, asked_by, asked_of, ends_link, is_early, is_exit, leaves, turned_away}
 use Rattle.group_facts.specs.Lively.{IsDying}

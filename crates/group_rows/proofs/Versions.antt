@@ -32,7 +32,8 @@ use Rattle.group_rows.specs.AskRows.{current_version}
 use Rattle.group_rows.specs.Answers.{agreed_version, held_version, moment_next, moment_of, own_version, sends_on, shared_texts, stamp_at, stamped}
 use Rattle.group_rows.specs.Forwarded.{Forwarded}
 use Rattle.group_rows.specs.Lists.{version_at}
-use Rattle.group_rows.specs.Texts.{encoding_of, is_synced, texts_heard, texts_next, texts_of, touch_all, touched_at, worker_of}
+use Rattle.group_rows.specs.Texts.{encoding_of, is_synced, texts_heard, texts_next, texts_of, touch_all, touched_at}
+use Rattle.group_rows.specs.Waiting.{worker_of}
 use Rattle.group_rows.proofs.Integers.{IsSaidNumber, said_number}
 
 -- the events are of causes and outs: the message of a body is what the body says

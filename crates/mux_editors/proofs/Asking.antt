@@ -23,7 +23,8 @@ use Rattle.group_rows.specs.Forwarded.{Forwarding, forwarding_behind, forwarding
 use Rattle.group_rows.specs.Rows.{forward, sync_bodies, sync_row}
 use Rattle.group_rows.specs.Tokens.{forwarded_text}
 use Rattle.group_rows.proofs.TokenTexts.{forwarded_says}
-use Rattle.group_rows.specs.Texts.{is_synced, texts_of, worker_of}
+use Rattle.group_rows.specs.Texts.{is_synced, texts_of}
+use Rattle.group_rows.specs.Waiting.{worker_of}
 use Rattle.mux_tables.specs.declared.tables.Start.{Start}
 use Rattle.mux_tables.specs.declared.tables.Tables.{Tables}
 use Rattle.mux_tables.specs.Documents.{AllStand, AllTell, nothing_owed, syncing, to}

@@ -32,7 +32,8 @@ use Rattle.mux_turns.specs.mux_facts.proofs.Lists.{all_of}
 use Rattle.mux_turns.specs.mux_facts.proofs.Words.{same_number}
 use Rattle.mux_members.proofs.Roots.{read_params}
 use Rattle.mux_turns.specs.group_facts.specs.Facts.{AllForwarded, IsForwarded}
-use Rattle.group_rows.specs.Cancelling.{cancelling_at, cancelling_row, id_puts, is_called, named_id, new_id, number_called, number_named, numbered_text, uncancelled_number}
+use Rattle.group_rows.specs.Cancelling.{cancelling_at, cancelling_row, id_puts, is_called, new_id, number_called, number_named, numbered_text, uncancelled_number}
+use Rattle.group_rows.specs.Waiting.{named_id}
 use Rattle.group_rows.specs.Forwarded.{Forwarded, forwarding_of, is_written}
 use Rattle.group_rows.proofs.Cancelling.{Renumbered, renumbered, text_meant}
 use Rattle.group_words.specs.Houses.{home_of}

@@ -14,7 +14,7 @@ use Rattle.event_model.specs.Settings.{Settings}
 use Rattle.event_model.specs.Spawns.{start_of}
 use Rattle.event_model.specs.Stages.{is_ready, life_of}
 use Rattle.event_model.proofs.Turns.{alike, alike_then}
-use Rattle.group_rows.specs.Cancelling.{id_meant}
+use Rattle.group_rows.specs.Waiting.{id_meant}
 use Rattle.group_rows.specs.Forwarded.{Forwarded, forwarding_of, is_of}
 use Rattle.group_rows.specs.CreatedRows.{created_work, work_at, work_row}
 use Rattle.group_rows.specs.Tokens.{is_token_of, is_worked, mark_text, marked_text, work_mark}

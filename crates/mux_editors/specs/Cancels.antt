@@ -10,7 +10,8 @@ use Rattle.event_model.specs.Does.{Alike}
 use Rattle.event_model.specs.Event.{Event}
 use Rattle.event_model.specs.Row.{nothing, send}
 use Rattle.event_model.specs.Settings.{Settings}
-use Rattle.group_rows.specs.Cancelling.{cancelling_row, named_id, numbered_text}
+use Rattle.group_rows.specs.Cancelling.{cancelling_row, numbered_text}
+use Rattle.group_rows.specs.Waiting.{named_id}
 use Rattle.group_rows.specs.Forwarded.{Forwarded}
 use Rattle.mux_editors.specs.declared.cancelled.Target.{Target}
 

@@ -20,7 +20,7 @@ use Rattle.mux_starts.specs.group_facts.specs.Built.{is_standard}
 use Rattle.mux_starts.specs.group_facts.specs.Facts.{is_early}
 use Rattle.group_rows.specs.Rows.{asks_lspmux, names_lspmux}
 use Rattle.group_words.specs.Houses.{is_doubled, stops}
-use Rattle.group_rows.specs.Rows.{is_misplaced}
+use Rattle.group_rows.specs.Waiting.{is_misplaced}
 use Rattle.mux_starts.specs.mux_tables.specs.Documents.{changes_documents}
 use Rattle.mux_editors.proofs.Classes.{first_named, is_initialize, swapped}
 

@@ -30,7 +30,8 @@ use Rattle.mux_facts.proofs.Keeps.{behind_both}
 use Rattle.mux_model.specs.Documents.{held_at}
 use Rattle.group_sessions.specs.group_rows.specs.Rows.{sync_bodies}
 use Rattle.group_sessions.specs.group_rows.proofs.Frames.{texts_more}
-use Rattle.group_sessions.specs.group_rows.specs.Texts.{is_synced, texts_of, worker_behind, worker_of}
+use Rattle.group_sessions.specs.group_rows.specs.Texts.{is_synced, texts_of}
+use Rattle.group_sessions.specs.group_rows.specs.Waiting.{worker_behind, worker_of}
 use Rattle.group_sessions.specs.group_facts.specs.Legal.{Legal}
 use Rattle.group_sessions.specs.group_facts.specs.OwnTexts.{AllHaveHolders, AllOnOwnTexts, HasHolders, OnOwnTexts, OwnTexts, OwnTextsFrom, HasOwn}
 use Rattle.group_sessions.specs.group_facts.specs.Why.{AllSlow, AllWhy, HasParts, IsBehindSync, IsQuestion, ReasonsFrom, SlowOuts, Why, WhyToServer, begins, cancels, cancels_work, conveys, exits, forwarded, greets, notes, quitting, resolves, responds, shuts, tells}

@@ -30,7 +30,7 @@ use Rattle.group_rows.specs.Earlier.{configuration_of, configure, differs, given
 use Rattle.group_rows.specs.Forwarded.{moves_ids}
 use Rattle.group_rows.specs.Rows.{first_result, replay, replay_bodies, result_in, waiting_in, welcome}
 use Rattle.group_rows.specs.StopRows.{close_each}
-use Rattle.group_rows.specs.Texts.{worker_behind, worker_of}
+use Rattle.group_rows.specs.Waiting.{worker_behind, worker_of}
 use Rattle.group_rows.proofs.Versions.{AllMeant}
 use Rattle.group_words.specs.Houses.{groups_of, is_home}
 use Rattle.group_words.specs.Rows.{shown_of}

@@ -11,7 +11,7 @@ ghost use Rattle.event_model.specs.Stages.{is_first_result};
 ghost use Rattle.group_rows.specs.Earlier.{shown_in, was_shown};
 ghost use Rattle.group_rows.specs.Rows.{first_result, waiting_in, welcome};
 ghost use Rattle.group_rows.specs.StopRows.{close_each};
-ghost use Rattle.group_rows.specs.Texts.{worker_of};
+ghost use Rattle.group_rows.specs.Waiting.{worker_of};
 ghost use Rattle.group_words.specs.Houses.{groups_of};
 ghost use Rattle.group_words.specs.Rows.{shown_of};
 ghost use Rattle.json_text.specs.Json.{Json};

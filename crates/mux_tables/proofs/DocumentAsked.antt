@@ -37,7 +37,8 @@ use Rattle.id_rewrite.specs.response_route.specs.declared.versions.Stamp.{Stamp}
 use Rattle.group_laws.specs.group_rows.specs.Answers.{held_version, stamp_at, stamped}
 use Rattle.group_laws.specs.group_rows.specs.Forwarded.{Forwarding, cancelled_by, forwarding_behind, forwarding_of, forwards, moves_ids}
 use Rattle.group_laws.specs.group_rows.specs.Rows as rows
-use Rattle.group_laws.specs.group_rows.specs.Texts.{is_aside, is_synced, texts_of, touch_all, touched_at, worker_behind, worker_of}
+use Rattle.group_laws.specs.group_rows.specs.Texts.{is_aside, is_synced, texts_of, touch_all, touched_at}
+use Rattle.group_laws.specs.group_rows.specs.Waiting.{worker_behind, worker_of}
 use Rattle.group_laws.specs.group_rows.proofs.Frames.{encoding_stays, texts_apart, texts_more}
 use Rattle.group_laws.specs.Stands.{CountsStand, HeldStands}
 use Rattle.group_laws.proofs.Asking.{spelt_touched, sync_speaks, touch_orderly}

@@ -17,7 +17,8 @@ use Rattle.focus_switch.specs.Documents.{Documents}
 use Rattle.focus_switch.specs.Rows.{unready_row}
 use Rattle.event_model.specs.Spawns.{group_of}
 use Rattle.group_words.specs.Houses.{is_home}
-use Rattle.group_laws.specs.group_rows.specs.Texts.{is_synced, texts_of, touch_all, worker_of}
+use Rattle.group_laws.specs.group_rows.specs.Texts.{is_synced, texts_of, touch_all}
+use Rattle.group_laws.specs.group_rows.specs.Waiting.{worker_of}
 use Rattle.group_laws.specs.group_rows.proofs.Frames.{encoding_stays, texts_more, texts_stay}
 use Rattle.restart_replay.specs.Standings.{Standing, moved, stopped}
 use Rattle.id_rewrite.specs.Tables.{with_cancelled}

@@ -18,7 +18,7 @@ use Rattle.mux_tables.specs.ask_route.specs.declared.ask.Ask as route
 use Rattle.group_facts.specs.group_rows.specs.Asks.{Ask, asks_of, is_with}
 use Rattle.group_facts.specs.group_rows.specs.Leaves.{cancel, cancels, cancels_row, refusals, refuse, uncancelled_of}
 use Rattle.group_facts.specs.group_rows.specs.Rows.{answer_error, can_ask, forward, notice_at, notice_row, request_at, request_row, sync_row}
-use Rattle.group_facts.specs.group_rows.specs.Tokens.{reserves}
+use Rattle.group_facts.specs.group_rows.specs.Reserved.{reserves}
 use Rattle.group_words.specs.Houses.{home_of}
 use Rattle.mux_tables.specs.Refusals.{of_editor, refusal}
 use Rattle.mux_tables.specs.Stands.{HasEnded, kept_ask, start_for}

@@ -7,7 +7,7 @@ ghost use Rattle.event_model.specs.Row.{◌⨾◌};
 ghost use Rattle.event_model.specs.Settings.{Settings};
 ghost use Rattle.event_model.specs.Members.{params_of};
 ghost use Rattle.group_facts.specs.group_rows.specs.Rows.{answer_error, early_code, forward, request_row, sync_row, wrong_code};
-ghost use Rattle.group_facts.specs.group_rows.specs.Tokens.{reserves};
+ghost use Rattle.group_facts.specs.group_rows.specs.Reserved.{reserves};
 ghost use Rattle.json_text.specs.Json.{Json};
 ghost use Rattle.group_facts.specs.mux_model.specs.Rows.{malformed_code, malformed_row};
 ghost use Rattle.mux_tables.specs.declared.tables.Start.{Start};

@@ -1,7 +1,8 @@
 //! E10, E11 and S13: tokens for progress of editors' requests, and the daemon's own in their place (LSP 3.17, Work Done Progress and
 //! Partial Result Progress).
 ghost use Rattle.std.specs.Prelude.{◌≡◌, ◌<◌, ◌++◌, ℕ, List, true, false, codes, length, IfOk, MatchOption, Option};
-ghost use Rattle.group_facts.specs.group_rows.specs.Tokens.{begins_as_mark, forwarded_text, is_reserved, mark_edits, mark_text, marked_text, reserves};
+ghost use Rattle.group_facts.specs.group_rows.specs.Tokens.{forwarded_text, mark_edits, mark_text, marked_text};
+ghost use Rattle.group_facts.specs.group_rows.specs.Reserved.{begins_as_mark, is_reserved, reserves};
 ghost use Rattle.std.specs.Str.{chars};
 ghost use Rattle.event_model.specs.Members.{named_of, params_of};
 ghost use Rattle.json_nodes.specs.At.{At, Found};

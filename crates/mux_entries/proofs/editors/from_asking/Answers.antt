@@ -6,7 +6,7 @@ use Rattle.mux_model.specs.Built.{is_other}
 use Rattle.mux_model.specs.Methods.{is_shutdown, is_wrong}
 use Rattle.event_model.proofs.Turns.{alike_then}
 use Rattle.mux_starts.specs.group_facts.specs.Built.{is_standard}
-use Rattle.group_rows.specs.Rows.{is_misplaced}
+use Rattle.group_rows.specs.Waiting.{is_misplaced}
 use Rattle.rpc_message.specs.Message.{message_of}
 use Rattle.mux_starts.specs.mux_tables.specs.Documents.{AllStand}
 use Rattle.mux_editors.proofs.Classes.{not_own, shutdown_later, shutdown_named, swapped}
