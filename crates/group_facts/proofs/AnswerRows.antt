@@ -132,14 +132,14 @@ module _ (settings : Settings) (range : InRange settings) (before : List Event) 
   abbrev text_for : Forwarded → List ℕ
   text_for f = answer_text (own_version settings before s f) body f.id
 
-  response_why : ((e : ℕ) → is_there (desk_of e before).phase ≡ true → AllForwarded before) → Apart before → AllMeant before → Because R now (answer_row settings s before body (message_of body))
+  response_why : ((e : ℕ) → is_there (desk_of e before).phase ≡ true → AllForwarded settings before) → Apart settings before → AllMeant before → Because R now (answer_row settings s before body (message_of body))
   response_why all apart meant = by_on (λ none. by_nothing) (λ f found. by_choose (λ there. by_send (passes (passing f found there))) (λ gone. by_nothing))
     where
-      passing : (f : Forwarded) → find (answered_by (answered_id (message_of body))) (forwarding_of s before).open_requests ≡ Some f → is_there (desk_of f.editor before).phase ≡ true → IsPassing settings before (FromServer s body) now f.editor (text_for f)
+      passing : (f : Forwarded) → find (answered_by (answered_id (message_of body))) (forwarding_of settings s before).open_requests ≡ Some f → is_there (desk_of f.editor before).phase ≡ true → IsPassing settings before (FromServer s body) now f.editor (text_for f)
       passing f found there =
-          let k : IsAsker before f.editor f.id = found_is (IsForwarded before) (answered_by (answered_id (message_of body))) f (forwarding_of s before).open_requests (all f.editor there s) found in
+          let k : IsAsker before f.editor f.id = found_is (IsForwarded before) (answered_by (answered_id (message_of body))) f (forwarding_of settings s before).open_requests (all f.editor there s) found in
           let p : (is_response (message_of (text_for f)) ≡ true) × (answered_id (message_of (text_for f)) ≡ Some k.id)
-          = response_is k.id (message_of (text_for f)) (answer_says (own_version settings before s f) (own_flat settings before s f meant) body f.id k.id (answers_only (message_of body) f (forwarding_of s before).open_requests found) k.text) in
+          = response_is k.id (message_of (text_for f)) (answer_says (own_version settings before s f) (own_flat settings before s f meant) body f.id k.id (answers_only (message_of body) f (forwarding_of settings s before).open_requests found) k.text) in
           record {
             start = s;
             answer = body;
@@ -152,7 +152,7 @@ module _ (settings : Settings) (range : InRange settings) (before : List Event) 
             late = ap (λ (d : Desk). is_early d.phase) (desk_more f.editor before (heard (FromServer s body))) ∙ k.late;
             text = k.text;
             waits = ap (is_open k.id) (opens_more f.editor before (heard (FromServer s body))) ∙ k.waits;
-            alone = alone_answered before s body f k.id apart found k.text;
+            alone = alone_answered settings before s body f k.id apart found k.text;
             bytes = refl;
             response = p.0;
             answers = p.1;
@@ -299,7 +299,7 @@ module _ (settings : Settings) (range : InRange settings) (before : List Event) 
 
       greeted_here : Greeted greeted_now
       greeted_here = record {
-        calm = record { still = still_notified mid s mid initialized_text (codes "initialized") (Some (object nowhere no_members)) initialized_law (still_now mid s ready); turn = greeted [] greeted_part };
+        calm = record { still = still_notified settings mid s mid initialized_text (codes "initialized") (Some (object nowhere no_members)) initialized_law (still_now settings mid s ready); turn = greeted [] greeted_part };
         texts = opened_did settings mid (ToServer s initialized_text) stands.texts;
         none = λ u. ap (λ (x : Sent). x.held) (sent_more s u mid (said (ToServer s initialized_text)))
             ∙ (ap₂ (λ b m. cond b (told (sent_of s u mid).encoding u (held_at s u mid) (saying_of m)) (held_at s u mid)) (same_number s) initialized_law
@@ -336,7 +336,7 @@ module _ (settings : Settings) (range : InRange settings) (before : List Event) 
           go None kept = subst Greeted (sym (append-nil greeted_now)) greeted_here
           go (Some text) kept = let k : Says text = kept_says text kept in record {
             calm = record {
-              still = still_notified mid s greeted_now text (codes "workspace/didChangeConfiguration") k.0 k.1 (greeted_here.calm).still;
+              still = still_notified settings mid s greeted_now text (codes "workspace/didChangeConfiguration") k.0 k.1 (greeted_here.calm).still;
               turn = greeted (said (ToServer s text) ∷ []) (notified_part greeted_now text ∙ (ap (λ z. z ++ said (ToServer s text) ∷ []) greeted_part
                   ∙ append_assoc (server_part s before) (heard (FromServer s body) ∷ said (ToServer s initialized_text) ∷ []) (said (ToServer s text) ∷ [])));
             };
@@ -352,7 +352,7 @@ module _ (settings : Settings) (range : InRange settings) (before : List Event) 
       replayed : AllTold settings range before (FromServer s body) mid s told_now (replay_bodies [] opens opens)
       replayed = replay_told settings range before (FromServer s body) mid s opens (told_here.texts g).spelt [] opens told_now told_here.calm (λ w k. told_here.none w)
 
-      waits_still : (events : List Event) → Still mid s events → (k : ℕ) → (desk_of k events).phase ≡ Waiting → IsToWait k events
+      waits_still : (events : List Event) → Still settings mid s events → (k : ℕ) → (desk_of k events).phase ≡ Waiting → IsToWait k events
       waits_still events still k at =
           let desk : desk_of k events ≡ desk_of k before = still.desks k ∙ (stands.waits k (sym (ap (λ (d : Desk). d.phase) (still.desks k)) ∙ at) ∙ desk_more k before (heard (FromServer s body))) in
           let w : Waits (desk_of k before).initialize (open_of k before) = waits_at before k (sym (ap (λ (d : Desk). d.phase) desk) ∙ at) waiting in
@@ -365,7 +365,7 @@ module _ (settings : Settings) (range : InRange settings) (before : List Event) 
       greet_why = by_then part_why (by_then (by_send (greets (record { params = Some (object nowhere no_members); answer = body; stage = stage; ready = ready; from = refl; first = first; part = part; says = initialized_law })))
           (by_then configure_why (by_then (by_look (tells_row settings range before (FromServer s body) mid s told_now (replay_bodies [] opens opens) replayed))
           (by_look (all_welcomed g (behind told_now (outs (to_start s (replay_bodies [] opens opens)) told_now))
-          (waits_still _ (subst (λ z. Still mid s (behind told_now z)) (sym (outs_to_start s (replay_bodies [] opens opens) told_now)) ((replayed.calm).still))))))))
+          (waits_still _ (subst (λ z. Still settings mid s (behind told_now z)) (sym (outs_to_start s (replay_bodies [] opens opens) told_now)) ((replayed.calm).still))))))))
 
   -- S4
 
@@ -401,7 +401,7 @@ module _ (settings : Settings) (range : InRange settings) (before : List Event) 
   hasty_why at other not_json says = by_nothing
   hasty_why at other not_message says = by_nothing
 
-  module _ (opened : Opened settings before) (untold : Untold before) (waiting : AllWaiting before) (all : (e : ℕ) → is_there (desk_of e before).phase ≡ true → AllForwarded before) (apart : Apart before) (meant : AllMeant before) (asks : Asks settings before) (written : Written settings before) where
+  module _ (opened : Opened settings before) (untold : Untold before) (waiting : AllWaiting before) (all : (e : ℕ) → is_there (desk_of e before).phase ≡ true → AllForwarded settings before) (apart : Apart settings before) (meant : AllMeant before) (asks : Asks settings before) (written : Written settings before) where
     result_why : (life_of s before).stage ≡ Initializing → is_first_result (message_of body) ≡ true → Because R now (first_result settings before s body)
     result_why at first = by_on (λ none. by_nothing) (λ g home. greet_why first at opened untold waiting meant g home)
 

@@ -179,8 +179,8 @@ module _ (R : List Event → Out → Type 0) (sends : (events : List Event) (s :
     handed_by = by_on (λ none. by_nothing) (λ g home. handed_in g)
 
   module _ (settings : Settings) (before : List Event) (e : ℕ) where
-    cancelled_by : (s : ℕ) (events : List Event) → Because R events (cancels before s e)
-    cancelled_by s events = by_choose (λ ready. cancels_by s (uncancelled_of e (forwarding_of s before).open_requests) events) (λ off. by_nothing)
+    cancelled_by : (s : ℕ) (events : List Event) → Because R events (cancels settings before s e)
+    cancelled_by s events = by_choose (λ ready. cancels_by s (uncancelled_of e (forwarding_of settings s before).open_requests) events) (λ off. by_nothing)
 
     closings_by : (g s : ℕ) (events : List Event) → Because R events (closings settings before g s e)
     closings_by g s events = by_choose (λ ready. bodies_by s (leave_bodies settings.limits.versions (λ u. held_at s u before) e (texts_of settings g before).opens (texts_of settings g before).opens) events) (λ off. by_nothing)
@@ -188,11 +188,11 @@ module _ (R : List Event → Out → Type 0) (sends : (events : List Event) (s :
     refusals_by : (s : ℕ) (events : List Event) → Because R events (refusals settings before s e)
     refusals_by s events = by_choose (λ ready. refused_by s (filter (is_with e) (asks_of settings s before)) events) (λ off. by_nothing)
 
-    leaves_by : (g s : ℕ) (events : List Event) → Because R events (cancels before s e ⨾ (refusals settings before s e ⨾ closings settings before g s e))
-    leaves_by g s events = by_then (cancelled_by s events) (by_then (refusals_by s (behind events (outs (cancels before s e) events)))
-        (closings_by g s (behind (behind events (outs (cancels before s e) events)) (outs (refusals settings before s e) (behind events (outs (cancels before s e) events))))))
+    leaves_by : (g s : ℕ) (events : List Event) → Because R events (cancels settings before s e ⨾ (refusals settings before s e ⨾ closings settings before g s e))
+    leaves_by g s events = by_then (cancelled_by s events) (by_then (refusals_by s (behind events (outs (cancels settings before s e) events)))
+        (closings_by g s (behind (behind events (outs (cancels settings before s e) events)) (outs (refusals settings before s e) (behind events (outs (cancels settings before s e) events))))))
 
-    group_by : (g : ℕ) (events : List Event) → Because R events (on (start_of g before) nothing (λ s. cancels before s e ⨾ (refusals settings before s e ⨾ closings settings before g s e)))
+    group_by : (g : ℕ) (events : List Event) → Because R events (on (start_of g before) nothing (λ s. cancels settings before s e ⨾ (refusals settings before s e ⨾ closings settings before g s e)))
     group_by g events = by_on (λ none. by_nothing) (λ s start. leaves_by g s events)
 
     pub leave_by : (events : List Event) → Because R events (leave_row settings before e)
@@ -235,10 +235,10 @@ module _ (settings : Settings) (before : List Event) where
   quiet_notice : (e : ℕ) (body : List ℕ) (events : List Event) → Quiet events (notice_row settings before e body)
   quiet_notice e body events = by_on (λ none. by_nothing) (λ g home. quiet_notices e body events g)
 
-  quiet_cancel : (e : ℕ) (body : List ℕ) (params : Option Json) (events : List Event) (s : ℕ) → Quiet events (cancelling_at before e body params s)
+  quiet_cancel : (e : ℕ) (body : List ℕ) (params : Option Json) (events : List Event) (s : ℕ) → Quiet events (cancelling_at settings before e body params s)
   quiet_cancel e body params events s = by_choose (λ ready. by_on (λ none. by_nothing) (λ n is. by_send tt)) (λ off. by_nothing)
 
-  quiet_cancels : (e : ℕ) (body : List ℕ) (params : Option Json) (events : List Event) (g : ℕ) → Quiet events (on (start_of g before) nothing (cancelling_at before e body params))
+  quiet_cancels : (e : ℕ) (body : List ℕ) (params : Option Json) (events : List Event) (g : ℕ) → Quiet events (on (start_of g before) nothing (cancelling_at settings before e body params))
   quiet_cancels e body params events g = by_on (λ none. by_nothing) (λ s start. quiet_cancel e body params events s)
 
   quiet_cancelling : (e : ℕ) (body : List ℕ) (params : Option Json) (events : List Event) → Quiet events (cancelling_row settings before e body params)
@@ -420,8 +420,8 @@ module _ (settings : Settings) (before : List Event) where
   quiet_open_refused (e ∷ es) events = by_then (by_then (by_look (by_choose (λ waits. by_send tt) (λ late. by_nothing))) (losing (behind events (outs (refuse_initialize e) events))))
       (quiet_open_refused es (behind events (outs (refuse_open settings before e) events)))
     where
-      at_group : (places : List Event) (g : ℕ) → Quiet places (on (start_of g before) nothing (λ s. each lose_request (filter (is_of e) (forwarding_of s before).open_requests)))
-      at_group places g = by_on (λ none. by_nothing) (λ s start. quiet_lost (filter (is_of e) (forwarding_of s before).open_requests) places)
+      at_group : (places : List Event) (g : ℕ) → Quiet places (on (start_of g before) nothing (λ s. each lose_request (filter (is_of e) (forwarding_of settings s before).open_requests)))
+      at_group places g = by_on (λ none. by_nothing) (λ s start. quiet_lost (filter (is_of e) (forwarding_of settings s before).open_requests) places)
 
       losing : (places : List Event) → Quiet places (lose_requests settings before e)
       losing places = by_on (λ none. by_nothing) (λ g home. at_group places g)
@@ -551,12 +551,12 @@ module _ (settings : Settings) (before : List Event) where
 
 -- X1 to X3, of a group that gets no new start
 pub quiet_loss : (settings : Settings) (before : List Event) (s : ℕ) → not (begins_again settings before s) ≡ true → (events : List Event) → Quiet events (lost_row settings before s)
-quiet_loss settings before s ends events = lost_by (λ places out. NoSpawn out) (λ e places body. tt) (λ places e. tt) settings before s ends events
+quiet_loss settings before s ends events = lost_by settings (λ places out. NoSpawn out) (λ e places body. tt) (λ places e. tt) settings before s ends events
 
 -- X1 and X2
-told_lost : (settings : Settings) (before : List Event) (s g : ℕ) (events : List Event) → Because (λ places out. IsTold out) events (each (lose_sent before s) (members_in settings g before)
+told_lost : (settings : Settings) (before : List Event) (s g : ℕ) (events : List Event) → Because (λ places out. IsTold out) events (each (lose_sent settings before s) (members_in settings g before)
     ⨾ choose (is_ready (life_of s before).stage) (each (lose_start settings before s) (running_in settings g before)) nothing)
-told_lost settings before s g events = told_by (λ places out. IsTold out) (λ e places body. tt) settings before s g events
+told_lost settings before s g events = told_by settings (λ places out. IsTold out) (λ e places body. tt) settings before s g events
 
 -- a group that lives is kept
 lives_inside : (g : ℕ) (xs : List Kept) → lives_at g xs ≡ true → g < length xs
@@ -662,7 +662,7 @@ module _ (settings : Settings) where
     renewed_outs k = (first ++ second, (told_both, row ∙ (goes_on ∙ (ap (λ n. first ++ (second ++ Spawn n k.group ∷ [])) number ∙ sym (append_assoc first second (Spawn (starts_of before) k.group ∷ []))))))
       where
         first : List Out
-        first = outs (each (lose_sent before s) (members_in settings k.group before)) exit_now
+        first = outs (each (lose_sent settings before s) (members_in settings k.group before)) exit_now
 
         second : List Out
         second = outs (choose (is_ready (life_of s before).stage) (each (lose_start settings before s) (running_in settings k.group before)) nothing) (behind exit_now first)

@@ -83,9 +83,9 @@ module _ (settings : Settings) (range : InRange settings) (before : List Event) 
   Right row = Because (Why settings before (FromEditor e body)) now row
 
   module _ (params : Option Json) (says : message_of body ≡ notification (codes "$/cancelRequest") params) where
-    reason : (s n : ℕ) → is_ready (life_of s before).stage ≡ true → number_named e params (forwarding_of s before).open_requests ≡ Some n → IsCancel before (FromEditor e body) now s (numbered_text n body)
+    reason : (s n : ℕ) → is_ready (life_of s before).stage ≡ true → number_named e params (forwarding_of settings s before).open_requests ≡ Some n → IsCancel settings before (FromEditor e body) now s (numbered_text n body)
     reason s n ready is =
-        let fs : List Forwarded = (forwarding_of s before).open_requests in
+        let fs : List Forwarded = (forwarding_of settings s before).open_requests in
         let m : Meant e params fs n = meant e params fs n is in
         let small : n < 2 ^ 64 = small_by (is_called e m.id) n fs (numbers_small settings range before bounded s (ready_is (life_of s before).stage ready)) m.called in
         let new : Renumbered n body (codes "$/cancelRequest") = renumbered n body (codes "$/cancelRequest") params (omega (arith, small)) says m.id m.named in
@@ -95,17 +95,17 @@ module _ (settings : Settings) (range : InRange settings) (before : List Event) 
           value = number nowhere (decimal n);
           named = new.names;
           id = ap (λ b. integer_if b (decimal n)) (decimal_integer n (omega (arith, small)));
-          waits = ap (λ (x : Forwarding). list_any (is_uncancelled n) x.open_requests) (forwarding_more s before (heard (FromEditor e body))) ∙ waits_by (is_called e m.id) n fs m.called;
+          waits = ap (λ (x : Forwarding). list_any (is_uncancelled n) x.open_requests) (forwarding_more settings s before (heard (FromEditor e body))) ∙ waits_by (is_called e m.id) n fs m.called;
           ready = (calm_now settings range before e body s ready).still.ready;
           stays = refl;
           text = of_editor (record { editor = e; asked = body; params = params; from = refl; served = served; notified = says; meant = is; bytes = refl });
           says = new.says;
         }
 
-    at_start : (s : ℕ) → Right (cancelling_at before e body params s)
+    at_start : (s : ℕ) → Right (cancelling_at settings before e body params s)
     at_start s = by_choose (λ ready. by_on (λ none. by_nothing) (λ n is. by_send (cancels (reason s n ready is)))) (λ off. by_nothing)
 
-    at_group : (g : ℕ) → Right (on (start_of g before) nothing (cancelling_at before e body params))
+    at_group : (g : ℕ) → Right (on (start_of g before) nothing (cancelling_at settings before e body params))
     at_group g = by_on (λ none. by_nothing) (λ s start. at_start s)
 
     pub cancelling_why : Right (cancelling_row settings before e body params)

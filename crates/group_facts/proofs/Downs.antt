@@ -110,7 +110,7 @@ module _ (settings : Settings) (before : List Event) (low : Low before) (spawned
     tick_ends : Ends (Tick t)
     tick_ends g s live over at = subst (IsOff s) (sym (behind_both tick_now group_ends programs)) (off_outs s (behind tick_now group_ends) programs (quiet_programs (overdue_of settings before t) (behind tick_now group_ends))
         (all_at (λ i. (n : ℕ) → start_of i tick_now ≡ Some n → is_spawned (life_of n tick_now).stage ≡ true → IsOff n (behind tick_now group_ends)) (is_due settings.limits.idle (max (time_of before) t)) groups 0 g g (omega arith)
-        (groups_off due tick_now (low_now (Tick t) (λ n. life_more n before (heard (Tick t))) (λ n. number_more n before (heard (Tick t))))) live (sym (ap (lives_at g) (groups_more settings before (heard (Tick t)))) ∙ over)
+        (groups_off settings due tick_now (low_now (Tick t) (λ n. life_more n before (heard (Tick t))) (λ n. number_more n before (heard (Tick t))))) live (sym (ap (lives_at g) (groups_more settings before (heard (Tick t)))) ∙ over)
         s (start_took g before (Tick t) ∙ at) (ap (λ (l : Life). is_spawned l.stage) (life_more s before (heard (Tick t))) ∙ spawned g s at)))
 
   -- E6 and E7

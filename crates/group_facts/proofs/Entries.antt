@@ -226,7 +226,7 @@ module _ (settings : Settings) (range : InRange settings) (before : List Event) 
           start = k.start;
           home = exit.home e ∙ k.home;
           last = start_took k.group before cause ∙ k.last;
-          among = subst (OneOf (IsOf e id)) (sym (exit.forwards k.start ∙ ap (λ b. if b then [] else (forwarding_of k.start before).open_requests) other)) k.among;
+          among = subst (OneOf (IsOf e id)) (sym (exit.forwards k.start ∙ ap (λ b. if b then [] else (forwarding_of settings k.start before).open_requests) other)) k.among;
         }
 
         moved : is_answered (desk_of e before).phase ≡ true → (id : Id) → SentAt settings before e id ⊎ ⊥ → SentAt settings exit_now e id ⊎ IsLost id
@@ -254,22 +254,22 @@ module _ (settings : Settings) (range : InRange settings) (before : List Event) 
       member : is_in settings before s e ≡ true
       member = ap (λ o. option_map_or (λ i. is_home i (home_of settings e before)) o false) home ∙ (ap (is_home k.group) k.home ∙ same_number k.group)
 
-      askers : AllForwarded before
+      askers : AllForwarded settings before
       askers = (facts.steady).asked (not_stopped before facts.quit e (begun_there (desk_of e before).phase begun_here))
 
       -- where its group ends it is put out
       not_out : StaysIn → not (begins_again settings before s) ≡ true → ⊥
       not_out rest ends = never (sym (ap₂ (λ a b. a && b) (ap₂ (λ a b. a && b) (ends_live settings before s ends k.group home (lives_of settings before lively e k.group lost.served k.home)) member) begun_here) ∙ rest)
 
-      refused_there : RenewsGroup settings before s → NotOpen e id (later cause)
-      refused_there r = subst (λ z. NotOpen e id (behind exit_now z)) (sym (exit.row ∙ goes_on)) (subst (NotOpen e id) (sym (behind_both exit_now first rest)) (closed_outs e id (behind exit_now first) rest
-          (sent_closed e id before askers s (members_in settings r.group before) named (subst (λ n. OneOf (IsOf e id) (forwarding_of n before).open_requests) (sym (number_same s k.start lost.here)) k.among) exit_now)))
+      refused_there : RenewsGroup settings before s → NotOpen settings e id (later cause)
+      refused_there r = subst (λ z. NotOpen settings e id (behind exit_now z)) (sym (exit.row ∙ goes_on)) (subst (NotOpen settings e id) (sym (behind_both exit_now first rest)) (closed_outs settings e id (behind exit_now first) rest
+          (sent_closed settings e id before askers s (members_in settings r.group before) named (subst (λ n. OneOf (IsOf e id) (forwarding_of settings n before).open_requests) (sym (number_same s k.start lost.here)) k.among) exit_now)))
         where
           same : k.group ≡ r.group
           same = let both : ◌≡◌ {A = Option ℕ} (Some k.group) (Some r.group) = sym home ∙ r.home in cc
 
           first : List Out
-          first = outs (each (lose_sent before s) (members_in settings r.group before)) exit_now
+          first = outs (each (lose_sent settings before s) (members_in settings r.group before)) exit_now
 
           rest : List Out
           rest = outs (choose (is_ready (life_of s before).stage) (each (lose_start settings before s) (running_in settings r.group before)) nothing
@@ -285,10 +285,10 @@ module _ (settings : Settings) (range : InRange settings) (before : List Event) 
           named = named_in (λ n. is_begun (desk_of n before).phase && is_home r.group (home_of settings n before)) 0 (editors_of before) e (omega arith) joined
               (ap (λ b. b && is_home r.group (home_of settings e before)) begun_here ∙ (ap (is_home r.group) (k.home ∙ ap (λ g. Some g) same) ∙ same_number r.group))
 
-      none_left : StaysIn → NotOpen e id (later cause)
+      none_left : StaysIn → NotOpen settings e id (later cause)
       none_left rest = go (begins_again settings before s) refl
         where
-          go : (b : Bool) → begins_again settings before s ≡ b → NotOpen e id (later cause)
+          go : (b : Bool) → begins_again settings before s ≡ b → NotOpen settings e id (later cause)
           go true again = refused_there (renews_parts settings before s again)
           go false last = absurd (not_out rest (ap not last))
 
@@ -328,7 +328,7 @@ module _ (settings : Settings) (range : InRange settings) (before : List Event) 
     now = with_cause before (FromServer s body)
 
     abbrev fs : List Forwarded
-    fs = (forwarding_of s before).open_requests
+    fs = (forwarding_of settings s before).open_requests
 
     module _ (e : ℕ) where
       -- those that the response answers are excused, of a start that isn't to end
@@ -348,9 +348,9 @@ module _ (settings : Settings) (range : InRange settings) (before : List Event) 
 
       -- and their editors get it
 
-      low : is_up (life_of s before).stage ≡ true → (forwarding_of s before).next < 2 ^ 64
+      low : is_up (life_of s before).stage ≡ true → (forwarding_of settings s before).next < 2 ^ 64
       low up = let b = (facts.steady).bounded s up in
-          let second : (forwarding_of s before).next ≤ settings.limits.requests + 2 = b.1 in
+          let second : (forwarding_of settings s before).next ≤ settings.limits.requests + 2 = b.1 in
           let wide : settings.limits.requests < 2 ^ 32 = range.requests in
           omega (arith, second, wide)
 
@@ -398,7 +398,7 @@ module _ (settings : Settings) (range : InRange settings) (before : List Event) 
       answered_response : (life_of s before).stage ≡ Ready → (id : Id) → Passed settings e id before s body → is_answered (desk_of e (behind now (outs (answer_row settings s before body (message_of body)) now))).phase ≡ true
           → is_open id (open_of e (behind now (outs (answer_row settings s before body (message_of body)) now))) ≡ true → ⊥
       answered_response at id k served still =
-          let p : Found (IsOf e id) (answered_id (message_of body)) (forwarding_of s before).next (low (ap is_up at)) fs = found_one (IsOf e id) (answered_id (message_of body)) (forwarding_of s before).next (low (ap is_up at)) 2 fs (rising_of s before) k in
+          let p : Found (IsOf e id) (answered_id (message_of body)) (forwarding_of settings s before).next (low (ap is_up at)) fs = found_one (IsOf e id) (answered_id (message_of body)) (forwarding_of settings s before).next (low (ap is_up at)) 2 fs (rising_of settings s before) k in
           answered_not id p.first p.found p.holds (is_there (desk_of (p.first).editor before).phase) refl served still
 
       ready_not : (life_of s before).stage ≡ Ready → (id : Id) → Passed settings e id before s body → Stays Ready id
@@ -420,11 +420,11 @@ module _ (settings : Settings) (range : InRange settings) (before : List Event) 
           go false other = none_answered id (none_of (message_of body) other) k
 
       -- none is open before the first result
-      early_not : (forwarding_of s before).next ≡ 2 → (id : Id) → Passed settings e id before s body → ⊥
-      early_not first id k = none_sent (λ (f : Forwarded). IsOf e id f × (answered_by (answered_id (message_of body)) f ≡ true)) fs (subst (λ n. Rising 2 n fs) first (rising_of s before)) k
+      early_not : (forwarding_of settings s before).next ≡ 2 → (id : Id) → Passed settings e id before s body → ⊥
+      early_not first id k = none_sent (λ (f : Forwarded). IsOf e id f × (answered_by (answered_id (message_of body)) f ≡ true)) fs (subst (λ n. Rising 2 n fs) first (rising_of settings s before)) k
 
       fine_not : (stage : Stage) → (life_of s before).stage ≡ stage → is_up stage ≡ true → (id : Id) → Passed settings e id before s body → Stays stage id
-      fine_not Initializing at up id k served still = early_not (subst (λ z. TiedAt z (next_number s before) (forwarding_of s before).next) at (facts.tied s)).1 id k
+      fine_not Initializing at up id k served still = early_not (subst (λ z. TiedAt z (next_number s before) (forwarding_of settings s before).next) at (facts.tied s)).1 id k
       fine_not Ready at up id k served still = ready_not at id k served still
       fine_not Stopping at up id k served still = never (sym up)
       fine_not Ending at up id k served still = never (sym up)

@@ -56,7 +56,7 @@ pub record Exit (settings : Settings) (before : List Event) (cause : Cause) (s :
   pub asked : (e : ℕ) → asked_of e (with_cause before cause) ≡ asked_of e before
   pub idle : (t : ℕ) → (asking_of settings t (with_cause before cause)).asker ≡ None
   pub unasked : asks_of settings s (with_cause before cause) ≡ []
-  pub forwards : (t : ℕ) → (forwarding_of t (with_cause before cause)).open_requests ≡ (if nat_eq s t then [] else (forwarding_of t before).open_requests)
+  pub forwards : (t : ℕ) → (forwarding_of settings t (with_cause before cause)).open_requests ≡ (if nat_eq s t then [] else (forwarding_of settings t before).open_requests)
   pub ends : (e : ℕ) → ends_link settings before cause e ≡ is_put_out settings before cause e
   pub turned : (e : ℕ) → turned_away settings before cause e ≡ (ends_with settings before s e && is_waiting (desk_of e before).phase)
   pub out : (e : ℕ) → is_put_out settings before cause e ≡ (ends_with settings before s e && is_begun (desk_of e before).phase)
@@ -71,7 +71,7 @@ gone_exit settings before s = record {
   asked = λ e. asked_of_more e before (heard (ServerGone s));
   idle = λ t. ap (λ (x : Asking). x.asker) (asking_more settings t before (heard (ServerGone s))) ∙ over_idle (nat_eq s t) (asking_of settings t before);
   unasked = ap (λ (x : Asking). x.asks) (asking_more settings s before (heard (ServerGone s))) ∙ ap (λ b. (if b then no_asking else idle_asking (asking_of settings s before)).asks) (same_number s);
-  forwards = λ t. ap (λ (x : Forwarding). x.open_requests) (forwarding_more t before (heard (ServerGone s))) ∙ over_requests (nat_eq s t) (forwarding_of t before);
+  forwards = λ t. ap (λ (x : Forwarding). x.open_requests) (forwarding_more settings t before (heard (ServerGone s))) ∙ over_requests (nat_eq s t) (forwarding_of settings t before);
   ends = λ e. refl;
   turned = λ e. refl;
   out = λ e. refl;
@@ -87,7 +87,7 @@ failed_exit settings before s = record {
   asked = λ e. asked_of_more e before (heard (StartFailed s));
   idle = λ t. ap (λ (x : Asking). x.asker) (asking_more settings t before (heard (StartFailed s))) ∙ over_idle (nat_eq s t) (asking_of settings t before);
   unasked = ap (λ (x : Asking). x.asks) (asking_more settings s before (heard (StartFailed s))) ∙ ap (λ b. (if b then no_asking else idle_asking (asking_of settings s before)).asks) (same_number s);
-  forwards = λ t. ap (λ (x : Forwarding). x.open_requests) (forwarding_more t before (heard (StartFailed s))) ∙ over_requests (nat_eq s t) (forwarding_of t before);
+  forwards = λ t. ap (λ (x : Forwarding). x.open_requests) (forwarding_more settings t before (heard (StartFailed s))) ∙ over_requests (nat_eq s t) (forwarding_of settings t before);
   ends = λ e. refl;
   turned = λ e. refl;
   out = λ e. refl;
@@ -145,7 +145,7 @@ module _ (settings : Settings) (before : List Event) (cause : Cause) (s : ℕ) (
 
   module _ (absent : Editors before) (k : EndsGroup settings before s) where
     abbrev errors : List Out
-    errors = outs (each (lose_sent before s) (members_in settings k.group before)) now
+    errors = outs (each (lose_sent settings before s) (members_in settings k.group before)) now
 
     abbrev told : List Event
     told = behind now errors

@@ -30,7 +30,7 @@ pub for_all : {A : Type 0} (P : A → Type 0) → ((x : A) → P x) → (xs : Li
 for_all P f [] = tt
 for_all P f (x ∷ xs) = (f x, for_all P f xs)
 
-module _ (R : List Event → Out → Type 0) where
+module _ (settings : Settings) (R : List Event → Out → Type 0) where
   -- what holds of each body to an editor
   abbrev pub Tells : ℕ → Type 0
   Tells e = (events : List Event) (body : List ℕ) → R events (ToEditor e body)
@@ -40,9 +40,9 @@ module _ (R : List Event → Out → Type 0) where
   requests_by [] tells events = by_nothing
   requests_by (f ∷ fs) tells events = by_then (by_send (tells.0 events _)) (requests_by fs tells.1 (behind events (outs (lose_request f) events)))
 
-  pub sent_by : (before : List Event) (s : ℕ) (es : List ℕ) → AllByRecursion (λ e. AllByRecursion (λ (f : Forwarded). Tells f.editor) (filter (is_of e) (forwarding_of s before).open_requests)) es → (events : List Event) → Because R events (each (lose_sent before s) es)
+  pub sent_by : (before : List Event) (s : ℕ) (es : List ℕ) → AllByRecursion (λ e. AllByRecursion (λ (f : Forwarded). Tells f.editor) (filter (is_of e) (forwarding_of settings s before).open_requests)) es → (events : List Event) → Because R events (each (lose_sent settings before s) es)
   sent_by before s [] tells events = by_nothing
-  sent_by before s (e ∷ es) tells events = by_then (requests_by (filter (is_of e) (forwarding_of s before).open_requests) tells.0 events) (sent_by before s es tells.1 (behind events (outs (lose_sent before s e) events)))
+  sent_by before s (e ∷ es) tells events = by_then (requests_by (filter (is_of e) (forwarding_of settings s before).open_requests) tells.0 events) (sent_by before s es tells.1 (behind events (outs (lose_sent settings before s e) events)))
 
   -- X2
   module _ (e : ℕ) (tells : Tells e) (s : ℕ) where
@@ -90,13 +90,13 @@ module _ (R : List Event → Out → Type 0) where
 
   -- X1 and X2
   module _ (tells : (e : ℕ) → Tells e) where
-    pub all_tell : (before : List Event) (s : ℕ) (es : List ℕ) → AllByRecursion (λ e. AllByRecursion (λ (f : Forwarded). Tells f.editor) (filter (is_of e) (forwarding_of s before).open_requests)) es
-    all_tell before s es = for_all (λ e. AllByRecursion (λ (f : Forwarded). Tells f.editor) (filter (is_of e) (forwarding_of s before).open_requests)) (λ e. for_all (λ (f : Forwarded). Tells f.editor) (λ f. tells f.editor) (filter (is_of e) (forwarding_of s before).open_requests)) es
+    pub all_tell : (before : List Event) (s : ℕ) (es : List ℕ) → AllByRecursion (λ e. AllByRecursion (λ (f : Forwarded). Tells f.editor) (filter (is_of e) (forwarding_of settings s before).open_requests)) es
+    all_tell before s es = for_all (λ e. AllByRecursion (λ (f : Forwarded). Tells f.editor) (filter (is_of e) (forwarding_of settings s before).open_requests)) (λ e. for_all (λ (f : Forwarded). Tells f.editor) (λ f. tells f.editor) (filter (is_of e) (forwarding_of settings s before).open_requests)) es
 
-    pub told_by : (settings : Settings) (before : List Event) (s g : ℕ) (events : List Event) → Because R events (each (lose_sent before s) (members_in settings g before)
+    pub told_by : (settings : Settings) (before : List Event) (s g : ℕ) (events : List Event) → Because R events (each (lose_sent settings before s) (members_in settings g before)
         ⨾ choose (is_ready (life_of s before).stage) (each (lose_start settings before s) (running_in settings g before)) nothing)
     told_by settings before s g events = by_then (sent_by before s (members_in settings g before) (all_tell before s (members_in settings g before)) events)
-        (ready_by settings before s (running_in settings g before) (for_all Tells tells (running_in settings g before)) (behind events (outs (each (lose_sent before s) (members_in settings g before)) events)))
+        (ready_by settings before s (running_in settings g before) (for_all Tells tells (running_in settings g before)) (behind events (outs (each (lose_sent settings before s) (members_in settings g before)) events)))
 
   -- X3
   module _ (tells : (e : ℕ) → Tells e) (closes : (events : List Event) (e : ℕ) → R events (CloseEditor e)) where
@@ -105,14 +105,14 @@ module _ (R : List Event → Out → Type 0) where
     turned_by (e ∷ es) events = by_then (by_then (by_look (by_choose (λ waits. by_send (tells e events _)) (λ late. by_nothing))) (by_send (closes _ e))) (turned_by es (behind events (outs (turn_out e) events)))
 
     module _ (settings : Settings) (before : List Event) (s : ℕ) (ends : not (begins_again settings before s) ≡ true) where
-      alive_by : (g : ℕ) (x : Kept) → group_of s before ≡ Some g → slice_get (groups_of settings before) g ≡ Some x → x.live ≡ true → (events : List Event) → Because R events (each (lose_sent before s) (members_in settings g before)
+      alive_by : (g : ℕ) (x : Kept) → group_of s before ≡ Some g → slice_get (groups_of settings before) g ≡ Some x → x.live ≡ true → (events : List Event) → Because R events (each (lose_sent settings before s) (members_in settings g before)
           ⨾ (choose (is_ready (life_of s before).stage) (each (lose_start settings before s) (running_in settings g before)) nothing
           ⨾ choose (starts_again settings before g x) (spawn g) (each turn_out (members_in settings g before))))
       alive_by g x home found live events = by_then (sent_by before s (members_in settings g before) (all_tell tells before s (members_in settings g before)) events) (by_then (ready_by settings before s (running_in settings g before) (for_all Tells tells (running_in settings g before)) (behind events errors))
           (by_choose (λ again. never (sym (both x.live (starts_again settings before g x) live again) ∙ none_again settings before s ends g x home found)) (λ last. turned_by (members_in settings g before) (behind (behind events errors) losses))))
         where
           errors : List Out
-          errors = outs (each (lose_sent before s) (members_in settings g before)) events
+          errors = outs (each (lose_sent settings before s) (members_in settings g before)) events
 
           losses : List Out
           losses = outs (choose (is_ready (life_of s before).stage) (each (lose_start settings before s) (running_in settings g before)) nothing) (behind events errors)

@@ -207,14 +207,14 @@ module _ (settings : Settings) (before : List Event) (s : ℕ) (ends : not (begi
 module _ (settings : Settings) (before : List Event) (s : ℕ) (now : List Event) where
   -- of a group that ends
   pub lost_outs : (k : EndsGroup settings before s) → outs (lost_row settings before s) now
-      ≡ outs (each (lose_sent before s) (members_in settings k.group before)
+      ≡ outs (each (lose_sent settings before s) (members_in settings k.group before)
       ⨾ (choose (is_ready (life_of s before).stage) (each (lose_start settings before s) (running_in settings k.group before)) nothing ⨾ each turn_out (members_in settings k.group before))) now
   lost_outs k = ap (λ o. outs (on o nothing (λ g. on (slice_get (groups_of settings before) g) nothing (exit_in settings before s g))) now) k.home
       ∙ ap (λ o. outs (on o nothing (exit_in settings before s k.group)) now) k.found
-      ∙ ap (λ b. outs (choose b (each (lose_sent before s) (members_in settings k.group before)
+      ∙ ap (λ b. outs (choose b (each (lose_sent settings before s) (members_in settings k.group before)
       ⨾ (choose (is_ready (life_of s before).stage) (each (lose_start settings before s) (running_in settings k.group before)) nothing
       ⨾ choose (starts_again settings before k.group k.kept) (spawn k.group) (each turn_out (members_in settings k.group before)))) nothing) now) k.live
-      ∙ ap (λ b. outs (each (lose_sent before s) (members_in settings k.group before)
+      ∙ ap (λ b. outs (each (lose_sent settings before s) (members_in settings k.group before)
       ⨾ (choose (is_ready (life_of s before).stage) (each (lose_start settings before s) (running_in settings k.group before)) nothing
       ⨾ choose b (spawn k.group) (each turn_out (members_in settings k.group before)))) now) k.last
 

@@ -7,6 +7,7 @@ use Rattle.json_text.specs.Json.{Json}
 use Rattle.mux_history.specs.declared.out.Out.TheVariants.{ToServer}
 use Rattle.rpc_message.specs.Message.{error, notification, Id, message_of}
 use Rattle.rpc_message.specs.ValueTexts.{IsIdText}
+use Rattle.event_model.specs.Settings.{Settings}
 use Rattle.event_model.specs.declared.stage.Stage.TheVariants.{Ready}
 use Rattle.event_model.specs.Event.{Event, said}
 use Rattle.event_model.specs.Members.{named_of}
@@ -33,8 +34,8 @@ get_all P [] i x h e = absurd (cc)
 get_all P (y ∷ xs) zero x h e = subst P (let same : y ≡ x = cc in same) h.0
 get_all P (y ∷ xs) (suc i) x h e = get_all P xs i x h.1 e
 
-pub forwarding_more : (s : ℕ) (events : List Event) (event : Event) → forwarding_of s (events ++ event ∷ []) ≡ forwarding_behind s (forwarding_of s events) event
-forwarding_more s events event = fold-append (forwarding_behind s) no_forwarding events (event ∷ [])
+pub forwarding_more : (settings : Settings) (s : ℕ) (events : List Event) (event : Event) → forwarding_of settings s (events ++ event ∷ []) ≡ forwarding_behind s (forwarding_of settings s events) event
+forwarding_more settings s events event = fold-append (forwarding_behind s) no_forwarding events (event ∷ [])
 
 -- a notification leaves who asks and the next number, and the numbers, editors and ids of the open requests
 module _ (x : Forwarding) (method : List ℕ) (params : Option Json) where
@@ -68,50 +69,50 @@ module _ (x : Forwarding) (method : List ℕ) (params : Option Json) where
       go false = h
 
 -- what holds of all requests that are open at a start, by their numbers, editors and ids, holds of those that are later
-abbrev pub Fewer : List Event → List Event → Type 1
-Fewer events later = (t : ℕ) (Q : ℕ → ℕ → List ℕ → Type 0) → AllByRecursion (λ (f : Forwarded). Q f.number f.editor f.id) (forwarding_of t events).open_requests → AllByRecursion (λ (f : Forwarded). Q f.number f.editor f.id) (forwarding_of t later).open_requests
+abbrev pub Fewer : Settings → List Event → List Event → Type 1
+Fewer settings events later = (t : ℕ) (Q : ℕ → ℕ → List ℕ → Type 0) → AllByRecursion (λ (f : Forwarded). Q f.number f.editor f.id) (forwarding_of settings t events).open_requests → AllByRecursion (λ (f : Forwarded). Q f.number f.editor f.id) (forwarding_of settings t later).open_requests
 
-pub fewer_notified : (s : ℕ) (events : List Event) (body method : List ℕ) (params : Option Json) → message_of body ≡ notification method params → Fewer events (events ++ said (ToServer s body) ∷ [])
-fewer_notified s events body method params says t Q h = subst (λ (x : Forwarding). AllByRecursion (λ (f : Forwarded). Q f.number f.editor f.id) x.open_requests)
-    (sym (forwarding_more t events (said (ToServer s body)) ∙ ap (λ m. if nat_eq s t then forwards (forwarding_of t events) m else forwarding_of t events) says)) (go (nat_eq s t))
+pub fewer_notified : (settings : Settings) (s : ℕ) (events : List Event) (body method : List ℕ) (params : Option Json) → message_of body ≡ notification method params → Fewer settings events (events ++ said (ToServer s body) ∷ [])
+fewer_notified settings s events body method params says t Q h = subst (λ (x : Forwarding). AllByRecursion (λ (f : Forwarded). Q f.number f.editor f.id) x.open_requests)
+    (sym (forwarding_more settings t events (said (ToServer s body)) ∙ ap (λ m. if nat_eq s t then forwards (forwarding_of settings t events) m else forwarding_of settings t events) says)) (go (nat_eq s t))
   where
-    go : (b : Bool) → AllByRecursion (λ (f : Forwarded). Q f.number f.editor f.id) (if b then forwards (forwarding_of t events) (notification method params) else forwarding_of t events).open_requests
-    go true = notified_all (forwarding_of t events) method params Q h
+    go : (b : Bool) → AllByRecursion (λ (f : Forwarded). Q f.number f.editor f.id) (if b then forwards (forwarding_of settings t events) (notification method params) else forwarding_of settings t events).open_requests
+    go true = notified_all (forwarding_of settings t events) method params Q h
     go false = h
 
-pub alone_fewer : (events later : List Event) → Fewer events later → (e : ℕ) (id : Id) → IsAlone events e id → IsAlone later e id
-alone_fewer events later fewer e id h t = fewer t (λ n k i. k ≡ e → IsIdText id i → ⊥) (h t)
+pub alone_fewer : (settings : Settings) (events later : List Event) → Fewer settings events later → (e : ℕ) (id : Id) → IsAlone settings events e id → IsAlone settings later e id
+alone_fewer settings events later fewer e id h t = fewer t (λ n k i. k ≡ e → IsIdText id i → ⊥) (h t)
 
 -- s is ready, and since `now` it was sent notifications and errors alone
-pub record Still (now : List Event) (s : ℕ) (events : List Event) : Type 0 where
+pub record Still (settings : Settings) (now : List Event) (s : ℕ) (events : List Event) : Type 0 where
   pub ready : (life_of s events).stage ≡ Ready
-  pub next : (forwarding_of s events).next ≡ (forwarding_of s now).next
-  pub sender : (forwarding_of s events).sender ≡ (forwarding_of s now).sender
+  pub next : (forwarding_of settings s events).next ≡ (forwarding_of settings s now).next
+  pub sender : (forwarding_of settings s events).sender ≡ (forwarding_of settings s now).sender
   pub desks : (e : ℕ) → desk_of e events ≡ desk_of e now
   pub opens : (e : ℕ) → open_of e events ≡ open_of e now
-  pub alone : (e : ℕ) (id : Id) → IsAlone now e id → IsAlone events e id
+  pub alone : (e : ℕ) (id : Id) → IsAlone settings now e id → IsAlone settings events e id
 
-pub still_now : (now : List Event) (s : ℕ) → (life_of s now).stage ≡ Ready → Still now s now
-still_now now s ready = record { ready = ready; next = refl; sender = refl; desks = λ e. refl; opens = λ e. refl; alone = λ e id h. h }
+pub still_now : (settings : Settings) (now : List Event) (s : ℕ) → (life_of s now).stage ≡ Ready → Still settings now s now
+still_now settings now s ready = record { ready = ready; next = refl; sender = refl; desks = λ e. refl; opens = λ e. refl; alone = λ e id h. h }
 
-pub still_notified : (now : List Event) (s : ℕ) (events : List Event) (body method : List ℕ) (params : Option Json) → message_of body ≡ notification method params → Still now s events → Still now s (events ++ said (ToServer s body) ∷ [])
-still_notified now s events body method params says h = record {
+pub still_notified : (settings : Settings) (now : List Event) (s : ℕ) (events : List Event) (body method : List ℕ) (params : Option Json) → message_of body ≡ notification method params → Still settings now s events → Still settings now s (events ++ said (ToServer s body) ∷ [])
+still_notified settings now s events body method params says h = record {
   ready = ap (λ (l : Life). l.stage) (life_more s events (said (ToServer s body)))
       ∙ ap (λ b. (if b then record { stage = stage_told (life_of s events).stage (message_of body); started = (life_of s events).started } else life_of s events).stage) (same_number s)
       ∙ ap₂ (λ z m. stage_told z m) h.ready says;
-  next = ap (λ (x : Forwarding). x.next) moved ∙ notified_next (forwarding_of s events) method params ∙ h.next;
-  sender = ap (λ (x : Forwarding). x.sender) moved ∙ notified_sender (forwarding_of s events) method params ∙ h.sender;
+  next = ap (λ (x : Forwarding). x.next) moved ∙ notified_next (forwarding_of settings s events) method params ∙ h.next;
+  sender = ap (λ (x : Forwarding). x.sender) moved ∙ notified_sender (forwarding_of settings s events) method params ∙ h.sender;
   desks = λ e. desk_more e events (said (ToServer s body)) ∙ h.desks e;
   opens = λ e. opens_more e events (said (ToServer s body)) ∙ h.opens e;
-  alone = λ e id k. alone_fewer events (events ++ said (ToServer s body) ∷ []) (fewer_notified s events body method params says) e id (h.alone e id k);
+  alone = λ e id k. alone_fewer settings events (events ++ said (ToServer s body) ∷ []) (fewer_notified settings s events body method params says) e id (h.alone e id k);
 }
   where
-    moved : forwarding_of s (events ++ said (ToServer s body) ∷ []) ≡ forwards (forwarding_of s events) (notification method params)
-    moved = forwarding_more s events (said (ToServer s body)) ∙ ap₂ (λ b m. if b then forwards (forwarding_of s events) m else forwarding_of s events) (same_number s) says
+    moved : forwarding_of settings s (events ++ said (ToServer s body) ∷ []) ≡ forwards (forwarding_of settings s events) (notification method params)
+    moved = forwarding_more settings s events (said (ToServer s body)) ∙ ap₂ (λ b m. if b then forwards (forwarding_of settings s events) m else forwarding_of settings s events) (same_number s) says
 
 -- an error, too, leaves all of it
-pub still_answered : (now : List Event) (s : ℕ) (events : List Event) (body : List ℕ) (id : Option Id) (x : Json) → message_of body ≡ error id x → Still now s events → Still now s (events ++ said (ToServer s body) ∷ [])
-still_answered now s events body id x says h = record {
+pub still_answered : (settings : Settings) (now : List Event) (s : ℕ) (events : List Event) (body : List ℕ) (id : Option Id) (x : Json) → message_of body ≡ error id x → Still settings now s events → Still settings now s (events ++ said (ToServer s body) ∷ [])
+still_answered settings now s events body id x says h = record {
   ready = ap (λ (l : Life). l.stage) (life_more s events (said (ToServer s body)))
       ∙ ap (λ b. (if b then record { stage = stage_told (life_of s events).stage (message_of body); started = (life_of s events).started } else life_of s events).stage) (same_number s)
       ∙ ap₂ (λ z m. stage_told z m) h.ready says;
@@ -122,9 +123,9 @@ still_answered now s events body id x says h = record {
   alone = λ e i k t. subst (λ (x : Forwarding). AllByRecursion (λ (g : Forwarded). g.editor ≡ e → IsIdText i g.id → ⊥) x.open_requests) (sym (moved t)) (h.alone e i k t);
 }
   where
-    moved : (t : ℕ) → forwarding_of t (events ++ said (ToServer s body) ∷ []) ≡ forwarding_of t events
-    moved t = forwarding_more t events (said (ToServer s body)) ∙ ap (λ m. if nat_eq s t then forwards (forwarding_of t events) m else forwarding_of t events) says ∙ go (nat_eq s t)
+    moved : (t : ℕ) → forwarding_of settings t (events ++ said (ToServer s body) ∷ []) ≡ forwarding_of settings t events
+    moved t = forwarding_more settings t events (said (ToServer s body)) ∙ ap (λ m. if nat_eq s t then forwards (forwarding_of settings t events) m else forwarding_of settings t events) says ∙ go (nat_eq s t)
       where
-        go : (b : Bool) → (if b then forwards (forwarding_of t events) (error id x) else forwarding_of t events) ≡ forwarding_of t events
+        go : (b : Bool) → (if b then forwards (forwarding_of settings t events) (error id x) else forwarding_of settings t events) ≡ forwarding_of settings t events
         go true = refl
         go false = refl

@@ -79,7 +79,7 @@ module _ (settings : Settings) where
     bounded = bounded_took settings events cause (up_fresh cause) h.bounded;
     editors = editors_took events cause fits h.editors;
     asked = λ on. asked_took settings events cause fits h.editors (h.asked (stopped_back events (heard cause) on));
-    apart = apart_fewer events (with_cause events cause) (fewer_took settings events cause) h.apart;
+    apart = apart_fewer settings events (with_cause events cause) (fewer_took settings events cause) h.apart;
     asks = asks_took settings events cause h.asks;
     takes = takes_took settings events h.takes cause;
     housed = housed_took settings events cause h.housed;
@@ -108,7 +108,7 @@ module _ (settings : Settings) where
       bounded = bounded_said settings events (ToEditor n body) a f d (λ s. tt) h.bounded;
       editors = editors.to_editor events n body h.editors;
       asked = λ on. let off : is_stopped events ≡ false = stopped_back events (said (ToEditor n body)) on in asked_told settings before cause events n body why off (h.asked off);
-      apart = apart_said events (ToEditor n body) (λ s. refl) h.apart;
+      apart = apart_said settings events (ToEditor n body) (λ s. refl) h.apart;
       asks = asks_told settings events n body before cause why h.asks;
       takes = takes_told settings events h.takes n body before cause why;
       housed = housed_did settings events (ToEditor n body) refl (λ s. refl) h.housed;
@@ -117,8 +117,8 @@ module _ (settings : Settings) where
         a : (s : ℕ) → next_number s (events ++ said (ToEditor n body) ∷ []) ≡ next_number s events
         a s = (number_more s events (said (ToEditor n body)))
 
-        f : (s : ℕ) → (forwarding_of s (events ++ said (ToEditor n body) ∷ [])).next ≡ (forwarding_of s events).next
-        f s = ap (λ (x : Forwarding). x.next) (forwarding_more s events (said (ToEditor n body)))
+        f : (s : ℕ) → (forwarding_of settings s (events ++ said (ToEditor n body) ∷ [])).next ≡ (forwarding_of settings s events).next
+        f s = ap (λ (x : Forwarding). x.next) (forwarding_more settings s events (said (ToEditor n body)))
 
         d : (s : ℕ) (u : List ℕ) → held_at s u (events ++ said (ToEditor n body) ∷ []) ≡ held_at s u events
         d s u = ap (λ (x : Sent). x.held) (sent_more s u events (said (ToEditor n body)))
@@ -130,8 +130,8 @@ module _ (settings : Settings) where
       untold = untold_said settings events (Spawn (starts_of events) g) a f d (λ s. spawn_fresh is_unready refl events h.starts s) h.untold;
       bounded = bounded_said settings events (Spawn (starts_of events) g) a f d (λ s. spawn_fresh is_up refl events h.starts s) h.bounded;
       editors = editors.more events (said (Spawn (starts_of events) g)) h.editors refl (λ e absent. absent);
-      asked = λ on. asked_said events (Spawn (starts_of events) g) (λ s. refl) (λ e. refl) (h.asked (stopped_back events (said (Spawn (starts_of events) g)) on));
-      apart = apart_said events (Spawn (starts_of events) g) (λ s. refl) h.apart;
+      asked = λ on. asked_said settings events (Spawn (starts_of events) g) (λ s. refl) (λ e. refl) (h.asked (stopped_back events (said (Spawn (starts_of events) g)) on));
+      apart = apart_said settings events (Spawn (starts_of events) g) (λ s. refl) h.apart;
       asks = asks_spawned settings events (starts_of events) g h.asks;
       takes = takes_spawned settings events h.takes (starts_of events) g;
       housed = housed_spawn settings events g inside h.housed;
@@ -140,8 +140,8 @@ module _ (settings : Settings) where
         a : (s : ℕ) → next_number s (events ++ said (Spawn (starts_of events) g) ∷ []) ≡ next_number s events
         a s = (number_more s events (said (Spawn (starts_of events) g)))
 
-        f : (s : ℕ) → (forwarding_of s (events ++ said (Spawn (starts_of events) g) ∷ [])).next ≡ (forwarding_of s events).next
-        f s = ap (λ (x : Forwarding). x.next) (forwarding_more s events (said (Spawn (starts_of events) g)))
+        f : (s : ℕ) → (forwarding_of settings s (events ++ said (Spawn (starts_of events) g) ∷ [])).next ≡ (forwarding_of settings s events).next
+        f s = ap (λ (x : Forwarding). x.next) (forwarding_more settings s events (said (Spawn (starts_of events) g)))
 
         d : (s : ℕ) (u : List ℕ) → held_at s u (events ++ said (Spawn (starts_of events) g) ∷ []) ≡ held_at s u events
         d s u = ap (λ (x : Sent). x.held) (sent_more s u events (said (Spawn (starts_of events) g)))
@@ -154,8 +154,8 @@ module _ (settings : Settings) where
       bounded = bounded_said settings events (CloseEditor n) a f d (λ s. tt) h.bounded;
       editors = editors.more events (said (CloseEditor n)) h.editors refl (λ e absent. ap (λ (x : Desk). x.phase) (unless (nat_eq n e) (record { phase = phase_closed (desk_of e events).phase; initialize = (desk_of e events).initialize }) (desk_of e events)
           (λ same. there_not events n e absent same there)) ∙ absent);
-      asked = λ on. asked_said events (CloseEditor n) (λ s. refl) (λ e. refl) (h.asked (stopped_back events (said (CloseEditor n)) on));
-      apart = apart_said events (CloseEditor n) (λ s. refl) h.apart;
+      asked = λ on. asked_said settings events (CloseEditor n) (λ s. refl) (λ e. refl) (h.asked (stopped_back events (said (CloseEditor n)) on));
+      apart = apart_said settings events (CloseEditor n) (λ s. refl) h.apart;
       asks = asks_closed settings events n h.asks;
       takes = takes_closed settings events h.takes n;
       housed = housed_did settings events (CloseEditor n) refl (λ s. refl) h.housed;
@@ -164,8 +164,8 @@ module _ (settings : Settings) where
         a : (s : ℕ) → next_number s (events ++ said (CloseEditor n) ∷ []) ≡ next_number s events
         a s = (number_more s events (said (CloseEditor n)))
 
-        f : (s : ℕ) → (forwarding_of s (events ++ said (CloseEditor n) ∷ [])).next ≡ (forwarding_of s events).next
-        f s = ap (λ (x : Forwarding). x.next) (forwarding_more s events (said (CloseEditor n)))
+        f : (s : ℕ) → (forwarding_of settings s (events ++ said (CloseEditor n) ∷ [])).next ≡ (forwarding_of settings s events).next
+        f s = ap (λ (x : Forwarding). x.next) (forwarding_more settings s events (said (CloseEditor n)))
 
         d : (s : ℕ) (u : List ℕ) → held_at s u (events ++ said (CloseEditor n) ∷ []) ≡ held_at s u events
         d s u = ap (λ (x : Sent). x.held) (sent_more s u events (said (CloseEditor n)))
@@ -178,8 +178,8 @@ module _ (settings : Settings) where
       untold = untold_said settings events (EndServer n) a f d (λ s. tt) h.untold;
       bounded = bounded_said settings events (EndServer n) a f d (λ s. tt) h.bounded;
       editors = editors.more events (said (EndServer n)) h.editors refl (λ e absent. absent);
-      asked = λ on. asked_said events (EndServer n) (λ s. refl) (λ e. refl) (h.asked (stopped_back events (said (EndServer n)) on));
-      apart = apart_said events (EndServer n) (λ s. refl) h.apart;
+      asked = λ on. asked_said settings events (EndServer n) (λ s. refl) (λ e. refl) (h.asked (stopped_back events (said (EndServer n)) on));
+      apart = apart_said settings events (EndServer n) (λ s. refl) h.apart;
       asks = asks_ended settings events n h.asks;
       takes = takes_ended settings events h.takes n;
       housed = housed_did settings events (EndServer n) refl (λ s. refl) h.housed;
@@ -188,23 +188,23 @@ module _ (settings : Settings) where
         a : (s : ℕ) → next_number s (events ++ said (EndServer n) ∷ []) ≡ next_number s events
         a s = (number_more s events (said (EndServer n)))
 
-        f : (s : ℕ) → (forwarding_of s (events ++ said (EndServer n) ∷ [])).next ≡ (forwarding_of s events).next
-        f s = ap (λ (x : Forwarding). x.next) (forwarding_more s events (said (EndServer n)))
+        f : (s : ℕ) → (forwarding_of settings s (events ++ said (EndServer n) ∷ [])).next ≡ (forwarding_of settings s events).next
+        f s = ap (λ (x : Forwarding). x.next) (forwarding_more settings s events (said (EndServer n)))
 
         d : (s : ℕ) (u : List ℕ) → held_at s u (events ++ said (EndServer n) ∷ []) ≡ held_at s u events
         d s u = ap (λ (x : Sent). x.held) (sent_more s u events (said (EndServer n)))
 
-    tied_told : (n : ℕ) (body : List ℕ) → OthersTied cause events → OthersTied cause (events ++ said (ToEditor n body) ∷ [])
-    tied_told n body h = tied_said cause events (ToEditor n body) (λ s. (number_more s events (said (ToEditor n body)))) (λ s. ap (λ (x : Forwarding). x.next) (forwarding_more s events (said (ToEditor n body)))) (λ s a f k. k) h
+    tied_told : (n : ℕ) (body : List ℕ) → OthersTied settings cause events → OthersTied settings cause (events ++ said (ToEditor n body) ∷ [])
+    tied_told n body h = tied_said settings cause events (ToEditor n body) (λ s. (number_more s events (said (ToEditor n body)))) (λ s. ap (λ (x : Forwarding). x.next) (forwarding_more settings s events (said (ToEditor n body)))) (λ s a f k. k) h
 
-    tied_closed : (n : ℕ) → OthersTied cause events → OthersTied cause (events ++ said (CloseEditor n) ∷ [])
-    tied_closed n h = tied_said cause events (CloseEditor n) (λ s. (number_more s events (said (CloseEditor n)))) (λ s. ap (λ (x : Forwarding). x.next) (forwarding_more s events (said (CloseEditor n)))) (λ s a f k. k) h
+    tied_closed : (n : ℕ) → OthersTied settings cause events → OthersTied settings cause (events ++ said (CloseEditor n) ∷ [])
+    tied_closed n h = tied_said settings cause events (CloseEditor n) (λ s. (number_more s events (said (CloseEditor n)))) (λ s. ap (λ (x : Forwarding). x.next) (forwarding_more settings s events (said (CloseEditor n)))) (λ s a f k. k) h
 
-    tied_spawned : (g : ℕ) → OthersTied cause events → OthersTied cause (events ++ said (Spawn (starts_of events) g) ∷ [])
-    tied_spawned g h = tied_said cause events (Spawn (starts_of events) g) (λ s. (number_more s events (said (Spawn (starts_of events) g)))) (λ s. ap (λ (x : Forwarding). x.next) (forwarding_more s events (said (Spawn (starts_of events) g)))) (λ s a f k. tied_life (nat_eq (starts_of events) s) (record { stage = Spawning; started = false }) (life_of s events) a f (λ b c. tt) k) h
+    tied_spawned : (g : ℕ) → OthersTied settings cause events → OthersTied settings cause (events ++ said (Spawn (starts_of events) g) ∷ [])
+    tied_spawned g h = tied_said settings cause events (Spawn (starts_of events) g) (λ s. (number_more s events (said (Spawn (starts_of events) g)))) (λ s. ap (λ (x : Forwarding). x.next) (forwarding_more settings s events (said (Spawn (starts_of events) g)))) (λ s a f k. tied_life (nat_eq (starts_of events) s) (record { stage = Spawning; started = false }) (life_of s events) a f (λ b c. tt) k) h
 
-    tied_ended : (n : ℕ) → OthersTied cause events → OthersTied cause (events ++ said (EndServer n) ∷ [])
-    tied_ended n h = tied_said cause events (EndServer n) (λ s. (number_more s events (said (EndServer n)))) (λ s. ap (λ (x : Forwarding). x.next) (forwarding_more s events (said (EndServer n)))) (λ s a f k. tied_life (nat_eq n s) (record { stage = stage_ending (life_of s events).stage; started = (life_of s events).started }) (life_of s events) a f (ending_tied (life_of s events).stage) k) h
+    tied_ended : (n : ℕ) → OthersTied settings cause events → OthersTied settings cause (events ++ said (EndServer n) ∷ [])
+    tied_ended n h = tied_said settings cause events (EndServer n) (λ s. (number_more s events (said (EndServer n)))) (λ s. ap (λ (x : Forwarding). x.next) (forwarding_more settings s events (said (EndServer n)))) (λ s a f k. tied_life (nat_eq n s) (record { stage = stage_ending (life_of s events).stage; started = (life_of s events).started }) (life_of s events) a f (ending_tied (life_of s events).stage) k) h
 
     pub mid_did : (out : Out) → Why settings before cause events out → Mid settings before cause events → Mid settings before cause (events ++ said out ∷ [])
     mid_did (ToEditor n body) why h = record { steady = to_editor n body why h.steady; tied = tied_told n body h.tied; waiting = waiting_told settings before cause events n body why h.waiting }

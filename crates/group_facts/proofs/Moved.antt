@@ -92,7 +92,7 @@ module _ (settings : Settings) (before : List Event) (e : ℕ) (body : List ℕ)
       place = same_place (with_cause before (FromEditor n text)) (ap (with_cause before) from) (k.questions ++ _) k.place ∙ ap (behind (with_cause before (FromEditor n text))) (sym (append_assoc questions k.questions _));
     }
 
-    alone_moved : (n : ℕ) (id : Id) → IsAlone x n id → IsAlone y n id
+    alone_moved : (n : ℕ) (id : Id) → IsAlone settings x n id → IsAlone settings y n id
     alone_moved n id h t = subst (λ (f : Forwarding). AllByRecursion (λ (g : Forwarded). g.editor ≡ n → IsIdText id g.id → ⊥) f.open_requests) (sym (S.forwarding t)) (h t)
 
     waiting_moved : (n : ℕ) (id : Id) → IsWaiting x n id → IsWaiting y n id

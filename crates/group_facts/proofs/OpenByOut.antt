@@ -85,7 +85,7 @@ module _ (settings : Settings) (e : ℕ) (E : Id → Type 0) where
   open_spawned events n g none h = open_at events (said (Spawn n g)) (open_still events (events ++ said (Spawn n g) ∷ []) (λ id. sent_spawn settings e id events n g none) h)
 
   -- a later one, where none has to be answered by the one before it
-  open_renewed : (events : List Event) (n g s : ℕ) → start_of g events ≡ Some s → (forwarding_of s events).open_requests ≡ [] → OpenAt events → OpenAt (events ++ said (Spawn n g) ∷ [])
+  open_renewed : (events : List Event) (n g s : ℕ) → start_of g events ≡ Some s → (forwarding_of settings s events).open_requests ≡ [] → OpenAt events → OpenAt (events ++ said (Spawn n g) ∷ [])
   open_renewed events n g s last none h = open_at events (said (Spawn n g)) (open_still events (events ++ said (Spawn n g) ∷ []) still h)
     where
       still : (id : Id) → SentAt settings events e id → SentAt settings (events ++ said (Spawn n g) ∷ []) e id
@@ -93,13 +93,13 @@ module _ (settings : Settings) (e : ℕ) (E : Id → Type 0) where
         where
           go : (b : Bool) → nat_eq g k.group ≡ b → SentAt settings (events ++ said (Spawn n g) ∷ []) e id
           go true same = absurd (let both : ◌≡◌ {A = Option ℕ} (Some s) (Some k.start) = sym last ∙ (ap (λ i. start_of i events) (number_same g k.group same) ∙ k.last) in let it : s ≡ k.start = cc in
-              subst (OneOf (IsOf e id)) (ap (λ i. (forwarding_of i events).open_requests) (sym it) ∙ none) k.among)
+              subst (OneOf (IsOf e id)) (ap (λ i. (forwarding_of settings i events).open_requests) (sym it) ∙ none) k.among)
           go false other = record {
             group = k.group;
             start = k.start;
             home = home_did settings e events (Spawn n g) ∙ k.home;
             last = start_more k.group events (said (Spawn n g)) ∙ (ap (λ b. if b then Some n else start_of k.group events) other ∙ k.last);
-            among = subst (λ (f : Forwarding). OneOf (IsOf e id) f.open_requests) (sym (forwarding_more k.start events (said (Spawn n g)))) k.among;
+            among = subst (λ (f : Forwarding). OneOf (IsOf e id) f.open_requests) (sym (forwarding_more settings k.start events (said (Spawn n g)))) k.among;
           }
 
   pub open_closed : (events : List Event) → OpenAt (events ++ said (CloseEditor e) ∷ [])
@@ -179,17 +179,17 @@ module _ (settings : Settings) (e : ℕ) (E : Id → Type 0) where
             (open_spawned (behind now xs) s N (starts_stay N now xs calm ∙ start_took N before cause ∙ (begun N).1 (omega arith)) (open_outs now xs (reasons_left R now xs (Spawn s N ∷ []) why) calm h))
 
         -- bodies to editors leave alone what a start has to answer
-        unsent : (events : List Event) (xs : List Out) (s : ℕ) → AllByRecursion IsTold xs → forwarding_of s (behind events xs) ≡ forwarding_of s events
-        unsent events [] s all = ap (forwarding_of s) (append-nil events)
-        unsent events (ToEditor n body ∷ xs) s all = ap (forwarding_of s) (sym (append_assoc events (said (ToEditor n body) ∷ []) (map said xs))) ∙ (unsent (events ++ said (ToEditor n body) ∷ []) xs s all.1 ∙ forwarding_more s events (said (ToEditor n body)))
+        unsent : (events : List Event) (xs : List Out) (s : ℕ) → AllByRecursion IsTold xs → forwarding_of settings s (behind events xs) ≡ forwarding_of settings s events
+        unsent events [] s all = ap (forwarding_of settings s) (append-nil events)
+        unsent events (ToEditor n body ∷ xs) s all = ap (forwarding_of settings s) (sym (append_assoc events (said (ToEditor n body) ∷ []) (map said xs))) ∙ (unsent (events ++ said (ToEditor n body) ∷ []) xs s all.1 ∙ forwarding_more settings s events (said (ToEditor n body)))
         unsent events (ToServer n body ∷ xs) s all = absurd all.0
         unsent events (Spawn n g ∷ xs) s all = absurd all.0
         unsent events (CloseEditor n ∷ xs) s all = absurd all.0
         unsent events (EndServer n ∷ xs) s all = absurd all.0
 
-        over_now : (c : Cause) (s : ℕ) → is_exit c s ≡ true → (forwarding_of s (with_cause before c)).open_requests ≡ []
-        over_now (StartFailed n) s is = ap (λ (x : Forwarding). x.open_requests) (forwarding_more s before (heard (StartFailed n))) ∙ ap (λ b. (if b then no_forwarding else record { sender = None; next = (forwarding_of s before).next; open_requests = (forwarding_of s before).open_requests }).open_requests) is
-        over_now (ServerGone n) s is = ap (λ (x : Forwarding). x.open_requests) (forwarding_more s before (heard (ServerGone n))) ∙ ap (λ b. (if b then no_forwarding else record { sender = None; next = (forwarding_of s before).next; open_requests = (forwarding_of s before).open_requests }).open_requests) is
+        over_now : (c : Cause) (s : ℕ) → is_exit c s ≡ true → (forwarding_of settings s (with_cause before c)).open_requests ≡ []
+        over_now (StartFailed n) s is = ap (λ (x : Forwarding). x.open_requests) (forwarding_more settings s before (heard (StartFailed n))) ∙ ap (λ b. (if b then no_forwarding else record { sender = None; next = (forwarding_of settings s before).next; open_requests = (forwarding_of settings s before).open_requests }).open_requests) is
+        over_now (ServerGone n) s is = ap (λ (x : Forwarding). x.open_requests) (forwarding_more settings s before (heard (ServerGone n))) ∙ ap (λ b. (if b then no_forwarding else record { sender = None; next = (forwarding_of settings s before).next; open_requests = (forwarding_of settings s before).open_requests }).open_requests) is
         over_now (Joined n) s is = never (sym is)
         over_now (FromEditor n body) s is = never (sym is)
         over_now (EditorGone n why) s is = never (sym is)

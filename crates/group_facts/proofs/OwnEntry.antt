@@ -219,7 +219,7 @@ module _ (settings : Settings) (before : List Event) (n : ℕ) (body : List ℕ)
           synced = behind now sync
 
           abbrev text : List ℕ
-          text = forwarded_text (forwarding_of s synced).next body
+          text = forwarded_text (forwarding_of settings s synced).next body
 
           abbrev gone : List Event
           gone = synced ++ said (ToServer s text) ∷ []
@@ -237,12 +237,12 @@ module _ (settings : Settings) (before : List Event) (n : ℕ) (body : List ℕ)
           quiet_sync = all_outs NoSpawn now sync (quiet_bodies s _ now).why
 
           forward_is : IsForward settings before (FromEditor n body) synced s text
-          forward_is = is_forward settings before n body id method params says there (alone_by before (asked_while before (facts.steady).asked facts.quit n there) n id fresh) range (facts.base).opened late other g s start can free
+          forward_is = is_forward settings before n body id method params says there (alone_by settings before (asked_while settings before (facts.steady).asked facts.quit n there) n id fresh) range (facts.base).opened late other g s start can free
 
-          list_now : (forwarding_of s gone).open_requests ≡ (forwarding_of s synced).open_requests ++ numbered (Some (record { editor = n; id = id_bytes body; work = token_in (codes "workDoneToken") body; partial = token_in (codes "partialResultToken") body })) (forwarding_of s synced).next
-          list_now = ap (λ (x : Forwarding). x.open_requests) (forwarding_sent synced s text (request (integer (decimal (forwarding_of s synced).next)) forward_is.method forward_is.params) forward_is.says
-              ∙ ap (λ c. if c then forwarding_of s synced else more_requests (forwarding_of s synced)) forward_is.other)
-              ∙ ap (λ o. (forwarding_of s synced).open_requests ++ numbered o (forwarding_of s synced).next) (synced_sender settings before n body id method params says there (alone_by before (asked_while before (facts.steady).asked facts.quit n there) n id fresh) range (facts.base).opened late other g s start can free)
+          list_now : (forwarding_of settings s gone).open_requests ≡ (forwarding_of settings s synced).open_requests ++ numbered (Some (record { editor = n; id = id_bytes body; work = token_in (codes "workDoneToken") body; partial = token_in (codes "partialResultToken") body })) (forwarding_of settings s synced).next
+          list_now = ap (λ (x : Forwarding). x.open_requests) (forwarding_sent settings synced s text (request (integer (decimal (forwarding_of settings s synced).next)) forward_is.method forward_is.params) forward_is.says
+              ∙ ap (λ c. if c then forwarding_of settings s synced else more_requests (forwarding_of settings s synced)) forward_is.other)
+              ∙ ap (λ o. (forwarding_of settings s synced).open_requests ++ numbered o (forwarding_of settings s synced).next) (synced_sender settings before n body id method params says there (alone_by settings before (asked_while settings before (facts.steady).asked facts.quit n there) n id fresh) range (facts.base).opened late other g s start can free)
 
           sent_now : SentAt settings gone n id
           sent_now = record {
@@ -250,7 +250,7 @@ module _ (settings : Settings) (before : List Event) (n : ℕ) (body : List ℕ)
             start = s;
             home = home_did settings n synced (ToServer s text) ∙ homes_stay settings n now sync ∙ home_heard ∙ home;
             last = start_did g synced (ToServer s text) tt ∙ starts_stay g now sync quiet_sync ∙ start_took g before (FromEditor n body) ∙ start;
-            among = subst (OneOf (IsOf n id)) (sym list_now) (one_last (IsOf n id) (forwarding_of s synced).open_requests (record { number = (forwarding_of s synced).next; editor = n; id = id_bytes body; work = token_in (codes "workDoneToken") body; partial = token_in (codes "partialResultToken") body; cancelled = false }) (refl, request_id_bytes body id method params says));
+            among = subst (OneOf (IsOf n id)) (sym list_now) (one_last (IsOf n id) (forwarding_of settings s synced).open_requests (record { number = (forwarding_of settings s synced).next; editor = n; id = id_bytes body; work = token_in (codes "workDoneToken") body; partial = token_in (codes "partialResultToken") body; cancelled = false }) (refl, request_id_bytes body id method params says));
           }
             where
               home_heard : home_of settings n now ≡ home_of settings n before
@@ -279,7 +279,7 @@ module _ (settings : Settings) (before : List Event) (n : ℕ) (body : List ℕ)
               go i (inr same) = inl (subst (SentAt settings gone n) (sym same) sent_now)
 
         -- E10
-        by_can : (g s : ℕ) → reserves (params_of body) ≡ false → home_of settings n before ≡ Some g → start_of g before ≡ Some s → (b : Bool) → can_ask settings s before ≡ b → Rests (outs (choose b (sync_row settings before g s n ⨾ forward s body) (answer_error n body request_failed)) now)
+        by_can : (g s : ℕ) → reserves (params_of body) ≡ false → home_of settings n before ≡ Some g → start_of g before ≡ Some s → (b : Bool) → can_ask settings s before ≡ b → Rests (outs (choose b (sync_row settings before g s n ⨾ forward settings s body) (answer_error n body request_failed)) now)
         by_can g s free home start true can = forwarded_rests g s home start can free
         by_can g s free home start false can = refused no_first request_failed
 
@@ -511,10 +511,10 @@ module _ (settings : Settings) (before : List Event) (n : ℕ) (body : List ℕ)
     cancelling_rests : (method : List ℕ) (params : Option Json) → message_of body ≡ notification method params → Rests (outs (cancelling_row settings before n body params) now)
     cancelling_rests method params says = open_bodies settings n Nobody now (outs (cancelling_row settings before n body params) now) (all_outs ToStart now _ bodies.why) (no_request (notification method params) says refl refl)
       where
-        told_at : (s : ℕ) → Because (λ places out. ToStart out) now (cancelling_at before n body params s)
+        told_at : (s : ℕ) → Because (λ places out. ToStart out) now (cancelling_at settings before n body params s)
         told_at s = by_choose (λ ready. by_on (λ none. by_nothing) (λ k is. by_send tt)) (λ off. by_nothing)
 
-        told_group : (g : ℕ) → Because (λ places out. ToStart out) now (on (start_of g before) nothing (cancelling_at before n body params))
+        told_group : (g : ℕ) → Because (λ places out. ToStart out) now (on (start_of g before) nothing (cancelling_at settings before n body params))
         told_group g = by_on (λ none. by_nothing) (λ s start. told_at s)
 
         bodies : Because (λ places out. ToStart out) now (cancelling_row settings before n body params)
@@ -627,7 +627,7 @@ module _ (settings : Settings) (before : List Event) (n : ℕ) (body : List ℕ)
               other is = ap (requests (codes "initialize")) says ∙ lspmux_apart (codes "initialize") method refl refl refl is
 
               go : (b : Bool) → names_lspmux method ≡ b → Rests (outs (choose b (lspmux_row settings before n body (request id method params)) row) now)
-              go true is = lspmux_rests id method params says fresh (other is) (λ at. beside_other now n id (beside settings before n body id method params says there (alone_by before (asked_while before (facts.steady).asked facts.quit n there) n id fresh) (other is) (λ waits. fresh) facts.waiting at)) (request id method params) (not_stop (bytes_eq (codes "lspmux/stop") method) refl)
+              go true is = lspmux_rests id method params says fresh (other is) (λ at. beside_other now n id (beside settings before n body id method params says there (alone_by settings before (asked_while settings before (facts.steady).asked facts.quit n there) n id fresh) (other is) (λ waits. fresh) facts.waiting at)) (request id method params) (not_stop (bytes_eq (codes "lspmux/stop") method) refl)
               go false is = rest
 
           early_old : (phase : Phase) → (desk_of n before).phase ≡ phase → is_new phase ≡ false → (desk_of n before).phase ≡ New → requests (codes "initialize") (message_of body) ≡ false

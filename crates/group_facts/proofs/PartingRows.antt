@@ -42,7 +42,7 @@ pub gone_why : (settings : Settings) → InRange settings → (before : List Eve
     → Because (Why settings before (EditorGone e why)) (with_cause before (EditorGone e why)) (gone_row settings before e phase)
 gone_why settings range before opened bounded asks e why phase = by_choose
     (λ served. leave_why settings range before (EditorGone e why) opened bounded (with_cause before (EditorGone e why)) (λ s. refl) (λ s. ap (λ (l : Life). l.stage) (life_more s before (heard (EditorGone e why))))
-    (λ s u. ap (λ (x : Sent). x.held) (sent_more s u before (heard (EditorGone e why)))) (λ s. ap (λ (x : Forwarding). x.open_requests) (forwarding_more s before (heard (EditorGone e why)))) asks (λ s. asked_by_more s before (heard (EditorGone e why))) e)
+    (λ s u. ap (λ (x : Sent). x.held) (sent_more s u before (heard (EditorGone e why)))) (λ s. ap (λ (x : Forwarding). x.open_requests) (forwarding_more settings s before (heard (EditorGone e why)))) asks (λ s. asked_by_more s before (heard (EditorGone e why))) e)
     (λ off. by_nothing)
 
 module _ (settings : Settings) (range : InRange settings) (before : List Event) (opened : Opened settings before) (bounded : Bounded settings before) (asks : Asks settings before) (e : ℕ) (body : List ℕ) where
@@ -59,8 +59,8 @@ module _ (settings : Settings) (range : InRange settings) (before : List Event) 
     held_still : (s : ℕ) (u : List ℕ) → held_at s u (asked ++ said out ∷ []) ≡ held_at s u before
     held_still s u = held s u ∙ ap (λ (x : Sent). x.held) (sent_more s u before (heard (FromEditor e body)))
 
-  open_still : (out : Out) → ((s : ℕ) → forwarding_of s (asked ++ said out ∷ []) ≡ forwarding_of s asked) → (s : ℕ) → (forwarding_of s (asked ++ said out ∷ [])).open_requests ≡ (forwarding_of s before).open_requests
-  open_still out same s = ap (λ (x : Forwarding). x.open_requests) (same s) ∙ ap (λ (x : Forwarding). x.open_requests) (forwarding_more s before (heard (FromEditor e body)))
+  open_still : (out : Out) → ((s : ℕ) → forwarding_of settings s (asked ++ said out ∷ []) ≡ forwarding_of settings s asked) → (s : ℕ) → (forwarding_of settings s (asked ++ said out ∷ [])).open_requests ≡ (forwarding_of settings s before).open_requests
+  open_still out same s = ap (λ (x : Forwarding). x.open_requests) (same s) ∙ ap (λ (x : Forwarding). x.open_requests) (forwarding_more settings s before (heard (FromEditor e body)))
 
   -- E3 and E9: its own message ends its link
   pub closing_why : is_there (desk_of e before).phase ≡ true → is_parting before e (message_of body) ≡ true → Because R asked (closing_row settings before e)
@@ -72,14 +72,14 @@ module _ (settings : Settings) (range : InRange settings) (before : List Event) 
       (leave_why settings range before (FromEditor e body) opened bounded (asked ++ said (CloseEditor e) ∷ []) (λ s. refl)
       (stage_still (CloseEditor e) (λ s. ap (λ (l : Life). l.stage) (life_more s asked (said (CloseEditor e)))) (λ s u. ap (λ (x : Sent). x.held) (sent_more s u asked (said (CloseEditor e)))))
       (held_still (CloseEditor e) (λ s. ap (λ (l : Life). l.stage) (life_more s asked (said (CloseEditor e)))) (λ s u. ap (λ (x : Sent). x.held) (sent_more s u asked (said (CloseEditor e)))))
-      (open_still (CloseEditor e) (λ s. forwarding_more s asked (said (CloseEditor e)))) asks (λ s. asked_by_more s asked (said (CloseEditor e)) ∙ asked_by_more s before (heard (FromEditor e body))) e)
+      (open_still (CloseEditor e) (λ s. forwarding_more settings s asked (said (CloseEditor e)))) asks (λ s. asked_by_more s asked (said (CloseEditor e)) ∙ asked_by_more s before (heard (FromEditor e body))) e)
 
   -- E9: `shutdown`
   module _ (id : Id) (method : List ℕ) (params : Option Json) (says : message_of body ≡ request id method params) where
     abbrev text : List ℕ
     text = ok_text (id_bytes body) (codes "null")
 
-    pub shutdown_why : is_there (desk_of e before).phase ≡ true → is_early (desk_of e before).phase ≡ false → IsAlone before e id → Because R asked (shutdown_row settings before e body)
+    pub shutdown_why : is_there (desk_of e before).phase ≡ true → is_early (desk_of e before).phase ≡ false → IsAlone settings before e id → Because R asked (shutdown_row settings before e body)
     shutdown_why there late lonely = by_then
         (by_send (answers (record {
           id = id;
@@ -87,10 +87,10 @@ module _ (settings : Settings) (range : InRange settings) (before : List Event) 
           there = there_taken settings before e body there;
           others = λ at. absurd (late_not (desk_of e asked).phase (late_taken before e body late) at);
           waits = open_taken before e body id method params says;
-          alone = alone_fewer before asked (asks_fewer before e body) e id lonely;
+          alone = alone_fewer settings before asked (asks_fewer settings before e body) e id lonely;
           says = null_said body id method params says;
         })))
         (leave_why settings range before (FromEditor e body) opened bounded (asked ++ said (ToEditor e text) ∷ []) (λ s. refl)
         (stage_still (ToEditor e text) (λ s. ap (λ (l : Life). l.stage) (life_more s asked (said (ToEditor e text)))) (λ s u. ap (λ (x : Sent). x.held) (sent_more s u asked (said (ToEditor e text)))))
         (held_still (ToEditor e text) (λ s. ap (λ (l : Life). l.stage) (life_more s asked (said (ToEditor e text)))) (λ s u. ap (λ (x : Sent). x.held) (sent_more s u asked (said (ToEditor e text)))))
-        (open_still (ToEditor e text) (λ s. forwarding_more s asked (said (ToEditor e text)))) asks (λ s. asked_by_more s asked (said (ToEditor e text)) ∙ asked_by_more s before (heard (FromEditor e body))) e)
+        (open_still (ToEditor e text) (λ s. forwarding_more settings s asked (said (ToEditor e text)))) asks (λ s. asked_by_more s asked (said (ToEditor e text)) ∙ asked_by_more s before (heard (FromEditor e body))) e)

@@ -108,10 +108,10 @@ module _ (settings : Settings) (before : List Event) (e : ℕ) (body : List ℕ)
   pub desk_taken : desk_of e asked ≡ desk_hears (desk_of e before).phase (desk_of e before).initialize body (message_of body)
   desk_taken = desk_more e before (heard (FromEditor e body)) ∙ ap (λ b. if b then desk_hears (desk_of e before).phase (desk_of e before).initialize body (message_of body) else desk_of e before) (same_number e)
 
-  module _ (id : Id) (method : List ℕ) (params : Option Json) (says : message_of body ≡ request id method params) (there : is_there (desk_of e before).phase ≡ true) (lonely : IsAlone before e id) where
+  module _ (id : Id) (method : List ℕ) (params : Option Json) (says : message_of body ≡ request id method params) (there : is_there (desk_of e before).phase ≡ true) (lonely : IsAlone settings before e id) where
     -- no request of it under this id is open at a start
-    alone : IsAlone asked e id
-    alone = alone_fewer before asked (asks_fewer before e body) e id lonely
+    alone : IsAlone settings asked e id
+    alone = alone_fewer settings before asked (asks_fewer settings before e body) e id lonely
 
     -- E8
     early : (code : Code) → ((desk_of e asked).phase ≡ Waiting → has_id id (message_of (desk_of e asked).initialize) ≡ false) → Because R asked (answer_error e body code)
@@ -208,11 +208,11 @@ module _ (settings : Settings) (before : List Event) (e : ℕ) (body : List ℕ)
       fails = late_refused request_failed late
 
       module _ (g s : ℕ) (start : start_of g before ≡ Some s) (can : can_ask settings s before ≡ true) (free : reserves (params_of body) ≡ false) where
-        parts : (is_ready (life_of s before).stage ≡ true) × (nat_lt (forwarding_of s before).next settings.limits.requests ≡ true)
-        parts = and_parts (is_ready (life_of s before).stage) (nat_lt (forwarding_of s before).next settings.limits.requests) can
+        parts : (is_ready (life_of s before).stage ≡ true) × (nat_lt (forwarding_of settings s before).next settings.limits.requests ≡ true)
+        parts = and_parts (is_ready (life_of s before).stage) (nat_lt (forwarding_of settings s before).next settings.limits.requests) can
 
         goes : (events : List Event) → IsBehindSync settings before events s e body → Calm settings range before (FromEditor e body) asked s events
-            → IsForward settings before (FromEditor e body) events s (forwarded_text (forwarding_of s events).next body)
+            → IsForward settings before (FromEditor e body) events s (forwarded_text (forwarding_of settings s events).next body)
         goes events told calm = record {
           sender = record { editor = e; id = id_bytes body; work = token_in (codes "workDoneToken") body; partial = token_in (codes "partialResultToken") body };
           asked = body;
@@ -223,7 +223,7 @@ module _ (settings : Settings) (before : List Event) (e : ℕ) (body : List ℕ)
           id = id;
           method = method;
           params = new.0;
-          at_work = calm.still.sender ∙ ap (λ (x : Forwarding). x.sender) (forwarding_more s before (heard (FromEditor e body))) ∙ ap (sender_of e body) says;
+          at_work = calm.still.sender ∙ ap (λ (x : Forwarding). x.sender) (forwarding_more settings s before (heard (FromEditor e body))) ∙ ap (sender_of e body) says;
           says = new.1;
           other = other;
           room = room;
@@ -234,14 +234,14 @@ module _ (settings : Settings) (before : List Event) (e : ℕ) (body : List ℕ)
           alone = calm.still.alone e id alone;
         }
           where
-            room : nat_lt (forwarding_of s events).next settings.limits.requests ≡ true
-            room = ap (λ n. nat_lt n settings.limits.requests) (calm.still.next ∙ ap (λ (x : Forwarding). x.next) (forwarding_more s before (heard (FromEditor e body)))) ∙ parts.1
+            room : nat_lt (forwarding_of settings s events).next settings.limits.requests ≡ true
+            room = ap (λ n. nat_lt n settings.limits.requests) (calm.still.next ∙ ap (λ (x : Forwarding). x.next) (forwarding_more settings s before (heard (FromEditor e body)))) ∙ parts.1
 
-            low : (forwarding_of s events).next < 2 ^ 64
-            low = let below : (forwarding_of s events).next < settings.limits.requests = ltb-true (forwarding_of s events).next settings.limits.requests room in let wide : settings.limits.requests < 2 ^ 32 = range.requests in omega (arith, below, wide)
+            low : (forwarding_of settings s events).next < 2 ^ 64
+            low = let below : (forwarding_of settings s events).next < settings.limits.requests = ltb-true (forwarding_of settings s events).next settings.limits.requests room in let wide : settings.limits.requests < 2 ^ 32 = range.requests in omega (arith, below, wide)
 
-            new : (new : Option Json) × (message_of (forwarded_text (forwarding_of s events).next body) ≡ request (integer (decimal (forwarding_of s events).next)) method new)
-            new = forwarded_says (forwarding_of s events).next body id method params low says
+            new : (new : Option Json) × (message_of (forwarded_text (forwarding_of settings s events).next body) ≡ request (integer (decimal (forwarding_of settings s events).next)) method new)
+            new = forwarded_says (forwarding_of settings s events).next body id method params low says
 
         -- behind the sync
         abbrev synced : List Event
@@ -250,13 +250,13 @@ module _ (settings : Settings) (before : List Event) (e : ℕ) (body : List ℕ)
         calm_there : Calm settings range before (FromEditor e body) asked s synced
         calm_there = synced_calm settings range before opened e body g s parts.0
 
-        pub synced_sender : (forwarding_of s synced).sender ≡ Some (record { editor = e; id = id_bytes body; work = token_in (codes "workDoneToken") body; partial = token_in (codes "partialResultToken") body })
-        synced_sender = calm_there.still.sender ∙ ap (λ (x : Forwarding). x.sender) (forwarding_more s before (heard (FromEditor e body))) ∙ ap (sender_of e body) says
+        pub synced_sender : (forwarding_of settings s synced).sender ≡ Some (record { editor = e; id = id_bytes body; work = token_in (codes "workDoneToken") body; partial = token_in (codes "partialResultToken") body })
+        synced_sender = calm_there.still.sender ∙ ap (λ (x : Forwarding). x.sender) (forwarding_more settings s before (heard (FromEditor e body))) ∙ ap (sender_of e body) says
 
-        pub is_forward : IsForward settings before (FromEditor e body) synced s (forwarded_text (forwarding_of s synced).next body)
+        pub is_forward : IsForward settings before (FromEditor e body) synced s (forwarded_text (forwarding_of settings s synced).next body)
         is_forward = goes synced (behind_sync settings range before opened e body g s parts.0 start (ap (requests (codes "shutdown")) says ∙ no_shutdown method other) (ap (λ m. speaks (saying_of m)) says)) calm_there
 
-        asks : Because R asked (sync_row settings before g s e ⨾ forward s body)
+        asks : Because R asked (sync_row settings before g s e ⨾ forward settings s body)
         asks = by_then (sync_why settings range before opened e body g s parts.0) (by_look (by_send (forwarded is_forward)))
 
       at_start : (g s : ℕ) → reserves (params_of body) ≡ false → start_of g before ≡ Some s → Because R asked (request_at settings before e body g s)

@@ -72,7 +72,7 @@ pub record Same (settings : Settings) (x y : List Event) : Type 0 where
   pub life : (s : ℕ) → life_of s x ≡ life_of s y
   pub desk : (e : ℕ) → desk_of e x ≡ desk_of e y
   pub opens : (e : ℕ) → open_of e x ≡ open_of e y
-  pub forwarding : (s : ℕ) → forwarding_of s x ≡ forwarding_of s y
+  pub forwarding : (s : ℕ) → forwarding_of settings s x ≡ forwarding_of settings s y
   pub sent : (s : ℕ) (u : List ℕ) → sent_of s u x ≡ sent_of s u y
   pub asked : (s : ℕ) → asked_by s x ≡ asked_by s y
   pub part : (s : ℕ) → server_part s x ≡ server_part s y
@@ -172,7 +172,7 @@ module _ (settings : Settings) where
     life = λ s. life_more s x (said out) ∙ (ap (λ l. life_behind s l (said out)) (h.life s) ∙ sym (life_more s y (said out)));
     desk = λ e. desk_more e x (said out) ∙ (ap (λ d. desk_behind e d (said out)) (h.desk e) ∙ sym (desk_more e y (said out)));
     opens = λ e. opens_more e x (said out) ∙ (ap (λ ids. open_behind e ids (said out)) (h.opens e) ∙ sym (opens_more e y (said out)));
-    forwarding = λ s. forwarding_more s x (said out) ∙ (ap (λ f. forwarding_behind s f (said out)) (h.forwarding s) ∙ sym (forwarding_more s y (said out)));
+    forwarding = λ s. forwarding_more settings s x (said out) ∙ (ap (λ f. forwarding_behind s f (said out)) (h.forwarding s) ∙ sym (forwarding_more settings s y (said out)));
     sent = λ s u. sent_more s u x (said out) ∙ (ap (λ z. sent_behind s u z (said out)) (h.sent s u) ∙ sym (sent_more s u y (said out)));
     asked = λ s. asked_by_more s x (said out) ∙ (ap (λ ids. server_behind s ids (said out)) (h.asked s) ∙ sym (asked_by_more s y (said out)));
     part = λ s. filter-append (is_of_server s) x (said out ∷ []) ∙ (ap (λ z. z ++ cond (is_of_server s (said out)) (said out ∷ []) []) (h.part s) ∙ sym (filter-append (is_of_server s) y (said out ∷ [])));
@@ -227,7 +227,7 @@ module _ (settings : Settings) where
     life = λ s. life_more s x (said (ToEditor n body));
     desk = λ e. desk_more e x (said (ToEditor n body)) ∙ seated e (nat_eq n e);
     opens = λ e. opens_more e x (said (ToEditor n body)) ∙ ap (λ ids. if nat_eq n e then ids else open_of e x) (told_none (message_of body) (open_of e x) h) ∙ either (nat_eq n e) (open_of e x);
-    forwarding = λ s. forwarding_more s x (said (ToEditor n body));
+    forwarding = λ s. forwarding_more settings s x (said (ToEditor n body));
     sent = λ s u. sent_more s u x (said (ToEditor n body)) ∙ quiet_sent s u n body (sent_of s u x).encoding (sent_of s u x).held;
     asked = λ s. asked_by_more s x (said (ToEditor n body));
     part = λ s. filter-append (is_of_server s) x (said (ToEditor n body) ∷ []) ∙ append-nil (server_part s x);

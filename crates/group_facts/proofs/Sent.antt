@@ -86,11 +86,11 @@ pub record SentAt (settings : Settings) (events : List Event) (e : ℕ) (id : Id
   pub start : ℕ
   pub home : home_of settings e events ≡ Some group
   pub last : start_of group events ≡ Some start
-  pub among : OneOf (IsOf e id) (forwarding_of start events).open_requests
+  pub among : OneOf (IsOf e id) (forwarding_of settings start events).open_requests
 
 pub sent_is : (settings : Settings) (events : List Event) (e : ℕ) (id : Id) → SentAt settings events e id → IsSent settings events e id
 sent_is settings events e id k =
-    let p : Placed (IsOf e id) (forwarding_of k.start events).open_requests = one_place (IsOf e id) (forwarding_of k.start events).open_requests k.among in
+    let p : Placed (IsOf e id) (forwarding_of settings k.start events).open_requests = one_place (IsOf e id) (forwarding_of settings k.start events).open_requests k.among in
     record { group = k.group; start = k.start; home = k.home; last = k.last; place = p.place; request = p.item; at = p.at; editor = p.holds.0; text = p.holds.1 }
 
 -- a body to the start leaves it open
@@ -118,13 +118,13 @@ module _ (settings : Settings) (e : ℕ) (id : Id) where
 
   -- one event more
   sent_more : (events : List Event) (event : Event) → ((g : ℕ) → home_of settings e events ≡ Some g → home_of settings e (events ++ event ∷ []) ≡ Some g) → ((g s : ℕ) → start_of g events ≡ Some s → start_behind g (start_of g events) event ≡ Some s)
-      → ((s : ℕ) → Among (forwarding_of s events).open_requests → Among (forwarding_behind s (forwarding_of s events) event).open_requests) → SentAt settings events e id → SentAt settings (events ++ event ∷ []) e id
+      → ((s : ℕ) → Among (forwarding_of settings s events).open_requests → Among (forwarding_behind s (forwarding_of settings s events) event).open_requests) → SentAt settings events e id → SentAt settings (events ++ event ∷ []) e id
   sent_more events event homes starts open_still k = record {
     group = k.group;
     start = k.start;
     home = homes k.group k.home;
     last = start_more k.group events event ∙ starts k.group k.start k.last;
-    among = subst (λ (x : Forwarding). Among x.open_requests) (sym (forwarding_more k.start events event)) (open_still k.start k.among);
+    among = subst (λ (x : Forwarding). Among x.open_requests) (sym (forwarding_more settings k.start events event)) (open_still k.start k.among);
   }
 
   -- an out that spawns none
@@ -134,7 +134,7 @@ module _ (settings : Settings) (e : ℕ) (id : Id) where
   sent_did events (CloseEditor n) quiet k = sent_more events (said (CloseEditor n)) (λ g at. home_stays settings e events (said (CloseEditor n)) refl ∙ at) (λ g s at. at) (λ s h. h) k
   sent_did events (EndServer n) quiet k = sent_more events (said (EndServer n)) (λ g at. home_stays settings e events (said (EndServer n)) refl ∙ at) (λ g s at. at) (λ s h. h) k
   sent_did events (ToServer n body) quiet k = sent_more events (said (ToServer n body)) (λ g at. home_stays settings e events (said (ToServer n body)) refl ∙ at) (λ g s at. at)
-      (λ s h. either_way (λ (x : Forwarding). Among x.open_requests) (nat_eq n s) (forwards (forwarding_of s events) (message_of body)) (forwarding_of s events) (one_forwards e id (forwarding_of s events) (message_of body) h) h) k
+      (λ s h. either_way (λ (x : Forwarding). Among x.open_requests) (nat_eq n s) (forwards (forwarding_of settings s events) (message_of body)) (forwarding_of settings s events) (one_forwards e id (forwarding_of settings s events) (message_of body) h) h) k
 
   -- the first start of a group
   pub sent_spawn : (events : List Event) (n h : ℕ) → start_of h events ≡ None → SentAt settings events e id → SentAt settings (events ++ said (Spawn n h) ∷ []) e id
@@ -168,7 +168,7 @@ module _ (settings : Settings) (e : ℕ) (id : Id) where
     start = k.start;
     home = home_stays settings e events (heard (StartFailed n)) refl ∙ k.home;
     last = start_more k.group events (heard (StartFailed n)) ∙ k.last;
-    among = subst (λ (x : Forwarding). Among x.open_requests) (sym (forwarding_more k.start events (heard (StartFailed n)))) (forgets (nat_eq n k.start) (forwarding_of k.start events) other k.among);
+    among = subst (λ (x : Forwarding). Among x.open_requests) (sym (forwarding_more settings k.start events (heard (StartFailed n)))) (forgets (nat_eq n k.start) (forwarding_of settings k.start events) other k.among);
   }
 
   pub sent_ended : (events : List Event) (n : ℕ) (k : SentAt settings events e id) → nat_eq n k.start ≡ false → SentAt settings (with_cause events (ServerGone n)) e id
@@ -177,7 +177,7 @@ module _ (settings : Settings) (e : ℕ) (id : Id) where
     start = k.start;
     home = home_stays settings e events (heard (ServerGone n)) refl ∙ k.home;
     last = start_more k.group events (heard (ServerGone n)) ∙ k.last;
-    among = subst (λ (x : Forwarding). Among x.open_requests) (sym (forwarding_more k.start events (heard (ServerGone n)))) (forgets (nat_eq n k.start) (forwarding_of k.start events) other k.among);
+    among = subst (λ (x : Forwarding). Among x.open_requests) (sym (forwarding_more settings k.start events (heard (ServerGone n)))) (forgets (nat_eq n k.start) (forwarding_of settings k.start events) other k.among);
   }
 
   pub sent_gone : (events : List Event) (n : ℕ) (why : link.Why) → nat_eq n e ≡ false → SentAt settings events e id → SentAt settings (with_cause events (EditorGone n why)) e id
@@ -189,7 +189,7 @@ module _ (settings : Settings) (e : ℕ) (id : Id) where
 
   -- it is one that the start's response answers
   abbrev pub Passed : List Event → ℕ → List ℕ → Type 0
-  Passed events n body = OneOf (λ (f : Forwarded). IsOf e id f × (answered_by (answered_id (message_of body)) f ≡ true)) (forwarding_of n events).open_requests
+  Passed events n body = OneOf (λ (f : Forwarded). IsOf e id f × (answered_by (answered_id (message_of body)) f ≡ true)) (forwarding_of settings n events).open_requests
 
   abbrev unanswered : List ℕ → List Forwarded → List Forwarded
   unanswered body fs = filter (λ f. not (answered_by (answered_id (message_of body)) f)) fs
@@ -197,24 +197,24 @@ module _ (settings : Settings) (e : ℕ) (id : Id) where
   pub sent_answered : (events : List Event) (n : ℕ) (body : List ℕ) → (k : SentAt settings events e id) → SentAt settings (with_cause events (FromServer n body)) e id ⊎ ((n ≡ k.start) × Passed events n body)
   sent_answered events n body k = go (nat_eq n k.start) refl
     where
-      made : Among (forwarding_behind k.start (forwarding_of k.start events) (heard (FromServer n body))).open_requests → SentAt settings (with_cause events (FromServer n body)) e id
+      made : Among (forwarding_behind k.start (forwarding_of settings k.start events) (heard (FromServer n body))).open_requests → SentAt settings (with_cause events (FromServer n body)) e id
       made h = record {
         group = k.group;
         start = k.start;
         home = home_stays settings e events (heard (FromServer n body)) refl ∙ k.home;
         last = start_more k.group events (heard (FromServer n body)) ∙ k.last;
-        among = subst (λ (x : Forwarding). Among x.open_requests) (sym (forwarding_more k.start events (heard (FromServer n body)))) h;
+        among = subst (λ (x : Forwarding). Among x.open_requests) (sym (forwarding_more settings k.start events (heard (FromServer n body)))) h;
       }
 
-      with_rest : (b : Bool) → nat_eq n k.start ≡ b → Among (if b then unanswered body (forwarding_of k.start events).open_requests else (forwarding_of k.start events).open_requests) → SentAt settings (with_cause events (FromServer n body)) e id
-      with_rest b same h = made (subst (λ c. Among (if c then unanswered body (forwarding_of k.start events).open_requests else (forwarding_of k.start events).open_requests)) (sym same) h)
+      with_rest : (b : Bool) → nat_eq n k.start ≡ b → Among (if b then unanswered body (forwarding_of settings k.start events).open_requests else (forwarding_of settings k.start events).open_requests) → SentAt settings (with_cause events (FromServer n body)) e id
+      with_rest b same h = made (subst (λ c. Among (if c then unanswered body (forwarding_of settings k.start events).open_requests else (forwarding_of settings k.start events).open_requests)) (sym same) h)
 
-      split : nat_eq n k.start ≡ true → Among (unanswered body (forwarding_of k.start events).open_requests) ⊎ OneOf (λ (f : Forwarded). IsOf e id f × (answered_by (answered_id (message_of body)) f ≡ true)) (forwarding_of k.start events).open_requests → SentAt settings (with_cause events (FromServer n body)) e id ⊎ ((n ≡ k.start) × Passed events n body)
+      split : nat_eq n k.start ≡ true → Among (unanswered body (forwarding_of settings k.start events).open_requests) ⊎ OneOf (λ (f : Forwarded). IsOf e id f × (answered_by (answered_id (message_of body)) f ≡ true)) (forwarding_of settings k.start events).open_requests → SentAt settings (with_cause events (FromServer n body)) e id ⊎ ((n ≡ k.start) × Passed events n body)
       split same (inl h) = inl (with_rest true same h)
-      split same (inr h) = inr (number_same n k.start same, subst (λ s. OneOf (λ (f : Forwarded). IsOf e id f × (answered_by (answered_id (message_of body)) f ≡ true)) (forwarding_of s events).open_requests) (sym (number_same n k.start same)) h)
+      split same (inr h) = inr (number_same n k.start same, subst (λ s. OneOf (λ (f : Forwarded). IsOf e id f × (answered_by (answered_id (message_of body)) f ≡ true)) (forwarding_of settings s events).open_requests) (sym (number_same n k.start same)) h)
 
       go : (b : Bool) → nat_eq n k.start ≡ b → SentAt settings (with_cause events (FromServer n body)) e id ⊎ ((n ≡ k.start) × Passed events n body)
-      go true same = split same (one_without (IsOf e id) (answered_by (answered_id (message_of body))) (forwarding_of k.start events).open_requests k.among)
+      go true same = split same (one_without (IsOf e id) (answered_by (answered_id (message_of body))) (forwarding_of settings k.start events).open_requests k.among)
       go false other = inl (with_rest false other k.among)
 
 -- The numbers of open requests rise from 2, below the next
@@ -272,8 +272,8 @@ rises_all : (s : ℕ) (events : List Event) (x : Forwarding) → Rises x → Ris
 rises_all s [] x h = h
 rises_all s (event ∷ events) x h = rises_all s events (forwarding_behind s x event) (rises_behind s x event h)
 
-pub rising_of : (s : ℕ) (events : List Event) → Rising 2 (forwarding_of s events).next (forwarding_of s events).open_requests
-rising_of s events = rises_all s events no_forwarding (omega arith)
+pub rising_of : (settings : Settings) (s : ℕ) (events : List Event) → Rising 2 (forwarding_of settings s events).next (forwarding_of settings s events).open_requests
+rising_of settings s events = rises_all s events no_forwarding (omega arith)
 
 -- A number that a response answers is one request's
 

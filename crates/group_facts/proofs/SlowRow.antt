@@ -83,8 +83,8 @@ quit_unsynced settings before e events s body (begins k) goes = unsynced body _ 
 quit_unsynced settings before e events s body (greets k) goes = unsynced body _ k.says refl goes
 quit_unsynced settings before e events s body (conveys k) goes = absurd (let clash : quitting e ≡ FromServer s k.answer = k.from in cc)
 quit_unsynced settings before e events s body (forwarded k) goes =
-    let same : message_of body ≡ exit_message = ap message_of (k.bytes ∙ (ap (forwarded_text (forwarding_of s events).next) (the_body k.from) ∙ exit_forwarded (forwarding_of s events).next)) ∙ exit_says in
-    let clash : exit_message ≡ request (integer (decimal (forwarding_of s events).next)) k.method k.params = sym same ∙ k.says in cc
+    let same : message_of body ≡ exit_message = ap message_of (k.bytes ∙ (ap (forwarded_text (forwarding_of settings s events).next) (the_body k.from) ∙ exit_forwarded (forwarding_of settings s events).next)) ∙ exit_says in
+    let clash : exit_message ≡ request (integer (decimal (forwarding_of settings s events).next)) k.method k.params = sym same ∙ k.says in cc
 quit_unsynced settings before e events s body (notes k) goes =
     never (sym ((bytes_eq-Decides (codes "exit") k.method).1 (the_method (sym exit_says ∙ (ap message_of (sym (the_body k.from)) ∙ k.says)))) ∙ no_exit k.method k.going)
 quit_unsynced settings before e events s body (tells k) goes = never (sym goes ∙ spoken_aside (message_of body) k.spoken)
@@ -137,7 +137,7 @@ module _ (settings : Settings) where
     (quit_ends place e, slow_there e place slow),
     (leave_why settings range place (quitting e) (facts.base).opened (facts.steady).bounded (place ++ said (CloseEditor e) ∷ []) (λ s. refl)
         (λ s. ap (λ (l : Life). l.stage) (life_more s place (said (CloseEditor e)))) (λ s u. ap (λ (x : Sent). x.held) (sent_more s u place (said (CloseEditor e))))
-        (λ s. ap (λ (x : Forwarding). x.open_requests) (forwarding_more s place (said (CloseEditor e)))) (facts.steady).asks (λ s. asked_by_more s place (said (CloseEditor e))) e).why,
+        (λ s. ap (λ (x : Forwarding). x.open_requests) (forwarding_more settings s place (said (CloseEditor e)))) (facts.steady).asks (λ s. asked_by_more s place (said (CloseEditor e))) e).why,
   )
 
   -- they are the end of its link and bodies to a start

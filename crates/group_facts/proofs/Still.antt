@@ -85,7 +85,7 @@ module _ (settings : Settings) (before : List Event) (e : ℕ) (body : List ℕ)
   still_start : (s : ℕ) (bodies : List (List ℕ)) → Still settings (to_start s bodies)
   still_start s bodies = record { same = λ x y k h. outs_to_start s bodies x ∙ sym (outs_to_start s bodies y); goes = λ x k. subst (AllByRecursion Goes) (sym (outs_to_start s bodies x)) (to_all s bodies) }
 
-  still_forward : (s : ℕ) → Still settings (forward s body)
+  still_forward : (s : ℕ) → Still settings (forward settings s body)
   still_forward s = record { same = λ x y k h. ap (λ (f : Forwarding). ToServer s (forwarded_text f.next body) ∷ []) (h.forwarding s); goes = λ x k. (tt, tt) }
 
   -- a refusal of a request
@@ -111,10 +111,10 @@ module _ (settings : Settings) (before : List Event) (e : ℕ) (body : List ℕ)
   still_notice : Still settings (notice_row settings before e body)
   still_notice = still_on (λ none. still_nothing) (λ g at. notice_in g)
 
-  cancel_there : (params : Option Json) (s : ℕ) → Still settings (cancelling_at before e body params s)
+  cancel_there : (params : Option Json) (s : ℕ) → Still settings (cancelling_at settings before e body params s)
   cancel_there params s = still_choose (λ ready. still_on (λ none. still_nothing) (λ n at. still_send tt)) (λ off. still_nothing)
 
-  cancel_in : (params : Option Json) (g : ℕ) → Still settings (on (start_of g before) nothing (cancelling_at before e body params))
+  cancel_in : (params : Option Json) (g : ℕ) → Still settings (on (start_of g before) nothing (cancelling_at settings before e body params))
   cancel_in params g = still_on (λ none. still_nothing) (λ s at. cancel_there params s)
 
   still_cancel : (params : Option Json) → Still settings (cancelling_row settings before e body params)

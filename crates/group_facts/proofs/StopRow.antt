@@ -81,7 +81,7 @@ module _ (settings : Settings) (before : List Event) (n : ℕ) (body : List ℕ)
     pub over : stopped events ≡ true
     pub there : is_there (desk_of e events).phase ≡ true
     pub turned : is_waiting (desk_of e events).phase ≡ true → IsTurned e events
-    pub askers : (s : ℕ) → AllByRecursion (IsForwarded events) (filter (is_of e) (forwarding_of s before).open_requests)
+    pub askers : (s : ℕ) → AllByRecursion (IsForwarded events) (filter (is_of e) (forwarding_of settings s before).open_requests)
 
   abbrev first_text : ℕ → List Event → List ℕ
   first_text e events = error_text (id_bytes (desk_of e events).initialize) request_failed
@@ -89,12 +89,12 @@ module _ (settings : Settings) (before : List Event) (n : ℕ) (body : List ℕ)
   first_says : (e : ℕ) (events : List Event) (w : IsTurned e events) → message_of (first_text e events) ≡ error (Some w.id) (error_tree request_failed)
   first_says e events w = refusal_says (desk_of e events).initialize w.id (codes "initialize") (w.waiting).params request_failed (w.waiting).asks
 
-  module _ (differ : (e s : ℕ) → Differ (filter (is_of e) (forwarding_of s before).open_requests)) (own : (e s : ℕ) → AllByRecursion (λ (f : Forwarded). f.editor ≡ e) (filter (is_of e) (forwarding_of s before).open_requests)) where
-    losing : (e : ℕ) (events : List Event) → stopped events ≡ true → is_there (desk_of e events).phase ≡ true → ((s : ℕ) → AllByRecursion (IsForwarded events) (filter (is_of e) (forwarding_of s before).open_requests)) → Because R events (lose_requests settings before e)
+  module _ (differ : (e s : ℕ) → Differ (filter (is_of e) (forwarding_of settings s before).open_requests)) (own : (e s : ℕ) → AllByRecursion (λ (f : Forwarded). f.editor ≡ e) (filter (is_of e) (forwarding_of settings s before).open_requests)) where
+    losing : (e : ℕ) (events : List Event) → stopped events ≡ true → is_there (desk_of e events).phase ≡ true → ((s : ℕ) → AllByRecursion (IsForwarded events) (filter (is_of e) (forwarding_of settings s before).open_requests)) → Because R events (lose_requests settings before e)
     losing e events over there askers = by_on (λ none. by_nothing) (λ g home. at_group g)
       where
-        at_group : (g : ℕ) → Because R events (on (start_of g before) nothing (λ s. each lose_request (filter (is_of e) (forwarding_of s before).open_requests)))
-        at_group g = by_on (λ none. by_nothing) (λ s start. lose_all e (filter (is_of e) (forwarding_of s before).open_requests) events (own e s) (differ e s) (record { over = over; there = there; askers = askers s }))
+        at_group : (g : ℕ) → Because R events (on (start_of g before) nothing (λ s. each lose_request (filter (is_of e) (forwarding_of settings s before).open_requests)))
+        at_group g = by_on (λ none. by_nothing) (λ s start. lose_all e (filter (is_of e) (forwarding_of settings s before).open_requests) events (own e s) (differ e s) (record { over = over; there = there; askers = askers s }))
 
     -- one that waits has sent on nothing
     none_waiting : (e : ℕ) (events later : List Event) (fs : List Forwarded) → (desk_of e events).phase ≡ Waiting → AllByRecursion (λ (f : Forwarded). f.editor ≡ e) fs → AllByRecursion (IsForwarded events) fs → AllByRecursion (IsForwarded later) fs
@@ -119,7 +119,7 @@ module _ (settings : Settings) (before : List Event) (n : ℕ) (body : List ℕ)
         rest : (b : Bool) → is_waiting (desk_of e events).phase ≡ b → Because R (behind events (either b)) (lose_requests settings before e)
         rest true waits = let w : IsTurned e events = h.turned waits in losing e told (stopped_on events (said (ToEditor e (first_text e events))) h.over)
             (ap (λ (d : Desk). is_there d.phase) (desk_refused e events (first_text e events) (Some w.id) (error_tree request_failed) (first_says e events w)) ∙ h.there)
-            (λ s. none_waiting e events told (filter (is_of e) (forwarding_of s before).open_requests) (w.waiting).phase (own e s) (h.askers s))
+            (λ s. none_waiting e events told (filter (is_of e) (forwarding_of settings s before).open_requests) (w.waiting).phase (own e s) (h.askers s))
         rest false late = subst (λ z. Because R z (lose_requests settings before e)) (sym (append-nil events)) (losing e events h.over h.there h.askers)
 
     -- An out to another editor leaves all of it
@@ -135,8 +135,8 @@ module _ (settings : Settings) (before : List Event) (n : ℕ) (body : List ℕ)
     only_own : (e : ℕ) (events : List Event) → Because (λ places out. IsOnly e out) events (refuse_open settings before e)
     only_own e events = by_then (by_look (by_choose (λ waits. by_send refl) (λ late. by_nothing))) (only_losing (behind events (outs (refuse_initialize e) events)))
       where
-        at_group : (places : List Event) (g : ℕ) → Because (λ places out. IsOnly e out) places (on (start_of g before) nothing (λ s. each lose_request (filter (is_of e) (forwarding_of s before).open_requests)))
-        at_group places g = by_on (λ none. by_nothing) (λ s start. only_lost e (filter (is_of e) (forwarding_of s before).open_requests) places (own e s))
+        at_group : (places : List Event) (g : ℕ) → Because (λ places out. IsOnly e out) places (on (start_of g before) nothing (λ s. each lose_request (filter (is_of e) (forwarding_of settings s before).open_requests)))
+        at_group places g = by_on (λ none. by_nothing) (λ s start. only_lost e (filter (is_of e) (forwarding_of settings s before).open_requests) places (own e s))
 
         only_losing : (places : List Event) → Because (λ places out. IsOnly e out) places (lose_requests settings before e)
         only_losing places = by_on (λ none. by_nothing) (λ g home. at_group places g)
@@ -166,7 +166,7 @@ module _ (settings : Settings) (before : List Event) (n : ℕ) (body : List ℕ)
         text = j.text;
         late = ap (λ (d : Desk). is_early d.phase) (desk_other f.editor k events text (ap (nat_eq k) its ∙ other)) ∙ j.late;
         waits = ap (is_open j.id) (opens_other f.editor k events text (ap (nat_eq k) its ∙ other)) ∙ j.waits;
-      }) (filter (is_of e) (forwarding_of s before).open_requests) (own e s) (h.askers s);
+      }) (filter (is_of e) (forwarding_of settings s before).open_requests) (own e s) (h.askers s);
     }
 
     refusing_still : (k e : ℕ) (events : List Event) → nat_eq k e ≡ false → IsRefusing e events → IsRefusing e (behind events (outs (refuse_open settings before k) events))

@@ -100,8 +100,8 @@ bodies_refused settings before [] events = by_nothing
 bodies_refused settings before (e ∷ es) events = by_then (by_then (by_look (by_choose (λ waits. by_send tt) (λ late. by_nothing))) (losing (behind events (outs (refuse_initialize e) events))))
     (bodies_refused settings before es (behind events (outs (refuse_open settings before e) events)))
   where
-    at_group : (places : List Event) (g : ℕ) → Because (λ places out. IsBody out) places (on (start_of g before) nothing (λ s. each lose_request (filter (is_of e) (forwarding_of s before).open_requests)))
-    at_group places g = by_on (λ none. by_nothing) (λ s start. bodies_lost (filter (is_of e) (forwarding_of s before).open_requests) places)
+    at_group : (places : List Event) (g : ℕ) → Because (λ places out. IsBody out) places (on (start_of g before) nothing (λ s. each lose_request (filter (is_of e) (forwarding_of settings s before).open_requests)))
+    at_group places g = by_on (λ none. by_nothing) (λ s start. bodies_lost (filter (is_of e) (forwarding_of settings s before).open_requests) places)
 
     losing : (places : List Event) → Because (λ places out. IsBody out) places (lose_requests settings before e)
     losing places = by_on (λ none. by_nothing) (λ g home. at_group places g)
@@ -122,8 +122,8 @@ stops_places phase (error id x) h = absurd (cc)
 stops_places phase not_json h = absurd (cc)
 stops_places phase not_message h = absurd (cc)
 
-module _ (settings : Settings) (range : InRange settings) (before : List Event) (bounded : Bounded settings before) (apart : Apart before) (waiting : AllWaiting before) (forwarded : AllForwarded before) (n : ℕ) (body : List ℕ)
-    (id : Id) (method : List ℕ) (params : Option Json) (says : message_of body ≡ request id method params) (there : is_there (desk_of n before).phase ≡ true) (lonely : IsAlone before n id)
+module _ (settings : Settings) (range : InRange settings) (before : List Event) (bounded : Bounded settings before) (apart : Apart settings before) (waiting : AllWaiting before) (forwarded : AllForwarded settings before) (n : ℕ) (body : List ℕ)
+    (id : Id) (method : List ℕ) (params : Option Json) (says : message_of body ≡ request id method params) (there : is_there (desk_of n before).phase ≡ true) (lonely : IsAlone settings before n id)
     (other : requests (codes "initialize") (message_of body) ≡ false) (fresh : (desk_of n before).phase ≡ Waiting → is_open id (open_of n before) ≡ false) (stop : stops before n (message_of body) ≡ true) where
   abbrev now : List Event
   now = with_cause before (FromEditor n body)
@@ -250,17 +250,17 @@ module _ (settings : Settings) (range : InRange settings) (before : List Event) 
       go true same = ap (λ m. is_open k.id (without (answered_id m) (open_of f.editor now))) text_says ∙ still_open id k.id (open_of f.editor now) open_now (apart_from (number_same n f.editor same) (same_id id k.id) refl)
       go false away = open_now
 
-  askers_told : (e s : ℕ) → AllByRecursion (IsForwarded told) (filter (is_of e) (forwarding_of s before).open_requests)
-  askers_told e s = all_filtered (IsForwarded told) (IsForwarded told) (is_of e) (λ f t k. k) (forwarding_of s before).open_requests
-      (zip_all (IsForwarded before) (λ (f : Forwarded). f.editor ≡ n → IsIdText id f.id → ⊥) (IsForwarded told) asker_told (forwarding_of s before).open_requests (forwarded s) (lonely s))
+  askers_told : (e s : ℕ) → AllByRecursion (IsForwarded told) (filter (is_of e) (forwarding_of settings s before).open_requests)
+  askers_told e s = all_filtered (IsForwarded told) (IsForwarded told) (is_of e) (λ f t k. k) (forwarding_of settings s before).open_requests
+      (zip_all (IsForwarded before) (λ (f : Forwarded). f.editor ≡ n → IsIdText id f.id → ⊥) (IsForwarded told) asker_told (forwarding_of settings s before).open_requests (forwarded s) (lonely s))
 
-  own : (e s : ℕ) → AllByRecursion (λ (f : Forwarded). f.editor ≡ e) (filter (is_of e) (forwarding_of s before).open_requests)
-  own e s = all_filtered (IsForwarded before) (λ (f : Forwarded). f.editor ≡ e) (is_of e) (λ f t k. number_same f.editor e t) (forwarding_of s before).open_requests (forwarded s)
+  own : (e s : ℕ) → AllByRecursion (λ (f : Forwarded). f.editor ≡ e) (filter (is_of e) (forwarding_of settings s before).open_requests)
+  own e s = all_filtered (IsForwarded before) (λ (f : Forwarded). f.editor ≡ e) (is_of e) (λ f t k. number_same f.editor e t) (forwarding_of settings s before).open_requests (forwarded s)
 
-  differ : (e s : ℕ) → Differ (filter (is_of e) (forwarding_of s before).open_requests)
-  differ e s = differ_of s e 2 (forwarding_of s before).next (filter (is_of e) (forwarding_of s before).open_requests) (rising_filtered 2 (forwarding_of s before).next (is_of e) (forwarding_of s before).open_requests (rising_of s before)) (own e s)
-      (all_filtered (λ (f : Forwarded). (t : ℕ) → AllByRecursion (OneRequest s f t) (forwarding_of t before).open_requests) (λ (f : Forwarded). AllByRecursion (OneRequest s f s) (filter (is_of e) (forwarding_of s before).open_requests)) (is_of e)
-      (λ f t k. all_filtered (OneRequest s f s) (OneRequest s f s) (is_of e) (λ g u o. o) (forwarding_of s before).open_requests (k s)) (forwarding_of s before).open_requests (apart s))
+  differ : (e s : ℕ) → Differ (filter (is_of e) (forwarding_of settings s before).open_requests)
+  differ e s = differ_of s e 2 (forwarding_of settings s before).next (filter (is_of e) (forwarding_of settings s before).open_requests) (rising_filtered 2 (forwarding_of settings s before).next (is_of e) (forwarding_of settings s before).open_requests (rising_of settings s before)) (own e s)
+      (all_filtered (λ (f : Forwarded). (t : ℕ) → AllByRecursion (OneRequest s f t) (forwarding_of settings t before).open_requests) (λ (f : Forwarded). AllByRecursion (OneRequest s f s) (filter (is_of e) (forwarding_of settings s before).open_requests)) (is_of e)
+      (λ f t k. all_filtered (OneRequest s f s) (OneRequest s f s) (is_of e) (λ g u o. o) (forwarding_of settings s before).open_requests (k s)) (forwarding_of settings s before).open_requests (apart s))
 
   refusing : (e : ℕ) → is_there (desk_of e before).phase ≡ true → Refusing e told
   refusing e h = record { over = stopped_on now (said (ToEditor n text)) (stopped_now before n body stop); there = there_behind e h; turned = turned_told e; askers = askers_told e }

@@ -57,8 +57,8 @@ module _ (settings : Settings) (range : InRange settings) (before : List Event) 
   abbrev Mine : Row → Type 0
   Mine row = Because (R settings before e body) (asked settings before e body) row
 
-  asked_here : is_there (desk_of e before).phase ≡ true → AllForwarded before
-  asked_here there = asked_while before (facts.steady).asked facts.quit e there
+  asked_here : is_there (desk_of e before).phase ≡ true → AllForwarded settings before
+  asked_here there = asked_while settings before (facts.steady).asked facts.quit e there
 
   parting : is_there (desk_of e before).phase ≡ true → is_parting before e (message_of body) ≡ true → Mine (closing_row settings before e)
   parting there ends = closing_why settings range before (facts.base).opened (facts.steady).bounded (facts.steady).asks e body there ends
@@ -76,7 +76,7 @@ module _ (settings : Settings) (range : InRange settings) (before : List Event) 
   exits not_message says there = by_nothing
 
   -- E8 to E10: of an editor that is served
-  asked_why : (id : Id) (method : List ℕ) (params : Option Json) → message_of body ≡ request id method params → is_early (desk_of e before).phase ≡ false → is_there (desk_of e before).phase ≡ true → IsAlone before e id → Mine (served_request settings before e body method)
+  asked_why : (id : Id) (method : List ℕ) (params : Option Json) → message_of body ≡ request id method params → is_early (desk_of e before).phase ≡ false → is_there (desk_of e before).phase ≡ true → IsAlone settings before e id → Mine (served_request settings before e body method)
   asked_why id method params says late there lonely = by_choose
       (λ misplaced. late_refused settings before e body id method params says there lonely (wrong_code method invalid_request) late)
       (λ placed. by_choose
@@ -96,7 +96,7 @@ module _ (settings : Settings) (range : InRange settings) (before : List Event) 
       (λ other. document_why settings range before e body (facts.base).opened method params says (facts.base).meant served no))))
 
   served_why : (m : Message) → message_of body ≡ m → is_served (desk_of e before).phase ≡ true → is_early (desk_of e before).phase ≡ false → is_there (desk_of e before).phase ≡ true → is_doubled before e m ≡ false → Mine (served_row settings before e body m)
-  served_why (request id method params) says served late there single = asked_why id method params says late there (alone_by before (asked_here there) e id single)
+  served_why (request id method params) says served late there single = asked_why id method params says late there (alone_by settings before (asked_here there) e id single)
   served_why (notification method params) says served late there single = noticed_why method params says served there
   served_why (result id r) says served late there single = response_why settings before (facts.steady).asks (λ s. held_told settings s before (facts.base).meant) e body (result id r) says
   served_why (error id x) says served late there single = response_why settings before (facts.steady).asks (λ s. held_told settings s before (facts.base).meant) e body (error id x) says
@@ -105,7 +105,7 @@ module _ (settings : Settings) (range : InRange settings) (before : List Event) 
 
   -- behind `shutdown`
   down_why : (m : Message) → message_of body ≡ m → (desk_of e before).phase ≡ Down → is_doubled before e m ≡ false → Mine (down_row settings before e body m)
-  down_why (request id method params) says at single = late_refused settings before e body id method params says (ap is_there at) (alone_by before (asked_here (ap is_there at)) e id single) (wrong_code method invalid_request) (ap is_early at)
+  down_why (request id method params) says at single = late_refused settings before e body id method params says (ap is_there at) (alone_by settings before (asked_here (ap is_there at)) e id single) (wrong_code method invalid_request) (ap is_early at)
   down_why (notification method params) says at single = exits (notification method params) says (ap is_there at)
   down_why (result id r) says at single = by_nothing
   down_why (error id x) says at single = by_nothing
@@ -115,7 +115,7 @@ module _ (settings : Settings) (range : InRange settings) (before : List Event) 
   new_why : (m : Message) → message_of body ≡ m → (desk_of e before).phase ≡ New → Mine (taken_row settings before e body m New)
   new_why (request id method params) says at = by_choose
       (λ yes. initialize_why settings range before e body id params (says ∙ ap (λ z. request id z params) (sym ((bytes_eq-Decides (codes "initialize") method).0 yes))) at (facts.base).results (facts.steady).bounded)
-      (λ no. early_new settings before e body id method params says (ap is_there at) (alone_early before (asked_here (ap is_there at)) e id (ap is_early at)) (early_code method) at no)
+      (λ no. early_new settings before e body id method params says (ap is_there at) (alone_early settings before (asked_here (ap is_there at)) e id (ap is_early at)) (early_code method) at no)
   new_why (notification method params) says at = by_choose (λ yes. absurd (cc)) (λ no. exits (notification method params) says (ap is_there at))
   new_why (result id r) says at = by_choose (λ yes. absurd (cc)) (λ no. by_nothing)
   new_why (error id x) says at = by_choose (λ yes. absurd (cc)) (λ no. by_nothing)
@@ -123,7 +123,7 @@ module _ (settings : Settings) (range : InRange settings) (before : List Event) 
   new_why not_message says at = by_choose (λ yes. absurd (cc)) (λ no. by_nothing)
 
   waiting_why : (m : Message) → message_of body ≡ m → (desk_of e before).phase ≡ Waiting → is_doubled before e m ≡ false → Mine (early_row settings before e body m)
-  waiting_why (request id method params) says at single = early_waiting settings before e body id method params says (ap is_there at) (alone_by before (asked_here (ap is_there at)) e id single) (early_code method) at single facts.waiting
+  waiting_why (request id method params) says at single = early_waiting settings before e body id method params says (ap is_there at) (alone_by settings before (asked_here (ap is_there at)) e id single) (early_code method) at single facts.waiting
   waiting_why (notification method params) says at single = exits (notification method params) says (ap is_there at)
   waiting_why (result id r) says at single = by_nothing
   waiting_why (error id x) says at single = by_nothing
@@ -161,11 +161,11 @@ module _ (settings : Settings) (range : InRange settings) (before : List Event) 
       stops_all : requests (codes "lspmux/stop") (request id method params) ≡ true → stops before e (message_of body) ≡ true
       stops_all stop = ap (stops before e) says ∙ ap₂ (λ a b. a && b) stop (ap₂ (λ a b. a && b) there (ap not single))
 
-      lonely : (b : Bool) → is_begun (desk_of e before).phase ≡ b → IsAlone before e id
-      lonely true begun = alone_by before (asked_here there) e id (ap (λ b. b && is_open id (open_of e before)) (sym begun) ∙ single)
-      lonely false unbegun = alone_early before (asked_here there) e id (unbegun_early (desk_of e before).phase there unbegun)
+      lonely : (b : Bool) → is_begun (desk_of e before).phase ≡ b → IsAlone settings before e id
+      lonely true begun = alone_by settings before (asked_here there) e id (ap (λ b. b && is_open id (open_of e before)) (sym begun) ∙ single)
+      lonely false unbegun = alone_early settings before (asked_here there) e id (unbegun_early (desk_of e before).phase there unbegun)
 
-      alone_here : IsAlone before e id
+      alone_here : IsAlone settings before e id
       alone_here = lonely (is_begun (desk_of e before).phase) refl
 
       other : requests (codes "initialize") (message_of body) ≡ false
@@ -223,7 +223,7 @@ module _ (settings : Settings) (range : InRange settings) (before : List Event) 
   pub reasons : (cause : Cause) → Because (Why settings before cause) (with_cause before cause) (row_of settings before cause)
   reasons (FromEditor e body) = editor_why settings range before facts e body
   reasons (EditorGone e why) = gone_why settings range before (facts.base).opened (facts.steady).bounded (facts.steady).asks e why (desk_of e before).phase
-  reasons (FromServer s body) = server_why settings range before s body (facts.base).opened (facts.steady).untold facts.waiting (asked_while before (facts.steady).asked facts.quit) (facts.steady).apart (facts.base).meant (facts.steady).asks (facts.base).written (life_of s before).stage refl
+  reasons (FromServer s body) = server_why settings range before s body (facts.base).opened (facts.steady).untold facts.waiting (asked_while settings before (facts.steady).asked facts.quit) (facts.steady).apart (facts.base).meant (facts.steady).asks (facts.base).written (life_of s before).stage refl
   reasons (Joined e) = joined_why settings before e
   reasons (Started s) = start_why settings before s (facts.base).written (life_of s before).stage refl
   reasons (Tick t) = tick_why settings range.requests before (facts.steady).bounded t

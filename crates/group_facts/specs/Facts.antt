@@ -104,8 +104,8 @@ is_unbegun Unspawned = true
 is_unbegun Spawning = true
 is_unbegun other = false
 
-abbrev pub Unbegun : List Event → Type 0
-Unbegun events = (s : ℕ) → is_unbegun (life_of s events).stage ≡ true → (next_number s events ≡ 1) × ((forwarding_of s events).next ≡ 2)
+abbrev pub Unbegun : Settings → List Event → Type 0
+Unbegun settings events = (s : ℕ) → is_unbegun (life_of s events).stage ≡ true → (next_number s events ≡ 1) × ((forwarding_of settings s events).next ≡ 2)
 
 -- a start that isn't ready yet holds no document
 abbrev pub is_unready : Stage → Bool
@@ -119,15 +119,15 @@ Untold events = (s : ℕ) → is_unready (life_of s events).stage ≡ true → (
 
 -- while a start is up, the number of its next request by editors' requests is at most the limit and two, and that by all is no greater
 abbrev pub Bounded : Settings → List Event → Type 0
-Bounded settings events = (s : ℕ) → is_up (life_of s events).stage ≡ true → (next_number s events ≤ (forwarding_of s events).next) × ((forwarding_of s events).next ≤ settings.limits.requests + 2)
+Bounded settings events = (s : ℕ) → is_up (life_of s events).stage ≡ true → (next_number s events ≤ (forwarding_of settings s events).next) × ((forwarding_of settings s events).next ≤ settings.limits.requests + 2)
 
 -- while a start is ready, the next request to it has the same number by the count of all requests as by that of editors' requests
-abbrev pub Numbered : List Event → Type 0
-Numbered events = (s : ℕ) → (life_of s events).stage ≡ Ready → next_number s events ≡ (forwarding_of s events).next
+abbrev pub Numbered : Settings → List Event → Type 0
+Numbered settings events = (s : ℕ) → (life_of s events).stage ≡ Ready → next_number s events ≡ (forwarding_of settings s events).next
 
 -- and behind `shutdown`, which is no editor's, one more was counted
-abbrev pub Stopped : List Event → Type 0
-Stopped events = (s : ℕ) → (life_of s events).stage ≡ Stopping → next_number s events ≡ (forwarding_of s events).next + 1
+abbrev pub Stopped : Settings → List Event → Type 0
+Stopped settings events = (s : ℕ) → (life_of s events).stage ≡ Stopping → next_number s events ≡ (forwarding_of settings s events).next + 1
 
 -- it is there before its `initialize` is answered, or didn't join
 abbrev pub is_early : Phase → Bool
@@ -146,19 +146,19 @@ pub record IsAsker (events : List Event) (e : ℕ) (bytes : List ℕ) : Type 0 w
 abbrev pub IsForwarded : List Event → Forwarded → Type 0
 IsForwarded events f = IsAsker events f.editor f.id
 
-abbrev pub AllForwarded : List Event → Type 0
-AllForwarded events = (s : ℕ) → AllByRecursion (IsForwarded events) (forwarding_of s events).open_requests
+abbrev pub AllForwarded : Settings → List Event → Type 0
+AllForwarded settings events = (s : ℕ) → AllByRecursion (IsForwarded events) (forwarding_of settings s events).open_requests
 
 -- of one editor under one id there is one open request, at one start
 abbrev pub OneRequest : ℕ → Forwarded → ℕ → Forwarded → Type 0
 OneRequest s f t g = (id : Id) → g.editor ≡ f.editor → IsIdText id f.id → IsIdText id g.id → (t ≡ s) × (g.number ≡ f.number)
 
-abbrev pub Apart : List Event → Type 0
-Apart events = (s : ℕ) → AllByRecursion (λ f. (t : ℕ) → AllByRecursion (OneRequest s f t) (forwarding_of t events).open_requests) (forwarding_of s events).open_requests
+abbrev pub Apart : Settings → List Event → Type 0
+Apart settings events = (s : ℕ) → AllByRecursion (λ f. (t : ℕ) → AllByRecursion (OneRequest s f t) (forwarding_of settings t events).open_requests) (forwarding_of settings s events).open_requests
 
 -- no request of e under this id is open at a start
-abbrev pub IsAlone : List Event → ℕ → Id → Type 0
-IsAlone events e id = (t : ℕ) → AllByRecursion (λ (g : Forwarded). g.editor ≡ e → IsIdText id g.id → ⊥) (forwarding_of t events).open_requests
+abbrev pub IsAlone : Settings → List Event → ℕ → Id → Type 0
+IsAlone settings events e id = (t : ℕ) → AllByRecursion (λ (g : Forwarded). g.editor ≡ e → IsIdText id g.id → ⊥) (forwarding_of settings t events).open_requests
 
 -- Requests of starts
 
@@ -316,17 +316,17 @@ leaves settings before cause e = ends_link settings before cause e || shuts caus
 pub record Known (settings : Settings) (events : List Event) : Type 0 where
   pub starts : NoStarts events
   pub editors : NoEditors events
-  pub unbegun : Unbegun events
+  pub unbegun : Unbegun settings events
   pub untold : Untold events
   pub bounded : Bounded settings events
-  pub asked : stopped events ≡ false → AllForwarded events
+  pub asked : stopped events ≡ false → AllForwarded settings events
   pub quit : Quit events
-  pub apart : Apart events
+  pub apart : Apart settings events
   pub asks : Asks settings events
   pub takes : Takes settings events
   pub housed : Housed settings events
-  pub numbered : Numbered events
-  pub stopped : Stopped events
+  pub numbered : Numbered settings events
+  pub stopped : Stopped settings events
   pub waiting : WaitingAsked events
   pub opened : Opened settings events
   pub results : Results events

@@ -113,7 +113,7 @@ pub data IsOwnAnswer (settings : Settings) (s e : ℕ) (moment events : List Eve
 -- A body that e gets in the entry of an answer of s: it answers an open request of e, by e's own id, which was sent on to s.
 pub record IsHandedOn (settings : Settings) (before : List Event) (s : ℕ) (answer : List ℕ) (e : ℕ) (body : List ℕ) : Type 0 where
   pub request : Forwarded
-  pub listed : find (answered_by (answered_id (message_of answer))) (forwarding_of s before).open_requests ≡ Some request
+  pub listed : find (answered_by (answered_id (message_of answer))) (forwarding_of settings s before).open_requests ≡ Some request
   pub editor : request.editor ≡ e
   pub sent : IsSentOn s before request.number e request.id
   pub id : Id

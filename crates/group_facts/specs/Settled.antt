@@ -40,7 +40,7 @@ pub record IsSent (settings : Settings) (events : List Event) (e : ℕ) (id : Id
   pub last : start_of group events ≡ Some start
   pub place : ℕ
   pub request : Forwarded
-  pub at : slice_get (forwarding_of start events).open_requests place ≡ Some request
+  pub at : slice_get (forwarding_of settings start events).open_requests place ≡ Some request
   pub editor : request.editor ≡ e
   pub text : IsIdText id request.id
 

@@ -137,19 +137,19 @@ pub record IsForward (settings : Settings) (before : List Event) (cause : Cause)
   pub from : cause ≡ FromEditor sender.editor asked
   pub free : reserves (params_of asked) ≡ false
   pub synced : IsBehindSync settings before events s sender.editor asked
-  pub bytes : body ≡ forwarded_text (forwarding_of s events).next asked
+  pub bytes : body ≡ forwarded_text (forwarding_of settings s events).next asked
   pub id : Id
   pub method : List ℕ
   pub params : Option Json
-  pub at_work : (forwarding_of s events).sender ≡ Some sender
-  pub says : message_of body ≡ request (integer (decimal (forwarding_of s events).next)) method params
+  pub at_work : (forwarding_of settings s events).sender ≡ Some sender
+  pub says : message_of body ≡ request (integer (decimal (forwarding_of settings s events).next)) method params
   pub other : is_own method ≡ false
-  pub room : nat_lt (forwarding_of s events).next settings.limits.requests ≡ true
+  pub room : nat_lt (forwarding_of settings s events).next settings.limits.requests ≡ true
   pub ready : (life_of s events).stage ≡ Ready
   pub text : IsIdText id sender.id
   pub waits : is_open id (open_of sender.editor events) ≡ true
   pub late : is_early (desk_of sender.editor events).phase ≡ false
-  pub alone : IsAlone events sender.editor id
+  pub alone : IsAlone settings events sender.editor id
 
 -- s doesn't move on in this entry, or was greeted in it before
 pub data Turn (before : List Event) (cause : Cause) (events : List Event) (s : ℕ) : Type 0 where
@@ -200,37 +200,37 @@ abbrev pub is_uncancelled : ℕ → Forwarded → Bool
 is_uncancelled n f = nat_eq f.number n && not f.cancelled
 
 -- an editor that is served cancels an open request of its own, which it names: its message goes on under the request's number
-pub record IsOwnCancel (before : List Event) (cause : Cause) (s number : ℕ) (body : List ℕ) : Type 0 where
+pub record IsOwnCancel (settings : Settings) (before : List Event) (cause : Cause) (s number : ℕ) (body : List ℕ) : Type 0 where
   pub editor : ℕ
   pub asked : List ℕ
   pub params : Option Json
   pub from : cause ≡ FromEditor editor asked
   pub served : is_served (desk_of editor before).phase ≡ true
   pub notified : message_of asked ≡ notification (codes "$/cancelRequest") params
-  pub meant : number_named editor params (forwarding_of s before).open_requests ≡ Some number
+  pub meant : number_named editor params (forwarding_of settings s before).open_requests ≡ Some number
   pub bytes : body ≡ numbered_text number asked
 
 -- the daemon's own text, since the request's editor leaves, or the editor's
-pub data CancelText (before : List Event) (cause : Cause) (s number : ℕ) (body : List ℕ) : Type 0 where
-  of_daemon : body ≡ cancel_text number → CancelText before cause s number body
-  of_editor : IsOwnCancel before cause s number body → CancelText before cause s number body
+pub data CancelText (settings : Settings) (before : List Event) (cause : Cause) (s number : ℕ) (body : List ℕ) : Type 0 where
+  of_daemon : body ≡ cancel_text number → CancelText settings before cause s number body
+  of_editor : IsOwnCancel settings before cause s number body → CancelText settings before cause s number body
 
 -- an open request that wasn't cancelled is cancelled at s, which is ready, by its number (LSP 3.17, Cancellation Support)
-pub record IsCancel (before : List Event) (cause : Cause) (events : List Event) (s : ℕ) (body : List ℕ) : Type 0 where
+pub record IsCancel (settings : Settings) (before : List Event) (cause : Cause) (events : List Event) (s : ℕ) (body : List ℕ) : Type 0 where
   pub number : ℕ
   pub params : Json
   pub value : Json
   pub named : named_of (codes "id") (Some params) ≡ Some value
   pub id : id_of value ≡ Some (integer (decimal number))
-  pub waits : list_any (is_uncancelled number) (forwarding_of s events).open_requests ≡ true
+  pub waits : list_any (is_uncancelled number) (forwarding_of settings s events).open_requests ≡ true
   pub ready : (life_of s events).stage ≡ Ready
   pub stays : moves before cause s ≡ false
-  pub text : CancelText before cause s number body
+  pub text : CancelText settings before cause s number body
   pub says : message_of body ≡ notification (codes "$/cancelRequest") (Some params)
 
 -- what an editor names by a token: an open request of its own, of which the start knows the daemon's token, or a token that it accepted, of which the start gets its own bytes
 pub data WorkMeant (settings : Settings) (before : List Event) (s editor : ℕ) (given : Option Json) (text : List ℕ) : Type 0 where
-  of_request : (request : Forwarded) → find (is_worked editor (named_of (codes "token") given)) (forwarding_of s before).open_requests ≡ Some request → text ≡ mark_text (work_mark request.number) → WorkMeant settings before s editor given text
+  of_request : (request : Forwarded) → find (is_worked editor (named_of (codes "token") given)) (forwarding_of settings s before).open_requests ≡ Some request → text ≡ mark_text (work_mark request.number) → WorkMeant settings before s editor given text
   of_token : (token : Token) → token_marked s given (created_of settings s before) ≡ Some token → has_accepted editor token.number (created_of settings s before) ≡ true → text ≡ token.text → WorkMeant settings before s editor given text
 
 -- an editor that is served cancels work, which it names by its token: its message goes on with the start's to s, which is ready (LSP 3.17, Work Done Progress)
@@ -301,7 +301,7 @@ pub data WhyToServer (settings : Settings) (before : List Event) (cause : Cause)
   notes : IsNotice settings before cause events s body → WhyToServer settings before cause events s body
   tells : IsTelling before cause events s body → WhyToServer settings before cause events s body
   shuts : IsShutting settings before cause events s body → WhyToServer settings before cause events s body
-  cancels : IsCancel before cause events s body → WhyToServer settings before cause events s body
+  cancels : IsCancel settings before cause events s body → WhyToServer settings before cause events s body
   cancels_work : IsWorkCancel settings before cause events s body → WhyToServer settings before cause events s body
   responds : IsReply before cause events s body → WhyToServer settings before cause events s body
   resolves : IsResolving settings before cause events s body → WhyToServer settings before cause events s body
@@ -320,13 +320,13 @@ pub record IsRejection (before : List Event) (cause : Cause) (events : List Even
   pub says : message_of body ≡ error None x
 
 -- an error for an open request, which isn't the `initialize` of an editor that waits, and isn't open at a start
-pub record IsRefusal (events : List Event) (e : ℕ) (body : List ℕ) : Type 0 where
+pub record IsRefusal (settings : Settings) (events : List Event) (e : ℕ) (body : List ℕ) : Type 0 where
   pub id : Id
   pub x : Json
   pub there : is_there (desk_of e events).phase ≡ true
   pub waits : is_open id (open_of e events) ≡ true
   pub others : (desk_of e events).phase ≡ Waiting → has_id id (message_of (desk_of e events).initialize) ≡ false
-  pub alone : IsAlone events e id
+  pub alone : IsAlone settings events e id
   pub says : message_of body ≡ error (Some id) x
 
 -- the `initialize` of an editor that waits is open, under another id
@@ -336,13 +336,13 @@ pub record IsBeside (events : List Event) (e : ℕ) (id : Id) : Type 0 where
   pub other : same_id id first ≡ false
 
 -- the daemon's own result for an open request, which isn't the `initialize` of an editor that waits, and isn't open at a start
-pub record IsAnswer (events : List Event) (e : ℕ) (body : List ℕ) : Type 0 where
+pub record IsAnswer (settings : Settings) (events : List Event) (e : ℕ) (body : List ℕ) : Type 0 where
   pub id : Id
   pub r : Json
   pub there : is_there (desk_of e events).phase ≡ true
   pub others : (desk_of e events).phase ≡ Waiting → IsBeside events e id
   pub waits : is_open id (open_of e events) ≡ true
-  pub alone : IsAlone events e id
+  pub alone : IsAlone settings events e id
   pub says : message_of body ≡ result (Some id) r
 
 -- an error for the `initialize` of an editor that waits: the daemon has too many groups, the start for which it waits refuses its own, the group ends with its start, or all is stopped
@@ -381,13 +381,13 @@ pub record IsPassing (settings : Settings) (before : List Event) (cause : Cause)
   pub request : Forwarded
   pub id : Id
   pub from : cause ≡ FromServer start answer
-  pub found : find (answered_by (answered_id (message_of answer))) (forwarding_of start before).open_requests ≡ Some request
+  pub found : find (answered_by (answered_id (message_of answer))) (forwarding_of settings start before).open_requests ≡ Some request
   pub editor : request.editor ≡ e
   pub there : is_there (desk_of e events).phase ≡ true
   pub late : is_early (desk_of e events).phase ≡ false
   pub text : IsIdText id request.id
   pub waits : is_open id (open_of e events) ≡ true
-  pub alone : IsAlone events e id
+  pub alone : IsAlone settings events e id
   pub bytes : body ≡ answer_text (own_version settings before start request) answer request.id
   pub response : is_response (message_of body) ≡ true
   pub answers : answered_id (message_of body) ≡ Some id
@@ -561,7 +561,7 @@ pub record IsTaken (settings : Settings) (before : List Event) (cause : Cause) (
 
 -- what is told: of an open request of the editor, with the editor's own token, and of a token that it accepted, with the daemon's (S13); and what was held of a token that it accepts, behind what was held before it (E19)
 pub data Telling (settings : Settings) (before : List Event) (cause : Cause) (events : List Event) (e : ℕ) (body : List ℕ) : Type 0 where
-  of_request : (s : ℕ) (asked : List ℕ) (given : Option Json) (request : Forwarded) (token : List ℕ) → IsNotified before cause s asked given → find (is_told before (named_of (codes "token") given)) (forwarding_of s before).open_requests ≡ Some request
+  of_request : (s : ℕ) (asked : List ℕ) (given : Option Json) (request : Forwarded) (token : List ℕ) → IsNotified before cause s asked given → find (is_told before (named_of (codes "token") given)) (forwarding_of settings s before).open_requests ≡ Some request
       → own_token (named_of (codes "token") given) request ≡ Some token → request.editor ≡ e → body ≡ marked_text token asked → Telling settings before cause events e body
   of_token : (s : ℕ) (asked : List ℕ) (given : Option Json) (token : Token) → IsNotified before cause s asked given → token_called (named_token given) (created_of settings s before) ≡ Some token
       → has_accepted e token.number (created_of settings s before) ≡ true → body ≡ marked_text (created_text s token.number) asked → Telling settings before cause events e body
@@ -624,8 +624,8 @@ pub record IsLosing (settings : Settings) (before : List Event) (cause : Cause) 
 
 pub data WhyToEditor (settings : Settings) (before : List Event) (cause : Cause) (events : List Event) (e : ℕ) (body : List ℕ) : Type 0 where
   rejects : IsRejection before cause events e body → WhyToEditor settings before cause events e body
-  refuses : IsRefusal events e body → WhyToEditor settings before cause events e body
-  answers : IsAnswer events e body → WhyToEditor settings before cause events e body
+  refuses : IsRefusal settings events e body → WhyToEditor settings before cause events e body
+  answers : IsAnswer settings events e body → WhyToEditor settings before cause events e body
   turns_away : IsTurning settings before cause events e body → WhyToEditor settings before cause events e body
   welcomes : IsWelcome events e body → WhyToEditor settings before cause events e body
   passes : IsPassing settings before cause events e body → WhyToEditor settings before cause events e body

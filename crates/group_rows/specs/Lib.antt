@@ -14,6 +14,7 @@ pub mod StopExample
 pub mod StopRows
 pub mod Texts
 pub mod Waiting
+pub mod WaitingExample
 pub mod Leaves
 pub mod Status
 pub mod Ticks

@@ -66,7 +66,7 @@ module _ (settings : Settings) (before : List Event) (facts : Facts settings bef
   x = created_of settings s before
 
   abbrev fs : List Forwarded
-  fs = (forwarding_of s before).open_requests
+  fs = (forwarding_of settings s before).open_requests
 
   -- outs that tell e nothing of the token
 
@@ -101,9 +101,9 @@ module _ (settings : Settings) (before : List Event) (facts : Facts settings bef
   requests_off [] known events = by_nothing
   requests_off (f ∷ gs) known events = by_then (by_send (plain_out f.editor (lost_text f) (ap (names_mark s k) (lost_says before f known.0)))) (requests_off gs known.1 (behind events (outs (lose_request f) events)))
 
-  sent_off : AllByRecursion (IsForwarded before) fs → (es : List ℕ) (events : List Event) → Off events (each (lose_sent before s) es)
+  sent_off : AllByRecursion (IsForwarded before) fs → (es : List ℕ) (events : List Event) → Off events (each (lose_sent settings before s) es)
   sent_off known [] events = by_nothing
-  sent_off known (n ∷ es) events = by_then (requests_off (filter (is_of n) fs) (all_filtered (IsForwarded before) (IsForwarded before) (is_of n) (λ f t j. j) fs known) events) (sent_off known es (behind events (outs (lose_sent before s n) events)))
+  sent_off known (n ∷ es) events = by_then (requests_off (filter (is_of n) fs) (all_filtered (IsForwarded before) (IsForwarded before) (is_of n) (λ f t j. j) fs known) events) (sent_off known es (behind events (outs (lose_sent settings before s n) events)))
 
   -- X2
   takes_off : (cs : List Taking) → AllByRecursion (IsTake before) cs → (events : List Event) → Off events (each (cancel_take e) cs)
@@ -216,7 +216,7 @@ module _ (settings : Settings) (before : List Event) (facts : Facts settings bef
       where
         go : (b : Bool) → nat_eq n e ≡ b → sent_outs s k e (outs (lose_start settings before s n) events) ≡ (if b then the_end else [])
         go true same = subst (λ z. sent_outs s k e (outs (lose_start settings before s z) events) ≡ the_end) (sym (number_same n e same)) (own_marks events)
-        go false off = off_marks events (lose_start settings before s n) (start_by (λ places out. Markless out) n (λ places body. other_out n body off) s settings before events)
+        go false off = off_marks events (lose_start settings before s n) (start_by settings (λ places out. Markless out) n (λ places body. other_out n body off) s settings before events)
 
     each_marks : (ns : List ℕ) (events : List Event) → sent_outs s k e (outs (each (lose_start settings before s) ns) events) ≡ flat_map of_one ns
     each_marks [] events = refl
@@ -266,7 +266,7 @@ module _ (settings : Settings) (before : List Event) (facts : Facts settings bef
           by false off waits body = other_out n body off
 
       abbrev errors : List Out
-      errors = outs (each (lose_sent before s) (members_in settings g before)) now
+      errors = outs (each (lose_sent settings before s) (members_in settings g before)) now
 
       abbrev told : List Event
       told = behind now errors
@@ -287,11 +287,11 @@ module _ (settings : Settings) (before : List Event) (facts : Facts settings bef
       ends_off z = by_choose (λ again. by_look (by_send refl)) (λ last. subst (λ w. Off w (each turn_out (members_in settings g before))) (behind_both now errors losses) (turned_off (members_in settings g before) (errors ++ losses)))
 
       known : AllByRecursion (IsForwarded before) fs
-      known = asked_while before (facts.steady).asked facts.quit e (ap is_there lost.ran) s
+      known = asked_while settings before (facts.steady).asked facts.quit e (ap is_there lost.ran) s
 
-      live_marks : (z : Kept) → sent_outs s k e (outs (each (lose_sent before s) (members_in settings g before) ⨾ (losing ⨾ ending z)) now) ≡ the_end
+      live_marks : (z : Kept) → sent_outs s k e (outs (each (lose_sent settings before s) (members_in settings g before) ⨾ (losing ⨾ ending z)) now) ≡ the_end
       live_marks z = sent_join errors (losses ++ outs (ending z) (behind told losses))
-          ∙ (ap (λ w. w ++ sent_outs s k e (losses ++ outs (ending z) (behind told losses))) (off_marks now (each (lose_sent before s) (members_in settings g before)) (sent_off known (members_in settings g before) now))
+          ∙ (ap (λ w. w ++ sent_outs s k e (losses ++ outs (ending z) (behind told losses))) (off_marks now (each (lose_sent settings before s) (members_in settings g before)) (sent_off known (members_in settings g before) now))
           ∙ (sent_join losses (outs (ending z) (behind told losses))
           ∙ ap₂ (λ u v. u ++ v) losing_marks (off_marks (behind told losses) (ending z) (ends_off z))))
 
@@ -300,7 +300,7 @@ module _ (settings : Settings) (before : List Event) (facts : Facts settings bef
 
       kept_marks : (o : Option Kept) → slice_get (groups_of settings before) g ≡ o → sent_outs s k e (outs (on o nothing (exit_in settings before s g)) now) ≡ the_end
       kept_marks None none = never (sym (sym (ap lives_kept none) ∙ living))
-      kept_marks (Some z) found = ap (λ b. sent_outs s k e (outs (choose b (each (lose_sent before s) (members_in settings g before) ⨾ (losing ⨾ ending z)) nothing) now)) (sym (ap lives_kept found) ∙ living) ∙ live_marks z
+      kept_marks (Some z) found = ap (λ b. sent_outs s k e (outs (choose b (each (lose_sent settings before s) (members_in settings g before) ⨾ (losing ⨾ ending z)) nothing) now)) (sym (ap lives_kept found) ∙ living) ∙ live_marks z
 
       cut_marks : sent_outs s k e (outs_of settings before cause) ≡ the_end
       cut_marks = ap (sent_outs s k e) exit.row ∙ (ap (λ o. sent_outs s k e (outs (on o nothing (λ h. on (slice_get (groups_of settings before) h) nothing (exit_in settings before s h))) now)) lost.kept ∙ kept_marks (slice_get (groups_of settings before) g) refl)

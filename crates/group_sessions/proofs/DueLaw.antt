@@ -101,7 +101,7 @@ or_none false = refl
 
 -- One entry
 
-module _ (settings : Settings) (range : InRange settings) (before : List Event) (facts : Facts settings before) (settled : Settled settings before) (free : Unreserved before) (clear : IsClear settings before) (cause : Cause) (fits : fits_behind before cause ≡ true)
+module _ (settings : Settings) (range : InRange settings) (before : List Event) (facts : Facts settings before) (settled : Settled settings before) (free : Unreserved settings before) (clear : IsClear settings before) (cause : Cause) (fits : fits_behind before cause ≡ true)
     (few : starts_of before ≤ 2 ^ 64) (s k e : ℕ) (low : s < 2 ^ 64) (small : k < 2 ^ 64) (tie : Tie settings s k e before) where
   abbrev x : Created
   x = created_of settings s before

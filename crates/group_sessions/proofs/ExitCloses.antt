@@ -109,10 +109,10 @@ module _ (settings : Settings) (before : List Event) (facts : Facts settings bef
 
     module _ (s : ℕ) (exit : Exit settings before cause s) where
       abbrev fs : List Forwarded
-      fs = (forwarding_of s before).open_requests
+      fs = (forwarding_of settings s before).open_requests
 
       askers : (e : ℕ) → is_there (desk_of e before).phase ≡ true → AllByRecursion (IsForwarded before) fs
-      askers e there = asked_while before (facts.steady).asked facts.quit e there s
+      askers e there = asked_while settings before (facts.steady).asked facts.quit e there s
 
       abbrev Known : List Forwarded → Type 0
       Known gs = (e : ℕ) → is_there (desk_of e before).phase ≡ true → AllByRecursion (IsForwarded before) gs
@@ -124,10 +124,10 @@ module _ (settings : Settings) (before : List Event) (facts : Facts settings bef
           (by_send (λ w params is. never (sym (ap is_progress is) ∙ ap is_progress (lost_says before f (known f.editor (ap is_there (w.lost).ran)).0))))
           (requests_close gs (λ e there. (known e there).1) (behind events (outs (lose_request f) events)))
 
-      sent_close : (es : List ℕ) (events : List Event) → Because K events (each (lose_sent before s) es)
+      sent_close : (es : List ℕ) (events : List Event) → Because K events (each (lose_sent settings before s) es)
       sent_close [] events = by_nothing
       sent_close (e ∷ es) events = by_then (requests_close (filter (is_of e) fs) (λ n there. all_filtered (IsForwarded before) (IsForwarded before) (is_of e) (λ f t k. k) fs (askers n there)) events)
-          (sent_close es (behind events (outs (lose_sent before s e) events)))
+          (sent_close es (behind events (outs (lose_sent settings before s e) events)))
 
       -- what leaves what an editor accepted
       abbrev Spares : ℕ → List Event → Out → Type 0
@@ -150,9 +150,9 @@ module _ (settings : Settings) (before : List Event) (facts : Facts settings bef
       requests_same e [] known events = by_nothing
       requests_same e (f ∷ gs) known events = by_then (by_send (refused_same e f.editor (lost_text f) _ _ (lost_says before f known.0) events)) (requests_same e gs known.1 (behind events (outs (lose_request f) events)))
 
-      sent_same : AllByRecursion (IsForwarded before) fs → (e : ℕ) (es : List ℕ) (events : List Event) → Because (Spares e) events (each (lose_sent before s) es)
+      sent_same : AllByRecursion (IsForwarded before) fs → (e : ℕ) (es : List ℕ) (events : List Event) → Because (Spares e) events (each (lose_sent settings before s) es)
       sent_same known e [] events = by_nothing
-      sent_same known e (n ∷ es) events = by_then (requests_same e (filter (is_of n) fs) (all_filtered (IsForwarded before) (IsForwarded before) (is_of n) (λ f t k. k) fs known) events) (sent_same known e es (behind events (outs (lose_sent before s n) events)))
+      sent_same known e (n ∷ es) events = by_then (requests_same e (filter (is_of n) fs) (all_filtered (IsForwarded before) (IsForwarded before) (is_of n) (λ f t k. k) fs known) events) (sent_same known e es (behind events (outs (lose_sent settings before s n) events)))
 
       same_now : (e : ℕ) → Same e now
       same_now e = go cause exit.is
@@ -253,10 +253,10 @@ module _ (settings : Settings) (before : List Event) (facts : Facts settings bef
           same : Same e events
 
         stands_still : (k e : ℕ) (events : List Event) → nat_eq k e ≡ false → Stands e events → Stands e (behind events (outs (lose_start settings before s k) events))
-        stands_still k e events other h = record { runs = h.runs; same = same_behind e events (lose_start settings before s k) (start_by (Spares e) k (λ places body. told_there (RunsIn settings before) settings places k body e other) s settings before events) h.same }
+        stands_still k e events other h = record { runs = h.runs; same = same_behind e events (lose_start settings before s k) (start_by settings (Spares e) k (λ places body. told_there (RunsIn settings before) settings places k body e other) s settings before events) h.same }
 
         abbrev told : List Event
-        told = behind now (outs (each (lose_sent before s) (members_in settings g before)) now)
+        told = behind now (outs (each (lose_sent settings before s) (members_in settings g before)) now)
 
         home_is : (o : Option ℕ) → is_home g o ≡ true → o ≡ Some g
         home_is None h = never (sym h)
@@ -267,7 +267,7 @@ module _ (settings : Settings) (before : List Event) (facts : Facts settings bef
             let q = and_parts (is_running (desk_of e before).phase) (is_home g (home_of settings e before)) t in
             let ran : (desk_of e before).phase ≡ Running = running_is settings before (desk_of e before).phase q.0 in record {
               runs = record { running = ran; group = g; home = home_is (home_of settings e before) q.1; last = lasts s g home (ap is_ended (ready_is (life_of s before).stage ready)) };
-              same = same_behind e now (each (lose_sent before s) (members_in settings g before)) (sent_same (askers e (ap is_there ran)) e (members_in settings g before) now) (same_now e);
+              same = same_behind e now (each (lose_sent settings before s) (members_in settings g before)) (sent_same (askers e (ap is_there ran)) e (members_in settings g before) now) (same_now e);
             }
 
         losses_close : Because K told (choose (is_ready (life_of s before).stage) (each (lose_start settings before s) (running_in settings g before)) nothing)

@@ -117,7 +117,7 @@ member_named settings before s k editors e member = named_in (λ n. is_begun (de
 -- X1, then X2 and X3
 module _ (settings : Settings) (before : List Event) (s : ℕ) (k : Lives settings before s) (now : List Event) where
   abbrev pub errors : List Out
-  errors = outs (each (lose_sent before s) (members_in settings k.group before)) now
+  errors = outs (each (lose_sent settings before s) (members_in settings k.group before)) now
 
   abbrev pub told : List Event
   told = behind now errors

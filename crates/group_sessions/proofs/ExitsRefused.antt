@@ -37,7 +37,7 @@ use Rattle.group_sessions.specs.ExitReplay.{IsClosed, IsRefused, Refuses, sends}
 
 -- Behind outs, where no request is at work, a start has no more requests to answer
 
-module _ (t : ℕ) (Q : ℕ → ℕ → List ℕ → Type 0) where
+module _ (settings : Settings) (t : ℕ) (Q : ℕ → ℕ → List ℕ → Type 0) where
   abbrev AllQ : List Forwarded → Type 0
   AllQ fs = AllByRecursion (λ (f : Forwarded). Q f.number f.editor f.id) fs
 
@@ -57,40 +57,40 @@ module _ (t : ℕ) (Q : ℕ → ℕ → List ℕ → Type 0) where
   holds_sent x not_json h = h
   holds_sent x not_message h = h
 
-  holds_did : (events : List Event) (out : Out) → Holds (forwarding_of t events) → Holds (forwarding_of t (events ++ said out ∷ []))
-  holds_did events (ToServer n body) h = subst Holds (sym (forwarding_more t events (said (ToServer n body)))) (go (nat_eq n t))
+  holds_did : (events : List Event) (out : Out) → Holds (forwarding_of settings t events) → Holds (forwarding_of settings t (events ++ said out ∷ []))
+  holds_did events (ToServer n body) h = subst Holds (sym (forwarding_more settings t events (said (ToServer n body)))) (go (nat_eq n t))
     where
-      go : (b : Bool) → Holds (if b then forwards (forwarding_of t events) (message_of body) else forwarding_of t events)
-      go true = holds_sent (forwarding_of t events) (message_of body) h
+      go : (b : Bool) → Holds (if b then forwards (forwarding_of settings t events) (message_of body) else forwarding_of settings t events)
+      go true = holds_sent (forwarding_of settings t events) (message_of body) h
       go false = h
-  holds_did events (ToEditor n body) h = subst Holds (sym (forwarding_more t events (said (ToEditor n body)))) h
-  holds_did events (Spawn n g) h = subst Holds (sym (forwarding_more t events (said (Spawn n g)))) h
-  holds_did events (CloseEditor n) h = subst Holds (sym (forwarding_more t events (said (CloseEditor n)))) h
-  holds_did events (EndServer n) h = subst Holds (sym (forwarding_more t events (said (EndServer n)))) h
+  holds_did events (ToEditor n body) h = subst Holds (sym (forwarding_more settings t events (said (ToEditor n body)))) h
+  holds_did events (Spawn n g) h = subst Holds (sym (forwarding_more settings t events (said (Spawn n g)))) h
+  holds_did events (CloseEditor n) h = subst Holds (sym (forwarding_more settings t events (said (CloseEditor n)))) h
+  holds_did events (EndServer n) h = subst Holds (sym (forwarding_more settings t events (said (EndServer n)))) h
 
-  holds_outs : (events : List Event) (xs : List Out) → Holds (forwarding_of t events) → Holds (forwarding_of t (behind events xs))
-  holds_outs events [] h = subst (λ z. Holds (forwarding_of t z)) (sym (append-nil events)) h
-  holds_outs events (x ∷ xs) h = subst (λ z. Holds (forwarding_of t z)) (append_assoc events (said x ∷ []) (map said xs)) (holds_outs (events ++ said x ∷ []) xs (holds_did events x h))
+  holds_outs : (events : List Event) (xs : List Out) → Holds (forwarding_of settings t events) → Holds (forwarding_of settings t (behind events xs))
+  holds_outs events [] h = subst (λ z. Holds (forwarding_of settings t z)) (sym (append-nil events)) h
+  holds_outs events (x ∷ xs) h = subst (λ z. Holds (forwarding_of settings t z)) (append_assoc events (said x ∷ []) (map said xs)) (holds_outs (events ++ said x ∷ []) xs (holds_did events x h))
 
 -- by an exit none is at work
-idle_by : (t : ℕ) (before : List Event) (cause : Cause) (s : ℕ) → is_exit cause s ≡ true → (forwarding_of t (with_cause before cause)).sender ≡ None
-idle_by t before (StartFailed n) s is = ap (λ (x : Forwarding). x.sender) (forwarding_more t before (heard (StartFailed n))) ∙ go (nat_eq n t)
+idle_by : (settings : Settings) (t : ℕ) (before : List Event) (cause : Cause) (s : ℕ) → is_exit cause s ≡ true → (forwarding_of settings t (with_cause before cause)).sender ≡ None
+idle_by settings t before (StartFailed n) s is = ap (λ (x : Forwarding). x.sender) (forwarding_more settings t before (heard (StartFailed n))) ∙ go (nat_eq n t)
   where
-    go : (b : Bool) → (if b then no_forwarding else record { sender = None; next = (forwarding_of t before).next; open_requests = (forwarding_of t before).open_requests }).sender ≡ None
+    go : (b : Bool) → (if b then no_forwarding else record { sender = None; next = (forwarding_of settings t before).next; open_requests = (forwarding_of settings t before).open_requests }).sender ≡ None
     go true = refl
     go false = refl
-idle_by t before (ServerGone n) s is = ap (λ (x : Forwarding). x.sender) (forwarding_more t before (heard (ServerGone n))) ∙ go (nat_eq n t)
+idle_by settings t before (ServerGone n) s is = ap (λ (x : Forwarding). x.sender) (forwarding_more settings t before (heard (ServerGone n))) ∙ go (nat_eq n t)
   where
-    go : (b : Bool) → (if b then no_forwarding else record { sender = None; next = (forwarding_of t before).next; open_requests = (forwarding_of t before).open_requests }).sender ≡ None
+    go : (b : Bool) → (if b then no_forwarding else record { sender = None; next = (forwarding_of settings t before).next; open_requests = (forwarding_of settings t before).open_requests }).sender ≡ None
     go true = refl
     go false = refl
-idle_by t before (Joined n) s is = never (sym is)
-idle_by t before (FromEditor n body) s is = never (sym is)
-idle_by t before (EditorGone n why) s is = never (sym is)
-idle_by t before (Started n) s is = never (sym is)
-idle_by t before (FromServer n body) s is = never (sym is)
-idle_by t before (Drained n k) s is = never (sym is)
-idle_by t before (Tick k) s is = never (sym is)
+idle_by settings t before (Joined n) s is = never (sym is)
+idle_by settings t before (FromEditor n body) s is = never (sym is)
+idle_by settings t before (EditorGone n why) s is = never (sym is)
+idle_by settings t before (Started n) s is = never (sym is)
+idle_by settings t before (FromServer n body) s is = never (sym is)
+idle_by settings t before (Drained n k) s is = never (sym is)
+idle_by settings t before (Tick k) s is = never (sym is)
 
 -- An editor that is there, and got no result yet
 
@@ -138,7 +138,7 @@ module _ (settings : Settings) (before : List Event) (facts : Facts settings bef
   now = with_cause before cause
 
   abbrev fs : List Forwarded
-  fs = (forwarding_of s before).open_requests
+  fs = (forwarding_of settings s before).open_requests
 
   abbrev sent : List Out
   sent = outs (lost_row settings before s) now ++ slow
@@ -153,15 +153,15 @@ module _ (settings : Settings) (before : List Event) (facts : Facts settings bef
     its_own g events is = subst (λ z. list_any answers (outs (lose_request z) events) ≡ true) (sym is)
         (ap₂ (λ a b. (a && b) || false) (same_number f.editor) ((bytes_eq-Decides (error_text f.id request_failed) (error_text f.id request_failed)).1 refl))
 
-    its_editor : (n : ℕ) (events : List Event) → n ≡ f.editor → list_any answers (outs (lose_sent before s n) events) ≡ true
-    its_editor n events is = subst (λ z. list_any answers (outs (lose_sent before s z) events) ≡ true) (sym is)
+    its_editor : (n : ℕ) (events : List Event) → n ≡ f.editor → list_any answers (outs (lose_sent settings before s n) events) ≡ true
+    its_editor n events is = subst (λ z. list_any answers (outs (lose_sent settings before s z) events) ≡ true) (sym is)
         (any_each answers lose_request (λ (g : Forwarded). g ≡ f) its_own (filter (is_of f.editor) fs)
         (one_kept (is_of f.editor) (λ (g : Forwarded). g ≡ f) (λ g same. ap (λ (z : Forwarded). nat_eq z.editor f.editor) same ∙ same_number f.editor) fs among) events)
 
     its_answer : IsRefused settings before s sent f
     its_answer member = any_first answers (outs (lost_row settings before s) now) slow (subst (λ z. list_any answers z ≡ true) (sym (exit_parts settings before s k now))
         (any_first answers (errors settings before s k now) (losses settings before s k now ++ outs (ending settings before s k now) (behind (told settings before s k now) (losses settings before s k now)))
-        (any_each answers (lose_sent before s) (λ (n : ℕ). n ≡ f.editor) its_editor (members_in settings k.group before) (one_named f.editor (members_in settings k.group before) (member_named settings before s k (facts.steady).editors f.editor member)) now)))
+        (any_each answers (lose_sent settings before s) (λ (n : ℕ). n ≡ f.editor) its_editor (members_in settings k.group before) (one_named f.editor (members_in settings k.group before) (member_named settings before s k (facts.steady).editors f.editor member)) now)))
 
   -- and is open no more
 
@@ -176,8 +176,8 @@ module _ (settings : Settings) (before : List Event) (facts : Facts settings bef
       asker : IsForwarded before f
       asker = all_of_one (IsForwarded before) f fs ((facts.steady).asked (not_stopped before facts.quit f.editor there_before) s) among
 
-      alone_of : (t : ℕ) → AllByRecursion (OneRequest s f t) (forwarding_of t before).open_requests
-      alone_of = all_of_one (λ (g : Forwarded). (t : ℕ) → AllByRecursion (OneRequest s g t) (forwarding_of t before).open_requests) f fs ((facts.steady).apart s) among
+      alone_of : (t : ℕ) → AllByRecursion (OneRequest s f t) (forwarding_of settings t before).open_requests
+      alone_of = all_of_one (λ (g : Forwarded). (t : ℕ) → AllByRecursion (OneRequest s g t) (forwarding_of settings t before).open_requests) f fs ((facts.steady).apart s) among
 
       late : is_fresh (desk_of f.editor after).phase ≡ true → ⊥
       late fresh = never (sym (fresh_early (desk_of f.editor before).phase (sym (ap (λ (d : Desk). is_fresh d.phase) (exit.desk f.editor)) ∙ outs_tested is_fresh fresh_told fresh_closed f.editor now xs fresh)) ∙ asker.late)
@@ -185,20 +185,20 @@ module _ (settings : Settings) (before : List Event) (facts : Facts settings bef
       abbrev Away : ℕ → ℕ → List ℕ → Type 0
       Away n e i = e ≡ f.editor → IsIdText id i → ⊥
 
-      alone_now : (t : ℕ) → AllByRecursion (λ (g : Forwarded). Away g.number g.editor g.id) (forwarding_of t now).open_requests
+      alone_now : (t : ℕ) → AllByRecursion (λ (g : Forwarded). Away g.number g.editor g.id) (forwarding_of settings t now).open_requests
       alone_now t = subst (AllByRecursion (λ (g : Forwarded). Away g.number g.editor g.id)) (sym (exit.forwards t)) (go (nat_eq s t) refl)
         where
-          go : (b : Bool) → nat_eq s t ≡ b → AllByRecursion (λ (g : Forwarded). Away g.number g.editor g.id) (if b then [] else (forwarding_of t before).open_requests)
+          go : (b : Bool) → nat_eq s t ≡ b → AllByRecursion (λ (g : Forwarded). Away g.number g.editor g.id) (if b then [] else (forwarding_of settings t before).open_requests)
           go true same = tt
-          go false other = all_of (OneRequest s f t) (λ (g : Forwarded). Away g.number g.editor g.id) (λ g one editor mine. never (sym (ap (λ z. nat_eq s z) (one id editor text mine).0 ∙ same_number s) ∙ other)) (forwarding_of t before).open_requests (alone_of t)
+          go false other = all_of (OneRequest s f t) (λ (g : Forwarded). Away g.number g.editor g.id) (λ g one editor mine. never (sym (ap (λ z. nat_eq s z) (one id editor text mine).0 ∙ same_number s) ∙ other)) (forwarding_of settings t before).open_requests (alone_of t)
 
-      alone_after : (t : ℕ) → AllByRecursion (λ (g : Forwarded). Away g.number g.editor g.id) (forwarding_of t after).open_requests
-      alone_after t = (holds_outs t Away now xs (record { sender = idle_by t before cause s exit.is; all = alone_now t })).all
+      alone_after : (t : ℕ) → AllByRecursion (λ (g : Forwarded). Away g.number g.editor g.id) (forwarding_of settings t after).open_requests
+      alone_after t = (holds_outs settings t Away now xs (record { sender = idle_by settings t before cause s exit.is; all = alone_now t })).all
 
       none_open : is_open id (open_of f.editor after) ≡ true → ⊥
       none_open still =
           let k : IsSent settings after f.editor id = settled.sent f.editor id (answered_there (desk_of f.editor after).phase there late) still in
-          get_all (λ (g : Forwarded). Away g.number g.editor g.id) (forwarding_of k.start after).open_requests k.place k.request (alone_after k.start) k.at k.editor k.text
+          get_all (λ (g : Forwarded). Away g.number g.editor g.id) (forwarding_of settings k.start after).open_requests k.place k.request (alone_after k.start) k.at k.editor k.text
 
     its_close : IsClosed after f
     its_close id text there = go (is_open id (open_of f.editor after)) refl

@@ -77,7 +77,7 @@ module _ (settings : Settings) (range : InRange settings) (before : List Event) 
   now = with_cause before cause
 
   abbrev fs : List Forwarded
-  fs = (forwarding_of s before).open_requests
+  fs = (forwarding_of settings s before).open_requests
 
   -- to another editor
   other_out : (n : ℕ) (body : List ℕ) → nat_eq n e ≡ false → Listless e (ToEditor n body)
@@ -88,9 +88,9 @@ module _ (settings : Settings) (range : InRange settings) (before : List Event) 
   requests_off [] known events = by_nothing
   requests_off (f ∷ gs) known events = by_then (by_send (plain_out e f.editor (lost_text f) (ap gives_list (lost_says before f known.0)))) (requests_off gs known.1 (behind events (outs (lose_request f) events)))
 
-  sent_off : AllByRecursion (IsForwarded before) fs → (es : List ℕ) (events : List Event) → Off e events (each (lose_sent before s) es)
+  sent_off : AllByRecursion (IsForwarded before) fs → (es : List ℕ) (events : List Event) → Off e events (each (lose_sent settings before s) es)
   sent_off known [] events = by_nothing
-  sent_off known (n ∷ es) events = by_then (requests_off (filter (is_of n) fs) (all_filtered (IsForwarded before) (IsForwarded before) (is_of n) (λ f t k. k) fs known) events) (sent_off known es (behind events (outs (lose_sent before s n) events)))
+  sent_off known (n ∷ es) events = by_then (requests_off (filter (is_of n) fs) (all_filtered (IsForwarded before) (IsForwarded before) (is_of n) (λ f t k. k) fs known) events) (sent_off known es (behind events (outs (lose_sent settings before s n) events)))
 
   -- X2
   tokens_off : (ts : List Token) (events : List Event) → Off e events (each (end_token s e (created_of settings s before)) ts)
@@ -173,7 +173,7 @@ module _ (settings : Settings) (range : InRange settings) (before : List Event) 
     where
       go : (b : Bool) → nat_eq n e ≡ b → lists_to e (outs (lose_start settings before s n) events) ≡ (if b then due else [])
       go true same = subst (λ z. lists_to e (outs (lose_start settings before s z) events) ≡ due) (sym (number_same n e same)) (own_lists events)
-      go false off = off_lists e events (lose_start settings before s n) (start_by (λ places out. Listless e out) n (λ places body. other_out n body off) s settings before events)
+      go false off = off_lists e events (lose_start settings before s n) (start_by settings (λ places out. Listless e out) n (λ places body. other_out n body off) s settings before events)
 
   each_lists : (ns : List ℕ) (events : List Event) → lists_to e (outs (each (lose_start settings before s) ns) events) ≡ flat_map of_one ns
   each_lists [] events = refl
@@ -244,11 +244,11 @@ module _ (settings : Settings) (range : InRange settings) (before : List Event) 
         by false off waits body = other_out n body off
 
     known : AllByRecursion (IsForwarded before) fs
-    known = asked_while before (facts.steady).asked facts.quit e (ap is_there ran) s
+    known = asked_while settings before (facts.steady).asked facts.quit e (ap is_there ran) s
 
     module _ (g : ℕ) where
       abbrev errors : List Out
-      errors = outs (each (lose_sent before s) (members_in settings g before)) now
+      errors = outs (each (lose_sent settings before s) (members_in settings g before)) now
 
       abbrev told : List Event
       told = behind now errors
@@ -272,9 +272,9 @@ module _ (settings : Settings) (range : InRange settings) (before : List Event) 
       ends_off : (x : Kept) → Off e (behind told losses) (ending x)
       ends_off x = by_choose (λ again. by_look (by_send refl)) (λ last. subst (λ z. Off e z (each turn_out (members_in settings g before))) (behind_both now errors losses) (turned_off (members_in settings g before) (errors ++ losses)))
 
-      live_lists : (x : Kept) → lists_to e (outs (each (lose_sent before s) (members_in settings g before) ⨾ (losing ⨾ ending x)) now) ≡ (if is_ready (life_of s before).stage then (if P g e then due else []) else [])
+      live_lists : (x : Kept) → lists_to e (outs (each (lose_sent settings before s) (members_in settings g before) ⨾ (losing ⨾ ending x)) now) ≡ (if is_ready (life_of s before).stage then (if P g e then due else []) else [])
       live_lists x = lists_join e errors (losses ++ outs (ending x) (behind told losses))
-          ∙ (ap (λ z. z ++ lists_to e (losses ++ outs (ending x) (behind told losses))) (off_lists e now (each (lose_sent before s) (members_in settings g before)) (sent_off known (members_in settings g before) now))
+          ∙ (ap (λ z. z ++ lists_to e (losses ++ outs (ending x) (behind told losses))) (off_lists e now (each (lose_sent settings before s) (members_in settings g before)) (sent_off known (members_in settings g before) now))
           ∙ (lists_join e losses (outs (ending x) (behind told losses))
           ∙ (ap₂ (λ u v. u ++ v) losing_lists (off_lists e (behind told losses) (ending x) (ends_off x))
           ∙ append-nil (if is_ready (life_of s before).stage then (if P g e then due else []) else []))))
@@ -306,7 +306,7 @@ module _ (settings : Settings) (range : InRange settings) (before : List Event) 
       kept_lists None none = nothing_due (is_ready (life_of s before).stage) ∙ ap Due (sym (none_runs (ap lives none)))
       kept_lists (Some x) found = go x.live refl
         where
-          go : (b : Bool) → x.live ≡ b → lists_to e (outs (choose b (each (lose_sent before s) (members_in settings g before) ⨾ (losing ⨾ ending x)) nothing) now) ≡ Due (P g e)
+          go : (b : Bool) → x.live ≡ b → lists_to e (outs (choose b (each (lose_sent settings before s) (members_in settings g before) ⨾ (losing ⨾ ending x)) nothing) now) ≡ Due (P g e)
           go true live = live_lists x ∙ both (is_ready (life_of s before).stage) (P g e)
           go false over = nothing_due (is_ready (life_of s before).stage) ∙ ap Due (sym (none_runs (ap lives found ∙ over)))
 

@@ -303,10 +303,10 @@ module _ (settings : Settings) (before : List Event) (e : ℕ) (body : List ℕ)
   notice_off : Off e events (notice_row settings before e body)
   notice_off = by_on (λ none. by_nothing) (λ g home. notice_in g)
 
-  cancel_there : (params : Option Json) (s : ℕ) → Off e events (cancelling_at before e body params s)
+  cancel_there : (params : Option Json) (s : ℕ) → Off e events (cancelling_at settings before e body params s)
   cancel_there params s = by_choose (λ ready. by_on (λ none. by_nothing) (λ n is. by_send refl)) (λ off. by_nothing)
 
-  cancel_in : (params : Option Json) (g : ℕ) → Off e events (on (start_of g before) nothing (cancelling_at before e body params))
+  cancel_in : (params : Option Json) (g : ℕ) → Off e events (on (start_of g before) nothing (cancelling_at settings before e body params))
   cancel_in params g = by_on (λ none. by_nothing) (λ s start. cancel_there params s)
 
   cancel_off : (params : Option Json) → Off e events (cancelling_row settings before e body params)

@@ -34,7 +34,7 @@ module _ (settings : Settings) (before : List Event) (cause : Cause) (events : L
   numbered (greets k) h here = subst (HasNumber (next_number s events)) (sym k.says) tt
   numbered (conveys k) h here = subst (HasNumber (next_number s events)) (sym k.says) tt
   numbered (forwarded k) h here =
-      let tied : next_number s events ≡ (forwarding_of s events).next = subst (λ z. TiedAt z (next_number s events) (forwarding_of s events).next) k.ready (here.tied s (ap (λ c. begins_now c s) k.from)) in
+      let tied : next_number s events ≡ (forwarding_of settings s events).next = subst (λ z. TiedAt z (next_number s events) (forwarding_of settings s events).next) k.ready (here.tied s (ap (λ c. begins_now c s) k.from)) in
       subst (HasNumber (next_number s events)) (sym k.says) (ap (λ n. integer (decimal n)) (sym tied))
   numbered (notes k) h here = subst (HasNumber (next_number s events)) (sym k.says) tt
   numbered (tells k) h here = told_numbered (next_number s events) (message_of body) k.spoken

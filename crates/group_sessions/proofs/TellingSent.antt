@@ -58,9 +58,9 @@ outs_leave s x (Spawn n g ∷ xs) = outs_leave s x xs
 outs_leave s x (CloseEditor e ∷ xs) = outs_leave s x xs
 outs_leave s x (EndServer n ∷ xs) = outs_leave s x xs
 
-pub sender_still : (s : ℕ) (before : List Event) (e : ℕ) (asked : List ℕ) (xs : List Out) → (forwarding_of s (behind (with_cause before (FromEditor e asked)) xs)).sender ≡ sender_of e asked (message_of asked)
-sender_still s before e asked xs = ap (λ (x : Forwarding). x.sender) (fold-append (forwarding_behind s) no_forwarding (with_cause before (FromEditor e asked)) (map said xs))
-    ∙ outs_leave s (forwarding_of s (with_cause before (FromEditor e asked))) xs ∙ ap (λ (x : Forwarding). x.sender) (forwarding_more s before (heard (FromEditor e asked)))
+pub sender_still : (settings : Settings) (s : ℕ) (before : List Event) (e : ℕ) (asked : List ℕ) (xs : List Out) → (forwarding_of settings s (behind (with_cause before (FromEditor e asked)) xs)).sender ≡ sender_of e asked (message_of asked)
+sender_still settings s before e asked xs = ap (λ (x : Forwarding). x.sender) (fold-append (forwarding_behind s) no_forwarding (with_cause before (FromEditor e asked)) (map said xs))
+    ∙ outs_leave s (forwarding_of settings s (with_cause before (FromEditor e asked))) xs ∙ ap (λ (x : Forwarding). x.sender) (forwarding_more settings s before (heard (FromEditor e asked)))
 
 -- what is kept of it
 pub record AtWork (e : ℕ) (asked : List ℕ) (sender : Sender) : Type 0 where
@@ -166,11 +166,11 @@ module _ (settings : Settings) (before : List Event) (cause : Cause) (events : L
   sent = events ++ said (ToServer n body) ∷ []
 
   -- that is no editor's request
-  plain : (m : Message) → message_of body ≡ m → Adds m → Ties events → Ties sent
-  plain m says own h = ties_by events sent (said (ToServer n body)) refl (λ s. go s (nat_eq n s) (all_grown events (said (ToServer n body)) refl (forwarding_of s events).open_requests (h s)))
+  plain : (m : Message) → message_of body ≡ m → Adds m → Ties settings events → Ties settings sent
+  plain m says own h = ties_by settings events sent (said (ToServer n body)) refl (λ s. go s (nat_eq n s) (all_grown events (said (ToServer n body)) refl (forwarding_of settings s events).open_requests (h s)))
     where
-      go : (s : ℕ) (b : Bool) → AllTold sent (forwarding_of s events).open_requests → AllTold sent (if b then forwards (forwarding_of s events) (message_of body) else forwarding_of s events).open_requests
-      go s true k = forwards_told sent (forwarding_of s events) (message_of body) (subst Adds (sym says) own) k
+      go : (s : ℕ) (b : Bool) → AllTold sent (forwarding_of settings s events).open_requests → AllTold sent (if b then forwards (forwarding_of settings s events) (message_of body) else forwarding_of settings s events).open_requests
+      go s true k = forwards_told settings sent (forwarding_of settings s events) (message_of body) (subst Adds (sym says) own) k
       go s false k = k
 
   answer_adds : (m : Message) → is_response m ≡ true → Adds m
@@ -190,7 +190,7 @@ module _ (settings : Settings) (before : List Event) (cause : Cause) (events : L
     outs = (k.synced).questions ++ map (λ z. ToServer n z) (sync_bodies settings.limits.versions (λ u. held_at n u before) e (texts_of settings (k.synced).group before).opens)
 
     its : AtWork e k.asked k.sender
-    its = at_work e k.asked k.sender (sym (sender_still n before e k.asked outs) ∙ ap (λ z. (forwarding_of n z).sender) (sym (k.synced).place) ∙ k.at_work)
+    its = at_work e k.asked k.sender (sym (sender_still settings n before e k.asked outs) ∙ ap (λ z. (forwarding_of settings n z).sender) (sym (k.synced).place) ∙ k.at_work)
 
     -- its tokens are those of its message, and stay there
     there : (token : Id) → holds its.id token (tokened e (with_cause before (FromEditor e k.asked))) ≡ true → holds its.id token (tokened e sent) ≡ true
@@ -216,10 +216,10 @@ module _ (settings : Settings) (before : List Event) (cause : Cause) (events : L
     unfolding new
     told_new = record { id = its.id; is = subst (IsIdText its.id) (sym its.bytes) (request_id_bytes k.asked its.id its.method its.params its.says); work = work; partial = partial }
 
-    asked_now : Ties events → Ties sent
-    asked_now h s = grow settings before cause events n body k s (IsTold sent) (all_grown events (said (ToServer n body)) refl (forwarding_of s events).open_requests (h s)) (λ same. told_new)
+    asked_now : Ties settings events → Ties settings sent
+    asked_now h s = grow settings before cause events n body k s (IsTold sent) (all_grown events (said (ToServer n body)) refl (forwarding_of settings s events).open_requests (h s)) (λ same. told_new)
 
-  pub ties_sent : WhyToServer settings before cause events n body → Ties events → Ties sent
+  pub ties_sent : WhyToServer settings before cause events n body → Ties settings events → Ties settings sent
   ties_sent (begins k) h = plain (request (integer (codes "1")) (codes "initialize") k.params) k.says refl h
   ties_sent (greets k) h = plain (notification (codes "initialized") k.params) k.says tt h
   ties_sent (conveys k) h = plain (notification (codes "workspace/didChangeConfiguration") k.params) k.says tt h

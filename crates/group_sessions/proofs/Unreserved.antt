@@ -50,13 +50,13 @@ pub record IsUnreserved (f : Forwarded) : Type 0 where
 abbrev pub AllUnreserved : List Forwarded → Type 0
 AllUnreserved fs = AllByRecursion IsUnreserved fs
 
-abbrev pub Unreserved : List Event → Type 0
-Unreserved events = (s : ℕ) → AllUnreserved (forwarding_of s events).open_requests
+abbrev pub Unreserved : Settings → List Event → Type 0
+Unreserved settings events = (s : ℕ) → AllUnreserved (forwarding_of settings s events).open_requests
 
 -- One event more
 
-by_event : (events later : List Event) (event : Event) → later ≡ events ++ event ∷ [] → ((s : ℕ) → AllUnreserved (forwarding_behind s (forwarding_of s events) event).open_requests) → Unreserved later
-by_event events later event is h s = subst (λ (x : Forwarding). AllUnreserved x.open_requests) (sym (ap (forwarding_of s) is ∙ forwarding_more s events event)) (h s)
+by_event : (settings : Settings) (events later : List Event) (event : Event) → later ≡ events ++ event ∷ [] → ((s : ℕ) → AllUnreserved (forwarding_behind s (forwarding_of settings s events) event).open_requests) → Unreserved settings later
+by_event settings events later event is h s = subst (λ (x : Forwarding). AllUnreserved x.open_requests) (sym (ap (forwarding_of settings s) is ∙ forwarding_more settings s events event)) (h s)
 
 cancelled : (f : Forwarded) (b : Bool) → IsUnreserved f → IsUnreserved (if b then record f { cancelled = true } else f)
 cancelled f true h = record { work = h.work; partial = h.partial }
@@ -85,8 +85,8 @@ heard_unreserved s x (Started n) h = h
 heard_unreserved s x (Drained e k) h = h
 heard_unreserved s x (Tick t) h = h
 
-took : (before : List Event) (cause : Cause) → Unreserved before → Unreserved (with_cause before cause)
-took before cause h = by_event before (with_cause before cause) (heard cause) refl (λ s. heard_unreserved s (forwarding_of s before) cause (h s))
+took : (settings : Settings) (before : List Event) (cause : Cause) → Unreserved settings before → Unreserved settings (with_cause before cause)
+took settings before cause h = by_event settings before (with_cause before cause) (heard cause) refl (λ s. heard_unreserved s (forwarding_of settings s before) cause (h s))
 
 forwards_unreserved : (x : Forwarding) (m : Message) → Adds m → AllUnreserved x.open_requests → AllUnreserved (forwards x m).open_requests
 forwards_unreserved x (request id method ps) own h = go (is_own method) own
@@ -114,11 +114,11 @@ module _ (settings : Settings) (before : List Event) (cause : Cause) (events : L
   abbrev sent : List Event
   sent = events ++ said (ToServer n body) ∷ []
 
-  plain : (m : Message) → message_of body ≡ m → Adds m → Unreserved events → Unreserved sent
-  plain m says own h = by_event events sent (said (ToServer n body)) refl (λ s. go s (nat_eq n s))
+  plain : (m : Message) → message_of body ≡ m → Adds m → Unreserved settings events → Unreserved settings sent
+  plain m says own h = by_event settings events sent (said (ToServer n body)) refl (λ s. go s (nat_eq n s))
     where
-      go : (s : ℕ) (b : Bool) → AllUnreserved (if b then forwards (forwarding_of s events) (message_of body) else forwarding_of s events).open_requests
-      go s true = forwards_unreserved (forwarding_of s events) (message_of body) (subst Adds (sym says) own) (h s)
+      go : (s : ℕ) (b : Bool) → AllUnreserved (if b then forwards (forwarding_of settings s events) (message_of body) else forwarding_of settings s events).open_requests
+      go s true = forwards_unreserved (forwarding_of settings s events) (message_of body) (subst Adds (sym says) own) (h s)
       go s false = h s
 
   answer_adds : (m : Message) → is_response m ≡ true → Adds m
@@ -135,7 +135,7 @@ module _ (settings : Settings) (before : List Event) (cause : Cause) (events : L
     outs = (k.synced).questions ++ map (λ z. ToServer n z) (sync_bodies settings.limits.versions (λ u. held_at n u before) (k.sender).editor (texts_of settings (k.synced).group before).opens)
 
     its : AtWork (k.sender).editor k.asked k.sender
-    its = at_work (k.sender).editor k.asked k.sender (sym (sender_still n before (k.sender).editor k.asked outs) ∙ ap (λ z. (forwarding_of n z).sender) (sym (k.synced).place) ∙ k.at_work)
+    its = at_work (k.sender).editor k.asked k.sender (sym (sender_still settings n before (k.sender).editor k.asked outs) ∙ ap (λ z. (forwarding_of settings n z).sender) (sym (k.synced).place) ∙ k.at_work)
 
     free_named : (name bytes : List ℕ) → is_reserved (named_of name (params_of k.asked)) ≡ false → token_in name k.asked ≡ Some bytes → IsFreeText bytes
     free_named name bytes off is = let b : Brought name k.asked bytes = brought name k.asked bytes is in record { id = b.id; text = b.text; free = free_of (named_of name (params_of k.asked)) b.id b.names (ap not off) }
@@ -147,7 +147,7 @@ module _ (settings : Settings) (before : List Event) (cause : Cause) (events : L
     unfolding new
     new_unreserved = record { work = λ bytes is. free_named (codes "workDoneToken") bytes both.0 (sym its.work ∙ is); partial = λ bytes is. free_named (codes "partialResultToken") bytes both.1 (sym its.partial ∙ is) }
 
-  unreserved_sent : WhyToServer settings before cause events n body → Unreserved events → Unreserved sent
+  unreserved_sent : WhyToServer settings before cause events n body → Unreserved settings events → Unreserved settings sent
   unreserved_sent (begins k) h = plain (request (integer (codes "1")) (codes "initialize") k.params) k.says refl h
   unreserved_sent (greets k) h = plain (notification (codes "initialized") k.params) k.says tt h
   unreserved_sent (conveys k) h = plain (notification (codes "workspace/didChangeConfiguration") k.params) k.says tt h
@@ -164,19 +164,19 @@ module _ (settings : Settings) (before : List Event) (cause : Cause) (events : L
 -- A whole history
 
 module _ (settings : Settings) (range : InRange settings) where
-  did : (before : List Event) (cause : Cause) (events : List Event) (out : Out) → Why settings before cause events out → Unreserved events → Unreserved (events ++ said out ∷ [])
+  did : (before : List Event) (cause : Cause) (events : List Event) (out : Out) → Why settings before cause events out → Unreserved settings events → Unreserved settings (events ++ said out ∷ [])
   did before cause events (ToServer n body) why h = unreserved_sent settings before cause events n body why h
-  did before cause events (ToEditor e body) why h = by_event events (events ++ said (ToEditor e body) ∷ []) (said (ToEditor e body)) refl h
-  did before cause events (Spawn n g) why h = by_event events (events ++ said (Spawn n g) ∷ []) (said (Spawn n g)) refl h
-  did before cause events (CloseEditor e) why h = by_event events (events ++ said (CloseEditor e) ∷ []) (said (CloseEditor e)) refl h
-  did before cause events (EndServer n) why h = by_event events (events ++ said (EndServer n) ∷ []) (said (EndServer n)) refl h
+  did before cause events (ToEditor e body) why h = by_event settings events (events ++ said (ToEditor e body) ∷ []) (said (ToEditor e body)) refl h
+  did before cause events (Spawn n g) why h = by_event settings events (events ++ said (Spawn n g) ∷ []) (said (Spawn n g)) refl h
+  did before cause events (CloseEditor e) why h = by_event settings events (events ++ said (CloseEditor e) ∷ []) (said (CloseEditor e)) refl h
+  did before cause events (EndServer n) why h = by_event settings events (events ++ said (EndServer n) ∷ []) (said (EndServer n)) refl h
 
-  entry : (before : List Event) → Reached settings before → (cause : Cause) → fits_behind before cause ≡ true → Unreserved before → Unreserved (behind (with_cause before cause) (outs_of settings before cause))
-  entry before so_far cause fits h = reasons_keep (λ events out. Why settings before cause events out) Unreserved (did before cause) (with_cause before cause) (outs_of settings before cause)
-      (reasons settings range before (facts_at settings range before so_far) cause).why (took before cause h)
+  entry : (before : List Event) → Reached settings before → (cause : Cause) → fits_behind before cause ≡ true → Unreserved settings before → Unreserved settings (behind (with_cause before cause) (outs_of settings before cause))
+  entry before so_far cause fits h = reasons_keep (λ events out. Why settings before cause events out) (Unreserved settings) (did before cause) (with_cause before cause) (outs_of settings before cause)
+      (reasons settings range before (facts_at settings range before so_far) cause).why (took settings before cause h)
 
-  slow : KeepsSlow settings Unreserved
-  slow place at e is h = reasons_keep (Why settings place (quitting e)) Unreserved (did place (quitting e)) place (parting settings place e) (parting_why settings range place (facts_at settings range place at) e is) h
+  slow : KeepsSlow settings (Unreserved settings)
+  slow place at e is h = reasons_keep (Why settings place (quitting e)) (Unreserved settings) (did place (quitting e)) place (parting settings place e) (parting_why settings range place (facts_at settings range place at) e is) h
 
-  pub all_unreserved : (before : List Event) → Reached settings before → Unreserved before
-  all_unreserved before so_far = walk settings Unreserved entry slow (λ s. tt) before so_far
+  pub all_unreserved : (before : List Event) → Reached settings before → Unreserved settings before
+  all_unreserved before so_far = walk settings (Unreserved settings) entry slow (λ s. tt) before so_far

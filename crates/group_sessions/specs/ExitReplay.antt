@@ -58,8 +58,8 @@ abbrev pub IsClosed : List Event → Forwarded → Type 0
 IsClosed after f = (id : Id) → IsIdText id f.id → is_there (desk_of f.editor after).phase ≡ true → is_open id (open_of f.editor after) ≡ false
 
 pub record Refuses (settings : Settings) (before : List Event) (s : ℕ) (outs : List Out) (after : List Event) : Type 0 where
-  pub refused : AllByRecursion (IsRefused settings before s outs) (forwarding_of s before).open_requests
-  pub closed : AllByRecursion (IsClosed after) (forwarding_of s before).open_requests
+  pub refused : AllByRecursion (IsRefused settings before s outs) (forwarding_of settings s before).open_requests
+  pub closed : AllByRecursion (IsClosed after) (forwarding_of settings s before).open_requests
 
 -- X2: of an editor that runs in the group of the start, which is ready: each token that lives, that it accepted and of which it was told a `begin`, ends there (LSP 3.17, Work Done Progress)
 abbrev pub IsEnded : Settings → List Event → ℕ → List Out → ℕ → Token → Type 0
