@@ -117,10 +117,10 @@ touched_owned P e turn (o ∷ os) f h = (go (nat_eq o.editor e), touched_owned P
     go false = h.0
 
 -- whose request is at work, behind bodies that tell of documents
-sender_told : (n s : ℕ) (bodies : List (List ℕ)) (events : List Event) (e : ℕ) (id : List ℕ) (work partial : Option (List ℕ)) → AllTell bodies → Sends n e id work partial events → Sends n e id work partial (behind events (to s bodies))
-sender_told n s [] events e id work partial h k = subst (λ es. Sends n e id work partial es) (sym (append-nil events)) k
-sender_told n s (body ∷ bodies) events e id work partial h k = subst (λ es. Sends n e id work partial es) (sym (first_behind events (ToServer s body) (to s bodies)))
-    (sender_told n s bodies (events ++ said (ToServer s body) ∷ []) e id work partial h.1 (ap (λ (x : Forwarding). x.sender) (one_more (forwarding_behind n) _ _ events (said (ToServer s body)) refl) ∙ (keeps (nat_eq s n) (forwarding_of n events) (message_of body) h.0 ∙ k)))
+sender_told : (settings : Settings) (n s : ℕ) (bodies : List (List ℕ)) (events : List Event) (e : ℕ) (id : List ℕ) (work partial : Option (List ℕ)) → AllTell bodies → Sends settings n e id work partial events → Sends settings n e id work partial (behind events (to s bodies))
+sender_told settings n s [] events e id work partial h k = subst (λ es. Sends settings n e id work partial es) (sym (append-nil events)) k
+sender_told settings n s (body ∷ bodies) events e id work partial h k = subst (λ es. Sends settings n e id work partial es) (sym (first_behind events (ToServer s body) (to s bodies)))
+    (sender_told settings n s bodies (events ++ said (ToServer s body) ∷ []) e id work partial h.1 (ap (λ (x : Forwarding). x.sender) (one_more (forwarding_behind n) _ _ events (said (ToServer s body)) refl) ∙ (keeps (nat_eq s n) (forwarding_of settings n events) (message_of body) h.0 ∙ k)))
   where
     sent_by : (x : Forwarding) (m : Message) → speaks (saying_of m) ≡ true → (forwards x m).sender ≡ x.sender
     sent_by x (notification method ps) h = go (bytes_eq method (codes "$/cancelRequest"))
@@ -250,7 +250,7 @@ module _ (settings : Settings) (t : Tables) (now : List Event) (i e : ℕ) (z : 
         moments = λ j x n p there asked.
             let ids = (mid_stands.lasts.each j x there).parts of_ids in
             let low : n < x.ids.next = below_next n 2 x.ids.next x.ids.requests p ids.order.rising asked in
-            moment_apart x.life.start n s mid text (message_of text) (ap (λ k. nat_eq k n) ids.next ∙ ne_eqb x.ids.next n (λ q. absurd (omega (arith, q, low)))) ∙ moment_told x.life.start n s bodies now tell;
+            moment_apart settings x.life.start n s mid text (message_of text) (ap (λ k. nat_eq k n) ids.next ∙ ne_eqb x.ids.next n (λ q. absurd (omega (arith, q, low)))) ∙ moment_told settings x.life.start n s bodies now tell;
         left = λ n h. left_stays mid (said (ToServer s text)) refl n (left_told s bodies now n h);
       }
     where
@@ -272,7 +272,7 @@ module _ (settings : Settings) (t : Tables) (now : List Event) (i e : ℕ) (z : 
   -- what was noted of the request itself
   pub asked_noted : (name : Id) (method : List ℕ) (ps : Option Json) (noted : List (List ℕ × Stamp)) → message_of text ≡ request name method ps → is_own method ≡ false → StampsAt noted (versions_of e) (Some (sync_row e d).after)
       → IsNoted settings s z.ids.next e last (Some noted)
-  asked_noted name method ps noted says own stamps = (mid, moment_here s z.ids.next mid text (message_of text) name method ps says own ((mid_stands.lasts.each i z at).parts of_ids).next, λ u. stamps u ∙ mid_noted u)
+  asked_noted name method ps noted says own stamps = (mid, moment_here settings s z.ids.next mid text (message_of text) name method ps says own ((mid_stands.lasts.each i z at).parts of_ids).next, λ u. stamps u ∙ mid_noted u)
 
   -- all tables, where those of editors and starts stand behind the body itself
   module _ (u : Tables) (ids : Table) (put : u.lasts.items ≡ slice_set t.lasts.items i (record z { ids = ids })) (vs : u.versions ≡ t.versions) (set : u.documents.items ≡ slice_set t.documents.items i (sync_row e d).after) (stands : Stands settings t mid → Stands settings u last)
@@ -314,7 +314,7 @@ synced_does settings t u xs ys told base i s start e z text here number ran does
 
 -- a request
 pub asked_does : (settings : Settings) (t u : Tables) (xs ys told : List Out) (base : List Event) (g s start e : ℕ) (z : Start) (ids : Table) (pending : Pending) (noted : List (List ℕ × Stamp)) (text id : List ℕ) (work partial : Option (List ℕ)) (method : List ℕ) (name : Id) (ps : Option Json) → slice_get (map number_in t.lasts.items) g ≡ Some s → g < length t.lasts.items → z ≡ get_or t.lasts.items g z
-    → z.life.stage ≡ Ready → message_of text ≡ request name method ps → is_own method ≡ false → Sends s e id work partial (behind base xs) → worker_of (behind base xs) ≡ Some e → forwarded_of (record { number = z.ids.next; pending = pending }) ≡ sent_as (record { editor = e; id = id; work = work; partial = partial }) z.ids.next
+    → z.life.stage ≡ Ready → message_of text ≡ request name method ps → is_own method ≡ false → Sends settings s e id work partial (behind base xs) → worker_of (behind base xs) ≡ Some e → forwarded_of (record { number = z.ids.next; pending = pending }) ≡ sent_as (record { editor = e; id = id; work = work; partial = partial }) z.ids.next
     → ids.requests ≡ z.ids.requests ++ record { number = z.ids.next; pending = pending } ∷ [] → ids.next ≡ z.ids.next + 1 → ids.limit ≡ z.ids.limit → IsInOrder ids
     → u.lasts.items ≡ slice_set t.lasts.items g (record z { ids = ids }) → u.editors ≡ t.editors → u.groups ≡ t.groups → u.course ≡ t.course → u.origins ≡ t.origins → u.requests ≡ t.requests → u.versions ≡ t.versions
     → StepAt (sync_row e) g (slice_get t.documents.items g) t.documents.items told u.documents.items → pending.editor ≡ e → pending.noted ≡ Some noted → StampsAt noted (versions_of e) (slice_get u.documents.items g)
@@ -355,9 +355,9 @@ asked_does settings t u xs ys told base g s start e z ids pending noted text id 
     stands d has st ds mid_st =
         let bodies = rows.sync_bodies d.versions (λ u. held_at z.life.start u now) e d.opens in
         let mid = behind now (to z.life.start bodies) in
-        let sends_on : Sends z.life.start e id work partial mid = sender_told z.life.start z.life.start bodies now e id work partial (tell settings t now g e z d text here has ready silent synced works st ds) (subst (λ n. Sends n e id work partial now) (sym number) sends) in
+        let sends_on : Sends settings z.life.start e id work partial mid = sender_told settings z.life.start z.life.start bodies now e id work partial (tell settings t now g e z d text here has ready silent synced works st ds) (subst (λ n. Sends settings n e id work partial now) (sym number) sends) in
         (does_entry mid_st (forward_does settings t u [] (ToServer z.life.start text ∷ []) mid g z.life.start z.life.start e z ids pending text id work partial method name ps (subst (λ n. slice_get (map number_in t.lasts.items) g ≡ Some n) (sym number) at) within read says own
-        (subst (λ es. Sends z.life.start e id work partial es) (sym (append-nil mid)) sends_on) kept put next limit order set es gs time os r refl refl)).stands
+        (subst (λ es. Sends settings z.life.start e id work partial es) (sym (append-nil mid)) sends_on) kept put next limit order set es gs time os r refl refl)).stands
 
 -- a notification
 pub passed_does : (settings : Settings) (t u : Tables) (xs ys told : List Out) (base : List Event) (g s start e : ℕ) (z : Start) (text method : List ℕ) (ps : Option Json) → slice_get (map number_in t.lasts.items) g ≡ Some s → g < length t.lasts.items → z ≡ get_or t.lasts.items g z

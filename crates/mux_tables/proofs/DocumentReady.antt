@@ -184,7 +184,7 @@ module _ (settings : Settings) (events : List Event) (g s : ℕ) (code : Encodin
     founds = founds_kept events (took (FromServer s body) m) refl;
     starts = starts_kept events (took (FromServer s body) m) refl;
     sent = λ n l. sent_unheard n s body m events (fresh n l);
-    moments = λ j x n p at there. moment_stays x.life.start n events (took (FromServer s body) m) refl;
+    moments = λ j x n p at there. moment_stays settings x.life.start n events (took (FromServer s body) m) refl;
     left = left_stays events (took (FromServer s body) m) refl;
   }
     where
@@ -200,7 +200,7 @@ module _ (settings : Settings) (events : List Event) (g s : ℕ) (code : Encodin
     founds = λ j k. h.founds j (founds_kept now (said (CloseEditor e)) refl j k);
     starts = λ n l. h.starts n (starts_kept now (said (CloseEditor e)) refl n l);
     sent = λ n l. sent_then n events now (now ++ said (CloseEditor e) ∷ []) (h.sent n l) (sent_stays n now (said (CloseEditor e)) refl);
-    moments = λ j x n p at there. moment_stays x.life.start n now (said (CloseEditor e)) refl ∙ h.moments j x n p at there;
+    moments = λ j x n p at there. moment_stays settings x.life.start n now (said (CloseEditor e)) refl ∙ h.moments j x n p at there;
     left = λ k l. left_stays now (said (CloseEditor e)) refl k (h.left k l);
   }))
 

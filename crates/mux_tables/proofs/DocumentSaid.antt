@@ -52,7 +52,7 @@ rest_notified settings t events n body m silent aside = record {
   founds = founds_kept events (did (ToServer n body) m) refl;
   starts = starts_kept events (did (ToServer n body) m) refl;
   sent = λ s l. sent_silent s n body m events silent;
-  moments = λ g x k p at there. moment_stays x.life.start k events (did (ToServer n body) m) (asks_aside n body m aside);
+  moments = λ g x k p at there. moment_stays settings x.life.start k events (did (ToServer n body) m) (asks_aside n body m aside);
   left = left_stays events (did (ToServer n body) m) refl;
 }
 
@@ -83,7 +83,7 @@ module _ (settings : Settings) (events : List Event) (n : ℕ) (body : List ℕ)
     founds = founds_kept events (did (ToServer n body) m) refl;
     starts = starts_kept events (did (ToServer n body) m) refl;
     sent = λ s l. sent_silent s n body m events silent;
-    moments = λ g x k p at there. moment_stays x.life.start k events (did (ToServer n body) m) (ap (λ w. asks_on (did (ToServer n body) w)) says);
+    moments = λ g x k p at there. moment_stays settings x.life.start k events (did (ToServer n body) m) (ap (λ w. asks_on (did (ToServer n body) w)) says);
     left = left_stays events (did (ToServer n body) m) refl;
   }
 

@@ -108,19 +108,19 @@ not_shutdown method h = go (bytes_eq (codes "shutdown") method) refl
 
 -- an editor's request
 pub forward_does : (settings : Settings) (t u : Tables) (xs ys : List Out) (base : List Event) (g s start e : ℕ) (z : Start) (ids : Table) (pending : Pending) (text id : List ℕ) (work partial : Option (List ℕ)) (method : List ℕ) (name : Id) (ps : Option Json) → slice_get (map number_in t.lasts.items) g ≡ Some s → g < length t.lasts.items → z ≡ get_or t.lasts.items g z
-    → message_of text ≡ request name method ps → is_own method ≡ false → Sends s e id work partial (behind base xs) → forwarded_of (record { number = z.ids.next; pending = pending }) ≡ sent_as (record { editor = e; id = id; work = work; partial = partial }) z.ids.next
+    → message_of text ≡ request name method ps → is_own method ≡ false → Sends settings s e id work partial (behind base xs) → forwarded_of (record { number = z.ids.next; pending = pending }) ≡ sent_as (record { editor = e; id = id; work = work; partial = partial }) z.ids.next
     → ids.requests ≡ z.ids.requests ++ record { number = z.ids.next; pending = pending } ∷ [] → ids.next ≡ z.ids.next + 1 → ids.limit ≡ z.ids.limit → IsInOrder ids
     → u.lasts.items ≡ slice_set t.lasts.items g (record z { ids = ids }) → u.editors ≡ t.editors → u.groups ≡ t.groups → u.course ≡ t.course → u.origins ≡ t.origins → u.requests ≡ t.requests → start ≡ z.life.start → ys ≡ xs ++ ToServer start text ∷ []
     → Does (λ t events. Stands settings t events) (send (ToServer s text)) base t xs u ys
 forward_does settings t u xs ys base g s start e z ids pending text id work partial method name ps at within read says own sends kept put next limit order set es gs now os r is said_so =
     let y : Start = record z { ids = ids } in
     let here : z.life.start ≡ s = start_at_place t.lasts.items g s z (read_here t.lasts.items g z within read) at in
-    sent_does settings t u xs ys base g s start z y text at within read set refl refl es gs now (ap (λ v. v.groups) os) (ap (λ v. v.created) os) r is said_so (λ st. told_stops t u (behind base xs) s text os (ap (requests (codes "shutdown")) says ∙ not_shutdown method own)) (λ st p h. part (subst (λ n. Sends n e id work partial (behind base xs)) (sym here) sends) p h)
+    sent_does settings t u xs ys base g s start z y text at within read set refl refl es gs now (ap (λ v. v.groups) os) (ap (λ v. v.created) os) r is said_so (λ st. told_stops t u (behind base xs) s text os (ap (requests (codes "shutdown")) says ∙ not_shutdown method own)) (λ st p h. part (subst (λ n. Sends settings n e id work partial (behind base xs)) (sym here) sends) p h)
   where
-    part : Sends z.life.start e id work partial (behind base xs) → (p : Part) → PartStands p settings t.requests z (behind base xs) → PartStands p settings t.requests (record z { ids = ids }) (behind base xs ++ said (ToServer z.life.start text) ∷ [])
+    part : Sends settings z.life.start e id work partial (behind base xs) → (p : Part) → PartStands p settings t.requests z (behind base xs) → PartStands p settings t.requests (record z { ids = ids }) (behind base xs ++ said (ToServer z.life.start text) ∷ [])
     part sends of_life h = still_life settings t.requests (behind base xs) (said (ToServer z.life.start text)) z (record z { ids = ids }) refl refl (ap (requests (codes "shutdown")) says ∙ not_shutdown method own) h
     part sends of_ids h = part_ids settings t.requests (behind base xs) (said (ToServer z.life.start text)) z (record z { ids = ids }) refl
-        (sent_ids t.requests z.life.start z.ids ids (forwarding_of z.life.start (behind base xs)) text method (message_of text) name ps (record { number = z.ids.next; pending = pending }) (record { editor = e; id = id; work = work; partial = partial }) says own sends kept put next limit order) h
+        (sent_ids settings (behind base xs) t.requests z.life.start z.ids ids (forwarding_of settings z.life.start (behind base xs)) text method (message_of text) name ps (record { number = z.ids.next; pending = pending }) (record { editor = e; id = id; work = work; partial = partial }) says own sends kept put next limit order) h
     part sends of_shown h = still_shown settings t.requests (behind base xs) (said (ToServer z.life.start text)) z (record z { ids = ids }) refl refl refl h
     part sends of_stop h = still_stop settings t.requests (behind base xs) (said (ToServer z.life.start text)) z (record z { ids = ids }) refl (ap (requests (codes "shutdown")) says ∙ not_shutdown method own) h
     part sends of_asks h = still_asks settings t.requests (behind base xs) (said (ToServer z.life.start text)) z (record z { ids = ids }) refl refl (ap is_answer says) h
@@ -140,7 +140,7 @@ cancel_does settings t u xs ys base g s start n z ids text method ps at within r
     part : Stands settings t (behind base xs) → (p : Part) → PartStands p settings t.requests z (behind base xs) → PartStands p settings t.requests (record z { ids = ids }) (behind base xs ++ said (ToServer z.life.start text) ∷ [])
     part st of_life h = still_life settings t.requests (behind base xs) (said (ToServer z.life.start text)) z (record z { ids = ids }) refl refl (ap (requests (codes "shutdown")) says) h
     part st of_ids h = part_ids settings t.requests (behind base xs) (said (ToServer z.life.start text)) z (record z { ids = ids }) refl
-        (cancelled_ids t.requests z.life.start z.ids ids (forwarding_of z.life.start (behind base xs)) text method (message_of text) ps n st.range says cancels written put next limit order) h
+        (cancelled_ids settings (behind base xs) t.requests z.life.start z.ids ids (forwarding_of settings z.life.start (behind base xs)) text method (message_of text) ps n st.range says cancels written put next limit order) h
     part st of_shown h = still_shown settings t.requests (behind base xs) (said (ToServer z.life.start text)) z (record z { ids = ids }) refl refl refl h
     part st of_stop h = still_stop settings t.requests (behind base xs) (said (ToServer z.life.start text)) z (record z { ids = ids }) refl (ap (requests (codes "shutdown")) says) h
     part st of_asks h = still_asks settings t.requests (behind base xs) (said (ToServer z.life.start text)) z (record z { ids = ids }) refl refl (ap is_answer says) h

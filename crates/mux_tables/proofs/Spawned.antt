@@ -23,7 +23,7 @@ use Rattle.id_rewrite.specs.Tables.{IsInOrder}
 use Rattle.restart_replay.specs.Standings.{Standing, spawned}
 use Rattle.mux_tables.specs.declared.tables.Start.{Start}
 use Rattle.mux_tables.specs.declared.tables.Tables.{Tables}
-use Rattle.group_laws.specs.group_rows.specs.Forwarded.{forwarding_behind}
+use Rattle.group_laws.specs.group_rows.proofs.Frames.{forwarding_more}
 use Rattle.group_laws.specs.group_rows.specs.Ticks.{is_stopping}
 use Rattle.group_laws.specs.group_rows.specs.Asks.{asks_of, parked_of}
 use Rattle.group_laws.specs.group_rows.specs.Lists.{lists_of}
@@ -73,7 +73,7 @@ spawned_last settings limit events n g y f new =
     part : (p : Part) → PartStands p settings limit y (events ++ did (Spawn n g) not_message ∷ [])
     part of_life = subst (λ m. life_of m (events ++ did (Spawn n g) not_message ∷ []) ≡ record { stage = y.life.stage; started = y.started }) (sym (ap (λ l. l.start) new.0))
         (one_more (life_behind n) _ _ events (did (Spawn n g) not_message) refl ∙ rw (itself n) (rw (new.1) (ap (λ l. record { stage = l.stage; started = false }) (sym new.0))))
-    part of_ids = subst (λ m. IdsStand limit m y.ids (events ++ did (Spawn n g) not_message ∷ [])) (sym (ap (λ l. l.start) new.0)) (subst (λ a. IdsAt limit a y.ids) (sym (one_more (forwarding_behind n) _ _ events (did (Spawn n g) not_message) refl)) (record {
+    part of_ids = subst (λ m. IdsStand settings limit m y.ids (events ++ did (Spawn n g) not_message ∷ [])) (sym (ap (λ l. l.start) new.0)) (subst (λ a. IdsAt limit a y.ids) (sym (forwarding_more settings n events (did (Spawn n g) not_message))) (record {
       next = (f of_ids).next ∙ sym new.3;
       open_requests = (f of_ids).open_requests ∙ sym (ap (map _) new.2);
       ends = new.4;

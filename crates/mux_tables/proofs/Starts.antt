@@ -18,7 +18,7 @@ use Rattle.group_table.specs.Tables as group_tables
 use Rattle.restart_replay.specs.Standings.{Standing}
 use Rattle.mux_tables.specs.declared.tables.Start.{Start}
 use Rattle.mux_tables.specs.declared.tables.Tables.{Tables}
-use Rattle.group_laws.specs.group_rows.specs.Forwarded.{forwarding_behind, forwarding_of}
+use Rattle.group_laws.specs.group_rows.specs.Forwarded.{forwarding_next, forwarding_of}
 use Rattle.group_laws.specs.group_rows.specs.Ticks.{is_stopping, stop_of}
 use Rattle.ask_route.specs.declared.ask.Ask as route
 use Rattle.group_laws.specs.group_rows.specs.Asks.{Ask, Parked, asks_of, parked_of}
@@ -84,9 +84,9 @@ pub part_life : (settings : Settings) (limit : ℕ) (events : List Event) (ev : 
 part_life settings limit events ev x y own step s = subst (λ n. life_of n (events ++ ev ∷ []) ≡ record { stage = y.life.stage; started = y.started }) (sym own) (one_more (life_behind x.life.start) _ _ events ev s ∙ step)
 
 -- its open requests go on
-pub part_ids : (settings : Settings) (limit : ℕ) (events : List Event) (ev : Event) (x y : Start) → y.life.start ≡ x.life.start → (IdsAt limit (forwarding_of x.life.start events) x.ids → IdsAt limit (forwarding_behind x.life.start (forwarding_of x.life.start events) ev) y.ids)
+pub part_ids : (settings : Settings) (limit : ℕ) (events : List Event) (ev : Event) (x y : Start) → y.life.start ≡ x.life.start → (IdsAt limit (forwarding_of settings x.life.start events) x.ids → IdsAt limit (forwarding_next settings x.life.start events (forwarding_of settings x.life.start events) ev) y.ids)
     → PartStands of_ids settings limit x events → PartStands of_ids settings limit y (events ++ ev ∷ [])
-part_ids settings limit events ev x y own go s = subst (λ n. IdsStand limit n y.ids (events ++ ev ∷ [])) (sym own) (ids_more limit x.life.start x.ids y.ids events ev go s)
+part_ids settings limit events ev x y own go s = subst (λ n. IdsStand settings limit n y.ids (events ++ ev ∷ [])) (sym own) (ids_more settings limit x.life.start x.ids y.ids events ev go s)
 
 -- what editors are shown goes on
 pub part_shown : (settings : Settings) (limit : ℕ) (events : List Event) (ev : Event) (x y : Start) → y.life.start ≡ x.life.start → (ShownAt x.life.stage x.shown (result_of x.life.start events) → ShownAt y.life.stage y.shown (result_behind x.life.start (result_of x.life.start events) ev))
@@ -102,7 +102,7 @@ still_life settings limit events ev x y l b q s =
 
 pub still_ids : (settings : Settings) (limit : ℕ) (events : List Event) (ev : Event) (x y : Start) → y.life.start ≡ x.life.start → y.ids ≡ x.ids → touches of_ids ev ≡ false → PartStands of_ids settings limit x events → PartStands of_ids settings limit y (events ++ ev ∷ [])
 still_ids settings limit events ev x y own i q s =
-    subst (λ n. IdsStand limit n y.ids (events ++ ev ∷ [])) (sym own) (subst (λ ids. IdsStand limit x.life.start ids (events ++ ev ∷ [])) (sym i) (part_quiet of_ids settings limit x events ev q s))
+    subst (λ n. IdsStand settings limit n y.ids (events ++ ev ∷ [])) (sym own) (subst (λ ids. IdsStand settings limit x.life.start ids (events ++ ev ∷ [])) (sym i) (part_quiet of_ids settings limit x events ev q s))
 
 pub still_shown : (settings : Settings) (limit : ℕ) (events : List Event) (ev : Event) (x y : Start) → y.life ≡ x.life → y.shown ≡ x.shown → touches of_shown ev ≡ false → PartStands of_shown settings limit x events → PartStands of_shown settings limit y (events ++ ev ∷ [])
 still_shown settings limit events ev x y l b q s =

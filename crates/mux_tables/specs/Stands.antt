@@ -40,7 +40,7 @@ use Rattle.mux_tables.specs.declared.tables.Start.{Start}
 use Rattle.mux_tables.specs.declared.tables.Tables.{Tables}
 use Rattle.mux_tables.specs.Names.{NamesStand}
 use Rattle.group_laws.specs.group_rows.specs.Asks.{Ask, Parked, asking_next, asking_of, asks_of, is_patient, is_seated, is_under, next_ask, parked_of}
-use Rattle.group_laws.specs.group_rows.specs.Forwarded.{Forwarded, Forwarding, forwarding_of, names}
+use Rattle.group_laws.specs.group_rows.specs.Forwarded.{Forwarded, Forwarding, first_sender, forwarding_of, names, sender_or}
 use Rattle.group_laws.specs.group_rows.specs.ExitRows.{is_full}
 use Rattle.group_laws.specs.group_rows.specs.Lists.{is_publishing, lists_next, lists_of}
 use Rattle.group_laws.specs.group_rows.specs.Live.{live_next, live_of}
@@ -116,8 +116,8 @@ pub record IdsAt (limit : ℕ) (x : Forwarding) (ids : Table) : Type 0 where
   pub ends : ids.limit ≡ limit
   pub order : IsInOrder ids
 
-abbrev pub IdsStand : ℕ → ℕ → Table → List Event → Type 0
-IdsStand limit s ids events = IdsAt limit (forwarding_of s events) ids
+abbrev pub IdsStand : Settings → ℕ → ℕ → Table → List Event → Type 0
+IdsStand settings limit s ids events = IdsAt limit (forwarding_of settings s events) ids
 
 -- it gave no result of its `initialize` yet
 abbrev pub is_early : Stage → Bool
@@ -238,7 +238,7 @@ pub data Part : Type 0 where
 
 abbrev pub PartStands : Part → Settings → ℕ → Start → List Event → Type 0
 PartStands of_life settings limit x events = life_of x.life.start events ≡ record { stage = x.life.stage; started = x.started }
-PartStands of_ids settings limit x events = IdsStand limit x.life.start x.ids events
+PartStands of_ids settings limit x events = IdsStand settings limit x.life.start x.ids events
 PartStands of_shown settings limit x events = ShownAt x.life.stage x.shown (result_of x.life.start events)
 PartStands of_stop settings limit x events = StopAt x.life.stage x.life.stopping (stop_of x.life.start events)
 PartStands of_asks settings limit x events = AsksAt x.life.stage events (asks_of settings x.life.start events) x.asks
@@ -418,9 +418,9 @@ pub record IsListOf (uri : List ℕ) (empty : Bool) (body : List ℕ) : Type 0 w
   pub document : list.uri ≡ uri
   pub none : list.empty ≡ empty
 
--- e's request under this id is at work, with these tokens for progress, and goes to start s
-abbrev pub Sends : ℕ → ℕ → List ℕ → Option (List ℕ) → Option (List ℕ) → List Event → Type 0
-Sends s e id work partial events = (forwarding_of s events).sender ≡ Some (record { editor = e; id = id; work = work; partial = partial })
+-- e's request under this id is at work, with these tokens for progress, and goes to start s; or none is, and it is what waits longest
+abbrev pub Sends : Settings → ℕ → ℕ → List ℕ → Option (List ℕ) → Option (List ℕ) → List Event → Type 0
+Sends settings s e id work partial events = sender_or (forwarding_of settings s events).sender (first_sender settings s events) ≡ Some (record { editor = e; id = id; work = work; partial = partial })
 
 -- the others of these starts
 abbrev pub unstopped : ℕ → List ℕ → List ℕ

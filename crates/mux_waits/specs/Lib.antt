@@ -1,0 +1,4 @@
+pub mod Rows
+pub mod Stands
+pub use Rattle.group_rows
+pub use Rattle.held_requests
