@@ -43,7 +43,7 @@ module _ (g : ℕ) (f : List Request → List Request) (rows : Rows) where
       idle n false h none = refl
 
       by : (o : Option (List Request)) → row_at g rows ≡ o → Becomes g f rows (edited_to g f o rows)
-      by None none n = idle n (nat_eq g n) refl none
+      by None none = λ n. idle n (nat_eq g n) refl none
       by (Some rs) there = set_held rs there
 
 -- where nothing waits in a group its table may go

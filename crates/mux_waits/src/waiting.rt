@@ -83,7 +83,10 @@ fn is_idle(groups: &BTreeMap<u64, Held>, g: u64) -> bool
     ensures { result ≡ true → held_of g groups.now.entries ≡ [] }
 {
     match groups.get(&g) {
-        Some(held) => held.first().is_none(),
+        Some(held) => match held.first() {
+            Some(_) => false,
+            None => true,
+        },
         None => false,
     }
 }
