@@ -1,5 +1,5 @@
 -- Lists of waiting requests, of which one goes, or those of an editor, or to which one comes.
-use Rattle.std.proofs.Common.{◌≡◌, ℕ, Bool, true, false, not, ◌&&◌, cond, List, [], ◌∷◌, ◌++◌, drop, refl, sym, ◌∙◌, ap, subst, nat_eq, bytes_eq, if◌then◌else◌}
+use Rattle.std.proofs.Common.{◌≡◌, ℕ, Bool, true, false, not, ◌&&◌, cond, List, [], ◌∷◌, ◌++◌, drop, refl, sym, ◌∙◌, ap, nat_eq, bytes_eq, if◌then◌else◌}
 use Rattle.std.specs.Prelude.{filter}
 use Rattle.std.specs.List.{AllByRecursion}
 use Rattle.std.proofs.lemmas.Slice.Eq.{bytes_eq-Decides}
@@ -7,7 +7,7 @@ use Rattle.event_model.proofs.Frames.{never}
 use Rattle.mux_facts.proofs.Words.{number_same}
 use Rattle.id_rewrite.specs.Forms.{form, same_form}
 use Rattle.held_requests.specs.declared.request.Request.{Request}
-use Rattle.held_requests.specs.Tables.{is_of, is_under}
+use Rattle.held_requests.specs.Tables.{is_under}
 use Rattle.numbered_rows.specs.Rows.{less}
 use Rattle.mux_waits.specs.Stands.{HasOwnId, HaveOwnIds}
 

@@ -25,7 +25,7 @@ use Rattle.group_words.specs.Houses.{home_of, house_of, is_home, placed_for, pla
 use Rattle.group_words.specs.Placing.{home_by}
 use Rattle.group_words.proofs.Frames.{home_more, home_stays, names_home}
 use Rattle.group_rows.specs.Reserved.{reserves}
-use Rattle.group_rows.specs.Waiting.{is_answered, is_for_start, is_misplaced, is_restarting, waiting_next, waiting_of, waits, without_first, worker_of}
+use Rattle.group_rows.specs.Waiting.{is_answered, is_for_start, is_misplaced, is_restarting, waiting_next, waits, without_first, worker_of}
 use Rattle.group_rows.proofs.Cancelling.{text_meant}
 use Rattle.group_rows.proofs.Frames.{touches_waiting, waiting_more, waiting_stays}
 use Rattle.held_requests.specs.declared.request.Request.{Request}
@@ -35,7 +35,7 @@ use Rattle.id_rewrite.proofs.Finding.{texts_same}
 use Rattle.numbered_rows.specs.Rows.{less}
 use Rattle.mux_tokens.proofs.Rows.{num_back}
 use Rattle.mux_waits.specs.Rows.{Becomes, BecomesAt, Rows, held_of}
-use Rattle.mux_waits.specs.Stands.{AnswersId, HasOwnId, HaveOwnIds, HeldStand, IsHeld, Unheld, WaitingStand, is_passed}
+use Rattle.mux_waits.specs.Stands.{HasOwnId, HaveOwnIds, HeldStand, IsHeld, Unheld, WaitingStand, is_passed}
 use Rattle.mux_waits.proofs.Lists.{all_kept, all_last, all_map, all_rest, all_stay, kept_same, less_own, own_kept, own_last, own_rest}
 
 pub waiting_begins : (settings : Settings) → WaitingStand settings [] []
@@ -72,7 +72,7 @@ some_none : {g : ℕ} → ◌≡◌ {A = Option ℕ} (Some g) None → ⊥
 some_none h = cc
 
 -- one that waits has the text of its id
-held_text : (settings : Settings) (g : ℕ) (events : List Event) (r : Request) (h : IsHeld settings g events r) → IsIdText h.name r.id
+pub held_text : (settings : Settings) (g : ℕ) (events : List Event) (r : Request) (h : IsHeld settings g events r) → IsIdText h.name r.id
 held_text settings g events r h = subst (λ w. IsIdText h.name w) (sym h.bytes) (request_id_bytes r.body h.name h.method h.params h.says)
 
 -- its editor is of the group alone

@@ -1,4 +1,4 @@
-use Rattle.std.proofs.Common.{List, [], ◌∷◌, ◌++◌, ◌∙◌, ap, subst}
+use Rattle.std.proofs.Common.{[], ◌∷◌, ◌++◌, ◌∙◌, ap, subst}
 use Rattle.held_requests.specs.Tables.{asked}
 use Rattle.mux_waits.specs.Rows.{Becomes, Rows, held_of}
 use Rattle.mux_waits.proofs.Rows.{held_changed}
