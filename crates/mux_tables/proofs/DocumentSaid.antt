@@ -17,8 +17,8 @@ use Rattle.focus_switch.specs.Documents.{Documents}
 use Rattle.focus_switch.specs.Rows.{unready_row}
 use Rattle.event_model.specs.Spawns.{group_of}
 use Rattle.group_words.specs.Houses.{is_home}
-use Rattle.group_laws.specs.group_rows.specs.Texts.{is_synced, texts_of, touch_all}
-use Rattle.group_laws.specs.group_rows.specs.Waiting.{worker_of}
+use Rattle.group_laws.specs.group_rows.specs.Texts.{is_synced, texts_of, touch_all, toucher, toucher_of}
+use Rattle.group_laws.specs.group_rows.specs.Waiting.{first_waiting, worker_of}
 use Rattle.group_laws.specs.group_rows.proofs.Frames.{encoding_stays, texts_more, texts_stay}
 use Rattle.restart_replay.specs.Standings.{Standing, moved, stopped}
 use Rattle.id_rewrite.specs.Tables.{with_cancelled}
@@ -68,9 +68,12 @@ module _ (settings : Settings) (events : List Event) (n : ℕ) (body : List ℕ)
   abbrev idle_later : List Event
   idle_later = events ++ did (ToServer n body) m ∷ []
 
+  idle_toucher : toucher_of settings n events m ≡ None
+  idle_toucher = ap (λ w. toucher w m (first_waiting settings n events)) idle ∙ ap (λ k. toucher None k (first_waiting settings n events)) says
+
   idle_texts : (g : ℕ) → texts_of settings g idle_later ≡ texts_of settings g events
   idle_texts g = texts_more settings g events (did (ToServer n body) m)
-      ∙ (ap (λ w. if is_home g (group_of n events) && is_synced m then touch_all w (texts_of settings g events) else texts_of settings g events) idle ∙ either (is_home g (group_of n events) && is_synced m))
+      ∙ (ap (λ w. if is_home g (group_of n events) && is_synced m then touch_all w (texts_of settings g events) else texts_of settings g events) idle_toucher ∙ either (is_home g (group_of n events) && is_synced m))
     where
       either : (b : Bool) → (if b then texts_of settings g events else texts_of settings g events) ≡ texts_of settings g events
       either true = refl

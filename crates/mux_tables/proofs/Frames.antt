@@ -26,7 +26,7 @@ use Rattle.mux_tokens.proofs.Stays.{is_notification, passes_by}
 use Rattle.mux_tables.specs.declared.tables.Start.{Start}
 use Rattle.group_laws.specs.group_rows.specs.Asks.{Asking, asked_behind, asker_of, asking_next, asking_of, idle_asking, next_ask, parks}
 use Rattle.group_laws.specs.group_rows.specs.Forwarded.{Forwarding, Sender, first_sender, forwarding_next, forwarding_of, forwards, moves_ids, numbered, sender_or}
-use Rattle.group_laws.specs.group_rows.proofs.Frames.{forwarding_more}
+use Rattle.group_laws.specs.group_rows.proofs.Frames.{forwarding_more, touches_waiting}
 use Rattle.mux_tables.specs.Stands.{EditorsStand, GroupsStand, OriginsStand, IdsAt, IdsStand, Part, of_life, of_ids, of_shown, PartStands, LastStands, ShownAt, of_stop, StopAt, of_asks, of_parked, of_live, of_lists, AsksStay, ListsStay, LiveStay, OpenStay, is_answer, is_request}
 use Rattle.mux_tables.proofs.Asking.{asks_by, parked_by, told_asking, unanswered, unhanded, unwaited}
 use Rattle.group_laws.specs.group_rows.specs.ExitRows.{full_behind, is_full}
@@ -69,6 +69,15 @@ spawns other = false
 abbrev pub ticks : Event → Bool
 ticks (took (Tick t) m) = true
 ticks other = false
+
+-- what names no start and no editor leaves what waits
+pub waits_quiet : (ev : Event) → names_editor ev ≡ false → ((n : ℕ) → names_start n ev ≡ false) → touches_waiting ev ≡ false
+waits_quiet (took (FromEditor e body) m) h k = never h
+waits_quiet (took (EditorGone e why) m) h k = never h
+waits_quiet (did (ToEditor e body) m) h k = never h
+waits_quiet (did (ToServer n body) m) h k = never (sym (itself n) ∙ k n)
+waits_quiet (did (CloseEditor e) m) h k = never h
+waits_quiet other h k = refl
 
 -- what speaks of no editor and not of this start leaves what it created
 pub passes_quiet : (s : ℕ) (ev : Event) → names_editor ev ≡ false → names_start s ev ≡ false → passes_by s ev ≡ true

@@ -42,11 +42,13 @@ use Rattle.mux_tokens.proofs.Rows.{num_back}
 use Rattle.mux_tokens.proofs.Standing.{over_moves as ended_tokens}
 use Rattle.mux_tokens.proofs.Stays.{passes_by, passes_stay}
 use Rattle.group_laws.specs.group_rows.specs.Created.{Created, created_next, created_of, no_created}
-use Rattle.mux_tables.proofs.TokenMoves.{CreatedMove, OriginsMove, first_error_tokens, first_result_tokens, origins_stay, same_created}
+use Rattle.mux_tables.proofs.TokenMoves.{CreatedMove, KeptMove, OriginsMove, first_error_tokens, first_result_tokens, origins_stay, same_created, same_waits}
 use Rattle.mux_tables.proofs.Publishing.{begun_lists, error_tells, first_lists, lists_by_stay, result_tells}
 use Rattle.mux_tables.proofs.Registering.{begun_live, first_live, live_by_stay}
 use Rattle.mux_tables.proofs.Starts.{groups_kept, is_late, late_asks, late_lists, late_live, late_parked, late_shown, no_stop, not_refused, part_ids, part_life, part_shown, read_back, read_here, start_at_place, start_moves, still_asks, still_ids, still_lists, still_live, still_parked, still_shown, still_stop}
 use Rattle.mux_tables.proofs.Awaited.{StopsMove, hears_same, same_either, started_same, stopping_less, stops_kept}
+use Rattle.mux_waits.proofs.Moves.{quiet_waits}
+use Rattle.group_laws.specs.group_rows.proofs.Frames.{touches_waiting}
 
 -- the program runs
 pub begun_start : (g : Stage) (l : Standing) → (begun_at g l).start ≡ l.start
@@ -93,7 +95,7 @@ started_moves settings t u events g s z life at within read is set es gs now os 
     start_moves settings t u events (λ n. took (Started n) not_message) g s z y at within read set own (ap (λ (l : Standing). l.group) is ∙ begun_group z.life.stage z.life) es now (ap (λ v. v.groups) os) r (λ n. refl) (λ n. refl) (λ n. refl) (λ n m. refl)
     (λ n _ h. groups_kept settings t.groups u.groups events (took (Started n) not_message) gs (groups_stand settings t.groups events (took (Started n) not_message) refl) h)
     (λ n _. stops_kept t u events (took (Started n) not_message) (ap (λ v. v.stopping) os) refl
-    (λ m. same_either (nat_eq n m) (record { stage = stage_started (life_of m events).stage; started = true }) (life_of m events) (started_same (life_of m events).stage))) (λ n _. same_created settings t u events (took (Started n) not_message) (ap (λ v. v.created) os) (λ m. refl)) (part own)
+    (λ m. same_either (nat_eq n m) (record { stage = stage_started (life_of m events).stage; started = true }) (life_of m events) (started_same (life_of m events).stage))) (λ n _. record { created = same_created settings t u events (took (Started n) not_message) (ap (λ v. v.created) os) (λ m. refl); waiting = same_waits settings t.origins u.origins events (took (Started n) not_message) (ap (λ v. v.waiting) os) (λ rows. quiet_waits settings rows events (took (Started n) not_message) refl) }) (part own)
   where
     part : life.start ≡ z.life.start → (p : Part) → PartStands p settings t.requests z events → PartStands p settings t.requests (record z { life = life; started = true }) (events ++ took (Started z.life.start) not_message ∷ [])
     part own of_life h = part_life settings t.requests events (took (Started z.life.start) not_message) z (record z { life = life; started = true }) own
@@ -151,7 +153,7 @@ module _ (settings : Settings) (t u : Tables) (events : List Event) (g s : ℕ) 
   pub server_moves : Stands settings t events → Stands settings u (events ++ took (FromServer s body) (message_of body) ∷ [])
   server_moves st = start_moves settings t u events (λ k. took (FromServer k body) (message_of body)) g s z y at within read set own group es now os.groups r (λ k. refl) (λ k. refl) (λ k. refl) (λ k m. refl)
       (λ k e h. groups_kept settings t.groups u.groups events (took (FromServer k body) (message_of body)) gs (not_refused settings t.groups events k body (message_of body) (ap (λ a. is_first_error (message_of body) && is_initializing a) (stage_seen settings t events g k z st here (e ∙ sym (start_at_place t.lasts.items g s z here at))) ∙ refuses)) h)
-      (λ k e. heard_stops t u events k body os.stopping) (λ k e. subst (λ j. CreatedMove settings t u events (took (FromServer j body) (message_of body))) (sym e) os.created) (part st) st
+      (λ k e. heard_stops t u events k body os.stopping) (λ k e. subst (λ j. KeptMove settings t u events (took (FromServer j body) (message_of body))) (sym e) (record { created = os.created; waiting = os.waiting })) (part st) st
     where
       y : Start
       y = record z { life = life; ids = ids; shown = shown; parked = parked; live = live; lists = lists }
@@ -258,7 +260,7 @@ result_moves settings t u events g s z body n life ids shown at within read stag
     (λ st h. first_lists z.life.stage life z.life (lists_of z.life.start (events ++ took (FromServer z.life.start body) (message_of body) ∷ [])) z.lists is stage
     (part_quiet of_lists settings t.requests z events (took (FromServer z.life.start body) (message_of body)) (result_tells (message_of body) first) h))
     (ap (λ (l : Standing). l.start) is) (ap (λ (l : Standing). l.group) is)
-    (rw (stage, first) refl ∙ ap (λ (l : Standing). l.stage) (sym is)) (no_error (message_of body) first (is_initializing z.life.stage)) named taken next limit order set es gs now (origins_stay settings t.origins u.origins events (took (FromServer s body) (message_of body)) os (λ m. first_result_tokens settings m s events (created_of settings m events) body (message_of body) first)) r
+    (rw (stage, first) refl ∙ ap (λ (l : Standing). l.stage) (sym is)) (no_error (message_of body) first (is_initializing z.life.stage)) named taken next limit order set es gs now (origins_stay settings t.origins u.origins events (took (FromServer s body) (message_of body)) os (λ m. first_result_tokens settings m s events (created_of settings m events) body (message_of body) first) (λ rows. quiet_waits settings rows events (took (FromServer s body) (message_of body)) refl)) r
 
 pub answer_found : (settings : Settings) (t : Tables) (events : List Event) (g s k : ℕ) (z : Start) (o : Option Pending) → slice_get (map number_in t.lasts.items) g ≡ Some s → g < length t.lasts.items → z ≡ get_or t.lasts.items g z → o ≡ pending_of k z.ids.requests
     → Stands settings t events → find (is_under k) (forwarding_of settings s events).open_requests ≡ option_map (forwarded_as k) o
@@ -278,7 +280,7 @@ pub refusal_moves : (settings : Settings) (t u : Tables) (events : List Event) (
 refusal_moves settings t u events g s z body n ids at within read stage refuses named taken next limit order set es gs now os r st =
     start_moves settings t u events (λ k. took (FromServer k body) (message_of body)) g s z y at within read set refl refl es now (ap (λ v. v.groups) os) r (λ k. refl) (λ k. refl) (λ k. refl) (λ k m. refl)
     (λ k e h. refused_groups settings events k z.life.group body (message_of body) t.groups u.groups refuses (ap is_initializing (stage_seen settings t events g k z st here (e ∙ sym is)) ∙ ap is_initializing stage) (subst (λ m. group_of m events ≡ Some z.life.group) (is ∙ sym e) (st.lasts.each g z here).home)
-    (ap (λ w. w.limit) gs) (ap (λ w. w.idle) gs) (ap (λ w. w.groups) gs) h) (λ k e. heard_stops t u events k body (ap (λ v. v.stopping) os)) (λ k e. same_created settings t u events (took (FromServer k body) (message_of body)) (ap (λ v. v.created) os) (λ m. first_error_tokens settings m k events (created_of settings m events) body (message_of body) refuses)) part st
+    (ap (λ w. w.limit) gs) (ap (λ w. w.idle) gs) (ap (λ w. w.groups) gs) h) (λ k e. heard_stops t u events k body (ap (λ v. v.stopping) os)) (λ k e. record { created = same_created settings t u events (took (FromServer k body) (message_of body)) (ap (λ v. v.created) os) (λ m. first_error_tokens settings m k events (created_of settings m events) body (message_of body) refuses); waiting = same_waits settings t.origins u.origins events (took (FromServer k body) (message_of body)) (ap (λ v. v.waiting) os) (λ rows. quiet_waits settings rows events (took (FromServer k body) (message_of body)) refl) }) part st
   where
     y : Start
     y = record z { ids = ids }
@@ -314,14 +316,14 @@ module _ (settings : Settings) (t u : Tables) (events : List Event) (g s : ℕ) 
     (loses : (n : ℕ) (h : House) → groups_next settings events h (ev n) ≡ groups_lose settings events n h)
     (over : (n : ℕ) (l : Life) → life_behind n l (ev n) ≡ record { stage = Ended; started = l.started })
     (clears : (n : ℕ) (f : Forwarding) → IdsAt t.requests (forwarding_next settings n events f (ev n)) x.start.ids)
-    (drops : (n : ℕ) (w : Created) → created_next settings n events w (ev n) ≡ no_created) (passes : (n m : ℕ) → nat_eq n m ≡ false → passes_by m (ev n) ≡ true) where
+    (drops : (n : ℕ) (w : Created) → created_next settings n events w (ev n) ≡ no_created) (passes : (n m : ℕ) → nat_eq n m ≡ false → passes_by m (ev n) ≡ true) (waits : (n : ℕ) → touches_waiting (ev n) ≡ false) where
   pub over_moves : Stands settings t events → Stands settings u (events ++ ev s ∷ [])
   over_moves st =
       let own : x.start.life.start ≡ z.life.start = ap (λ (l : Standing). l.start) x.life in
       start_moves settings t u events ev g s z x.start at within (read_back t.lasts.items g z here) x.lasts own (ap (λ (l : Standing). l.group) x.life) x.editors x.course x.origins x.requests editor time spawn one
       (λ n e h. lost_groups settings events (ev n) n z.life.group (loses n) (t.groups) u.groups t.editors (subst (λ m. group_of m events ≡ Some z.life.group) (start_at_place t.lasts.items g s z here at ∙ sym e) (st.lasts.each g z here).home) st.house.editors x.groups h)
       (λ n e h. stopping_less events (ev n) n (spawn n) (one n) (ap (λ (l : Life). is_stopping l.stage) (over n (life_of n events))) ∙ ap (unstopped n) h
-      ∙ ap (λ k. unstopped k t.origins.stopping.items) (e ∙ sym (start_at_place t.lasts.items g s z here at)) ∙ sym x.stopping) (λ n e. tokens n (e ∙ sym (start_at_place t.lasts.items g s z here at))) (part own) st
+      ∙ ap (λ k. unstopped k t.origins.stopping.items) (e ∙ sym (start_at_place t.lasts.items g s z here at)) ∙ sym x.stopping) (λ n e. record { created = tokens n (e ∙ sym (start_at_place t.lasts.items g s z here at)); waiting = same_waits settings t.origins u.origins events (ev n) x.waiting (λ rows. quiet_waits settings rows events (ev n) (waits n)) }) (part own) st
     where
       tokens : (n : ℕ) → n ≡ z.life.start → CreatedMove settings t u events (ev n)
       tokens n own h = subst (λ (rows : Rows). CreatedStand settings rows (events ++ ev n ∷ [])) (sym (x.created ∙ ap (λ k. less k t.origins.created) (sym own)))
@@ -350,7 +352,7 @@ exit_heard settings t u events g s restarts e at within f =
     let z = item_at t.lasts.items g within in
     let x : Exits settings.limits.restarts t g z.0 u = subst (λ n. Exits n t g z.0 u) (sym e) (f z.0 z.1) in
     over_moves settings t u events g s z.0 (λ n. took (ServerGone n) not_message) at within z.1 x (λ n m. refl) (λ n. refl) (λ n. refl) (λ n. refl) (λ n h. refl) (λ n l. rw (itself n) refl)
-    (λ n h. gone_clears settings events t.requests n h x.start.ids x.requests_gone x.next x.limit x.order) (λ n w. rw (itself n) refl) (λ n m h. ap not h)
+    (λ n h. gone_clears settings events t.requests n h x.start.ids x.requests_gone x.next x.limit x.order) (λ n w. rw (itself n) refl) (λ n m h. ap not h) (λ n. refl)
 
 pub failure_heard : (settings : Settings) (t u : Tables) (events : List Event) (g s restarts : ℕ) → settings.limits.restarts ≡ restarts → slice_get (map number_in t.lasts.items) g ≡ Some s → g < length t.lasts.items → ((z : Start) → slice_get t.lasts.items g ≡ Some z → Exits restarts t g z u)
     → Stands settings t events → Stands settings u (events ++ took (StartFailed s) not_message ∷ [])
@@ -358,4 +360,4 @@ failure_heard settings t u events g s restarts e at within f =
     let z = item_at t.lasts.items g within in
     let x : Exits settings.limits.restarts t g z.0 u = subst (λ n. Exits n t g z.0 u) (sym e) (f z.0 z.1) in
     over_moves settings t u events g s z.0 (λ n. took (StartFailed n) not_message) at within z.1 x (λ n m. refl) (λ n. refl) (λ n. refl) (λ n. refl) (λ n h. refl) (λ n l. rw (itself n) refl)
-    (λ n h. failed_clears settings events t.requests n h x.start.ids x.requests_gone x.next x.limit x.order) (λ n w. rw (itself n) refl) (λ n m h. ap not h)
+    (λ n h. failed_clears settings events t.requests n h x.start.ids x.requests_gone x.next x.limit x.order) (λ n w. rw (itself n) refl) (λ n m h. ap not h) (λ n. refl)

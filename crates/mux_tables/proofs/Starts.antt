@@ -30,7 +30,7 @@ use Rattle.mux_tables.specs.Refusals.{asks_in}
 use Rattle.mux_tables.specs.Stands.{AsksAt, GroupsStand, IdsAt, IdsStand, Part, of_life, of_ids, of_shown, of_stop, of_asks, of_parked, of_live, of_lists, ListsAt, LiveAt, ParkedAt, PartStands, ShownAt, StopAt, Stands, house_in, number_in, stage_in}
 use Rattle.mux_tables.proofs.Frames.{names_start, names_editor, spawns, ticks, touches, part_quiet}
 use Rattle.mux_tables.proofs.IdMoves.{ids_more}
-use Rattle.mux_tables.proofs.TokenMoves.{CreatedMove}
+use Rattle.mux_tables.proofs.TokenMoves.{KeptMove}
 use Rattle.mux_tables.proofs.Moves.{parts_move}
 use Rattle.mux_tables.proofs.Awaited.{StopsMove}
 
@@ -211,7 +211,7 @@ late_lists settings limit events y h = lists_late y.life.stage (lists_of y.life.
 module _ (settings : Settings) (t u : Tables) (events : List Event) (ev : ℕ → Event) (g s : ℕ) (z y : Start) (at : slice_get (map number_in t.lasts.items) g ≡ Some s) (within : g < length t.lasts.items) (read : z ≡ get_or t.lasts.items g z)
     (set : u.lasts.items ≡ slice_set t.lasts.items g y) (own : y.life.start ≡ z.life.start) (group : y.life.group ≡ z.life.group) (es : u.editors ≡ t.editors) (now : u.course ≡ t.course) (os : u.origins.groups ≡ t.origins.groups) (r : u.requests ≡ t.requests)
     (e : (n : ℕ) → names_editor (ev n) ≡ false) (w : (n : ℕ) → ticks (ev n) ≡ false) (k : (n : ℕ) → spawns (ev n) ≡ false) (one : (n m : ℕ) → names_start m (ev n) ≡ nat_eq n m) where
-  pub start_moves : ((n : ℕ) → n ≡ s → GroupsStand settings t.groups events → GroupsStand settings u.groups (events ++ ev n ∷ [])) → ((n : ℕ) → n ≡ s → StopsMove t u events (ev n)) → ((n : ℕ) → n ≡ s → CreatedMove settings t u events (ev n)) → ((p : Part) → PartStands p settings t.requests z events → PartStands p settings t.requests y (events ++ ev z.life.start ∷ []))
+  pub start_moves : ((n : ℕ) → n ≡ s → GroupsStand settings t.groups events → GroupsStand settings u.groups (events ++ ev n ∷ [])) → ((n : ℕ) → n ≡ s → StopsMove t u events (ev n)) → ((n : ℕ) → n ≡ s → KeptMove settings t u events (ev n)) → ((p : Part) → PartStands p settings t.requests z events → PartStands p settings t.requests y (events ++ ev z.life.start ∷ []))
       → Stands settings t events → Stands settings u (events ++ ev s ∷ [])
   start_moves groups stops tokens parts st =
       let here : slice_get t.lasts.items g ≡ Some z = read_here t.lasts.items g z within read in

@@ -18,3 +18,4 @@ pub use Rattle.group_laws
 pub use Rattle.group_table
 pub use Rattle.id_rewrite
 pub use Rattle.mux_tokens
+pub use Rattle.mux_waits

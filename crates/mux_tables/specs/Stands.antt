@@ -36,6 +36,7 @@ use Rattle.id_rewrite.specs.Tables.{Table, IsInOrder}
 use Rattle.restart_replay.specs.Standings.{Standing, moved}
 use Rattle.mux_tokens.specs.progress_route.specs.Tables.{less}
 use Rattle.mux_tokens.specs.Stands.{CreatedStand}
+use Rattle.mux_waits.specs.Stands.{WaitingStand}
 use Rattle.mux_tables.specs.declared.tables.Start.{Start}
 use Rattle.mux_tables.specs.declared.tables.Tables.{Tables}
 use Rattle.mux_tables.specs.Names.{NamesStand}
@@ -310,6 +311,7 @@ pub record Stands (settings : Settings) (t : Tables) (events : List Event) : Typ
   pub origins : OriginsStand t.origins.groups.items events
   pub stopping : stopping_of events ≡ t.origins.stopping.items
   pub created : CreatedStand settings t.origins.created events
+  pub waiting : WaitingStand settings t.origins.waiting events
   pub lasts : LastsStand settings t.requests t.lasts.items events
   pub requests : settings.limits.requests ≡ t.requests
   pub range : t.requests < 2 ^ 32
@@ -442,6 +444,7 @@ pub record Exits (restarts : ℕ) (t : Tables) (g : ℕ) (z : Start) (u : Tables
   pub course : u.course ≡ t.course
   pub origins : u.origins.groups ≡ t.origins.groups
   pub created : u.origins.created ≡ less z.life.start t.origins.created
+  pub waiting : u.origins.waiting ≡ t.origins.waiting
   pub stopping : u.origins.stopping.items ≡ unstopped z.life.start t.origins.stopping.items
   pub requests : u.requests ≡ t.requests
 

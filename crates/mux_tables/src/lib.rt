@@ -30,6 +30,7 @@ pub use ask_route;
 pub use diagnostics_route;
 pub use id_rewrite;
 pub use mux_tokens;
+pub use mux_waits;
 pub use replies::Reply;
 pub use tables::{Course, Origins, Start, Tables};
 pub use tokens::Told;

@@ -328,7 +328,7 @@ impl Tables {
             → (is_first_result (message_of body) && is_initializing x.life.stage) ≡ false → x.life.stage ≢ Spawning → Stands settings self.old events
             → DocumentsStand settings owed self.old events → DocumentsStand settings owed self.new (events ++ heard (FromServer s body) ∷ []) }
         ensures found { (settings : Settings) (events : List Event) (s k : ℕ) → slice_get (map number_in self.old.lasts.items) g ≡ Some s → n ≡ Some k
-            → Stands settings self.old events → find (is_under k) (forwarding_of s events).open_requests ≡ option_map (forwarded_as k) result }
+            → Stands settings self.old events → find (is_under k) (forwarding_of settings s events).open_requests ≡ option_map (forwarded_as k) result }
         ensures editors { self.new.editors ≡ self.old.editors }
     {
         let last = &mut self.lasts[g];

@@ -1,8 +1,8 @@
 -- What waits, one event further.
 use Rattle.std.proofs.Common.{◌≡◌, ℕ, Bool, true, false, not, ◌&&◌, ◌||◌, List, [], ◌∷◌, ◌++◌, drop, codes, length, refl, sym, subst, ◌∙◌, ap, ap₂, nat_eq, bytes_eq, if◌then◌else◌}
-use Rattle.std.specs.Prelude.{Option, Some, None, filter}
+use Rattle.std.specs.Prelude.{Option, Some, None, filter, slice_get}
 use Rattle.std.specs.List.{AllByRecursion}
-use Rattle.std.specs.Option.{option_map_or}
+use Rattle.std.specs.Option.{option_and_then, option_map_or}
 use Rattle.std.proofs.lemmas.Slice.Eq.{bytes_eq-Decides}
 use Rattle.json_text.specs.Json.{Json}
 use Rattle.mux_history.specs.declared.cause.Cause.TheVariants.{FromEditor, EditorGone}
@@ -18,7 +18,7 @@ use Rattle.event_model.specs.Members.{params_of}
 use Rattle.event_model.specs.Phases.{desk_of, is_multiplexer_request, is_new, is_served}
 use Rattle.event_model.specs.Requests.{answered_id, is_open, is_own, open_behind, open_of, with_request, without}
 use Rattle.event_model.specs.Settings.{Settings}
-use Rattle.event_model.specs.Spawns.{group_of}
+use Rattle.event_model.specs.Spawns.{group_behind, group_of}
 use Rattle.event_model.proofs.Frames.{never, one_more}
 use Rattle.mux_facts.proofs.Words.{id_same, number_same, open_last, open_more, same_number, still_open}
 use Rattle.group_words.specs.Houses.{home_of, house_of, is_home, placed_for, places}
@@ -139,6 +139,26 @@ quiet_waits settings rows events ev q st g = record {
 
 -- A body to a start
 
+-- that is no editor's request
+untaken : (w : Option ℕ) (m : Message) → is_passed m ≡ false → (rs : List Request) → without_first w m rs ≡ rs
+untaken None (request id method ps) h rs = go (is_own method) h
+  where
+    go : (b : Bool) → not b ≡ false → (if b then rs else drop 1 rs) ≡ rs
+    go true h = refl
+    go false h = never h
+untaken w other h rs = refl
+
+pub waiting_told : (settings : Settings) (g s : ℕ) (body : List ℕ) (m : Message) (events : List Event) → is_passed m ≡ false → waiting_of settings g (events ++ did (ToServer s body) m ∷ []) ≡ waiting_of settings g events
+waiting_told settings g s body m events h = waiting_more settings g events (did (ToServer s body) m)
+    ∙ either_same (is_home g (group_of s events)) (without_first (worker_of events) m (waiting_of settings g events)) (waiting_of settings g events) (untaken (worker_of events) m h (waiting_of settings g events))
+
+pub first_told : (settings : Settings) (n s : ℕ) (body : List ℕ) (m : Message) (events : List Event) → is_passed m ≡ false → first_waiting settings n (events ++ did (ToServer s body) m ∷ []) ≡ first_waiting settings n events
+first_told settings n s body m events h = ap (option_and_then (λ g. slice_get (waiting_of settings g (events ++ did (ToServer s body) m ∷ [])) 0)) (one_more (group_behind n) _ _ events (did (ToServer s body) m) refl) ∙ go (group_of n events)
+  where
+    go : (o : Option ℕ) → option_and_then (λ g. slice_get (waiting_of settings g (events ++ did (ToServer s body) m ∷ [])) 0) o ≡ option_and_then (λ g. slice_get (waiting_of settings g events) 0) o
+    go None = refl
+    go (Some g) = ap (λ rs. slice_get rs 0) (waiting_told settings g s body m events h)
+
 module _ (settings : Settings) (events : List Event) (s : ℕ) (body : List ℕ) (m : Message) where
   abbrev to_start : Event
   to_start = did (ToServer s body) m
@@ -153,14 +173,6 @@ module _ (settings : Settings) (events : List Event) (s : ℕ) (body : List ℕ)
   -- that is no editor's request
   pub told_waits : (rows : Rows) → is_passed m ≡ false → WaitingStand settings rows events → WaitingStand settings rows (events ++ to_start ∷ [])
   told_waits rows h st = untaken_waits rows (untaken (worker_of events) m h) st
-    where
-      untaken : (w : Option ℕ) (m : Message) → is_passed m ≡ false → (rs : List Request) → without_first w m rs ≡ rs
-      untaken None (request id method ps) h rs = go (is_own method) h
-        where
-          go : (b : Bool) → not b ≡ false → (if b then rs else drop 1 rs) ≡ rs
-          go true h = refl
-          go false h = never h
-      untaken w other h rs = refl
 
   -- by which the message of an editor goes on
   pub passed_waits : (rows : Rows) (e : ℕ) → worker_of events ≡ Some e → WaitingStand settings rows events → WaitingStand settings rows (events ++ to_start ∷ [])

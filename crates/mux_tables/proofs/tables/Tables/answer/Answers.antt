@@ -1,0 +1,12 @@
+-- An editor's request is answered.
+use Rattle.std.proofs.Common.{refl}
+use Rattle.mux_tables.proofs.DocumentSaid.{told_documents}
+use Rattle.mux_tables.proofs.Said.{answer_does}
+use Rattle.mux_tables.proofs.tables.Tables.answer.Goals as goal
+
+pub returns-clause-does : goal.returns-clause-does
+returns-clause-does c = λ settings base k a.
+    answer_does settings c.args.self.now _ c.args.outs.now c.push.new.self base c.args.e c.args.id.now c.args.body c.home-home.result k a c.home-home.ensures c.answer.ensures refl refl refl refl refl refl refl refl c.in_ok-push.ensures.ok
+
+pub returns-clause-documents : goal.returns-clause-documents
+returns-clause-documents c = λ settings owed base ds. told_documents settings owed c.args.self.now _ base c.args.outs.now c.push.new.self c.args.e c.args.body refl refl refl c.in_ok-push.ensures.ok ds
