@@ -29,7 +29,7 @@ use Rattle.mux_tables.specs.Notes.{NotesStand}
 use Rattle.mux_tables.specs.Stands.{Exits}
 use Rattle.mux_tables.proofs.DocumentEvents.{shared_notified, shared_quiet}
 use Rattle.mux_tables.proofs.DocumentFrames.{all_owned, owner_stays, sent_silent, shared_stays, start_stays}
-use Rattle.mux_tables.proofs.DocumentMoves.{Rest, documents_all, documents_at, documents_last, documents_set, founds_kept, quiet_documents, rest_quiet, starts_kept}
+use Rattle.mux_tables.proofs.DocumentMoves.{Rest, documents_all, documents_at, documents_last, documents_set, founds_kept, quiet_documents, rest_none, rest_quiet, starts_kept}
 use Rattle.mux_tables.proofs.Noting.{asks_aside, asks_on, left_stays, moment_stays, notes_cancelled, notes_gone}
 use Rattle.mux_tables.proofs.Starts.{read_here}
 

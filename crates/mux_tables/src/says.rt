@@ -78,13 +78,7 @@ impl Tables {
     }
 
     /// An answer to its request of this id goes to an editor, which it leaves in its phase; where the request waited it waits no more.
-    pub fn answer(
-        &mut self,
-        outs: &mut Outs,
-        e: u64,
-        id: &[u8],
-        body: Body,
-    ) -> Result<(), Memory>
+    pub fn answer(&mut self, outs: &mut Outs, e: u64, id: &[u8], body: Body) -> Result<(), Memory>
         ensures requests { self.new.requests ≡ self.old.requests }
         ensures versions { self.new.versions ≡ self.old.versions }
         ensures lasts { self.new.lasts ≡ self.old.lasts }
@@ -108,13 +102,7 @@ impl Tables {
     }
 
     /// The result of its `initialize`, which has this id, goes to an editor that waits.
-    pub fn welcome(
-        &mut self,
-        outs: &mut Outs,
-        e: u64,
-        id: &[u8],
-        body: Body,
-    ) -> Result<(), Memory>
+    pub fn welcome(&mut self, outs: &mut Outs, e: u64, id: &[u8], body: Body) -> Result<(), Memory>
         requires { e < length self.old.editors }
         ensures requests { self.new.requests ≡ self.old.requests }
         ensures versions { self.new.versions ≡ self.old.versions }
