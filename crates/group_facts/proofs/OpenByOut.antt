@@ -26,7 +26,7 @@ use Rattle.group_facts.proofs.Listens.{listens_late}
 use Rattle.group_facts.specs.Why.{Why, WhyToEditor, calls, rejects, resumes, refuses, answers, turns_away, welcomes, passes, asks, recalls, spreads, progresses, shows, loses, winds_up}
 use Rattle.group_facts.proofs.Begun.{Begun, Founding, IsTold, NoSpawn, founding_of, founds, quiet, renews, start_more, starts_stay, start_took, told_quiet}
 use Rattle.group_facts.proofs.Facts.{Facts}
-use Rattle.group_facts.proofs.Forwards.{forwarding_more}
+use Rattle.group_rows.proofs.Frames.{forwarding_more}
 use Rattle.group_facts.proofs.LastStarts.{AllLast, alive_exit}
 use Rattle.group_facts.proofs.PutOut.{home_did}
 use Rattle.group_facts.proofs.Same.{Same}

@@ -44,7 +44,7 @@ use Rattle.group_words.specs.Rows.{initialize_row}
 use Rattle.group_words.proofs.Frames.{home_more}
 use Rattle.group_rows.specs.AskRows.{hand_back, response_at, response_row, run_row}
 use Rattle.group_rows.specs.Cancelling.{cancelling_at, cancelling_row}
-use Rattle.group_rows.specs.Forwarded.{Forwarding, forwarding_of, numbered, token_in}
+use Rattle.group_rows.specs.Forwarded.{Forwarding, first_sender, forwarding_of, numbered, token_in}
 use Rattle.group_rows.specs.diagnostics_route.specs.declared.last_list.LastList.{LastList}
 use Rattle.group_rows.specs.diagnostics_route.specs.Rows.{is_of}
 use Rattle.group_rows.specs.diagnostics_route.specs.Shown.{shown_text}
@@ -241,7 +241,7 @@ module _ (settings : Settings) (before : List Event) (n : ℕ) (body : List ℕ)
 
           list_now : (forwarding_of settings s gone).open_requests ≡ (forwarding_of settings s synced).open_requests ++ numbered (Some (record { editor = n; id = id_bytes body; work = token_in (codes "workDoneToken") body; partial = token_in (codes "partialResultToken") body })) (forwarding_of settings s synced).next
           list_now = ap (λ (x : Forwarding). x.open_requests) (forwarding_sent settings synced s text (request (integer (decimal (forwarding_of settings s synced).next)) forward_is.method forward_is.params) forward_is.says
-              ∙ ap (λ c. if c then forwarding_of settings s synced else more_requests (forwarding_of settings s synced)) forward_is.other)
+              ∙ ap (λ c. if c then forwarding_of settings s synced else more_requests (first_sender settings s synced) (forwarding_of settings s synced)) forward_is.other)
               ∙ ap (λ o. (forwarding_of settings s synced).open_requests ++ numbered o (forwarding_of settings s synced).next) (synced_sender settings before n body id method params says there (alone_by settings before (asked_while settings before (facts.steady).asked facts.quit n there) n id fresh) range (facts.base).opened late other g s start can free)
 
           sent_now : SentAt settings gone n id

@@ -94,7 +94,7 @@ module _ (settings : Settings) (before : List Event) (e : ℕ) (body : List ℕ)
 
   module _ (id : Id) (method : List ℕ) (params : Option Json) (says : message_of body ≡ request id method params) where
     request_there : (g s : ℕ) → Still settings (request_at settings before e body g s)
-    request_there g s = still_choose (λ takes. still_then (still_start s (sync_bodies settings.limits.versions (λ u. held_at s u before) e (texts_of settings g before).opens)) (still_forward s)) (λ full. still_error id method params says request_failed)
+    request_there g s = still_choose (λ takes. still_then (still_start s (sync_bodies settings.limits.versions (λ u. held_at s u before) e (texts_of settings g before).opens)) (still_forward s)) (λ cannot. still_choose (λ waits. still_nothing) (λ full. still_error id method params says request_failed))
 
     request_in : (g : ℕ) → Still settings (on (start_of g before) (answer_error e body request_failed) (request_at settings before e body g))
     request_in g = still_on (λ none. still_error id method params says request_failed) (λ s at. request_there g s)
@@ -207,7 +207,7 @@ module _ (settings : Settings) (before : List Event) (e : ℕ) (body : List ℕ)
   still_served idle (request id method params) says runs = still_choose (λ misplaced. still_error id method params says (wrong_code method invalid_request))
       (λ placed. still_choose (λ shuts. never (sym shuts ∙ unshut (request id method params) runs)) (λ on. still_request id method params says))
   still_served idle (notification method params) says runs = still_choose (λ ends. never (sym ends ∙ unended (notification method params) runs))
-      (λ on. still_choose (λ going. still_notice) (λ off. still_choose (λ cancels. still_cancel params) (λ off. still_choose (λ works. still_work params) (λ other. still_document (saying_by method params)))))
+      (λ on. still_choose (λ going. still_notice) (λ off. still_choose (λ cancels. still_cancelled params) (λ off. still_choose (λ works. still_work params) (λ other. still_document (saying_by method params)))))
   still_served idle (result id r) says runs = still_response idle (result id r)
   still_served idle (error id x) says runs = still_response idle (error id x)
   still_served idle not_json says runs = still_response idle not_json
