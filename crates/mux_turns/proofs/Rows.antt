@@ -45,17 +45,17 @@ is_second {r} {p} {q} e h = alike_then (alike (e ∙ ap (λ c. choose c p q) h))
 module _ (settings : Settings) (before : List Event) (e : ℕ) where
   -- L1
   abbrev by_ready : ℕ → Bool → Row
-  by_ready s b = choose b (each (cancel s) (uncancelled_of e (forwarding_of s before).open_requests)) nothing ⨾ choose b (each (refuse s) (filter (is_with e) (asks_of settings s before))) nothing
+  by_ready s b = choose b (each (cancel s) (uncancelled_of e (forwarding_of settings s before).open_requests)) nothing ⨾ choose b (each (refuse s) (filter (is_with e) (asks_of settings s before))) nothing
 
   -- where it isn't ready
-  unready_both : (s : ℕ) → is_ready (life_of s before).stage ≡ false → Alike (cancels before s e ⨾ refusals settings before s e) nothing
+  unready_both : (s : ℕ) → is_ready (life_of s before).stage ≡ false → Alike (cancels settings before s e ⨾ refusals settings before s e) nothing
   unready_both s h = alike_then (alike (ap (by_ready s) h)) (record { sends = λ events. refl })
 
   pub ended_left : HasEnded (start_for settings e before) before → Alike (cancels_row settings before e) nothing
-  ended_left h = ended_start (home_of settings e before) (λ g. start_of g before) nothing (λ g s. cancels before s e ⨾ refusals settings before s e) (λ g s at. unready_both s (ap is_ready (h s at)))
+  ended_left h = ended_start (home_of settings e before) (λ g. start_of g before) nothing (λ g s. cancels settings before s e ⨾ refusals settings before s e) (λ g s at. unready_both s (ap is_ready (h s at)))
 
-  left_at : (g s : ℕ) → home_of settings e before ≡ Some g → start_of g before ≡ Some s → cancels_row settings before e ≡ (cancels before s e ⨾ refusals settings before s e)
-  left_at g s h k = some_start (home_of settings e before) (λ g. start_of g before) nothing (λ g s. cancels before s e ⨾ refusals settings before s e) g s h k
+  left_at : (g s : ℕ) → home_of settings e before ≡ Some g → start_of g before ≡ Some s → cancels_row settings before e ≡ (cancels settings before s e ⨾ refusals settings before s e)
+  left_at g s h k = some_start (home_of settings e before) (λ g. start_of g before) nothing (λ g s. cancels settings before s e ⨾ refusals settings before s e) g s h k
 
   pub unready_left : (g s : ℕ) (stage : Stage) → home_of settings e before ≡ Some g → start_of g before ≡ Some s → stage ≡ (life_of s before).stage → is_ready stage ≡ false → Alike (cancels_row settings before e) nothing
   unready_left g s stage h k at r = alike_then (alike (left_at g s h k ∙ ap (by_ready s) (ap is_ready (sym at) ∙ r))) (record { sends = λ events. refl })
@@ -70,7 +70,7 @@ module _ (settings : Settings) (before : List Event) (e : ℕ) where
       go true h = ap (λ r. refuse s a ⨾ r) h
       go false h = h
 
-  pub ready_left : (g s : ℕ) (stage : Stage) (ns : List ℕ) (kept : List route.Ask) → kept ≡ map kept_ask (asks_of settings s before) → home_of settings e before ≡ Some g → start_of g before ≡ Some s → stage ≡ (life_of s before).stage → is_ready stage ≡ true → ns ≡ uncancelled_of e (forwarding_of s before).open_requests
+  pub ready_left : (g s : ℕ) (stage : Stage) (ns : List ℕ) (kept : List route.Ask) → kept ≡ map kept_ask (asks_of settings s before) → home_of settings e before ≡ Some g → start_of g before ≡ Some s → stage ≡ (life_of s before).stage → is_ready stage ≡ true → ns ≡ uncancelled_of e (forwarding_of settings s before).open_requests
       → Alike (cancels_row settings before e) (each (cancel s) ns ⨾ each (refusal s) (of_editor e kept))
   ready_left g s stage ns kept own h k at r is = alike_then (alike (left_at g s h k ∙ ap (by_ready s) (ap is_ready (sym at) ∙ r)))
       (alike_then (record { sends = λ events. refl }) (alike (ap₂ (λ q w. each (cancel s) q ⨾ w) (sym is) (refusal_rows s (asks_of settings s before) ∙ ap (λ ks. each (refusal s) (of_editor e ks)) (sym own)))))
@@ -103,7 +103,7 @@ module _ (settings : Settings) (before : List Event) (e : ℕ) where
 
       pub ended_asked : HasEnded (start_for settings e before) before → Alike (request_row settings before e body) (answer_error e body request_failed)
       ended_asked h = alike_then past (ended_start (home_of settings e before) (λ g. start_of g before) (answer_error e body request_failed) (request_at settings before e body)
-          (λ g s at. is_second refl (ap (λ k. is_ready k && nat_lt (forwarding_of s before).next settings.limits.requests) (h s at))))
+          (λ g s at. is_second refl (ap (λ k. is_ready k && nat_lt (forwarding_of settings s before).next settings.limits.requests) (h s at))))
 
       asked : (g s : ℕ) → home_of settings e before ≡ Some g → start_of g before ≡ Some s → sent_row ≡ request_at settings before e body g s
       asked g s h k = some_start (home_of settings e before) (λ g. start_of g before) (answer_error e body request_failed) (request_at settings before e body) g s h k
@@ -111,5 +111,5 @@ module _ (settings : Settings) (before : List Event) (e : ℕ) where
       pub unasked_at : (g s : ℕ) (b : Bool) → home_of settings e before ≡ Some g → start_of g before ≡ Some s → b ≡ can_ask settings s before → b ≡ false → Alike (request_row settings before e body) (answer_error e body request_failed)
       unasked_at g s b h k is f = alike_then past (is_second (asked g s h k) (sym is ∙ f))
 
-      pub asked_at : (g s : ℕ) (b : Bool) → home_of settings e before ≡ Some g → start_of g before ≡ Some s → b ≡ can_ask settings s before → b ≡ true → Alike (request_row settings before e body) (sync_row settings before g s e ⨾ forward s body)
+      pub asked_at : (g s : ℕ) (b : Bool) → home_of settings e before ≡ Some g → start_of g before ≡ Some s → b ≡ can_ask settings s before → b ≡ true → Alike (request_row settings before e body) (sync_row settings before g s e ⨾ forward settings s body)
       asked_at g s b h k is so = alike_then past (is_first (asked g s h k) (sym is ∙ so))

@@ -158,7 +158,7 @@ pub fn asked_at(tables: &Tables, e: u64) -> Option<usize>
     ensures goes { IfSome result (λ g. (settings : Settings) (before : List Event) (body : List ℕ) (s : ℕ) (x : Start)
         → slice_get tables.now.lasts.items g ≡ Some x → slice_get (map number_in tables.now.lasts.items) g ≡ Some s
         → reserves (params_of body) ≡ false → Stands settings tables.now before
-        → Alike (request_row settings before e body) (sync_row settings before x.life.group s e ⨾ forward s body)) }
+        → Alike (request_row settings before e body) (sync_row settings before x.life.group s e ⨾ forward settings s body)) }
 {
     let g = tables.place(e)?;
     if tables.can_ask(g) { Some(g) } else { None }
