@@ -19,12 +19,13 @@ use Rattle.mux_model.specs.Documents.{held_at}
 use Rattle.mux_model.specs.Rows.{to_start}
 use Rattle.mux_model.proofs.DocumentFolds.{outs_to_start}
 use Rattle.mux_turns.specs.group_facts.specs.Why.{IsQuestion}
-use Rattle.group_rows.specs.Forwarded.{Forwarding, forwarding_behind, forwarding_of, sender_of, token_in}
+use Rattle.group_rows.specs.Forwarded.{Forwarding, first_sender, forwarding_of, sender_of, sender_or, token_in}
 use Rattle.group_rows.specs.Rows.{forward, sync_bodies, sync_row}
 use Rattle.group_rows.specs.Tokens.{forwarded_text}
 use Rattle.group_rows.proofs.TokenTexts.{forwarded_says}
 use Rattle.group_rows.specs.Texts.{is_synced, texts_of}
 use Rattle.group_rows.specs.Waiting.{worker_of}
+use Rattle.group_rows.proofs.Frames.{forwarding_more}
 use Rattle.mux_tables.specs.declared.tables.Start.{Start}
 use Rattle.mux_tables.specs.declared.tables.Tables.{Tables}
 use Rattle.mux_tables.specs.Documents.{AllStand, AllTell, nothing_owed, syncing, to}
@@ -50,9 +51,9 @@ module _ (settings : Settings) (t : Tables) (before : List Event) (body method :
 
   -- whose request is at work
   pub sends : (bytes : List ℕ) (work partial : Option (List ℕ)) → bytes ≡ id_bytes body → work ≡ token_in (codes "workDoneToken") body → partial ≡ token_in (codes "partialResultToken") body → Sends settings s e bytes work partial now
-  sends bytes work partial is first second = ap (λ (f : Forwarding). f.sender) ((alike_since settings before body e xs asked).forwarding s) ∙ (ap (λ (f : Forwarding). f.sender) (one_more (forwarding_behind s) _ _ before (heard (FromEditor e body)) refl)
+  sends bytes work partial is first second = ap (λ o. sender_or o (first_sender settings s now)) (ap (λ (f : Forwarding). f.sender) ((alike_since settings before body e xs asked).forwarding s) ∙ (ap (λ (f : Forwarding). f.sender) (forwarding_more settings s before (heard (FromEditor e body)))
       ∙ (ap (sender_of e body) says ∙ (ap (λ w. Some (record { editor = e; id = w; work = token_in (codes "workDoneToken") body; partial = token_in (codes "partialResultToken") body })) (sym is)
-      ∙ ap₂ (λ a b. Some (record { editor = e; id = bytes; work = a; partial = b })) (sym first) (sym second))))
+      ∙ ap₂ (λ a b. Some (record { editor = e; id = bytes; work = a; partial = b })) (sym first) (sym second)))))
 
   pub works : worker_of now ≡ Some e
   works = at_work settings before body e xs asked

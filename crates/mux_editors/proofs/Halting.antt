@@ -22,9 +22,10 @@ use Rattle.group_words.specs.Houses.{groups_of, home_of, stops}
 use Rattle.group_words.specs.Placing.{all_from, is_live}
 use Rattle.group_words.specs.Rows.{end_group}
 use Rattle.event_model.proofs.Turns.{alike, alike_then, behind_more, does_alike, does_entry, does_knowing, does_nothing, does_then}
-use Rattle.group_rows.specs.Forwarded.{Forwarded, Forwarding, forwarding_behind, forwarding_of, is_of}
+use Rattle.group_rows.specs.Forwarded.{Forwarded, Forwarding, forwarding_of, is_of}
 use Rattle.group_rows.specs.Rows.{asks_lspmux}
 use Rattle.group_rows.specs.StopRows.{close_each, lose_request, lose_requests, refuse_initialize, refuse_open, stop_row, there_in}
+use Rattle.group_rows.proofs.Frames.{forwarding_more}
 use Rattle.mux_tables.specs.declared.tables.Tables.{Tables}
 use Rattle.mux_tables.specs.declared.tables.Start.{Start}
 use Rattle.mux_tables.specs.Documents.{AllStand, DocumentsStand, Owed, nothing_owed}
@@ -144,7 +145,7 @@ module _ (settings : Settings) (before now : List Event) (k : ℕ) (body : List 
     stays = record {
       home = λ e. home_more settings e now ev ∙ r.stays.home e;
       start = λ g. one_more (start_behind g) _ _ now ev refl ∙ r.stays.start g;
-      open_requests = λ s. ap (λ (f : Forwarding). f.open_requests) (one_more (forwarding_behind s) _ _ now ev refl) ∙ r.stays.open_requests s;
+      open_requests = λ s. ap (λ (f : Forwarding). f.open_requests) (forwarding_more settings s now ev) ∙ r.stays.open_requests s;
     };
     asking = λ e at. let d = told_desk e at in let asks = r.asking e d.0 in record { name = asks.name; method = asks.method; params = asks.params; says = ap message_of d.1 ∙ asks.says };
     housed = λ e at. let home = r.housed e (told_desk e at).0 in (home.0, home_more settings e now ev ∙ home.1);
@@ -213,7 +214,7 @@ module _ (settings : Settings) (before : List Event) (k : ℕ) (body : List ℕ)
     stays = record {
       home = still_home;
       start = λ g. one_more (start_behind g) _ _ before stopping refl;
-      open_requests = λ s. ap (λ (f : Forwarding). f.open_requests) (one_more (forwarding_behind s) _ _ before stopping refl);
+      open_requests = λ s. ap (λ (f : Forwarding). f.open_requests) (forwarding_more settings s before stopping);
     };
     asking = λ e at.
         let was = heard_desk e at in

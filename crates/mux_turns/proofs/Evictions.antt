@@ -22,7 +22,8 @@ use Rattle.event_model.proofs.Turns.{behind_more, does_knowing, does_look, does_
 use Rattle.group_facts.specs.Facts.{Numbered}
 use Rattle.group_facts.specs.Why.{is_starting}
 use Rattle.group_facts.proofs.GroupEnds.{shutdown_says}
-use Rattle.group_facts.specs.group_rows.specs.Forwarded.{Forwarding, forwarding_behind, forwarding_of}
+use Rattle.group_facts.specs.group_rows.specs.Forwarded.{Forwarding, forwarding_next, forwarding_of}
+use Rattle.group_facts.specs.group_rows.proofs.Frames.{forwarding_more}
 use Rattle.group_words.specs.declared.placed.Placed.TheVariants.{Evicts}
 use Rattle.group_words.specs.Rows.{end_group, end_start, placed_row, spawn}
 use Rattle.mux_tables.specs.id_rewrite.specs.Tables.{IsInOrder}
@@ -143,10 +144,10 @@ replaces settings t u v before base e g n body xs ys zs next d spawns docs = doe
     does_then d (all_does settings u v nothing_owed nothing_owed base ys zs (spawns still) (docs still)))
 
 -- a cause that no start's numbers speak of leaves them alone
-numbered_quiet : (settings : Settings) (before : List Event) (event : Event) → ((s : ℕ) (l : Life) → life_behind s l event ≡ l) → ((s n : ℕ) → number_behind s n event ≡ n) → ((s : ℕ) (f : Forwarding) → (forwarding_behind s f event).next ≡ f.next) → Numbered settings before → Numbered settings (before ++ event ∷ [])
+numbered_quiet : (settings : Settings) (before : List Event) (event : Event) → ((s : ℕ) (l : Life) → life_behind s l event ≡ l) → ((s n : ℕ) → number_behind s n event ≡ n) → ((s : ℕ) (f : Forwarding) → (forwarding_next settings s before f event).next ≡ f.next) → Numbered settings before → Numbered settings (before ++ event ∷ [])
 numbered_quiet settings before event life number next k s ready =
     let stood : (life_of s before).stage ≡ Ready = sym (ap (λ (l : Life). l.stage) (one_more (life_behind s) _ _ before event refl ∙ life s (life_of s before))) ∙ ready in
-    (one_more (number_behind s) _ _ before event refl ∙ number s (next_number s before)) ∙ (k s stood ∙ sym (ap (λ (f : Forwarding). f.next) (one_more (forwarding_behind s) _ _ before event refl) ∙ next s (forwarding_of settings s before)))
+    (one_more (number_behind s) _ _ before event refl ∙ number s (next_number s before)) ∙ (k s stood ∙ sym (ap (λ (f : Forwarding). f.next) (forwarding_more settings s before event) ∙ next s (forwarding_of settings s before)))
 
 pub numbered_heard : (settings : Settings) (before : List Event) (e : ℕ) (body : List ℕ) → Numbered settings before → Numbered settings (with_cause before (FromEditor e body))
 numbered_heard settings before e body = numbered_quiet settings before (heard (FromEditor e body)) (λ s l. refl) (λ s n. refl) (λ s f. refl)

@@ -17,11 +17,11 @@ use Rattle.event_model.specs.Stages.{Life, life_of, stage_ending, stage_told}
 use Rattle.event_model.proofs.Turns.{behind_more}
 use Rattle.group_facts.specs.mux_facts.proofs.Folds.{life_more, number_more}
 use Rattle.group_facts.specs.Facts.{Numbered}
-use Rattle.group_facts.proofs.Forwards.{forwarding_more}
 use Rattle.group_facts.proofs.GroupEnds.{shutdown_says}
 use Rattle.group_facts.proofs.Numbers.{forwarding_other, number_other}
 use Rattle.group_facts.proofs.TickRow.{ending_not, told_not}
 use Rattle.group_facts.specs.group_rows.specs.Forwarded.{Forwarding, forwarding_of}
+use Rattle.group_facts.specs.group_rows.proofs.Frames.{forwarding_more}
 use Rattle.group_words.specs.Rows.{end_group, end_start}
 use Rattle.mux_tables.specs.declared.tables.Tables.{Tables}
 use Rattle.mux_tables.specs.Documents.{AllStand, Owed}
@@ -51,7 +51,7 @@ module _ (settings : Settings) (events : List Event) (k : Numbered settings even
 
       go : (b : Bool) → nat_eq s n ≡ b → next_number n (events ++ said (EndServer s) ∷ []) ≡ (forwarding_of settings n (events ++ said (EndServer s) ∷ [])).next
       go true same = absurd (ending_not (life_of n events).stage (stage_by true same))
-      go false other = number_more n events (said (EndServer s)) ∙ k n (stage_by false other) ∙ sym (ap (λ (f : Forwarding). f.next) (forwarding_more n events (said (EndServer s))))
+      go false other = number_more n events (said (EndServer s)) ∙ k n (stage_by false other) ∙ sym (ap (λ (f : Forwarding). f.next) (forwarding_more settings n events (said (EndServer s))))
 
   start_numbered : (s : ℕ) (stage : Stage) → (stage ≡ Ready → next_number s events < 2 ^ 128) → Numbered settings (behind events (outs (end_start s stage) events))
   start_numbered s Ready low = sent_numbered s (request_text (next_number s events) (codes "shutdown") None) (ap (requests (codes "shutdown")) (shutdown_says (next_number s events) (low refl)))
