@@ -127,7 +127,7 @@ told_passed other h = never (sym h)
 
 first_stays : (settings : Settings) (n s : ℕ) (bodies : List (List ℕ)) (events : List Event) → AllTell bodies → first_waiting settings n (behind events (to s bodies)) ≡ first_waiting settings n events
 first_stays settings n s [] events h = ap (first_waiting settings n) (append-nil events)
-first_stays settings n s (body ∷ bodies) events h = ap (first_waiting settings n) (sym (first_behind events (ToServer s body) (to s bodies)))
+first_stays settings n s (body ∷ bodies) events h = ap (first_waiting settings n) (first_behind events (ToServer s body) (to s bodies))
     ∙ (first_stays settings n s bodies (events ++ said (ToServer s body) ∷ []) h.1 ∙ first_told settings n s body (message_of body) events (told_passed (message_of body) h.0))
 
 -- whose request is at work, behind bodies that tell of documents
@@ -212,7 +212,7 @@ module _ (settings : Settings) (t : Tables) (now : List Event) (i e : ℕ) (z : 
   last_toucher = ap₂ (λ w o. toucher w (message_of text) o) (worker_stays now (to s bodies)) (first_stays settings s s bodies now tell) ∙ works
 
   last_texts : texts_of settings g last ≡ texts_in (sync_row e d).after
-  last_texts = texts_more settings g mid (said (ToServer s text)) ∙ (rw (here, itself g, synced, last_toucher) (ap (touch_all (Some e)) (texts_told settings g s now bodies tell ∙ was.texts.texts)) ∙ sym (sync_texts e d))
+  last_texts = texts_more settings g mid (said (ToServer s text)) ∙ (rw (last_toucher, here, itself g, synced) (ap (touch_all (Some e)) (texts_told settings g s now bodies tell ∙ was.texts.texts)) ∙ sym (sync_texts e d))
 
   mid_sent : (u : List ℕ) → sent_of s u mid ≡ record { encoding = Some was.start.code; held = told_outs (Some was.start.code) u (held_at s u now) (to s bodies) }
   mid_sent u = all_told s u was.start.code (held_at s u now) bodies now (known_sent s u was.start.code now holds.given)

@@ -1,6 +1,6 @@
 -- What the tables do when a cause about an editor comes, as the code has it.
 use Rattle.std.proofs.Common.{◌≡◌, ℕ, ◌<◌, Bool, true, false, arith, List, [], ◌∷◌, ◌++◌, length, max, refl, ap, sym, subst, ◌∙◌, ◌&&◌, not, nat_eq, codes, bytes_eq, if◌then◌else◌}
-use Rattle.std.specs.Prelude.{Option, Some, None, slice_get, slice_set}
+use Rattle.std.specs.Prelude.{filter, Option, Some, None, slice_get, slice_set}
 use Rattle.std.proofs.lemmas.Bool.{and_parts, ne_eqb}
 use Rattle.std.proofs.lemmas.Slice.Eq.{bytes_eq-Decides}
 use Rattle.std.proofs.lemmas.Option.{slice_get-get_or, slice_get_past}

@@ -1,6 +1,6 @@
 -- What waits, behind a message of an editor, and where the editors' table says of which group one is.
-use Rattle.std.proofs.Common.{◌≡◌, ℕ, ◌<◌, List, length, true, sym, ap, ◌∙◌}
-use Rattle.std.specs.Prelude.{Option, None}
+use Rattle.std.proofs.Common.{◌≡◌, ℕ, zero, suc, ◌<◌, ◌≤◌, List, [], ◌∷◌, arith, length, true, refl, sym, ap, ◌∙◌}
+use Rattle.std.specs.Prelude.{Option, None, slice_get}
 use Rattle.std.proofs.lemmas.Option.{slice_get-get_or}
 use Rattle.mux_history.specs.declared.cause.Cause.TheVariants.{FromEditor}
 use Rattle.rpc_message.specs.Message.{message_of}
@@ -20,6 +20,14 @@ use Rattle.mux_tables.proofs.TokenMoves.{WaitsStay}
 
 pub home_kept : (settings : Settings) (t : List Session) (events : List Event) (e : ℕ) (home : Option ℕ) → e < length t → home ≡ (session_of t e).group → EditorsStand settings t events → home_of settings e events ≡ home
 home_kept settings t events e home l is s = s.home e ∙ (ap group_in (slice_get-get_or t e absent l) ∙ sym is)
+
+pub home_past : (settings : Settings) (t : List Session) (events : List Event) (e : ℕ) → length t ≤ e → EditorsStand settings t events → home_of settings e events ≡ None
+home_past settings t events e l s = s.home e ∙ ap group_in (past t e l)
+  where
+    past : (xs : List Session) (n : ℕ) → length xs ≤ n → slice_get xs n ≡ None
+    past [] n l = refl
+    past (x ∷ xs) zero l = absurd (omega arith)
+    past (x ∷ xs) (suc n) l = past xs n (omega arith)
 
 -- an editor that is new is in no group
 pub unplaced : (settings : Settings) (t : List Session) (events : List Event) (e : ℕ) → EditorsStand settings t events → is_new (desk_of e events).phase ≡ true → home_of settings e events ≡ None

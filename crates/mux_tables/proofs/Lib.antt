@@ -72,3 +72,4 @@ pub mod Resuming
 pub mod DocumentResumed
 pub mod Working
 pub mod Marks
+pub mod Held

@@ -55,6 +55,7 @@ use Rattle.mux_tables.proofs.Refusing.{ready_asks, rest_same, same_does, same_st
 use Rattle.mux_tables.proofs.Said.{asked_editors, does_send, idle_stay, told_house}
 use Rattle.mux_tables.proofs.Waiting.{all_then, none_any, none_either, parked_beside, ready_parked}
 use Rattle.mux_waits.proofs.Moves.{silent_waits}
+use Rattle.event_model.specs.Requests.{answered_id}
 
 pub running_there : (p : Phase) → is_running p ≡ true → is_gone p ≡ false
 running_there Running h = refl

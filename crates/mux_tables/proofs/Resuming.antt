@@ -51,6 +51,7 @@ use Rattle.mux_tables.proofs.Seated.{set_set}
 use Rattle.mux_tables.proofs.Sent.{same_set}
 use Rattle.mux_tables.proofs.Waiting.{parked_beside, parked_text, ready_parked}
 use Rattle.mux_waits.proofs.Moves.{silent_waits}
+use Rattle.event_model.specs.Requests.{answered_id}
 
 -- The editor runs, is in this group, and its message is at work
 pub record IsFacing (settings : Settings) (e g : ℕ) (events : List Event) : Type 0 where

@@ -35,6 +35,7 @@ use Rattle.mux_tables.proofs.Putting.{running_there}
 use Rattle.mux_tables.proofs.Said.{does_send, said_editors, told_house}
 use Rattle.mux_tables.proofs.TokenMoves.{origins_stay, told_tokens}
 use Rattle.mux_waits.proofs.Moves.{silent_waits}
+use Rattle.event_model.specs.Requests.{answered_id}
 
 bytes_back : (a b : List ℕ) → bytes_eq a b ≡ bytes_eq b a
 bytes_back a b = go (bytes_eq a b) (bytes_eq b a) refl refl

@@ -25,6 +25,7 @@ mod statuses;
 mod stops;
 mod tables;
 mod tokens;
+mod waits;
 
 pub use ask_route;
 pub use diagnostics_route;

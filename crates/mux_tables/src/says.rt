@@ -19,13 +19,19 @@ ghost use Rattle.event_model.specs.Members.{named_of};
 ghost use Rattle.rpc_message.specs.Message as message;
 ghost use Rattle.rpc_message.specs.Message.{Id, message_of};
 ghost use Rattle.mux_tables.specs.declared.tables.Start.{Start};
+ghost use Rattle.mux_tables.specs.declared.tables.Tables.{Tables as State};
+ghost use Rattle.mux_tables.specs.Waits.{Released};
 ghost use Rattle.document_model.specs.Sayings.{nothing, saying_of};
 ghost use Rattle.group_laws.specs.group_rows.specs.Asks.{Ask, Parked, asks_of, is_under, parked_of, waits_under};
 ghost use Rattle.group_laws.specs.group_rows.specs.Forwarded.{is_written, moves_ids};
 ghost use Rattle.group_laws.specs.group_rows.specs.Texts.{is_synced};
-ghost use Rattle.group_laws.specs.group_rows.specs.Waiting.{worker_of};
+ghost use Rattle.group_laws.specs.group_rows.specs.Waiting.{first_waiting, worker_of};
+ghost use Rattle.mux_waits.specs.held_requests.specs.declared.request.Request.{Request as Waits};
 ghost use Rattle.mux_tables.specs.Documents.{AllStand, DocumentsStand, Leaves, Owed, nothing_owed, owes, syncing, to};
+ghost use Rattle.mux_waits.specs.Rows.{BecomesAt};
 ghost use Rattle.mux_waits.specs.Stands.{AnswersId};
+ghost use Rattle.mux_waits.specs.held_requests.specs.Tables.{is_under as is_waiting_under};
+ghost use Rattle.mux_waits.specs.numbered_rows.specs.Rows.{less};
 ghost use Rattle.mux_tables.specs.Names.{id_in};
 ghost use Rattle.mux_tables.specs.Refusals.{asks_in};
 ghost use Rattle.mux_tables.specs.Stands.{IsNew, Keeps, Sends, Stands, Welcomes, house_in, is_answer, number_in, stage_in, start_for};
@@ -84,10 +90,16 @@ impl Tables {
         ensures lasts { self.new.lasts ≡ self.old.lasts }
         ensures editors { self.new.editors ≡ self.old.editors }
         ensures outs { OnOk result (outs.new ≡ outs.old ++ ToEditor e body ∷ []) }
+        ensures waiting { (settings : Settings) (events : List Event) → Stands settings self.old events
+            → BecomesAt (home_of settings e events) (less (is_waiting_under e id.now)) self.old.origins.waiting self.new.origins.waiting }
         ensures does { (settings : Settings) (base : List Event) → Keeps e body (behind base outs.old) → AnswersId id.now body
             → OnOk result (Does (λ t events. Stands settings t events) (send (ToEditor e body)) base self.old outs.old self.new outs.new) }
         ensures documents { (settings : Settings) (owed : Owed) (base : List Event) → DocumentsStand settings owed self.old (behind base outs.old)
             → OnOk result (DocumentsStand settings owed self.new (behind base outs.new)) }
+        // where the documents are ahead of the events, by this answer and what else is said of links
+        ensures ahead { (settings : Settings) (owed : Owed) (base : List Event) (more : List Out)
+            → DocumentsStand settings owed self.old (behind (behind base outs.old) (ToEditor e body ∷ more))
+            → OnOk result (DocumentsStand settings owed self.new (behind (behind base outs.new) more)) }
     {
         let home = self.home(e);
         self.origins.waiting.answer(home, e, id);
@@ -232,6 +244,15 @@ impl Tables {
         ensures requests { self.new.requests ≡ self.old.requests }
         ensures versions { self.new.versions ≡ self.old.versions }
         ensures starts { OnOk result (map number_in self.new.lasts.items ≡ map number_in self.old.lasts.items) }
+        ensures origins { self.new.origins ≡ self.old.origins }
+        // S2: where the request had waited longest in the group, and was just taken out
+        ensures waited { (settings : Settings) (base : List Event) (t : State) (x : Start) (s : ℕ) (name : Id) (method : List ℕ) (ps : Option Json) (r : Waits)
+            → Released x.life.group t self.old → slice_get t.lasts.items g ≡ Some x → slice_get (map number_in t.lasts.items) g ≡ Some s
+            → message_of text ≡ message.request name method ps → is_own method ≡ false
+            → worker_of (behind base outs.old) ≡ None → first_waiting settings s (behind base outs.old) ≡ Some r → r.editor ≡ e
+            → Sends settings s e id work partial (behind base outs.old) → OnOk result (Does (λ k events. AllStand settings k events)
+            (look (λ now. to_start s (syncing settings now x.life.group s e) ⨾ send (ToServer s text))) base
+            (t, nothing_owed) outs.old (self.new, nothing_owed) outs.new) }
         ensures does { (settings : Settings) (base : List Event) (s : ℕ) (name : Id) (method : List ℕ) (ps : Option Json)
             → slice_get (map number_in self.old.lasts.items) g ≡ Some s → message_of text ≡ message.request name method ps → is_own method ≡ false
             → Sends settings s e id work partial (behind base outs.old) → worker_of (behind base outs.old) ≡ Some e

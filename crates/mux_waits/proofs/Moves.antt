@@ -13,19 +13,20 @@ use Rattle.rpc_message.specs.ValueTexts.{IsIdText}
 use Rattle.rpc_message.proofs.Ids.{request_id_bytes}
 use Rattle.event_model.specs.declared.phase.Phase.{Phase}
 use Rattle.event_model.specs.declared.phase.Phase.TheVariants.{New}
-use Rattle.event_model.specs.Event.{Event, did, took}
+use Rattle.event_model.specs.Event.{Event, did, requests, took}
 use Rattle.event_model.specs.Members.{params_of}
 use Rattle.event_model.specs.Phases.{desk_of, is_multiplexer_request, is_new, is_served}
 use Rattle.event_model.specs.Requests.{answered_id, is_open, is_own, open_behind, open_of, with_request, without}
 use Rattle.event_model.specs.Settings.{Settings}
 use Rattle.event_model.specs.Spawns.{group_behind, group_of}
 use Rattle.event_model.proofs.Frames.{never, one_more}
+use Rattle.event_model.proofs.Places.{same_item}
 use Rattle.mux_facts.proofs.Words.{id_same, number_same, open_last, open_more, same_number, still_open}
 use Rattle.group_words.specs.Houses.{home_of, house_of, is_home, placed_for, places}
 use Rattle.group_words.specs.Placing.{home_by}
 use Rattle.group_words.proofs.Frames.{home_more, home_stays, names_home}
 use Rattle.group_rows.specs.Reserved.{reserves}
-use Rattle.group_rows.specs.Waiting.{is_answered, is_for_start, is_misplaced, is_restarting, waiting_next, waits, without_first, worker_of}
+use Rattle.group_rows.specs.Waiting.{first_waiting, is_answered, is_for_start, is_misplaced, is_restarting, waiting_next, waiting_of, waits, without_first, worker_of}
 use Rattle.group_rows.proofs.Cancelling.{text_meant}
 use Rattle.group_rows.proofs.Frames.{touches_waiting, waiting_more, waiting_stays}
 use Rattle.held_requests.specs.declared.request.Request.{Request}
@@ -117,6 +118,14 @@ module _ (settings : Settings) (events : List Event) (ev : Event) where
   -- no editor of another group waits in this one
   pub beside : (e n : ℕ) (rs : List Request) → is_home n (home_of settings e events) ≡ false → AllByRecursion (IsHeld settings n events) rs → filter (λ r. not (is_of e r)) rs ≡ rs
   beside e n rs other h = all_stay (IsHeld settings n events) (λ r. not (is_of e r)) rs (λ r k. ap not (away settings n e events r other k)) h
+
+-- the first that waits
+pub first_held : (settings : Settings) (rows : Rows) (g : ℕ) (events : List Event) (r : Request) → WaitingStand settings rows events → slice_get (waiting_of settings g events) 0 ≡ Some r → IsHeld settings g events r
+first_held settings rows g events r st first = among (held_of g rows) (st g).each (ap (λ rs. slice_get rs 0) (st g).same ∙ first)
+  where
+    among : (rs : List Request) → AllByRecursion (IsHeld settings g events) rs → slice_get rs 0 ≡ Some r → IsHeld settings g events r
+    among [] h is = absurd (cc)
+    among (q ∷ rs) h is = subst (IsHeld settings g events) (same_item is) h.0
 
 -- Nothing happens to what waits
 
@@ -302,6 +311,8 @@ pub record IsAsked (e : ℕ) (m : Message) (events : List Event) : Type 0 where
   pub says : m ≡ request name method params
   pub other : is_own method ≡ false
   pub fresh : is_open name (open_of e events) ≡ false
+  pub ours : is_multiplexer_request m ≡ false
+  pub down : requests (codes "shutdown") m ≡ false
 
 pub asked_is : (events : List Event) (e : ℕ) (body : List ℕ) (m : Message) → is_for_start events e body m ≡ true → IsAsked e m events
 asked_is events e body (request id method ps) h = record {
@@ -311,6 +322,8 @@ asked_is events e body (request id method ps) h = record {
   says = refl;
   other = no_own;
   fresh = off (is_open id (open_of e events)) (and_left (not (is_open id (open_of e events))) _ h);
+  ours = off (is_multiplexer_request (request id method ps)) (and_left (not (is_multiplexer_request (request id method ps))) _ (and_right (not (is_open id (open_of e events))) _ h));
+  down = not_down;
 }
   where
     rest : (not (is_misplaced method) && (not (bytes_eq (codes "shutdown") method) && not (reserves (params_of body)))) ≡ true
@@ -331,10 +344,13 @@ asked_is events e body (request id method ps) h = record {
     both_off true b h k = never h
     both_off false b h k = k
 
+    not_down : bytes_eq (codes "shutdown") method ≡ false
+    not_down = off (bytes_eq (codes "shutdown") method) (and_left (not (bytes_eq (codes "shutdown") method)) _ (and_right (not (is_misplaced method)) _ rest))
+
     no_own : is_own method ≡ false
     no_own = both_off (bytes_eq method (codes "initialize")) (bytes_eq method (codes "shutdown"))
         (not_named (codes "initialize") (or_first (bytes_eq (codes "initialize") method) _ (off (is_misplaced method) (and_left (not (is_misplaced method)) _ rest))))
-        (not_named (codes "shutdown") (off (bytes_eq (codes "shutdown") method) (and_left (not (bytes_eq (codes "shutdown") method)) _ (and_right (not (is_misplaced method)) _ rest))))
+        (not_named (codes "shutdown") not_down)
 asked_is events e body other h = never (sym h)
 
 -- E10: it waits in the group of its editor

@@ -34,7 +34,7 @@ returns-clause-ids c = λ n. ap (λ xs. id_in (slice_get xs n)) (c.in_ok-empty.e
 pub returns-clause-does : goal.returns-clause-does
 returns-clause-does c = λ settings base.
     close_does settings c.args.self.now _ c.args.outs.now c.push.new.self base c.args.e c.set.new.self c.phase-phase.result c.closed.result c.group-home.result c.is_begun.result c.requires c.phase-phase.ensures.phase c.group-home.ensures c.closed.ensures c.is_begun.ensures c.set.ensures
-    c.in_ok-empty.ensures.editors c.in_ok-empty.ensures.course c.in_ok-empty.ensures.lasts (ap (λ v. v.groups) c.in_ok-empty.ensures.origins) (ap (λ v. v.stopping) c.in_ok-empty.ensures.origins) (c.in_ok-forget_editor.ensures.table ∙ ap (λ v. left_each c.args.e (keys_of v.created) v.created) c.in_ok-empty.ensures.origins) (subst (λ (v : Origins). IsStrictlySortedBy nat_cmp (keys_of v.created)) c.in_ok-empty.ensures.origins c.in_ok-forget_editor.ensures.rising) c.in_ok-empty.ensures.requests c.in_ok-empty.ensures.groups (subst (λ (v : Origins). BecomesAt c.group-home.result (filter (λ q. not (is_of c.args.e q))) v.waiting c.leave.new.waiting) c.in_ok-empty.ensures.origins c.leave.ensures) c.in_ok-push.ensures.ok
+    c.in_ok-empty.ensures.editors c.in_ok-empty.ensures.course c.in_ok-empty.ensures.lasts (ap (λ v. v.groups) c.in_ok-empty.ensures.origins) (ap (λ v. v.stopping) c.in_ok-empty.ensures.origins) (c.in_ok-forget_editor.ensures.table ∙ ap (λ v. left_each c.args.e (keys_of v.created) v.created) c.in_ok-empty.ensures.origins) (subst (λ (v : Origins). IsStrictlySortedBy nat_cmp (keys_of v.created)) c.in_ok-empty.ensures.origins c.in_ok-forget_editor.ensures.rising) c.in_ok-empty.ensures.requests c.in_ok-empty.ensures.groups (subst (λ (v : Origins). BecomesAt c.group-home.result (filter (λ q. not (is_of c.args.e q))) v.waiting c.leave.new.self) c.in_ok-empty.ensures.origins c.leave.ensures) c.in_ok-push.ensures.ok
 
 pub returns-clause-documents : goal.returns-clause-documents
 returns-clause-documents c = λ settings base st ds.

@@ -13,7 +13,7 @@ use Rattle.event_model.specs.Event.{behind}
 
 pub returns-clause-does : goal.returns-clause-does
 returns-clause-does c = λ settings base k a. welcome_does settings c.args.self.now _ c.args.outs.now c.push.new.self base c.args.e c.args.body Answered c.requires k.0 k.1 c.set.ensures refl refl refl refl refl refl
-    (λ st. answer_waits settings c.args.self.now (record c.args.self.now { origins = record c.args.self.now.origins { waiting = c.answer.new.waiting } }) (behind base c.args.outs.now) c.args.e c.args.id.now c.args.body c.home-home.result a (c.home-home.ensures settings (behind base c.args.outs.now) st) c.answer.ensures) refl c.in_ok-push.ensures.ok
+    (λ st. answer_waits settings c.args.self.now (record c.args.self.now { origins = record c.args.self.now.origins { waiting = c.answer.new.self } }) (behind base c.args.outs.now) c.args.e c.args.id.now c.args.body c.home-home.result a (c.home-home.ensures settings (behind base c.args.outs.now) st) c.answer.ensures) refl c.in_ok-push.ensures.ok
 
 pub returns-clause-documents : goal.returns-clause-documents
 returns-clause-documents c = λ settings owed base ds. told_documents settings owed c.args.self.now _ base c.args.outs.now c.push.new.self c.args.e c.args.body refl refl refl c.in_ok-push.ensures.ok ds
