@@ -54,7 +54,7 @@ use Rattle.group_rows.specs.Waiting.{part, waiting_of, worker_of}
 use Rattle.group_rows.proofs.Frames.{forwarding_more}
 use Rattle.group_rows.specs.Rows.{first_result, send_held, from_server, ready_row, replay_bodies, result_in, started, waiting_in, welcome, hasty_answer, hasty_row}
 use Rattle.group_rows.specs.Texts.{texts_of}
-use Rattle.group_facts.specs.Facts.{AllForwarded, AllHeld, Apart, Asks, asked_by, IsAsker, IsForwarded, IsWaiting, IsWritten, Opened, Untold, Written, is_parted, is_put_out, is_refused}
+use Rattle.group_facts.specs.Facts.{AllForwarded, AllHeld, Apart, Asks, asked_by, IsAsker, IsForwarded, IsWaiting, IsWritten, Opened, Untold, Written, is_parted, is_refused}
 use Rattle.group_facts.proofs.Asks.{asked_by_more}
 use Rattle.group_facts.proofs.AskingRows.{notified_why, question_why}
 use Rattle.group_facts.proofs.Apart.{alone_answered}
@@ -82,6 +82,7 @@ use Rattle.group_facts.specs.Why.{IsPassing, Turn, Why, begins, greeted, greets,
 use Rattle.json_text.specs.declared.kind.Word.TheVariants.{Null}
 use Rattle.group_facts.proofs.Nulls.{null_said}
 use Rattle.group_rows.proofs.Exits.{exit_says}
+use Rattle.event_model.proofs.Frames.{never}
 
 nobody_found : (fs : List Forwarded) (f : Forwarded) → find (answered_by None) fs ≡ Some f → ⊥
 nobody_found [] f h = cc
@@ -269,7 +270,7 @@ module _ (settings : Settings) (range : InRange settings) (before : List Event) 
           go true same is =
               let was : (desk_of k events).phase ≡ Waiting = told_waits (desk_of k events).phase (desk_of k events).initialize (message_of text) (sym (ap (λ (d : Desk). d.phase) is) ∙ at) in
               let first_at : (desk_of k before).phase ≡ Waiting = sym (ap (λ (d : Desk). d.phase) (h.waits k was ∙ desk_more k before (heard (FromServer s body)))) ∙ was in
-              never (sym (sym shown ∙ ap (λ z. was_shown (desk_of z before).phase) (number_same e k same) ∙ ap was_shown first_at))
+              never (sym (sym (ap was_shown first_at) ∙ (ap (λ z. was_shown (desk_of z before).phase) (sym (number_same e k same)) ∙ shown)))
 
       stands_still : (events : List Event) (out : Out) → IsClosing before out → Stands events → Stands (events ++ said out ∷ [])
       stands_still events (CloseEditor e) closing h = record {

@@ -1,16 +1,12 @@
 -- E11: an editor's `$/cancelRequest` goes on under the number of the request that it names.
 use Rattle.std.proofs.Common.{◌≡◌, ℕ, ◌<◌, ◌^◌, Bool, true, false, not, ◌&&◌, ◌||◌, cond, List, [], ◌∷◌, codes, decimal, find, nat_eq, if◌then◌else◌, Option, None, Some, refl, ◌∙◌, ap, ap₂, subst, arith}
-use lib.Utf8.{encode}
-use Rattle.std.specs.Prelude.{IsUtf8, negsuc}
 use Rattle.std.specs.List.{AllByRecursion, list_any}
 use Rattle.std.specs.Option.{option_and_then}
 use Rattle.json_text.specs.Bare.{nowhere}
 use Rattle.json_text.specs.Json.{Json, number}
 use Rattle.mux_history.specs.declared.cause.Cause.TheVariants.{FromEditor}
-use Rattle.rpc_message.specs.Message.{Id, integer_if, message_of, notification}
+use Rattle.rpc_message.specs.Message.{Id, integer_if, message_of, notification, error}
 use Rattle.rpc_message.proofs.Decimals.{decimal_integer}
-use Rattle.rpc_message.proofs.Fixed.{id_as_response}
-use Rattle.rpc_message.proofs.Replies.{error_reply_law}
 use Rattle.event_model.specs.Event.{Event, heard, with_cause}
 use Rattle.event_model.specs.Phases.{desk_of, is_served}
 use Rattle.event_model.specs.Row.{Row, nothing, on}
@@ -19,18 +15,17 @@ use Rattle.event_model.specs.Spawns.{start_of}
 use Rattle.event_model.specs.Stages.{is_ready, life_of}
 use Rattle.mux_facts.specs.Ranges.{InRange}
 use Rattle.mux_facts.proofs.DocumentRow.{ready_is}
-use Rattle.mux_facts.proofs.Lists.{found_is}
 use Rattle.mux_facts.proofs.Reasons.{Because, by_choose, by_nothing, by_on, by_send}
 use Rattle.mux_facts.proofs.Words.{same_number}
 use Rattle.group_rows.specs.Cancelling.{cancelling_at, cancelling_row, is_called, number_called, number_named, numbered_text, uncancelled_number}
 use Rattle.group_rows.specs.held_requests.specs.declared.request.Request.{Request}
 use Rattle.group_rows.specs.Rows.{cancel_row}
-use Rattle.group_rows.specs.Waiting.{cancelled_text, is_meant, named_id, waiting_named, waiting_of}
+use Rattle.group_rows.specs.Waiting.{cancelled_text, named_id, waiting_named, waiting_of}
 use Rattle.group_rows.specs.Forwarded.{Forwarded, Forwarding, forwarding_of}
 use Rattle.group_rows.proofs.Cancelling.{Renumbered, renumbered}
 use Rattle.group_facts.specs.Facts.{AllHeld, Bounded, IsHeld}
 use Rattle.group_facts.specs.Why.{IsCancel, IsRefusal, Why, cancels, is_uncancelled, of_editor, refuses}
-use Rattle.group_facts.proofs.Held.{refusing}
+use Rattle.group_facts.proofs.Held.{refusing, cancelled_says, named_held}
 use Rattle.group_facts.proofs.HeldOn.{held_asked}
 use Rattle.group_facts.proofs.DocumentRow.{calm_now}
 use Rattle.group_rows.proofs.Frames.{forwarding_more}
@@ -71,10 +66,6 @@ module _ (test : Forwarded → Bool) (n : ℕ) where
       go : (b : Bool) → option_and_then uncancelled_number (cond b (Some f) (find test fs)) ≡ Some n → (option_and_then uncancelled_number (find test fs) ≡ Some n → IsSmall n) → IsSmall n
       go true h rest = subst IsSmall (number_is f n h).0 all.0
       go false h rest = rest h
-
-words_utf8 : IsUtf8 (codes "Request cancelled")
-unfolding encode
-words_utf8 = (codes "Request cancelled", (refl, refl))
 
 -- the params name an id, under which it is found
 record Meant (e : ℕ) (params : Option Json) (fs : List Forwarded) (n : ℕ) : Type 0 where
@@ -127,14 +118,11 @@ module _ (settings : Settings) (range : InRange settings) (before : List Event) 
 
     -- one that waits is answered
     pub cancel_why : AllHeld settings before → Right (cancel_row settings before e body params)
-    cancel_why held = by_on (λ none. cancelling_why) (λ r found. by_send (refuses (answering r (home_of settings e before) found)))
+    cancel_why held = by_on (λ none. cancelling_why) (λ r found. by_send (refuses (answering r found)))
       where
-        rest : (g : ℕ) (r : Request) (o : Option Id) → option_and_then (λ id. find (is_meant e id) (waiting_of settings g before)) o ≡ Some r → IsHeld settings g before r
-        rest g r None found = absurd (let clash : ◌≡◌ {A = Option Request} None (Some r) = found in cc)
-        rest g r (Some id) found = found_is (IsHeld settings g before) (is_meant e id) r (waiting_of settings g before) (held g).each found
-
-        answering : (r : Request) (o : Option ℕ) → option_and_then (λ g. waiting_named e params (waiting_of settings g before)) o ≡ Some r → IsRefusal settings now r.editor (cancelled_text r.id)
-        answering r None found = absurd (let clash : ◌≡◌ {A = Option Request} None (Some r) = found in cc)
-        answering r (Some g) found =
-            let k : IsHeld settings g now r = held_asked settings g before e body r (rest g r (named_id params) found) in
-            refusing settings before (FromEditor e body) g now r k (cancelled_text r.id) _ (error_reply_law (Some (k.asker).id) r.id (negsuc 32799) (codes "Request cancelled") (id_as_response (k.asker).id r.id (k.asker).text) (omega arith) words_utf8)
+        answering : (r : Request) → option_and_then (λ g. waiting_named e params (waiting_of settings g before)) (home_of settings e before) ≡ Some r → IsRefusal settings now r.editor (cancelled_text r.id)
+        answering r found =
+            let is : (g : ℕ) × IsHeld settings g before r = named_held settings e params before r (home_of settings e before) held found in
+            let k : IsHeld settings is.0 now r = held_asked settings is.0 before e body r is.1 in
+            let says : (x : Json) × (message_of (cancelled_text r.id) ≡ error (Some (k.asker).id) x) = cancelled_says (k.asker).id r.id (k.asker).text in
+            refusing settings before (FromEditor e body) is.0 now r k (cancelled_text r.id) says.0 says.1

@@ -34,7 +34,7 @@ use Rattle.group_facts.specs.Facts.{asked_of, ends_link, ends_with, is_exit, is_
 use Rattle.group_facts.specs.Lively.{is_unplaced}
 use Rattle.group_facts.proofs.Asks.{asked_of_more, asking_more}
 use Rattle.group_facts.proofs.Exits.{EndsGroup, ends_parts, lost_outs}
-use Rattle.group_rows.proofs.Frames.{forwarding_more}
+use Rattle.group_rows.proofs.Frames.{forwarding_more, touches_waiting}
 use Rattle.group_facts.proofs.PutOut.{begun_closed, begun_outs, named_in, unplaced_outs}
 
 -- The two causes
@@ -50,6 +50,7 @@ over_requests false x = refl
 -- the program of start s ends by this cause, and nothing else is changed by it
 pub record Exit (settings : Settings) (before : List Event) (cause : Cause) (s : ℕ) : Type 0 where
   pub is : is_exit cause s ≡ true
+  pub unmet : touches_waiting (heard cause) ≡ false
   pub row : outs_of settings before cause ≡ outs (lost_row settings before s) (with_cause before cause)
   pub desk : (e : ℕ) → desk_of e (with_cause before cause) ≡ desk_of e before
   pub opens : (e : ℕ) → open_of e (with_cause before cause) ≡ open_of e before
@@ -65,6 +66,7 @@ pub record Exit (settings : Settings) (before : List Event) (cause : Cause) (s :
 pub gone_exit : (settings : Settings) (before : List Event) (s : ℕ) → Exit settings before (ServerGone s) s
 gone_exit settings before s = record {
   is = same_number s;
+  unmet = refl;
   row = refl;
   desk = λ e. desk_more e before (heard (ServerGone s));
   opens = λ e. opens_more e before (heard (ServerGone s));
@@ -81,6 +83,7 @@ gone_exit settings before s = record {
 pub failed_exit : (settings : Settings) (before : List Event) (s : ℕ) → Exit settings before (StartFailed s) s
 failed_exit settings before s = record {
   is = same_number s;
+  unmet = refl;
   row = refl;
   desk = λ e. desk_more e before (heard (StartFailed s));
   opens = λ e. opens_more e before (heard (StartFailed s));

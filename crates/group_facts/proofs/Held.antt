@@ -1,8 +1,8 @@
 -- Requests that wait: what holds of each of them, one event further, and why each is refused.
-use Rattle.std.proofs.Common.{◌≡◌, ℕ, Bool, true, false, not, ◌&&◌, cond, List, [], ◌∷◌, ◌++◌, filter, nat_eq, if◌then◌else◌, Option, None, Some, refl, sym, ◌∙◌, ap, ap₂, subst}
-use Rattle.std.specs.Prelude.{drop}
+use Rattle.std.proofs.Common.{◌≡◌, ℕ, Bool, true, false, not, ◌&&◌, cond, List, [], ◌∷◌, ◌++◌, filter, nat_eq, if◌then◌else◌, Option, None, Some, refl, sym, ◌∙◌, ap, ap₂, subst, arith, codes}
+use Rattle.std.specs.Prelude.{drop, IsUtf8, negsuc, find}
 use Rattle.std.specs.List.{AllByRecursion}
-use Rattle.std.specs.Option.{option_map_or}
+use Rattle.std.specs.Option.{option_map_or, option_and_then}
 use Rattle.json_text.specs.Json.{Json}
 use Rattle.mux_history.specs.declared.cause.Cause.{Cause}
 use Rattle.mux_history.specs.declared.out.Out.{Out}
@@ -19,7 +19,7 @@ use Rattle.event_model.specs.Settings.{Settings}
 use Rattle.event_model.specs.Spawns.{group_of}
 use Rattle.mux_facts.proofs.Folds.{desk_more, opens_more}
 use Rattle.mux_facts.proofs.Late.{told_late}
-use Rattle.mux_facts.proofs.Lists.{all_filtered, all_join, all_of}
+use Rattle.mux_facts.proofs.Lists.{all_filtered, all_join, all_of, found_is}
 use Rattle.mux_facts.proofs.Reasons.{Because, by_look, by_nothing, by_send, by_then, reasons_keep}
 use Rattle.mux_facts.proofs.Waits.{late_not}
 use Rattle.mux_facts.proofs.Why.{is_early}
@@ -33,7 +33,7 @@ use Rattle.group_words.proofs.Frames.{home_stays}
 use Rattle.group_rows.specs.held_requests.specs.declared.request.Request.{Request}
 use Rattle.group_rows.specs.held_requests.specs.Tables.{is_of, of_editor}
 use Rattle.group_rows.specs.Forwarded.{Forwarded}
-use Rattle.group_rows.specs.Waiting.{id_meant, is_answered, is_meant, refuse_held, refuse_waiting, waiting_next, waiting_of, without_first, worker_of, part}
+use Rattle.group_rows.specs.Waiting.{id_meant, is_answered, is_meant, refuse_held, refuse_waiting, waiting_next, waiting_of, without_first, worker_of, part, waiting_named, cancelled_text, named_id}
 use Rattle.group_rows.proofs.Cancelling.{text_meant}
 use Rattle.group_rows.proofs.Frames.{waiting_more}
 use Rattle.group_rows.proofs.Moments.{asks}
@@ -43,6 +43,8 @@ use Rattle.group_facts.proofs.Apart.{fewer_said, grow, new, one_id}
 use Rattle.group_facts.proofs.Askers.{late_said}
 use Rattle.group_facts.proofs.HeldOuts.{kept_refused}
 use Rattle.group_facts.proofs.Forwards.{Fewer, alone_fewer, zip_all}
+use lib.Utf8.{encode}
+use Rattle.rpc_message.proofs.Replies.{error_reply_law}
 
 -- Lists
 
@@ -93,7 +95,7 @@ abbrev pub IsQuiet : Out → Type 0
 IsQuiet (ToServer n body) = asks (said (ToServer n body)) ≡ false
 IsQuiet other = Unit {0}
 
-left_quiet : (b : Bool) (w : Option ℕ) (n : ℕ) (body : List ℕ) (m : Message) (rs : List Request) → message_of body ≡ m → asks (said (ToServer n body)) ≡ false → (if b then without_first w m rs else rs) ≡ rs
+pub left_quiet : (b : Bool) (w : Option ℕ) (n : ℕ) (body : List ℕ) (m : Message) (rs : List Request) → message_of body ≡ m → asks (said (ToServer n body)) ≡ false → (if b then without_first w m rs else rs) ≡ rs
 left_quiet true None n body (request id method ps) rs says quiet = go (is_own method) refl
   where
     go : (c : Bool) → is_own method ≡ c → (if c then rs else drop 1 rs) ≡ rs
@@ -101,6 +103,23 @@ left_quiet true None n body (request id method ps) rs says quiet = go (is_own me
     go false other = never (ap not (sym other) ∙ (sym (ap (λ z. asks (did (ToServer n body) z)) says) ∙ quiet))
 left_quiet true w n body m rs says quiet = refl
 left_quiet false w n body m rs says quiet = refl
+
+-- what answers one that is cancelled
+words_utf8 : IsUtf8 (codes "Request cancelled")
+unfolding encode
+words_utf8 = (codes "Request cancelled", (refl, refl))
+
+pub cancelled_says : (i : Id) (text : List ℕ) → IsIdText i text → (x : Json) × (message_of (cancelled_text text) ≡ error (Some i) x)
+cancelled_says i text is = (_, error_reply_law (Some i) text (negsuc 32799) (codes "Request cancelled") (id_as_response i text is) (omega arith) words_utf8)
+
+-- which is one of those that wait
+pub named_held : (settings : Settings) (e : ℕ) (params : Option Json) (events : List Event) (r : Request) (o : Option ℕ) → AllHeld settings events → option_and_then (λ g. waiting_named e params (waiting_of settings g events)) o ≡ Some r → (g : ℕ) × IsHeld settings g events r
+named_held settings e params events r None h found = absurd (let clash : ◌≡◌ {A = Option Request} None (Some r) = found in cc)
+named_held settings e params events r (Some g) h found = (g, by_id (named_id params) found)
+  where
+    by_id : (o : Option Id) → option_and_then (λ id. find (is_meant e id) (waiting_of settings g events)) o ≡ Some r → IsHeld settings g events r
+    by_id None found = absurd (let clash : ◌≡◌ {A = Option Request} None (Some r) = found in cc)
+    by_id (Some id) found = found_is (IsHeld settings g events) (is_meant e id) r (waiting_of settings g events) (h g).each found
 
 -- One that waits
 
@@ -323,7 +342,7 @@ module _ (settings : Settings) (before : List Event) (cause : Cause) where
         (all_filtered (IsHeld settings g events) (IsHeld settings g events) (is_of e) (λ r t k. k) (waiting_of settings g events) (h g).each) (others_filtered (is_of e) (waiting_of settings g events) (h g).apart))
 
 -- a request under another id stays open
-with_each : (P : Request → Type 0) (rs : List Request) (events : List Event) → AllByRecursion P rs → Because (λ places out. (r : Request) × (P r × (out ≡ ToEditor r.editor (error_text r.id request_failed)))) events (each refuse_waiting rs)
+pub with_each : (P : Request → Type 0) (rs : List Request) (events : List Event) → AllByRecursion P rs → Because (λ places out. (r : Request) × (P r × (out ≡ ToEditor r.editor (error_text r.id request_failed)))) events (each refuse_waiting rs)
 with_each P [] events h = by_nothing
 with_each P (r ∷ rs) events h = by_then (by_send (r, (h.0, refl))) (with_each P rs (events ++ said (ToEditor r.editor (error_text r.id request_failed)) ∷ []) h.1)
 
@@ -350,7 +369,7 @@ open_refused settings g e events id held unheld = reasons_keep Refuses (λ place
         apart false is = refl
 
     step : (places : List Event) (out : Out) → Refuses places out → is_open id (open_of e places) ≡ true → is_open id (open_of e (places ++ said out ∷ [])) ≡ true
-    step places out (r, (i, (text, away)), is) h = subst (λ o. is_open id (open_of e (places ++ said o ∷ [])) ≡ true) (sym is)
+    step places out (r, ((i, (text, away)), is)) h = subst (λ o. is_open id (open_of e (places ++ said o ∷ [])) ≡ true) (sym is)
         (ap (is_open id) (opens_more e places (said (ToEditor r.editor (error_text r.id request_failed)))) ∙ beside r i text away places h (nat_eq r.editor e) refl)
 
 -- so what waits is held, and each editor is there
@@ -359,6 +378,18 @@ held_refused settings g e events h = kept_refused settings e (AllHeld settings) 
 
 pub there_refused : (settings : Settings) (g e k : ℕ) (events : List Event) → is_there (desk_of k events).phase ≡ true → is_there (desk_of k (behind events (outs (refuse_held settings g e) events))).phase ≡ true
 there_refused settings g e k events h = kept_refused settings e (λ places. is_there (desk_of k places).phase ≡ true) (λ places body. there_told k e places body) g events h
+
+-- each refusal is an error
+pub refusals_are : (settings : Settings) (T : Out → Type 0) → ((k : ℕ) (text : List ℕ) (id : Id) (x : Json) → message_of text ≡ error (Some id) x → T (ToEditor k text)) → (g e : ℕ) (events : List Event) → AllHeld settings events
+    → AllByRecursion T (outs (refuse_held settings g e) events)
+refusals_are settings T tells g e events held = all_said (of_editor e (waiting_of settings g events)) events (all_filtered (IsHeld settings g events) (IsHeld settings g events) (is_of e) (λ r t k. k) (waiting_of settings g events) (held g).each)
+  where
+    all_said : (rs : List Request) (places : List Event) → AllByRecursion (IsHeld settings g events) rs → AllByRecursion T (outs (each refuse_waiting rs) places)
+    all_said [] places h = tt
+    all_said (r ∷ rs) places h = (
+      tells r.editor (error_text r.id request_failed) ((h.0).asker).id (error_tree request_failed) (error_law (Some ((h.0).asker).id) r.id request_failed (id_as_response ((h.0).asker).id r.id ((h.0).asker).text)),
+      all_said rs (places ++ said (ToEditor r.editor (error_text r.id request_failed)) ∷ []) h.1,
+    )
 
 -- Why an editor is parted with
 

@@ -67,6 +67,12 @@ held_sent_all settings before cause events n body (shuts k) h g = are_sent setti
 
 -- A cause
 
+-- one that is served got its result
+pub served_late : (phase : Phase) → is_served phase ≡ true → is_early phase ≡ false
+served_late Answered s = refl
+served_late Running s = refl
+served_late other s = never (sym s)
+
 -- an editor that isn't new stays where it is
 late_new : (phase : Phase) → is_early phase ≡ false → is_new phase ≡ false
 late_new New late = never late
@@ -132,11 +138,6 @@ module _ (settings : Settings) (g : ℕ) (events : List Event) where
     served_there Answered s = refl
     served_there Running s = refl
     served_there other s = never (sym s)
-
-    served_late : (phase : Phase) → is_served phase ≡ true → is_early phase ≡ false
-    served_late Answered s = refl
-    served_late Running s = refl
-    served_late other s = never (sym s)
 
     home_is : (o : Option ℕ) → is_home g o ≡ true → o ≡ Some g
     home_is (Some i) at = ap (λ z. Some z) (number_same i g at)

@@ -58,6 +58,7 @@ pub mod SlowRow
 pub mod Switching
 pub mod SyncRow
 pub mod Table
+pub mod Taken
 pub mod Tellings
 pub mod TickRow
 pub mod VersionsIn

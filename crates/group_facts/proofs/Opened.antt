@@ -23,7 +23,6 @@ use Rattle.mux_model.specs.Documents.{without_editor}
 use Rattle.mux_facts.proofs.Lists.{all_filtered}
 use Rattle.group_words.specs.Houses.{home_of, is_home}
 use Rattle.group_rows.specs.Texts.{encoding_of, is_synced, texts_heard, texts_next, texts_of, touch_all, touched_at, toucher_of}
-use Rattle.group_rows.specs.Waiting.{worker_of}
 use Rattle.group_rows.proofs.Frames.{texts_more}
 use Rattle.group_facts.specs.Facts.{IsOpened, Opened}
 

@@ -19,8 +19,8 @@ use Rattle.group_rows.specs.Texts.{is_synced, texts_of, toucher, toucher_of}
 use Rattle.group_rows.specs.held_requests.specs.declared.request.Request.{Request}
 use Rattle.group_rows.specs.Waiting.{worker_of, first_waiting}
 use Rattle.group_facts.specs.OwnTexts.{AllOnOwnTexts, HasOwn, OnOwnTexts, OwnTexts, OwnTextsFrom}
-use Rattle.group_facts.specs.OwnVersions.{HasOwnTexts, IsSentOn, IsUnder, SendingOn, by_result}
-use Rattle.group_facts.proofs.SentOn.{worker_still}
+use Rattle.group_facts.specs.OwnVersions.{HasOwnTexts, IsSentOn, IsUnder, SendingOn, by_result, by_message}
+use Rattle.group_facts.proofs.SentOn.{worker_still, worker_idle}
 use Rattle.rpc_message.specs.Message.{message_of}
 
 -- the events of these entries, behind others
@@ -98,7 +98,7 @@ module _ (settings : Settings) (s : ℕ) (body : List ℕ) where
   own_at : (history : List Entry) → OwnTexts settings history → (moment later : List Event) → events_of history ≡ moment ++ said (ToServer s body) ∷ later → OnOwnTexts settings moment (ToServer s body)
   own_at history own moment later e = own_in [] history own moment later (sym (events_both [] history) ∙ e)
 
-pub moment_own : (settings : Settings) (history : List Entry) → OwnTexts settings history → (s n e : ℕ) (id : List ℕ) (events later : List Event) → events_of history ≡ events ++ later → (k : IsSentOn s events n e id) → HasOwnTexts settings s e k.moment
+pub moment_own : (settings : Settings) (history : List Entry) → OwnTexts settings history → (s n e : ℕ) (id : List ℕ) (events later : List Event) → events_of history ≡ events ++ later → (k : IsSentOn settings s events n e id) → HasOwnTexts settings s e k.moment
 moment_own settings history own s n e id events later whole k = by_group (group_of s k.moment) refl
   where
     here : OnOwnTexts settings k.moment (ToServer s k.body)

@@ -1,7 +1,6 @@
 -- E3, E9 and X5: an editor whose link ends or is to be ended, or that sends `shutdown`, leaves.
 use Rattle.std.specs.List.{AllByRecursion}
-use Rattle.std.specs.Prelude.{Some}
-use Rattle.std.proofs.Common.{◌≡◌, ℕ, Bool, true, false, ◌&&◌, ◌||◌, List, [], ◌∷◌, ◌++◌, nat_eq, codes, refl, ◌∙◌, ap, ap₂, Option, sym, subst, append-nil}
+use Rattle.std.proofs.Common.{◌≡◌, ℕ, Bool, true, false, ◌&&◌, ◌||◌, List, [], ◌∷◌, ◌++◌, nat_eq, codes, refl, ◌∙◌, ap, ap₂, Option, sym, subst, append-nil, None, Some}
 use Rattle.json_text.specs.declared.kind.Word.TheVariants.{Null}
 use Rattle.json_text.specs.Json.{Json, word}
 use Rattle.mux_history.specs.declared.cause.Cause.TheVariants.{EditorGone, FromEditor}

@@ -30,7 +30,6 @@ use Rattle.group_rows.specs.Asks.{members_in}
 use Rattle.group_rows.specs.Earlier.{configure, differs, given_of, part_row, shown_in, was_shown}
 use Rattle.group_rows.specs.Rows.{outs_of, refused_in, refusal, replay, result_in, send_held, waiting_in, welcome_all}
 use Rattle.group_rows.specs.Waiting.{part, refuse_held}
-use Rattle.group_rows.specs.StopRows.{close_each}
 use Rattle.group_facts.specs.Facts.{is_in, is_other, is_parted, is_put_out, is_refused, is_refusing, turned_away}
 use Rattle.group_facts.specs.Lively.{is_unplaced}
 

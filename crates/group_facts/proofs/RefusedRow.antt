@@ -16,7 +16,7 @@ use Rattle.event_model.specs.declared.stage.Stage.TheVariants.{Initializing, Rea
 use Rattle.event_model.specs.Event.{Event, behind, heard, said, with_cause}
 use Rattle.event_model.specs.Phases.{Desk, desk_of, editors_of, is_begun, is_there, is_waiting, phase_closed, phase_told}
 use Rattle.event_model.specs.Requests.{answered_id, is_open, open_of, without}
-use Rattle.event_model.specs.Row.{each, outs, send}
+use Rattle.event_model.specs.Row.{each, outs}
 use Rattle.event_model.specs.Settings.{Settings}
 use Rattle.event_model.specs.Spawns.{group_of}
 use Rattle.event_model.specs.Stages.{Life, is_initializing, life_of, stage_hears}

@@ -1,5 +1,5 @@
 -- S2: the requests that wait go on to the start that gave its result, one behind the other, each behind a sync; where no number is left they are refused.
-use Rattle.std.proofs.Common.{◌≡◌, ℕ, Bool, true, false, not, ◌&&◌, cond, List, [], ◌∷◌, ◌++◌, ◌<◌, ◌^◌, nat_lt, filter, map, nat_eq, codes, bytes_eq, decimal, if◌then◌else◌, Option, None, Some, refl, sym, ◌∙◌, ap, ap₂, subst, arith, append-nil, append_assoc, ltb-true}
+use Rattle.std.proofs.Common.{◌≡◌, ℕ, Bool, true, false, not, ◌&&◌, cond, List, [], ◌∷◌, ◌++◌, ◌<◌, ◌^◌, nat_lt, filter, map, nat_eq, codes, decimal, if◌then◌else◌, Option, None, Some, refl, sym, ◌∙◌, ap, ap₂, subst, arith, append-nil, append_assoc, ltb-true}
 use Rattle.std.specs.Prelude.{drop, slice_get}
 use Rattle.std.specs.List.{AllByRecursion}
 use Rattle.std.specs.Option.{option_and_then, option_map_or}
@@ -12,14 +12,14 @@ use Rattle.mux_history.specs.declared.cause.Cause.TheVariants.{FromServer}
 use Rattle.mux_history.specs.declared.out.Out.{Out}
 use Rattle.mux_history.specs.declared.out.Out.TheVariants.{ToEditor, ToServer, Spawn, CloseEditor, EndServer}
 use Rattle.document_model.specs.Opens.{Open}
-use Rattle.rpc_message.specs.Message.{Message, request, error, Id, id_bytes, integer, text, message_of, same_id}
+use Rattle.rpc_message.specs.Message.{request, Id, id_bytes, integer, text, message_of, same_id}
 use Rattle.rpc_message.specs.Texts.{error_text, request_failed}
 use Rattle.rpc_message.specs.ValueTexts.{IsIdText}
 use Rattle.event_model.specs.declared.stage.Stage.TheVariants.{Ready, Stopping, Initializing}
 use Rattle.event_model.specs.Event.{Event, behind, heard, said, with_cause}
 use Rattle.event_model.specs.Parts.{is_of_server, server_part}
 use Rattle.event_model.specs.Phases.{Desk, is_there}
-use Rattle.event_model.specs.Requests.{answered_id, is_open, is_own}
+use Rattle.event_model.specs.Requests.{answered_id, is_open}
 use Rattle.event_model.specs.Row.{each, outs, ◌⨾◌, choose}
 use Rattle.event_model.specs.Settings.{Settings}
 use Rattle.event_model.specs.Spawns.{group_of, start_of}
@@ -31,7 +31,7 @@ use Rattle.mux_facts.specs.Ranges.{InRange}
 use Rattle.mux_facts.proofs.Folds.{life_more}
 use Rattle.mux_facts.proofs.Keeps.{behind_both}
 use Rattle.mux_facts.proofs.Lists.{all_of}
-use Rattle.mux_facts.proofs.Reasons.{Because, by_choose, by_look, by_nothing, by_send, by_then, reasons_keep}
+use Rattle.mux_facts.proofs.Reasons.{Because, by_choose, by_look, by_nothing, by_send, by_then}
 use Rattle.mux_facts.proofs.Why.{is_early}
 use Rattle.mux_facts.proofs.Words.{number_same, same_number}
 use Rattle.group_words.specs.Houses.{home_of, is_home}
@@ -45,8 +45,8 @@ use Rattle.group_rows.proofs.Cancelling.{text_meant}
 use Rattle.group_rows.proofs.Frames.{forwarding_more, waiting_more}
 use Rattle.group_rows.proofs.TokenTexts.{forwarded_says}
 use Rattle.group_facts.specs.Facts.{AllHeld, HasOtherId, HaveOtherIds, IsHeld, Opened}
-use Rattle.group_facts.specs.Why.{IsForward, IsUnheld, Turn, Why, asker_at, forwarded, greeted, had_waited, stays}
-use Rattle.group_facts.proofs.Forwards.{Still, forwards_sender, still_now, waits_on}
+use Rattle.group_facts.specs.Why.{IsForward, IsUnheld, Turn, Why, forwarded, greeted, had_waited, stays}
+use Rattle.group_facts.proofs.Forwards.{Still, forwards_sender, still_now}
 use Rattle.group_facts.proofs.Begun.{start_more}
 use Rattle.group_facts.proofs.Held.{are_asked, drop_all, held_told_all, left_by, refused_one, refused_says, is_meant_other}
 use Rattle.group_facts.proofs.Housed.{group_more}
@@ -300,9 +300,11 @@ module _ (settings : Settings) (range : InRange settings) (before : List Event) 
           from = refl;
           home = home;
           stage = stage;
+          member = there.group;
           last = there.last;
           first = first;
           editor = refl;
+          bytes = k.bytes;
           body = refl;
           outs = h.outs;
           earlier = events;

@@ -36,7 +36,7 @@ OneOf P [] = ⊥
 OneOf P (x ∷ xs) = P x ⊎ OneOf P xs
 
 module _ {X : Type 0} (P : X → Type 0) where
-  one_left : (xs ys : List X) → OneOf P xs → OneOf P (xs ++ ys)
+  pub one_left : (xs ys : List X) → OneOf P xs → OneOf P (xs ++ ys)
   one_left [] ys h = absurd h
   one_left (x ∷ xs) ys (inl p) = inl p
   one_left (x ∷ xs) ys (inr q) = inr (one_left xs ys q)
@@ -66,13 +66,13 @@ module _ {X : Type 0} (P : X → Type 0) where
       go false (inl k) = inl (inr k)
       go b (inr k) = inr (inr k)
 
-  record Placed (xs : List X) : Type 0 where
-    place : ℕ
-    item : X
-    at : slice_get xs place ≡ Some item
-    holds : P item
+  pub record Placed (xs : List X) : Type 0 where
+    pub place : ℕ
+    pub item : X
+    pub at : slice_get xs place ≡ Some item
+    pub holds : P item
 
-  one_place : (xs : List X) → OneOf P xs → Placed xs
+  pub one_place : (xs : List X) → OneOf P xs → Placed xs
   one_place [] h = absurd h
   one_place (x ∷ xs) (inl p) = record { place = zero; item = x; at = refl; holds = p }
   one_place (x ∷ xs) (inr q) = let k : Placed xs = one_place xs q in record { place = suc k.place; item = k.item; at = k.at; holds = k.holds }

@@ -1,5 +1,5 @@
 -- Each open request of a start was sent on to it, at a moment that the events before tell.
-use Rattle.std.proofs.Common.{◌≡◌, ℕ, ◌+◌, ◌<◌, ◌≤◌, Bool, true, false, not, List, [], ◌∷◌, ◌++◌, map, fold, nat_eq, codes, decimal, refl, ◌∙◌, ap, subst, arith, append_assoc}
+use Rattle.std.proofs.Common.{◌≡◌, ℕ, ◌+◌, ◌<◌, ◌≤◌, Bool, true, false, not, List, [], ◌∷◌, ◌++◌, map, fold, nat_eq, codes, decimal, refl, ◌∙◌, ap, subst, arith, append_assoc, sym}
 use Rattle.std.specs.Prelude.{Option, Some, None}
 use Rattle.std.specs.List.{AllByRecursion}
 use Rattle.std.proofs.lemmas.List.Sums.{fold-append}
@@ -75,7 +75,7 @@ silent_cause (FromServer s body) = refl
 silent_cause other = refl
 
 -- the one whose message is at work stays it behind outs
-worker_more : (events : List Event) (ev : Event) → worker_of (events ++ ev ∷ []) ≡ worker_behind (worker_of events) ev
+pub worker_more : (events : List Event) (ev : Event) → worker_of (events ++ ev ∷ []) ≡ worker_behind (worker_of events) ev
 worker_more events ev = fold-append worker_behind None events (ev ∷ [])
 
 outs_leave : (worker : Option ℕ) (xs : List Out) → fold worker_behind worker (map said xs) ≡ worker
@@ -92,7 +92,7 @@ worker_still events e asked xs = fold-append worker_behind None (with_cause even
 pub worker_idle : (events : List Event) (s : ℕ) (answer : List ℕ) (xs : List Out) → worker_of (behind (with_cause events (FromServer s answer)) xs) ≡ None
 worker_idle events s answer xs = fold-append worker_behind None (with_cause events (FromServer s answer)) (map said xs) ∙ outs_leave (worker_of (with_cause events (FromServer s answer))) xs ∙ worker_more events (heard (FromServer s answer))
 
-id_at_work : (e : ℕ) (asked : List ℕ) (m : Message) (a : Sender) → sender_of e asked m ≡ Some a → id_bytes asked ≡ a.id
+pub id_at_work : (e : ℕ) (asked : List ℕ) (m : Message) (a : Sender) → sender_of e asked m ≡ Some a → id_bytes asked ≡ a.id
 id_at_work e asked (request id method params) a h = ap (λ (z : Sender). z.id) (same h)
   where
     same : sender_of e asked (request id method params) ≡ Some a → (record { editor = e; id = id_bytes asked; work = token_in (codes "workDoneToken") asked; partial = token_in (codes "partialResultToken") asked }) ≡ a
@@ -155,7 +155,7 @@ module _ (settings : Settings) (before : List Event) (cause : Cause) (events : L
     sending (at_once from synced) = by_message before (synced.questions ++ map (λ text. ToServer n text) (sync_bodies settings.limits.versions (λ u. held_at n u before) (k.sender).editor (texts_of settings synced.group before).opens)) synced.place
     sending (had_waited w) = by_result before w.answer (w.outs ++ map (λ text. ToServer n text) (sync_bodies settings.limits.versions (λ u. held_at n u w.earlier) (k.sender).editor (texts_of settings w.group w.earlier).opens)) w.request
         (w.place ∙ (ap (λ z. behind z (map (λ text. ToServer n text) (sync_bodies settings.limits.versions (λ u. held_at n u w.earlier) (k.sender).editor (texts_of settings w.group w.earlier).opens))) w.entry
-        ∙ (behind_both (with_cause before cause) w.outs (map (λ text. ToServer n text) (sync_bodies settings.limits.versions (λ u. held_at n u w.earlier) (k.sender).editor (texts_of settings w.group w.earlier).opens))
+        ∙ (sym (behind_both (with_cause before cause) w.outs (map (λ text. ToServer n text) (sync_bodies settings.limits.versions (λ u. held_at n u w.earlier) (k.sender).editor (texts_of settings w.group w.earlier).opens)))
         ∙ ap (λ c. behind (with_cause before c) (w.outs ++ map (λ text. ToServer n text) (sync_bodies settings.limits.versions (λ u. held_at n u w.earlier) (k.sender).editor (texts_of settings w.group w.earlier).opens))) w.from)))
         w.first w.editor w.body
 

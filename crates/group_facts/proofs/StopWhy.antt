@@ -1,5 +1,5 @@
 -- E6: why each out of a stop is sent, put together.
-use Rattle.std.proofs.Common.{◌≡◌, ℕ, Bool, true, false, cond, ◌&&◌, ◌||◌, List, [], ◌∷◌, ◌++◌, filter, nat_eq, bytes_eq, codes, if◌then◌else◌, Option, None, Some, refl, sym, ◌∙◌, ap, ap₂, subst, append-nil}
+use Rattle.std.proofs.Common.{◌≡◌, ℕ, Bool, true, false, cond, ◌&&◌, ◌||◌, List, [], ◌∷◌, ◌++◌, filter, nat_eq, bytes_eq, codes, if◌then◌else◌, Option, Some, refl, sym, ◌∙◌, ap, ap₂, subst, append-nil}
 use Rattle.std.specs.List.{AllByRecursion}
 use Rattle.std.proofs.lemmas.Bool.{and_parts}
 use Rattle.std.proofs.lemmas.List.Elements.{filter-append}
@@ -16,7 +16,7 @@ use Rattle.event_model.specs.declared.phase.Phase.{Phase}
 use Rattle.event_model.specs.declared.phase.Phase.TheVariants.{Absent, New, Waiting, Answered, Running, Down, Closed, Gone}
 use Rattle.event_model.specs.Event.{Event, behind, heard, requests, said, with_cause}
 use Rattle.event_model.specs.Parts.{is_of_server, server_part}
-use Rattle.event_model.specs.Phases.{Desk, desk_hears, desk_of, has_id, is_new, is_there, is_waiting, phase_told}
+use Rattle.event_model.specs.Phases.{Desk, desk_hears, desk_of, is_new, is_there, is_waiting, phase_told}
 use Rattle.event_model.specs.Requests.{answered_id, is_open, open_of, with_request, without}
 use Rattle.event_model.specs.Row.{each, nothing, on, outs}
 use Rattle.event_model.specs.Settings.{Settings}

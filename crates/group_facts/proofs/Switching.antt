@@ -25,8 +25,16 @@ module _ (settings : Settings) (before : List Event) (cause : Cause) where
   switched events s e asked from k = record { editor = e; asked = asked; from = from; group = k.group; start = k.start; questions = k.questions; asks = k.asks; place = subst (λ c. events ≡ behind (with_cause before c) (k.questions ++ map (λ text. ToServer s text) (sync_bodies settings.limits.versions (λ u. held_at s u before) e (texts_of settings k.group before).opens))) (sym from) k.place }
 
   released : (events : List Event) (s e : ℕ) (asked : List ℕ) → IsAwaited settings before cause events s e asked → IsReleased settings before cause events s
-  released events s e asked w = record { group = w.group; answer = w.answer; request = w.request; from = w.from; home = w.home; first = w.first; earlier = w.earlier;
-      place = subst (λ n. events ≡ behind w.earlier (map (λ text. ToServer s text) (sync_bodies settings.limits.versions (λ u. held_at s u w.earlier) n (texts_of settings w.group w.earlier).opens))) (sym w.editor) w.place }
+  released events s e asked w = record {
+    group = w.group;
+    answer = w.answer;
+    request = w.request;
+    from = w.from;
+    home = w.home;
+    first = w.first;
+    earlier = w.earlier;
+    place = subst (λ n. events ≡ behind w.earlier (map (λ text. ToServer s text) (sync_bodies settings.limits.versions (λ u. held_at s u w.earlier) n (texts_of settings w.group w.earlier).opens))) (sym w.editor) w.place;
+  }
 
   went : {body : List ℕ} (events : List Event) (s e : ℕ) (asked : List ℕ) → Going settings before cause events s e asked → IsSwitched settings before cause events s ⊎ (IsReleased settings before cause events s ⊎ IsConfigured settings before cause s body)
   went events s e asked (at_once from k) = inl (switched events s e asked from k)

@@ -140,9 +140,11 @@ pub record IsAwaited (settings : Settings) (before : List Event) (cause : Cause)
   pub from : cause ≡ FromServer s answer
   pub home : group_of s before ≡ Some group
   pub stage : (life_of s before).stage ≡ Initializing
+  pub member : group_of s events ≡ Some group
   pub last : start_of group before ≡ Some s → start_of group events ≡ Some s
   pub first : first_waiting settings s events ≡ Some request
   pub editor : request.editor ≡ e
+  pub bytes : request.id ≡ id_bytes asked
   pub body : request.body ≡ asked
   pub outs : List Out
   pub earlier : List Event
