@@ -18,10 +18,11 @@ use Rattle.event_model.specs.Settings.{Settings}
 use Rattle.event_model.proofs.Frames.{never}
 use Rattle.mux_facts.proofs.Lists.{all_filtered, all_join, all_of, found_is}
 use Rattle.mux_facts.proofs.Words.{same_number}
-use Rattle.group_rows.specs.Forwarded.{Forwarded, Forwarding, answered_by, forwarding_behind, forwarding_of, names, no_forwarding, numbered}
+use Rattle.group_rows.specs.Forwarded.{Forwarded, Forwarding, answered_by, first_sender, forwarding_next, forwarding_of, names, no_forwarding, numbered}
 use Rattle.group_facts.specs.Facts.{AllForwarded, Apart, IsAlone, IsForwarded, OneRequest, is_early}
 use Rattle.group_facts.specs.Why.{IsForward, WhyToServer, begins, greets, conveys, forwarded, notes, tells, shuts, cancels, responds, exits, resolves, cancels_work}
-use Rattle.group_facts.proofs.Forwards.{Fewer, fewer_notified, forwarding_more, more_requests, zip_all}
+use Rattle.group_rows.proofs.Frames.{forwarding_more}
+use Rattle.group_facts.proofs.Forwards.{Fewer, fewer_notified, more_requests, zip_all}
 use Rattle.group_facts.proofs.Levels.{each_start}
 use Rattle.group_facts.proofs.Numbers.{forwarding_other, forwarding_sent, response_forwards}
 use Rattle.mux_facts.specs.Allowed.{is_response}
@@ -58,7 +59,7 @@ apart_fewer settings events later fewer h s = fewer s (λ n e i. (t : ℕ) → A
 abbrev All3 : (ℕ → ℕ → List ℕ → Type 0) → List Forwarded → Type 0
 All3 Q fs = AllByRecursion (λ (f : Forwarded). Q f.number f.editor f.id) fs
 
-fewer_by : (settings : Settings) (events : List Event) (event : Event) → ((t : ℕ) (Q : ℕ → ℕ → List ℕ → Type 0) → All3 Q (forwarding_of settings t events).open_requests → All3 Q (forwarding_behind t (forwarding_of settings t events) event).open_requests) → Fewer settings events (events ++ event ∷ [])
+fewer_by : (settings : Settings) (events : List Event) (event : Event) → ((t : ℕ) (Q : ℕ → ℕ → List ℕ → Type 0) → All3 Q (forwarding_of settings t events).open_requests → All3 Q (forwarding_next settings t events (forwarding_of settings t events) event).open_requests) → Fewer settings events (events ++ event ∷ [])
 fewer_by settings events event f t Q h = subst (λ (x : Forwarding). All3 Q x.open_requests) (sym (forwarding_more settings t events event)) (f t Q h)
 
 answered_fewer : (Q : ℕ → ℕ → List ℕ → Type 0) (b : Bool) (test : Forwarded → Bool) (fs : List Forwarded) → All3 Q fs → All3 Q (if b then filter test fs else fs)
@@ -84,10 +85,10 @@ fewer_took settings events (ServerGone n) = fewer_by settings events (heard (Ser
 pub asks_fewer : (settings : Settings) (events : List Event) (e : ℕ) (body : List ℕ) → Fewer settings events (with_cause events (FromEditor e body))
 asks_fewer settings events e body = fewer_by settings events (heard (FromEditor e body)) (λ t Q h. h)
 
-pub fewer_said : (settings : Settings) (events : List Event) (out : Out) → ((s : ℕ) → (forwarding_behind s (forwarding_of settings s events) (said out)).open_requests ≡ (forwarding_of settings s events).open_requests) → Fewer settings events (events ++ said out ∷ [])
+pub fewer_said : (settings : Settings) (events : List Event) (out : Out) → ((s : ℕ) → (forwarding_next settings s events (forwarding_of settings s events) (said out)).open_requests ≡ (forwarding_of settings s events).open_requests) → Fewer settings events (events ++ said out ∷ [])
 fewer_said settings events out same = fewer_by settings events (said out) (λ t Q k. subst (All3 Q) (sym (same t)) k)
 
-pub apart_said : (settings : Settings) (events : List Event) (out : Out) → ((s : ℕ) → (forwarding_behind s (forwarding_of settings s events) (said out)).open_requests ≡ (forwarding_of settings s events).open_requests) → Apart settings events → Apart settings (events ++ said out ∷ [])
+pub apart_said : (settings : Settings) (events : List Event) (out : Out) → ((s : ℕ) → (forwarding_next settings s events (forwarding_of settings s events) (said out)).open_requests ≡ (forwarding_of settings s events).open_requests) → Apart settings events → Apart settings (events ++ said out ∷ [])
 apart_said settings events out same h = apart_fewer settings events (events ++ said out ∷ []) (fewer_said settings events out same) h
 
 -- A body to a start
@@ -98,12 +99,12 @@ module _ (settings : Settings) (before : List Event) (cause : Cause) (events : L
 
   pub own_fewer : (id : Id) (method : List ℕ) (params : Option Json) → message_of body ≡ request id method params → is_own method ≡ true → Fewer settings events sent
   own_fewer id method params says own t Q h = each_start (λ z. All3 Q (forwarding_of settings z events).open_requests → All3 Q (forwarding_of settings z sent).open_requests) n
-      (λ k. subst (λ (x : Forwarding). All3 Q x.open_requests) (sym (forwarding_sent settings events n body (request id method params) says ∙ ap (λ c. if c then forwarding_of settings n events else more_requests (forwarding_of settings n events)) own)) k)
+      (λ k. subst (λ (x : Forwarding). All3 Q x.open_requests) (sym (forwarding_sent settings events n body (request id method params) says ∙ ap (λ c. if c then forwarding_of settings n events else more_requests (first_sender settings n events) (forwarding_of settings n events)) own)) k)
       (λ z other k. subst (λ (x : Forwarding). All3 Q x.open_requests) (sym (forwarding_other settings events n body z other)) k) t h
 
   pub response_fewer : is_response (message_of body) ≡ true → Fewer settings events sent
   response_fewer answer t Q h = each_start (λ z. All3 Q (forwarding_of settings z events).open_requests → All3 Q (forwarding_of settings z sent).open_requests) n
-      (λ k. subst (λ (x : Forwarding). All3 Q x.open_requests) (sym (forwarding_sent settings events n body (message_of body) refl ∙ response_forwards (forwarding_of settings n events) (message_of body) answer)) k)
+      (λ k. subst (λ (x : Forwarding). All3 Q x.open_requests) (sym (forwarding_sent settings events n body (message_of body) refl ∙ response_forwards (first_sender settings n events) (forwarding_of settings n events) (message_of body) answer)) k)
       (λ z other k. subst (λ (x : Forwarding). All3 Q x.open_requests) (sym (forwarding_other settings events n body z other)) k) t h
 
   -- an editor's request: it alone is new
@@ -114,7 +115,7 @@ module _ (settings : Settings) (before : List Event) (cause : Cause) (events : L
     list_now : (forwarding_of settings n sent).open_requests ≡ (forwarding_of settings n events).open_requests ++ new ∷ []
     unfolding new
     list_now = ap (λ (x : Forwarding). x.open_requests) (forwarding_sent settings events n body (request (integer (decimal (forwarding_of settings n events).next)) k.method k.params) k.says
-        ∙ ap (λ c. if c then forwarding_of settings n events else more_requests (forwarding_of settings n events)) k.other)
+        ∙ ap (λ c. if c then forwarding_of settings n events else more_requests (first_sender settings n events) (forwarding_of settings n events)) k.other)
         ∙ ap (λ o. (forwarding_of settings n events).open_requests ++ numbered o (forwarding_of settings n events).next) k.at_work
 
     pub grow : (t : ℕ) (P : Forwarded → Type 0) → AllByRecursion P (forwarding_of settings t events).open_requests → (n ≡ t → P new) → AllByRecursion P (forwarding_of settings t sent).open_requests

@@ -33,7 +33,8 @@ use Rattle.group_words.specs.Rows.{end_group, placed_row}
 use Rattle.group_words.proofs.Frames.{groups_more, groups_stay}
 use Rattle.group_rows.specs.Asks.{members_in}
 use Rattle.group_rows.specs.ExitRows.{begins_again}
-use Rattle.group_rows.specs.Rows.{close_all, outs_of, refusal, waiting_in}
+use Rattle.group_rows.specs.Waiting.{part}
+use Rattle.group_rows.specs.Rows.{outs_of, refusal, waiting_in}
 use Rattle.group_rows.specs.StopRows.{stopped, stopped_next}
 use Rattle.group_rows.specs.Ticks.{due_of, overdue_of}
 use Rattle.group_facts.specs.Facts.{Housed, IsHoused, Quit, is_exit, is_refusing, is_up}
@@ -189,7 +190,7 @@ module _ (settings : Settings) (before : List Event) (low : Low before) (spawned
         mid = behind said_now errors
 
         closes : List Out
-        closes = outs (close_all (members_in settings g mid)) mid
+        closes = outs (each (part settings g) (members_in settings g mid)) mid
 
     refused_off : is_refusing before n (message_of body) ≡ true → (g s : ℕ) → group_of n before ≡ Some g → start_of g before ≡ Some s → IsOff s (behind (with_cause before (FromServer n body)) (outs_of settings before (FromServer n body)))
     refused_off refuses g s home at = subst (λ k. IsOff k (behind (with_cause before (FromServer n body)) (outs_of settings before (FromServer n body)))) (the_same (sym (lasts n g home (alive_initializing (life_of n before).stage (and_parts (is_first_error (message_of body)) (is_initializing (life_of n before).stage) refuses).1)) ∙ at)) (refused_last refuses g home)

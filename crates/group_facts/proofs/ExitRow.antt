@@ -52,21 +52,25 @@ use Rattle.group_rows.proofs.ExitTexts.{empty_says, end_says}
 use Rattle.group_rows.proofs.ListsKept.{IsList, lists_kept}
 use Rattle.group_rows.proofs.LiveTexts.{live_written, unregister_says}
 use Rattle.group_rows.proofs.Stops.{range_below}
-use Rattle.group_facts.specs.Facts.{AllForwarded, IsAlone, IsAsked, IsForwarded, IsTake, IsWaiting, OneRequest, asked_of, ends_with, is_early, is_put_out, turned_away}
+use Rattle.group_facts.specs.Facts.{AllForwarded, IsAlone, IsAsked, IsForwarded, IsTake, IsWaiting, OneRequest, asked_of, ends_with, is_early, is_put_out, turned_away, AllHeld}
 use Rattle.group_facts.specs.Why.{IsLost, Losing, Why, calls, empties, ends, forgets, frees, of_ask, of_taking, winds_up, refuses, turns_away}
 use Rattle.group_facts.proofs.Asks.{asked_of_more, asking_more}
 use Rattle.group_facts.proofs.AskingRows.{still_runs, unregisters_all, work_told}
 use Rattle.group_facts.proofs.ExitEntry.{Exit}
 use Rattle.group_facts.proofs.ExitOuts.{Tells, asks_by, for_all, ready_by, registered_by, sent_by, start_by, takes_by, tokens_by}
 use Rattle.group_facts.proofs.Facts.{Facts}
-use Rattle.group_facts.proofs.Forwards.{forwarding_more, zip_all}
+use Rattle.group_rows.proofs.Frames.{forwarding_more}
+use Rattle.group_facts.proofs.Forwards.{zip_all}
 use Rattle.group_facts.proofs.Housed.{longer_did, longer_took}
 use Rattle.group_facts.proofs.Losses.{Differ, Apart2, desk_refused, differ_of, lost_says, lost_text, next_asker}
 use Rattle.group_facts.proofs.PutOut.{outs_tested}
 use Rattle.group_facts.proofs.Quits.{asked_while}
 use Rattle.group_facts.proofs.Sent.{rising_filtered, rising_of}
 use Rattle.group_facts.proofs.StopEntry.{begun_there}
-use Rattle.group_facts.proofs.StopWhy.{IsBody, there_told}
+use Rattle.group_facts.proofs.Held.{held_closed_all, held_told_all, part_why, there_told}
+use Rattle.group_facts.proofs.HeldOn.{held_exit}
+use Rattle.group_facts.proofs.HeldOuts.{part_by}
+use Rattle.group_facts.proofs.StopWhy.{IsBody}
 
 -- Phases
 
@@ -439,7 +443,7 @@ module _ (settings : Settings) (before : List Event) (facts : Facts settings bef
     runs_by e t events p unasked = let q = and_parts (is_running (desk_of e before).phase) (is_home g (home_of settings e before)) t in record { place = p; unasked = unasked; ran = running_is (desk_of e before).phase q.0; at_home = home_is (home_of settings e before) q.1 }
 
     runs_still : (k e : ℕ) (events : List Event) → nat_eq k e ≡ false → Runs_at e events → Runs_at e (behind events (outs (lose_start settings before s k) events))
-    runs_still k e events other h = record { place = place_behind events (lose_start settings before s k) (start_by settings (λ places out. IsBody out) k (λ places body. tt) s settings before events) h.place; unasked = unasked_behind e events (lose_start settings before s k) (start_by settings (λ places out. Calm e out) k (λ places body n. asked_off e k body (message_of body) n other) s settings before events) h.unasked; ran = h.ran; at_home = h.at_home }
+    runs_still k e events other h = record { place = place_behind events (lose_start settings before s k) (start_by settings (λ places out. IsBody out) k (λ places body. tt) s before events) h.place; unasked = unasked_behind e events (lose_start settings before s k) (start_by settings (λ places out. Calm e out) k (λ places body n. asked_off e k body (message_of body) n other) s before events) h.unasked; ran = h.ran; at_home = h.at_home }
 
     abbrev losing_row : Row
     losing_row = choose (is_ready (life_of s before).stage) (each (lose_start settings before s) (running_in settings g before)) nothing
@@ -447,8 +451,11 @@ module _ (settings : Settings) (before : List Event) (facts : Facts settings bef
     bodies_sent : (es : List ℕ) → AllByRecursion (λ e. AllByRecursion (λ (f : Forwarded). Tells settings (λ places out. IsBody out) f.editor) (filter (is_of e) fs)) es
     bodies_sent es = for_all (λ e. AllByRecursion (λ (f : Forwarded). Tells settings (λ places out. IsBody out) f.editor) (filter (is_of e) fs)) (λ e. for_all (λ (f : Forwarded). Tells settings (λ places out. IsBody out) f.editor) (λ f places body. tt) (filter (is_of e) fs)) es
 
+    errors_bodies : Because (λ places out. IsBody out) now (each (lose_sent settings before s) (members_in settings g before))
+    errors_bodies = sent_by settings (λ places out. IsBody out) before s (members_in settings g before) (bodies_sent (members_in settings g before)) now
+
     place_errors : Place told
-    place_errors = place_behind now (each (lose_sent settings before s) (members_in settings g before)) (sent_by settings (λ places out. IsBody out) before s (members_in settings g before) (bodies_sent (members_in settings g before)) now) place_now
+    place_errors = place_behind now (each (lose_sent settings before s) (members_in settings g before)) errors_bodies place_now
 
     ran_there : (e : ℕ) → runs_here e ≡ true → is_there (desk_of e before).phase ≡ true
     ran_there e t = ap is_there (running_is (desk_of e before).phase (and_parts (is_running (desk_of e before).phase) (is_home g (home_of settings e before)) t).0)
@@ -469,8 +476,11 @@ module _ (settings : Settings) (before : List Event) (facts : Facts settings bef
     abbrev lost : List Event
     lost = behind told losses
 
+    losses_bodies : Because (λ places out. IsBody out) told losing_row
+    losses_bodies = ready_by settings (λ places out. IsBody out) before s (running_in settings g before) (for_all (Tells settings (λ places out. IsBody out)) (λ e places body. tt) (running_in settings g before)) told
+
     place_lost : Place lost
-    place_lost = place_behind told losing_row (ready_by settings (λ places out. IsBody out) settings before s (running_in settings g before) (for_all (Tells settings (λ places out. IsBody out)) (λ e places body. tt) (running_in settings g before)) told) place_errors
+    place_lost = place_behind told losing_row losses_bodies place_errors
 
     -- An editor that waits is told nothing before X3
 
@@ -507,7 +517,7 @@ module _ (settings : Settings) (before : List Event) (facts : Facts settings bef
       others_run = all_filtered (λ k. Unit {0}) (Tells settings (λ places out. IsOther e out)) runs_here (λ k t u places body. not_run k t (nat_eq k e) refl) (range_with_len 0 (editors_of before)) (for_all (λ k. Unit {0}) (λ k. tt) (range_with_len 0 (editors_of before)))
 
       stood_lost : AllForwarded settings before → Stood lost
-      stood_lost askers = reasons_keep (λ places out. IsOther e out) Stood stood_told told losses (ready_by settings (λ places out. IsOther e out) settings before s (running_in settings g before) others_run told).why (stood_errors askers)
+      stood_lost askers = reasons_keep (λ places out. IsOther e out) Stood stood_told told losses (ready_by settings (λ places out. IsOther e out) before s (running_in settings g before) others_run told).why (stood_errors askers)
 
     -- X3
 
@@ -519,6 +529,7 @@ module _ (settings : Settings) (before : List Event) (facts : Facts settings bef
     record IsLeaving (e : ℕ) (events : List Event) : Type 0 where
       out : is_put_out settings before cause e ≡ true
       there : is_there (desk_of e events).phase ≡ true
+      held : AllHeld settings events
       turned : is_waiting (desk_of e events).phase ≡ true → IsTurned e events
 
     abbrev first_text : ℕ → List Event → List ℕ
@@ -527,12 +538,16 @@ module _ (settings : Settings) (before : List Event) (facts : Facts settings bef
     first_says : (e : ℕ) (events : List Event) (w : IsTurned e events) → message_of (first_text e events) ≡ error (Some w.id) (error_tree request_failed)
     first_says e events w = refusal_says (desk_of e events).initialize w.id (codes "initialize") (w.waiting).params request_failed (w.waiting).asks
 
-    leaving_why : (e : ℕ) (events : List Event) → IsLeaving e events → Because R events (turn_out e)
+    leaving_why : (e : ℕ) (events : List Event) → IsLeaving e events → Because R events (turn_out settings g e)
     leaving_why e events h = by_then (by_look (by_choose (λ waits. let w : IsTurned e events = h.turned waits in by_send (turns_away (record { id = w.id; x = error_tree request_failed; waiting = w.waiting; turned = w.turned; says = first_says e events w }))) (λ late. by_nothing)))
-        (by_send (exit.ends e ∙ h.out, there_still (is_waiting (desk_of e events).phase) refl))
+        (part_why settings before cause g e (behind events (either (is_waiting (desk_of e events).phase))) (record { ends = exit.ends e ∙ h.out; there = there_still (is_waiting (desk_of e events).phase) refl; held = held_still (is_waiting (desk_of e events).phase) }))
       where
         either : Bool → List Out
         either b = outs (choose b (send (ToEditor e (first_text e events))) nothing) events
+
+        held_still : (b : Bool) → AllHeld settings (behind events (either b))
+        held_still true = held_told_all settings events e (first_text e events) h.held
+        held_still false = subst (AllHeld settings) (sym (append-nil events)) h.held
 
         there_still : (b : Bool) → is_waiting (desk_of e events).phase ≡ b → is_there (desk_of e (behind events (either b))).phase ≡ true
         there_still true waits = let w : IsTurned e events = h.turned waits in ap (λ (d : Desk). is_there d.phase) (desk_refused e events (first_text e events) (Some w.id) (error_tree request_failed) (first_says e events w)) ∙ h.there
@@ -540,11 +555,12 @@ module _ (settings : Settings) (before : List Event) (facts : Facts settings bef
 
     -- another one's leave changes nothing of it
     leaving_did : (k e : ℕ) → nat_eq k e ≡ false → (events : List Event) (out : Out) → IsOnly k out → IsLeaving e events → IsLeaving e (events ++ said out ∷ [])
-    leaving_did k e other events (ToEditor i text) is h = leaving_same e events (events ++ said (ToEditor i text) ∷ []) (desk_other e i events text (ap (λ z. nat_eq z e) is ∙ other)) (opens_other e i events text (ap (λ z. nat_eq z e) is ∙ other)) h
+    leaving_did k e other events (ToEditor i text) is h = leaving_same e events (events ++ said (ToEditor i text) ∷ []) (desk_other e i events text (ap (λ z. nat_eq z e) is ∙ other)) (opens_other e i events text (ap (λ z. nat_eq z e) is ∙ other)) (held_told_all settings events i text h.held) h
       where
-        leaving_same : (e : ℕ) (x y : List Event) → desk_of e y ≡ desk_of e x → open_of e y ≡ open_of e x → IsLeaving e x → IsLeaving e y
-        leaving_same e x y desk opens h = record {
+        leaving_same : (e : ℕ) (x y : List Event) → desk_of e y ≡ desk_of e x → open_of e y ≡ open_of e x → AllHeld settings y → IsLeaving e x → IsLeaving e y
+        leaving_same e x y desk opens held h = record {
           out = h.out;
+          held = held;
           there = ap (λ (d : Desk). is_there d.phase) desk ∙ h.there;
           turned = λ waits. let w : IsTurned e x = h.turned (sym (ap (λ (d : Desk). is_waiting d.phase) desk) ∙ waits) in record {
             id = w.id;
@@ -563,6 +579,7 @@ module _ (settings : Settings) (before : List Event) (facts : Facts settings bef
             let opens : open_of e later ≡ open_of e events = opens_more e events (said (CloseEditor i)) in
             record {
               out = h.out;
+              held = held_closed_all settings events i h.held;
               there = ap (λ (d : Desk). is_there d.phase) desk ∙ h.there;
               turned = λ waits. let w : IsTurned e events = h.turned (sym (ap (λ (d : Desk). is_waiting d.phase) desk) ∙ waits) in record {
                 id = w.id;
@@ -574,11 +591,11 @@ module _ (settings : Settings) (before : List Event) (facts : Facts settings bef
     leaving_did k e other events (Spawn n i) is h = absurd is
     leaving_did k e other events (EndServer n) is h = absurd is
 
-    leaving_still : (k e : ℕ) (events : List Event) → nat_eq k e ≡ false → IsLeaving e events → IsLeaving e (behind events (outs (turn_out k) events))
-    leaving_still k e events other h = reasons_keep (λ places out. IsOnly k out) (IsLeaving e) (leaving_did k e other) events (outs (turn_out k) events) only.why h
+    leaving_still : (k e : ℕ) (events : List Event) → nat_eq k e ≡ false → IsLeaving e events → IsLeaving e (behind events (outs (turn_out settings g k) events))
+    leaving_still k e events other h = reasons_keep (λ places out. IsOnly k out) (IsLeaving e) (leaving_did k e other) events (outs (turn_out settings g k) events) only.why h
       where
-        only : Because (λ places out. IsOnly k out) events (turn_out k)
-        only = by_then (by_look (by_choose (λ waits. by_send refl) (λ late. by_nothing))) (by_send refl)
+        only : Because (λ places out. IsOnly k out) events (turn_out settings g k)
+        only = by_then (by_look (by_choose (λ waits. by_send refl) (λ late. by_nothing))) (part_by settings (λ places out. IsOnly k out) g k (λ places body. refl) (λ places. refl) _)
 
     -- the editors of a group that ends
     module _ (over : ends_group settings before s ≡ true) where
@@ -591,10 +608,22 @@ module _ (settings : Settings) (before : List Event) (facts : Facts settings bef
       was_waiting : (e : ℕ) → is_waiting (desk_of e lost).phase ≡ true → (desk_of e before).phase ≡ Waiting
       was_waiting e h = waiting_is (desk_of e before).phase (sym (ap (λ (d : Desk). is_waiting d.phase) (exit.desk e)) ∙ outs_tested is_waiting waiting_told waiting_closed e now errors (outs_tested is_waiting waiting_told waiting_closed e told losses h))
 
+      -- what waits is held by then
+      body_held : (places : List Event) (out : Out) → IsBody out → AllHeld settings places → AllHeld settings (places ++ said out ∷ [])
+      body_held places (ToEditor n body) is h = held_told_all settings places n body h
+      body_held places (ToServer n body) is h = absurd is
+      body_held places (Spawn n i) is h = absurd is
+      body_held places (CloseEditor n) is h = absurd is
+      body_held places (EndServer n) is h = absurd is
+
+      held_lost : AllHeld settings lost
+      held_lost = reasons_keep (λ places out. IsBody out) (AllHeld settings) body_held told losses losses_bodies.why (reasons_keep (λ places out. IsBody out) (AllHeld settings) body_held now errors errors_bodies.why (held_exit settings before cause s exit.is (facts.steady).held))
+
       to_leave : (e : ℕ) → is_member e ≡ true → IsLeaving e lost
       to_leave e t = record {
         out = exit.out e ∙ put_out e t;
         there = place_lost.there e (member_there e t);
+        held = held_lost;
         turned = λ waits.
             let was : (desk_of e before).phase ≡ Waiting = was_waiting e waits in
             let w : Waits (desk_of e before).initialize (open_of e before) = waits_at before e was facts.waiting in
@@ -606,9 +635,9 @@ module _ (settings : Settings) (before : List Event) (facts : Facts settings bef
             };
       }
 
-      leaves_why : Because R lost (each turn_out (members_in settings g before))
-      leaves_why = subst (λ ns. Because R lost (each turn_out (filter is_member ns))) (sym (range_below (editors_of before)))
-          (by_rising turn_out IsLeaving leaving_why leaving_still lost is_member to_leave (editors_of before))
+      leaves_why : Because R lost (each (turn_out settings g) (members_in settings g before))
+      leaves_why = subst (λ ns. Because R lost (each (turn_out settings g) (filter is_member ns))) (sym (range_below (editors_of before)))
+          (by_rising (turn_out settings g) IsLeaving leaving_why leaving_still lost is_member to_leave (editors_of before))
 
     -- The row
 
@@ -631,7 +660,7 @@ module _ (settings : Settings) (before : List Event) (facts : Facts settings bef
       over_here live last = ap (λ o. option_map_or (λ i. option_map_or (comes_to_end settings before i) (slice_get (groups_of settings before) i) false) o false) home
           ∙ (ap (λ o. option_map_or (comes_to_end settings before g) o false) found ∙ ap₂ (λ a b. a && not b) live last)
 
-      alive_why : x.live ≡ true → Because R now (each (lose_sent settings before s) (members_in settings g before) ⨾ (losing_row ⨾ choose (starts_again settings before g x) (spawn g) (each turn_out (members_in settings g before))))
+      alive_why : x.live ≡ true → Because R now (each (lose_sent settings before s) (members_in settings g before) ⨾ (losing_row ⨾ choose (starts_again settings before g x) (spawn g) (each (turn_out settings g) (members_in settings g before))))
       alive_why live = by_then errors_why (by_then losses_why (by_choose (λ again. by_look (by_send (refl, inside))) (λ last. leaves_why (over_here live last))))
 
       kept_why : Because R now (exit_in settings before s g x)

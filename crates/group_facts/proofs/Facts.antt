@@ -15,7 +15,7 @@ use Rattle.mux_facts.proofs.Waits.{AllWaiting, Waits, WaitsAt, waits_at}
 use Rattle.group_rows.specs.Forwarded.{forwarding_of}
 use Rattle.group_rows.specs.StopRows.{stopped}
 use Rattle.group_rows.proofs.Versions.{AllMeant}
-use Rattle.group_facts.specs.Facts.{AllForwarded, Apart, Asks, Bounded, Housed, Known, Numbered, Opened, Quit, Results, Stopped, Takes, Unbegun, Untold, Written, turned_away}
+use Rattle.group_facts.specs.Facts.{AllForwarded, AllHeld, Apart, Asks, Bounded, Housed, Known, Numbered, Opened, Quit, Results, Stopped, Takes, Unbegun, Untold, Written, turned_away}
 
 pub record Base (settings : Settings) (events : List Event) : Type 0 where
   pub opened : Opened settings events
@@ -31,6 +31,7 @@ pub record Steady (settings : Settings) (events : List Event) : Type 0 where
   pub editors : Editors events
   pub asked : stopped events ≡ false → AllForwarded settings events
   pub apart : Apart settings events
+  pub held : AllHeld settings events
   pub asks : Asks settings events
   pub takes : Takes settings events
   pub housed : Housed settings events
@@ -91,6 +92,7 @@ known_of settings events h = record {
   asked = (h.steady).asked;
   quit = h.quit;
   apart = (h.steady).apart;
+  held = (h.steady).held;
   asks = (h.steady).asks;
   takes = (h.steady).takes;
   housed = (h.steady).housed;

@@ -36,9 +36,11 @@ use Rattle.group_facts.specs.Legal.{Legal, LegalFrom}
 use Rattle.group_facts.proofs.Apart.{apart_fewer, apart_said, apart_sent, fewer_took}
 use Rattle.group_facts.proofs.Asks.{asks_closed, asks_ended, asks_sent, asks_spawned, asks_told, asks_took, no_asks}
 use Rattle.group_facts.proofs.Askers.{asked_said, asked_sent, asked_told, asked_took}
-use Rattle.group_facts.specs.Facts.{is_unready, is_up}
+use Rattle.group_facts.specs.Facts.{Quit, is_unready, is_up}
 use Rattle.group_facts.proofs.Facts.{Base, Facts, Mid, OthersTied, Steady}
-use Rattle.group_facts.proofs.Forwards.{forwarding_more}
+use Rattle.group_rows.proofs.Frames.{forwarding_more}
+use Rattle.group_facts.proofs.Held.{held_closed_all, held_ended_all, held_spawned_all, held_told_all}
+use Rattle.group_facts.proofs.HeldOn.{held_sent_all, held_took}
 use Rattle.group_facts.proofs.Housed.{housed_did, housed_spawn, housed_took}
 use Rattle.group_facts.proofs.Levels.{Fresh, unbegun_falls, unready_falls, up_falls}
 use Rattle.group_facts.proofs.Numbers.{bounded_said, bounded_sent, bounded_took, spawn_fresh, unbegun_said, unbegun_sent, unbegun_took, untold_said, untold_sent, untold_took}
@@ -71,8 +73,8 @@ module _ (settings : Settings) where
 
   -- At a cause
 
-  steady_took : (events : List Event) (cause : Cause) → fits_behind events cause ≡ true → Steady settings events → Steady settings (with_cause events cause)
-  steady_took events cause fits h = record {
+  steady_took : (events : List Event) (cause : Cause) → fits_behind events cause ≡ true → Quit events → Steady settings events → Steady settings (with_cause events cause)
+  steady_took events cause fits quit h = record {
     starts = starts_took events cause fits h.starts;
     unbegun = unbegun_took settings events cause (unbegun_fresh cause) h.unbegun;
     untold = untold_took settings events cause (untold_fresh cause) h.untold;
@@ -80,6 +82,7 @@ module _ (settings : Settings) where
     editors = editors_took events cause fits h.editors;
     asked = λ on. asked_took settings events cause fits h.editors (h.asked (stopped_back events (heard cause) on));
     apart = apart_fewer settings events (with_cause events cause) (fewer_took settings events cause) h.apart;
+    held = held_took settings events cause fits h.editors quit h.asked h.held;
     asks = asks_took settings events cause h.asks;
     takes = takes_took settings events h.takes cause;
     housed = housed_took settings events cause h.housed;
@@ -109,6 +112,7 @@ module _ (settings : Settings) where
       editors = editors.to_editor events n body h.editors;
       asked = λ on. let off : is_stopped events ≡ false = stopped_back events (said (ToEditor n body)) on in asked_told settings before cause events n body why off (h.asked off);
       apart = apart_said settings events (ToEditor n body) (λ s. refl) h.apart;
+      held = held_told_all settings events n body h.held;
       asks = asks_told settings events n body before cause why h.asks;
       takes = takes_told settings events h.takes n body before cause why;
       housed = housed_did settings events (ToEditor n body) refl (λ s. refl) h.housed;
@@ -132,6 +136,7 @@ module _ (settings : Settings) where
       editors = editors.more events (said (Spawn (starts_of events) g)) h.editors refl (λ e absent. absent);
       asked = λ on. asked_said settings events (Spawn (starts_of events) g) (λ s. refl) (λ e. refl) (h.asked (stopped_back events (said (Spawn (starts_of events) g)) on));
       apart = apart_said settings events (Spawn (starts_of events) g) (λ s. refl) h.apart;
+      held = held_spawned_all settings events (starts_of events) g h.held;
       asks = asks_spawned settings events (starts_of events) g h.asks;
       takes = takes_spawned settings events h.takes (starts_of events) g;
       housed = housed_spawn settings events g inside h.housed;
@@ -156,6 +161,7 @@ module _ (settings : Settings) where
           (λ same. there_not events n e absent same there)) ∙ absent);
       asked = λ on. asked_said settings events (CloseEditor n) (λ s. refl) (λ e. refl) (h.asked (stopped_back events (said (CloseEditor n)) on));
       apart = apart_said settings events (CloseEditor n) (λ s. refl) h.apart;
+      held = held_closed_all settings events n h.held;
       asks = asks_closed settings events n h.asks;
       takes = takes_closed settings events h.takes n;
       housed = housed_did settings events (CloseEditor n) refl (λ s. refl) h.housed;
@@ -180,6 +186,7 @@ module _ (settings : Settings) where
       editors = editors.more events (said (EndServer n)) h.editors refl (λ e absent. absent);
       asked = λ on. asked_said settings events (EndServer n) (λ s. refl) (λ e. refl) (h.asked (stopped_back events (said (EndServer n)) on));
       apart = apart_said settings events (EndServer n) (λ s. refl) h.apart;
+      held = held_ended_all settings events n h.held;
       asks = asks_ended settings events n h.asks;
       takes = takes_ended settings events h.takes n;
       housed = housed_did settings events (EndServer n) refl (λ s. refl) h.housed;
@@ -217,6 +224,7 @@ module _ (settings : Settings) where
         editors = editors.to_server events n body (h.steady).editors;
         asked = λ on. asked_sent settings before cause events n body why ((h.steady).asked (stopped_back events (said (ToServer n body)) on));
         apart = apart_sent settings before cause events n body why (h.steady).apart;
+        held = held_sent_all settings before cause events n body why (h.steady).held;
         asks = asks_sent settings events n body (h.steady).asks;
         takes = takes_sent settings events (h.steady).takes n body;
         housed = housed_did settings events (ToServer n body) refl (λ s. refl) (h.steady).housed;
@@ -240,7 +248,7 @@ module _ (settings : Settings) where
     pub here_took : (before : List Event) (cause : Cause) → fits_behind before cause ≡ true → Facts settings before → Here before cause (with_cause before cause)
     here_took before cause fits h = record {
       base = base_took before cause h.base;
-      mid = record { steady = steady_took before cause fits h.steady; tied = tied_took settings before cause h.tied; waiting = waiting_took settings before cause h.waiting };
+      mid = record { steady = steady_took before cause fits h.quit h.steady; tied = tied_took settings before cause h.tied; waiting = waiting_took settings before cause h.waiting };
     }
 
     pub here_did : (before : List Event) (cause : Cause) → Facts settings before → (events : List Event) (out : Out) → Why settings before cause events out → Here before cause events → Here before cause (events ++ said out ∷ [])
@@ -269,7 +277,7 @@ module _ (settings : Settings) where
     pub no_facts : Facts settings []
     no_facts = record {
       base = record { opened = opened_none settings; results = results_none; written = tt; meant = tt };
-      steady = record { starts = λ s le. refl; unbegun = λ s un. (refl, refl); untold = λ s un u. refl; bounded = λ s up. (omega arith, omega arith); editors = λ e le. refl; asked = λ on s. tt; apart = λ s. tt; asks = no_asks settings; takes = no_takes settings; housed = λ s below. absurd (omega (arith, below)) };
+      steady = record { starts = λ s le. refl; unbegun = λ s un. (refl, refl); untold = λ s un u. refl; bounded = λ s up. (omega arith, omega arith); editors = λ e le. refl; asked = λ on s. tt; apart = λ s. tt; held = λ g. record { each = tt; apart = tt }; asks = no_asks settings; takes = no_takes settings; housed = λ s below. absurd (omega (arith, below)) };
       tied = λ s. tt;
       waiting = λ e. tt;
       quit = λ over. absurd (cc);

@@ -28,7 +28,7 @@ use Rattle.rpc_message.specs.Texts.{error_text, request_failed}
 use Rattle.rpc_message.specs.ValueTexts.{IsIdText}
 use Rattle.rpc_message.proofs.Fixed.{error_law, id_as_response}
 use Rattle.event_model.specs.Requests.{answered_id, is_open, without}
-use Rattle.group_rows.specs.Forwarded.{Forwarded, Forwarding, cancelled_by, forwarding_of, forwards, is_of}
+use Rattle.group_rows.specs.Forwarded.{Forwarded, Forwarding, cancelled_by, first_sender, forwarding_of, forwards, is_of}
 use Rattle.group_rows.specs.Asks.{Ask, asks_of, is_under, is_with}
 use Rattle.group_rows.specs.Leaves.{cancel, cancel_text, cancels, closings, leave_bodies, leave_row, refusals, refuse, uncancelled_of}
 use Rattle.group_rows.specs.Texts.{texts_of}
@@ -36,7 +36,8 @@ use Rattle.group_rows.proofs.Cancels.{cancel_says}
 use Rattle.group_facts.specs.Facts.{AllDiffer, Asks, Bounded, IsAsked, Opened, asked_by, is_up}
 use Rattle.group_facts.proofs.Asks.{asked_by_more, differ_filtered}
 use Rattle.group_facts.specs.Why.{Why, is_uncancelled, moves, stays}
-use Rattle.group_facts.proofs.Forwards.{forwarding_more, still_now, zip_all}
+use Rattle.group_rows.proofs.Frames.{forwarding_more}
+use Rattle.group_facts.proofs.Forwards.{still_now, zip_all}
 use Rattle.group_facts.proofs.Sent.{Rising, below_next, rising_filtered, rising_of}
 use Rattle.group_facts.proofs.SharedRows.{AllTold, Held, leave_told}
 use Rattle.group_facts.proofs.Tellings.{Calm, Tells, cancel_names, cancel_told, refuse_told, tells_both, tells_none, tells_row, to}
@@ -188,7 +189,7 @@ module _ (settings : Settings) (range : InRange settings) (before : List Event) 
     -- behind the cancel of another request
     still_waits : (events : List Event) (n k : ℕ) → n < 2 ^ 64 → k < 2 ^ 64 → n < k → Waits (forwarding_of settings s events).open_requests k → Waits (forwarding_of settings s (behind events (sends (cancel_text n ∷ [])))).open_requests k
     still_waits events n k low high less h = subst (λ (x : Forwarding). Waits x.open_requests k)
-        (sym (forwarding_more settings s events (said (ToServer s (cancel_text n))) ∙ ap₂ (λ b m. if b then forwards (forwarding_of settings s events) m else forwarding_of settings s events) (same_number s) (cancel_says n low)))
+        (sym (forwarding_more settings s events (said (ToServer s (cancel_text n))) ∙ ap₂ (λ b m. if b then forwards (first_sender settings s events) (forwarding_of settings s events) m else forwarding_of settings s events) (same_number s) (cancel_says n low)))
         (subst (λ i. Waits (map (cancelled_by i) (forwarding_of settings s events).open_requests) k) (sym (cancel_names n)) (other_waits n k low high less (forwarding_of settings s events).open_requests h))
 
     later_wait : (events : List Event) (n : ℕ) → n < 2 ^ 64 → (ns : List ℕ) → AllByRecursion IsSmall ns → AllByRecursion (λ k. n < k) ns → AllByRecursion (Waits (forwarding_of settings s events).open_requests) ns

@@ -27,11 +27,11 @@ use Rattle.mux_facts.proofs.Words.{number_same, same_number}
 use Rattle.group_words.specs.declared.kept.Kept.{Kept}
 use Rattle.group_words.specs.Houses.{groups_of}
 use Rattle.group_words.specs.Rows.{initialize_of}
-use Rattle.group_rows.specs.Forwarded.{Forwarding, forwarding_of, numbered}
+use Rattle.group_rows.specs.Forwarded.{Forwarding, first_sender, forwarding_of, numbered}
 use Rattle.mux_facts.specs.Allowed.{is_response}
 use Rattle.group_rows.specs.Rows.{outs_of, started}
 use Rattle.group_facts.specs.Facts.{Housed, IsHoused, IsWritten, Unbegun, Written}
-use Rattle.group_facts.specs.Why.{IsForward, WhyToServer, begins, greets, conveys, forwarded, notes, tells, shuts, cancels, responds, IsShutting, exits, resolves, cancels_work}
+use Rattle.group_facts.specs.Why.{IsForward, WhyToServer, begins, greets, conveys, forwarded, notes, tells, shuts, cancels, responds, IsShutting, exits, resolves, cancels_work, asker_at}
 use Rattle.group_facts.proofs.Forwards.{get_all}
 use Rattle.group_facts.proofs.Facts.{AllTied, OthersTied, Tied, TiedAt, begins_now}
 use Rattle.group_facts.proofs.Forwards.{notified_next}
@@ -100,7 +100,7 @@ module _ (settings : Settings) (cause : Cause) (events : List Event) (n : ℕ) (
   notified : (method : List ℕ) (params : Option Json) (stage : Stage) → message_of body ≡ notification method params → (life_of n events).stage ≡ stage → stage_told stage (notification method params) ≡ stage → Later n
   notified method params stage says at same rest h = tied_by settings n events sent stage (stage_now (notification method params) says ∙ ap (λ z. stage_told z (notification method params)) at ∙ same)
       ((number_sent settings events n body (notification method params) says))
-      (ap (λ (x : Forwarding). x.next) (forwarding_sent settings events n body (notification method params) says) ∙ notified_next (forwarding_of settings n events) method params)
+      (ap (λ (x : Forwarding). x.next) (forwarding_sent settings events n body (notification method params) says) ∙ notified_next (first_sender settings n events) (forwarding_of settings n events) method params)
       (subst (λ z. TiedAt z (next_number n events) (forwarding_of settings n events).next) at h)
 
   -- an editor's request
@@ -109,7 +109,7 @@ module _ (settings : Settings) (cause : Cause) (events : List Event) (n : ℕ) (
       let m : Message = request (integer (decimal (forwarding_of settings n events).next)) k.method k.params in
       let a : next_number n sent ≡ next_number n events + 1 = (number_sent settings events n body m k.says) in
       let f : (forwarding_of settings n sent).next ≡ (forwarding_of settings n events).next + 1 = ap (λ (x : Forwarding). x.next) (forwarding_sent settings events n body m k.says)
-      ∙ ap (λ c. (if c then forwarding_of settings n events else record { sender = (forwarding_of settings n events).sender; next = (forwarding_of settings n events).next + 1; open_requests = (forwarding_of settings n events).open_requests ++ numbered (forwarding_of settings n events).sender (forwarding_of settings n events).next }).next) k.other in
+      ∙ ap (λ c. (if c then forwarding_of settings n events else record { sender = (forwarding_of settings n events).sender; next = (forwarding_of settings n events).next + 1; open_requests = (forwarding_of settings n events).open_requests ++ numbered (asker_at settings n events) (forwarding_of settings n events).next }).next) k.other in
       let same : next_number n events ≡ (forwarding_of settings n events).next = subst (λ z. TiedAt z (next_number n events) (forwarding_of settings n events).next) k.ready h in
       let stage : (life_of n sent).stage ≡ Ready = stage_now m k.says ∙ ap (λ z. stage_told z m) k.ready ∙ ap (λ b. if b then Stopping else Ready) (no_shutdown k.method k.other) in
       subst (λ z. TiedAt z (next_number n sent) (forwarding_of settings n sent).next) (sym stage) (a ∙ ap (λ z. z + 1) same ∙ sym f)
@@ -140,11 +140,11 @@ module _ (settings : Settings) (cause : Cause) (events : List Event) (n : ℕ) (
     one_tied (cancels_work k) rest h = notified (codes "window/workDoneProgress/cancel") k.params Ready k.says k.ready refl rest h
     one_tied (responds k) rest h = tied_by settings n events sent Initializing (stage_now (message_of body) refl ∙ ap (λ z. stage_told z (message_of body)) k.waiting)
         (number_sent settings events n body (message_of body) refl ∙ response_number (next_number n events) (message_of body) k.response)
-        (ap (λ (x : Forwarding). x.next) (forwarding_sent settings events n body (message_of body) refl ∙ response_forwards (forwarding_of settings n events) (message_of body) k.response))
+        (ap (λ (x : Forwarding). x.next) (forwarding_sent settings events n body (message_of body) refl ∙ response_forwards (first_sender settings n events) (forwarding_of settings n events) (message_of body) k.response))
         (subst (λ z. TiedAt z (next_number n events) (forwarding_of settings n events).next) k.waiting h)
     one_tied (resolves k) rest h = tied_by settings n events sent Ready (stage_now (message_of body) refl ∙ ap (λ z. stage_told z (message_of body)) k.ready ∙ response_stays (message_of body) k.response)
         (number_sent settings events n body (message_of body) refl ∙ response_number (next_number n events) (message_of body) k.response)
-        (ap (λ (x : Forwarding). x.next) (forwarding_sent settings events n body (message_of body) refl ∙ response_forwards (forwarding_of settings n events) (message_of body) k.response))
+        (ap (λ (x : Forwarding). x.next) (forwarding_sent settings events n body (message_of body) refl ∙ response_forwards (first_sender settings n events) (forwarding_of settings n events) (message_of body) k.response))
         (subst (λ z. TiedAt z (next_number n events) (forwarding_of settings n events).next) k.ready h)
     one_tied (exits k) rest h = notified (codes "exit") None Stopping k.says k.stopping refl rest h
     one_tied (shuts k) rest h = shut k h

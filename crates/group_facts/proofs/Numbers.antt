@@ -23,12 +23,13 @@ use Rattle.mux_facts.proofs.Known.{is_unbegun}
 use Rattle.mux_facts.proofs.Starts.{Starts}
 use Rattle.mux_facts.proofs.Tellings.{sent_more}
 use Rattle.mux_facts.proofs.Words.{number_same, same_number}
-use Rattle.group_rows.specs.Forwarded.{Forwarding, forwarding_of, forwards, no_forwarding, numbered}
+use Rattle.group_rows.specs.Forwarded.{Forwarding, first_sender, forwarding_of, forwards, no_forwarding, numbered, Sender}
 use Rattle.group_facts.specs.Facts.{Bounded, Unbegun, Untold, is_unready, is_up}
 use Rattle.group_facts.proofs.Facts.{Facts}
-use Rattle.group_facts.proofs.Forwards.{forwarding_more, notified_next}
+use Rattle.group_rows.proofs.Frames.{forwarding_more}
+use Rattle.group_facts.proofs.Forwards.{notified_next}
 use Rattle.group_facts.proofs.Levels.{Fresh, Step, each_start, level_more, unbegun_falls, unready_falls, up_falls}
-use Rattle.group_facts.specs.Why.{IsBeginning, IsForward, WhyToServer, begins, greets, conveys, forwarded, notes, tells, shuts, cancels, IsReply, responds, exits, resolves, cancels_work}
+use Rattle.group_facts.specs.Why.{IsBeginning, IsForward, WhyToServer, begins, greets, conveys, forwarded, notes, tells, shuts, cancels, IsReply, responds, exits, resolves, cancels_work, asker_at}
 use Rattle.mux_facts.specs.Allowed.{is_response}
 
 -- A cause leaves the numbers and the documents alone
@@ -86,8 +87,8 @@ module _ (settings : Settings) (events : List Event) (n : ℕ) (body : List ℕ)
     pub number_sent : next_number n later ≡ number_told (next_number n events) m
     number_sent = number_more n events (said (ToServer n body)) ∙ ap₂ (λ b k. if b then number_told (next_number n events) k else next_number n events) (same_number n) says
 
-    pub forwarding_sent : forwarding_of settings n later ≡ forwards (forwarding_of settings n events) m
-    forwarding_sent = forwarding_more settings n events (said (ToServer n body)) ∙ ap₂ (λ b k. if b then forwards (forwarding_of settings n events) k else forwarding_of settings n events) (same_number n) says
+    pub forwarding_sent : forwarding_of settings n later ≡ forwards (first_sender settings n events) (forwarding_of settings n events) m
+    forwarding_sent = forwarding_more settings n events (said (ToServer n body)) ∙ ap₂ (λ b k. if b then forwards (first_sender settings n events) (forwarding_of settings n events) k else forwarding_of settings n events) (same_number n) says
 
     held_sent : (u : List ℕ) → held_at n u later ≡ told (sent_of n u events).encoding u (held_at n u events) (saying_of m)
     held_sent u = ap (λ (x : Sent). x.held) (sent_more n u events (said (ToServer n body)))
@@ -102,20 +103,20 @@ module _ (settings : Settings) (events : List Event) (n : ℕ) (body : List ℕ)
     number_other = number_more s events (said (ToServer n body)) ∙ ap (λ b. if b then number_told (next_number s events) (message_of body) else next_number s events) other
 
     pub forwarding_other : forwarding_of settings s later ≡ forwarding_of settings s events
-    forwarding_other = forwarding_more settings s events (said (ToServer n body)) ∙ ap (λ b. if b then forwards (forwarding_of settings s events) (message_of body) else forwarding_of settings s events) other
+    forwarding_other = forwarding_more settings s events (said (ToServer n body)) ∙ ap (λ b. if b then forwards (first_sender settings s events) (forwarding_of settings s events) (message_of body) else forwarding_of settings s events) other
 
     held_other : (u : List ℕ) → held_at s u later ≡ held_at s u events
     held_other u = ap (λ (x : Sent). x.held) (sent_more s u events (said (ToServer n body)))
         ∙ ap (λ b. if b then told (sent_of s u events).encoding u (held_at s u events) (saying_of (message_of body)) else held_at s u events) other
 
 -- a response is no request, moves no number, and speaks of no document
-pub response_forwards : (x : Forwarding) (m : Message) → is_response m ≡ true → forwards x m ≡ x
-response_forwards x (result id r) h = refl
-response_forwards x (error id e) h = refl
-response_forwards x (request id method params) h = absurd (cc)
-response_forwards x (notification method params) h = absurd (cc)
-response_forwards x not_json h = absurd (cc)
-response_forwards x not_message h = absurd (cc)
+pub response_forwards : (first : Option Sender) (x : Forwarding) (m : Message) → is_response m ≡ true → forwards first x m ≡ x
+response_forwards first x (result id r) h = refl
+response_forwards first x (error id e) h = refl
+response_forwards first x (request id method params) h = absurd (cc)
+response_forwards first x (notification method params) h = absurd (cc)
+response_forwards first x not_json h = absurd (cc)
+response_forwards first x not_message h = absurd (cc)
 
 pub response_number : (n : ℕ) (m : Message) → is_response m ≡ true → number_told n m ≡ n
 response_number n (result id r) h = refl
@@ -220,7 +221,7 @@ module _ (settings : Settings) where
     -- a notification
     notified : (method : List ℕ) (params : Option Json) → message_of body ≡ notification method params → InBounds n events → InBounds n sent
     notified method params says k = bounds_by n events sent ((number_sent settings events n body (notification method params) says))
-        (ap (λ (x : Forwarding). x.next) (forwarding_sent settings events n body (notification method params) says) ∙ notified_next (forwarding_of settings n events) method params) k
+        (ap (λ (x : Forwarding). x.next) (forwarding_sent settings events n body (notification method params) says) ∙ notified_next (first_sender settings n events) (forwarding_of settings n events) method params) k
 
     -- the daemon's own `initialize`
     opened : IsBeginning before cause events n body → InBounds n sent
@@ -240,7 +241,7 @@ module _ (settings : Settings) where
         let m : Message = request (integer (decimal (forwarding_of settings n events).next)) k.method k.params in
         let a : next_number n sent ≡ next_number n events + 1 = (number_sent settings events n body m k.says) in
         let f : (forwarding_of settings n sent).next ≡ (forwarding_of settings n events).next + 1 = ap (λ (x : Forwarding). x.next) (forwarding_sent settings events n body m k.says)
-        ∙ ap (λ c. (if c then forwarding_of settings n events else record { sender = (forwarding_of settings n events).sender; next = (forwarding_of settings n events).next + 1; open_requests = (forwarding_of settings n events).open_requests ++ numbered (forwarding_of settings n events).sender (forwarding_of settings n events).next }).next) k.other in
+        ∙ ap (λ c. (if c then forwarding_of settings n events else record { sender = (forwarding_of settings n events).sender; next = (forwarding_of settings n events).next + 1; open_requests = (forwarding_of settings n events).open_requests ++ numbered (asker_at settings n events) (forwarding_of settings n events).next }).next) k.other in
         let room : (forwarding_of settings n events).next < settings.limits.requests = ltb-true (forwarding_of settings n events).next settings.limits.requests k.room in
         let first : next_number n events ≤ (forwarding_of settings n events).next = b.0 in
         (omega (arith, a, f, first), omega (arith, f, room))
@@ -256,9 +257,9 @@ module _ (settings : Settings) where
     one_bounded (cancels b) was after k = notified (codes "$/cancelRequest") (Some b.params) b.says k
     one_bounded (cancels_work b) was after k = notified (codes "window/workDoneProgress/cancel") b.params b.says k
     one_bounded (responds b) was after k = bounds_by n events sent (number_sent settings events n body (message_of body) refl ∙ response_number (next_number n events) (message_of body) b.response)
-        (ap (λ (x : Forwarding). x.next) (forwarding_sent settings events n body (message_of body) refl ∙ response_forwards (forwarding_of settings n events) (message_of body) b.response)) k
+        (ap (λ (x : Forwarding). x.next) (forwarding_sent settings events n body (message_of body) refl ∙ response_forwards (first_sender settings n events) (forwarding_of settings n events) (message_of body) b.response)) k
     one_bounded (resolves b) was after k = bounds_by n events sent (number_sent settings events n body (message_of body) refl ∙ response_number (next_number n events) (message_of body) b.response)
-        (ap (λ (x : Forwarding). x.next) (forwarding_sent settings events n body (message_of body) refl ∙ response_forwards (forwarding_of settings n events) (message_of body) b.response)) k
+        (ap (λ (x : Forwarding). x.next) (forwarding_sent settings events n body (message_of body) refl ∙ response_forwards (first_sender settings n events) (forwarding_of settings n events) (message_of body) b.response)) k
     one_bounded (exits b) was after k = notified (codes "exit") None b.says k
     one_bounded (shuts b) was after k = clash is_up (life_behind n (life_of n events) (said (ToServer n body))).stage Stopping
         (stage_sent settings events n body (request (integer (decimal (next_number n events))) (codes "shutdown") None) b.says ∙ ap (λ z. stage_told z (request (integer (decimal (next_number n events))) (codes "shutdown") None)) b.ready) refl after

@@ -1,5 +1,5 @@
 -- Each open request of a start was sent on to it, at a moment that the events before tell.
-use Rattle.std.proofs.Common.{◌≡◌, ℕ, ◌+◌, ◌<◌, ◌≤◌, Bool, true, false, not, List, [], ◌∷◌, ◌++◌, map, fold, nat_eq, codes, decimal, if◌then◌else◌, refl, sym, ◌∙◌, ap, subst, arith, append_assoc}
+use Rattle.std.proofs.Common.{◌≡◌, ℕ, ◌+◌, ◌<◌, ◌≤◌, Bool, true, false, not, List, [], ◌∷◌, ◌++◌, map, fold, nat_eq, codes, decimal, refl, ◌∙◌, ap, subst, arith, append_assoc, sym}
 use Rattle.std.specs.Prelude.{Option, Some, None}
 use Rattle.std.specs.List.{AllByRecursion}
 use Rattle.std.proofs.lemmas.List.Sums.{fold-append}
@@ -19,24 +19,25 @@ use Rattle.mux_model.specs.Documents.{held_at}
 use Rattle.mux_facts.specs.Allowed.{is_response}
 use Rattle.mux_facts.specs.Ranges.{InRange}
 use Rattle.mux_facts.proofs.Lists.{all_of}
+use Rattle.mux_facts.proofs.Keeps.{behind_both}
 use Rattle.mux_facts.proofs.Words.{number_same, same_number}
 use Rattle.group_rows.specs.Answers.{moment_of}
-use Rattle.group_rows.specs.Forwarded.{Forwarded, Forwarding, Sender, forwarding_behind, forwarding_of, forwards, no_forwarding, numbered, sender_of, token_in}
+use Rattle.group_rows.specs.Forwarded.{Forwarded, Sender, forwarding_of, sender_of, token_in}
 use Rattle.group_rows.specs.Rows.{sync_bodies}
 use Rattle.group_rows.specs.Texts.{texts_of}
 use Rattle.group_rows.specs.Waiting.{worker_behind, worker_of}
 use Rattle.group_rows.proofs.Moments.{asks, moment_other, moment_apart, moment_quiet, moment_sent}
 use Rattle.group_facts.specs.Legal.{Legal}
-use Rattle.group_facts.specs.OwnVersions.{IsSentOn}
-use Rattle.group_facts.specs.Why.{IsForward, WhyToServer, begins, cancels, exits, forwarded, greets, conveys, notes, responds, shuts, tells, resolves, cancels_work}
+use Rattle.group_facts.specs.OwnVersions.{IsSentOn, SendingOn, by_message, by_result}
+use Rattle.group_facts.specs.Why.{Going, IsForward, WhyToServer, at_once, had_waited, begins, cancels, exits, forwarded, greets, conveys, notes, responds, shuts, tells, resolves, cancels_work}
 use Rattle.group_facts.proofs.Apart.{fewer_said, fewer_took, new, grow, own_fewer, response_fewer}
-use Rattle.group_facts.proofs.Forwards.{Fewer, fewer_notified, forwarding_more, notified_sender, zip_all}
+use Rattle.group_facts.proofs.Forwards.{Fewer, fewer_notified, zip_all}
 use Rattle.group_facts.proofs.RestLaws.{Law, law_holds}
 use Rattle.group_facts.proofs.Sent.{Rising, rising_of}
 
 -- it is the moment of that number
 pub record WasSentOn (settings : Settings) (s : ℕ) (events : List Event) (n e : ℕ) (id : List ℕ) : Type 0 where
-  pub sent : IsSentOn s events n e id
+  pub sent : IsSentOn settings s events n e id
   pub at : moment_of settings s n events ≡ Some sent.moment
 
 abbrev pub AllSentOn : Settings → List Event → Type 0
@@ -48,10 +49,8 @@ one_more settings s events n e id ev stays h = record {
   sent = record {
     asked = (h.sent).asked;
     own_id = (h.sent).own_id;
-    before = (h.sent).before;
-    outs = (h.sent).outs;
     moment = (h.sent).moment;
-    entry = (h.sent).entry;
+    sending = (h.sent).sending;
     body = (h.sent).body;
     bytes = (h.sent).bytes;
     method = (h.sent).method;
@@ -76,7 +75,7 @@ silent_cause (FromServer s body) = refl
 silent_cause other = refl
 
 -- the one whose message is at work stays it behind outs
-worker_more : (events : List Event) (ev : Event) → worker_of (events ++ ev ∷ []) ≡ worker_behind (worker_of events) ev
+pub worker_more : (events : List Event) (ev : Event) → worker_of (events ++ ev ∷ []) ≡ worker_behind (worker_of events) ev
 worker_more events ev = fold-append worker_behind None events (ev ∷ [])
 
 outs_leave : (worker : Option ℕ) (xs : List Out) → fold worker_behind worker (map said xs) ≡ worker
@@ -90,36 +89,10 @@ outs_leave worker (EndServer s ∷ xs) = outs_leave worker xs
 pub worker_still : (events : List Event) (e : ℕ) (asked : List ℕ) (xs : List Out) → worker_of (behind (with_cause events (FromEditor e asked)) xs) ≡ Some e
 worker_still events e asked xs = fold-append worker_behind None (with_cause events (FromEditor e asked)) (map said xs) ∙ outs_leave (worker_of (with_cause events (FromEditor e asked))) xs ∙ worker_more events (heard (FromEditor e asked))
 
--- and so does whose request is at work
-forwards_leave : (x : Forwarding) (m : Message) → (forwards x m).sender ≡ x.sender
-forwards_leave x (request id method params) = go (is_own method)
-  where
-    go : (b : Bool) → (if b then x else record { sender = x.sender; next = x.next + 1; open_requests = x.open_requests ++ numbered x.sender x.next }).sender ≡ x.sender
-    go true = refl
-    go false = refl
-forwards_leave x (notification method params) = notified_sender x method params
-forwards_leave x (result id r) = refl
-forwards_leave x (error id x') = refl
-forwards_leave x not_json = refl
-forwards_leave x not_message = refl
+pub worker_idle : (events : List Event) (s : ℕ) (answer : List ℕ) (xs : List Out) → worker_of (behind (with_cause events (FromServer s answer)) xs) ≡ None
+worker_idle events s answer xs = fold-append worker_behind None (with_cause events (FromServer s answer)) (map said xs) ∙ outs_leave (worker_of (with_cause events (FromServer s answer))) xs ∙ worker_more events (heard (FromServer s answer))
 
-outs_leave_sender : (s : ℕ) (x : Forwarding) (xs : List Out) → (fold (forwarding_behind s) x (map said xs)).sender ≡ x.sender
-outs_leave_sender s x [] = refl
-outs_leave_sender s x (ToServer n body ∷ xs) = outs_leave_sender s (if nat_eq n s then forwards x (message_of body) else x) xs ∙ go (nat_eq n s)
-  where
-    go : (b : Bool) → (if b then forwards x (message_of body) else x).sender ≡ x.sender
-    go true = forwards_leave x (message_of body)
-    go false = refl
-outs_leave_sender s x (ToEditor e body ∷ xs) = outs_leave_sender s x xs
-outs_leave_sender s x (Spawn n g ∷ xs) = outs_leave_sender s x xs
-outs_leave_sender s x (CloseEditor e ∷ xs) = outs_leave_sender s x xs
-outs_leave_sender s x (EndServer n ∷ xs) = outs_leave_sender s x xs
-
-sender_still : (settings : Settings) (s : ℕ) (events : List Event) (e : ℕ) (asked : List ℕ) (xs : List Out) → (forwarding_of settings s (behind (with_cause events (FromEditor e asked)) xs)).sender ≡ sender_of e asked (message_of asked)
-sender_still settings s events e asked xs = ap (λ (x : Forwarding). x.sender) (fold-append (forwarding_behind s) no_forwarding (with_cause events (FromEditor e asked)) (map said xs))
-    ∙ outs_leave_sender s (forwarding_of settings s (with_cause events (FromEditor e asked))) xs ∙ ap (λ (x : Forwarding). x.sender) (forwarding_more settings s events (heard (FromEditor e asked)))
-
-id_at_work : (e : ℕ) (asked : List ℕ) (m : Message) (a : Sender) → sender_of e asked m ≡ Some a → id_bytes asked ≡ a.id
+pub id_at_work : (e : ℕ) (asked : List ℕ) (m : Message) (a : Sender) → sender_of e asked m ≡ Some a → id_bytes asked ≡ a.id
 id_at_work e asked (request id method params) a h = ap (λ (z : Sender). z.id) (same h)
   where
     same : sender_of e asked (request id method params) ≡ Some a → (record { editor = e; id = id_bytes asked; work = token_in (codes "workDoneToken") asked; partial = token_in (codes "partialResultToken") asked }) ≡ a
@@ -153,14 +126,14 @@ module _ (settings : Settings) (before : List Event) (cause : Cause) (events : L
   sent = events ++ said (ToServer n body) ∷ []
 
   -- that is no editor's request
-  by_message : (m : Message) → message_of body ≡ m → asks (did (ToServer n body) m) ≡ false → Fewer settings events sent → AllSentOn settings events → AllSentOn settings sent
-  by_message m says none fewer h = quiet settings events (said (ToServer n body)) (ap (λ z. asks (did (ToServer n body) z)) says ∙ none) fewer h
+  silent_sent : (m : Message) → message_of body ≡ m → asks (did (ToServer n body) m) ≡ false → Fewer settings events sent → AllSentOn settings events → AllSentOn settings sent
+  silent_sent m says none fewer h = quiet settings events (said (ToServer n body)) (ap (λ z. asks (did (ToServer n body) z)) says ∙ none) fewer h
 
   own : (id : Id) (method : List ℕ) (params : Option Json) → message_of body ≡ request id method params → is_own method ≡ true → AllSentOn settings events → AllSentOn settings sent
-  own id method params says is h = by_message (request id method params) says (ap not is) (own_fewer settings before cause events n body id method params says is) h
+  own id method params says is h = silent_sent (request id method params) says (ap not is) (own_fewer settings before cause events n body id method params says is) h
 
   notified : (method : List ℕ) (params : Option Json) → message_of body ≡ notification method params → AllSentOn settings events → AllSentOn settings sent
-  notified method params says h = by_message (notification method params) says refl (fewer_notified settings n events body method params says) h
+  notified method params says h = silent_sent (notification method params) says refl (fewer_notified settings n events body method params says) h
 
   answer_silent : (m : Message) → is_response m ≡ true → asks (did (ToServer n body) m) ≡ false
   answer_silent (result id r) h = refl
@@ -178,8 +151,13 @@ module _ (settings : Settings) (before : List Event) (cause : Cause) (events : L
     abbrev ev : Event
     ev = did (ToServer n body) (request (integer (decimal next)) k.method k.params)
 
-    abbrev bodies : List Out
-    bodies = (k.synced).questions ++ map (λ text. ToServer n text) (sync_bodies settings.limits.versions (λ u. held_at n u before) (k.sender).editor (texts_of settings (k.synced).group before).opens)
+    sending : Going settings before cause events n (k.sender).editor k.asked → SendingOn settings n (k.sender).editor k.asked events
+    sending (at_once from synced) = by_message before (synced.questions ++ map (λ text. ToServer n text) (sync_bodies settings.limits.versions (λ u. held_at n u before) (k.sender).editor (texts_of settings synced.group before).opens)) synced.place
+    sending (had_waited w) = by_result before w.answer (w.outs ++ map (λ text. ToServer n text) (sync_bodies settings.limits.versions (λ u. held_at n u w.earlier) (k.sender).editor (texts_of settings w.group w.earlier).opens)) w.request
+        (w.place ∙ (ap (λ z. behind z (map (λ text. ToServer n text) (sync_bodies settings.limits.versions (λ u. held_at n u w.earlier) (k.sender).editor (texts_of settings w.group w.earlier).opens))) w.entry
+        ∙ (sym (behind_both (with_cause before cause) w.outs (map (λ text. ToServer n text) (sync_bodies settings.limits.versions (λ u. held_at n u w.earlier) (k.sender).editor (texts_of settings w.group w.earlier).opens)))
+        ∙ ap (λ c. behind (with_cause before c) (w.outs ++ map (λ text. ToServer n text) (sync_bodies settings.limits.versions (λ u. held_at n u w.earlier) (k.sender).editor (texts_of settings w.group w.earlier).opens))) w.from)))
+        w.first w.editor w.body
 
     is_ev : said (ToServer n body) ≡ ev
     is_ev = ap (λ m. did (ToServer n body) m) k.says
@@ -198,11 +176,9 @@ module _ (settings : Settings) (before : List Event) (cause : Cause) (events : L
     sent_now = record {
       sent = record {
         asked = k.asked;
-        own_id = id_at_work (k.sender).editor k.asked (message_of k.asked) k.sender (sym (sender_still settings n before (k.sender).editor k.asked bodies) ∙ ap (λ z. (forwarding_of settings n z).sender) (sym (k.synced).place) ∙ k.at_work);
-        before = before;
-        outs = bodies;
+        own_id = id_at_work (k.sender).editor k.asked (message_of k.asked) k.sender k.own;
         moment = events;
-        entry = (k.synced).place;
+        sending = sending k.going;
         body = body;
         bytes = k.bytes;
         method = k.method;
@@ -240,8 +216,8 @@ module _ (settings : Settings) (before : List Event) (cause : Cause) (events : L
   one_sent (tells k) h = let m : Spoken (message_of body) = spoken (message_of body) k.spoken in notified m.method m.params m.is h
   one_sent (cancels k) h = notified (codes "$/cancelRequest") (Some k.params) k.says h
   one_sent (cancels_work k) h = notified (codes "window/workDoneProgress/cancel") k.params k.says h
-  one_sent (responds k) h = by_message (message_of body) refl (answer_silent (message_of body) k.response) (response_fewer settings before cause events n body k.response) h
-  one_sent (resolves k) h = by_message (message_of body) refl (answer_silent (message_of body) k.response) (response_fewer settings before cause events n body k.response) h
+  one_sent (responds k) h = silent_sent (message_of body) refl (answer_silent (message_of body) k.response) (response_fewer settings before cause events n body k.response) h
+  one_sent (resolves k) h = silent_sent (message_of body) refl (answer_silent (message_of body) k.response) (response_fewer settings before cause events n body k.response) h
   one_sent (exits k) h = notified (codes "exit") None k.says h
   one_sent (shuts k) h = own (integer (decimal (next_number n events))) (codes "shutdown") None k.says refl h
 

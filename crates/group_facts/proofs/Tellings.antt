@@ -51,7 +51,7 @@ unfolding named
 cancel_names n = refl
 
 -- a further event of s
-turn_more : (before : List Event) (cause : Cause) (events : List Event) (s : ℕ) (body : List ℕ) → Turn before cause events s → Turn before cause (events ++ said (ToServer s body) ∷ []) s
+pub turn_more : (before : List Event) (cause : Cause) (events : List Event) (s : ℕ) (body : List ℕ) → Turn before cause events s → Turn before cause (events ++ said (ToServer s body) ∷ []) s
 turn_more before cause events s body (stays h) = stays h
 turn_more before cause events s body (greeted xs h) = greeted (xs ++ said (ToServer s body) ∷ []) (filter-append (is_of_server s) events (said (ToServer s body) ∷ [])
     ∙ ap (λ b. server_part s events ++ cond b (said (ToServer s body) ∷ []) []) (same_number s)

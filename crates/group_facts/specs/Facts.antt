@@ -9,15 +9,16 @@ use Rattle.document_model.specs.Texts.{Texts}
 use Rattle.mux_history.specs.declared.cause.Cause.{Cause}
 use Rattle.mux_history.specs.declared.cause.Cause.TheVariants.{EditorGone, FromEditor, FromServer, Joined, ServerGone, StartFailed}
 use Rattle.mux_history.specs.declared.out.Out.TheVariants.{ToEditor, ToServer}
-use Rattle.rpc_message.specs.Message.{Id, Message, integer, request, message_of, same_id}
+use Rattle.rpc_message.specs.Message.{Id, Message, id_bytes, integer, request, message_of, same_id}
 use Rattle.rpc_message.specs.ValueTexts.{IsIdText, IsShallowText}
 use Rattle.event_model.specs.declared.phase.Phase.{Phase}
 use Rattle.event_model.specs.declared.phase.Phase.TheVariants.{Absent, New, Waiting}
 use Rattle.event_model.specs.declared.stage.Stage.{Stage}
 use Rattle.event_model.specs.declared.stage.Stage.TheVariants.{Unspawned, Spawning, Initializing, Ready, Stopping}
 use Rattle.event_model.specs.Event.{Event, took, did, notifies, requests}
+use Rattle.event_model.specs.Members.{params_of}
 use Rattle.event_model.specs.Phases.{desk_of, editors_of, is_begun, is_there, is_waiting}
-use Rattle.event_model.specs.Requests.{answered_id, next_number, is_open, open_of, with_request, without}
+use Rattle.event_model.specs.Requests.{answered_id, next_number, is_open, is_own, open_of, with_request, without}
 use Rattle.event_model.specs.Settings.{Settings}
 use Rattle.event_model.specs.Spawns.{group_of, starts_of}
 use Rattle.event_model.specs.Stages.{is_first_result, is_initializing, is_ready, life_of, no_life}
@@ -27,13 +28,16 @@ use Rattle.group_words.specs.declared.placed.Placed.{Placed}
 use Rattle.group_words.specs.declared.placed.Placed.TheVariants.{TooMany}
 use Rattle.group_words.specs.Houses.{groups_of, home_of, is_doubled, is_first_error, is_home, places, placed_for, stops}
 use Rattle.group_words.specs.Rows.{folders_text, initialize_of, result_of}
+use Rattle.group_rows.specs.held_requests.specs.declared.request.Request.{Request}
 use Rattle.group_rows.specs.Asks.{Ask, Parked, asks_of, is_patient, is_under, parked_of, waits_under}
 use Rattle.group_rows.specs.Created.{Taking, created_of}
 use Rattle.group_rows.specs.Earlier.{differs, given_of, was_shown}
 use Rattle.group_rows.specs.ExitRows.{ends_group}
 use Rattle.group_rows.specs.Forwarded.{Forwarded, forwarding_of}
 use Rattle.group_rows.specs.StopRows.{stopped}
+use Rattle.group_rows.specs.Reserved.{reserves}
 use Rattle.group_rows.specs.Texts.{texts_of}
+use Rattle.group_rows.specs.Waiting.{waiting_of}
 
 -- Starts and editors that weren't there yet
 
@@ -159,6 +163,36 @@ Apart settings events = (s : ℕ) → AllByRecursion (λ f. (t : ℕ) → AllByR
 -- no request of e under this id is open at a start
 abbrev pub IsAlone : Settings → List Event → ℕ → Id → Type 0
 IsAlone settings events e id = (t : ℕ) → AllByRecursion (λ (g : Forwarded). g.editor ≡ e → IsIdText id g.id → ⊥) (forwarding_of settings t events).open_requests
+
+-- Requests that wait
+
+-- a request of an editor of the group that waits there is open, no request of the editor under its id is open at a start, and it may go to one
+pub record IsHeld (settings : Settings) (g : ℕ) (events : List Event) (r : Request) : Type 0 where
+  pub asker : IsAsker events r.editor r.id
+  pub there : is_there (desk_of r.editor events).phase ≡ true
+  pub home : home_of settings r.editor events ≡ Some g
+  pub alone : IsAlone settings events r.editor asker.id
+  pub method : List ℕ
+  pub params : Option Json
+  pub says : message_of r.body ≡ request asker.id method params
+  pub bytes : r.id ≡ id_bytes r.body
+  pub other : is_own method ≡ false
+  pub free : reserves (params_of r.body) ≡ false
+
+-- no two of an editor have the same id
+abbrev pub HasOtherId : Request → Request → Type 0
+HasOtherId r q = (id : Id) → q.editor ≡ r.editor → IsIdText id r.id → IsIdText id q.id → ⊥
+
+abbrev pub HaveOtherIds : List Request → Type 0
+HaveOtherIds [] = Unit {0}
+HaveOtherIds (r ∷ rs) = AllByRecursion (HasOtherId r) rs × HaveOtherIds rs
+
+pub record AreHeld (settings : Settings) (g : ℕ) (events : List Event) : Type 0 where
+  pub each : AllByRecursion (IsHeld settings g events) (waiting_of settings g events)
+  pub apart : HaveOtherIds (waiting_of settings g events)
+
+abbrev pub AllHeld : Settings → List Event → Type 0
+AllHeld settings events = (g : ℕ) → AreHeld settings g events
 
 -- Requests of starts
 
@@ -322,6 +356,7 @@ pub record Known (settings : Settings) (events : List Event) : Type 0 where
   pub asked : stopped events ≡ false → AllForwarded settings events
   pub quit : Quit events
   pub apart : Apart settings events
+  pub held : AllHeld settings events
   pub asks : Asks settings events
   pub takes : Takes settings events
   pub housed : Housed settings events

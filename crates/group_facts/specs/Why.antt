@@ -38,6 +38,7 @@ use Rattle.group_rows.specs.diagnostics_route.specs.declared.last_list.LastList.
 use Rattle.group_rows.specs.diagnostics_route.specs.Published.{published}
 use Rattle.group_rows.specs.diagnostics_route.specs.Rows.{is_of}
 use Rattle.group_rows.specs.diagnostics_route.specs.Shown.{fits, shown_text}
+use Rattle.group_rows.specs.held_requests.specs.declared.request.Request.{Request}
 use Rattle.group_rows.specs.registrations.specs.declared.registration.Registration.{Registration}
 use Rattle.group_rows.specs.registrations.specs.Items.{again, registered}
 use Rattle.group_words.specs.declared.kept.Kept.{Kept}
@@ -51,7 +52,7 @@ use Rattle.group_rows.specs.Created.{Taking, Token, accepts, created_of, created
 use Rattle.group_rows.specs.CreatedRows.{create_text}
 use Rattle.group_rows.specs.Ends.{answers_shutdown, exit_text}
 use Rattle.group_rows.specs.ExitRows.{empty_text, end_text, has_begun, is_full, unanswered_at}
-use Rattle.group_rows.specs.Forwarded.{Forwarded, Sender, answered_by, forwarding_of}
+use Rattle.group_rows.specs.Forwarded.{Forwarded, Sender, answered_by, first_sender, forwarding_of, sender_of, sender_or}
 use Rattle.group_rows.specs.Leaves.{cancel_text}
 use Rattle.group_rows.specs.Lists.{agreement_at, lists_of, sayings_of, version_at}
 use Rattle.group_rows.specs.Live.{is_registering, live_of, register_text, taken_back, unregister_text}
@@ -62,6 +63,7 @@ use Rattle.group_rows.specs.Earlier.{configuration_of}
 use Rattle.group_rows.specs.Texts.{texts_of}
 use Rattle.group_rows.specs.Tokens.{forwarded_text, is_told, is_worked, listens, mark_text, marked_text, own_token, work_mark}
 use Rattle.group_rows.specs.Reserved.{reserves}
+use Rattle.group_rows.specs.Waiting.{first_waiting, waiting_of}
 use Rattle.group_facts.specs.Built.{is_left}
 use Rattle.group_facts.specs.Facts.{IsAlone, IsWaiting, asked_by, asked_of, ends_link, is_early, is_exit, leaves, turned_away}
 use Rattle.group_facts.specs.Lively.{IsDying}
@@ -130,18 +132,50 @@ pub record IsBehindSync (settings : Settings) (before : List Event) (events : Li
   pub asks : AllByRecursion (IsQuestion e) questions
   pub place : events ≡ behind (with_cause before (FromEditor e asked)) (questions ++ map (λ text. ToServer s text) (sync_bodies settings.limits.versions (λ u. held_at s u before) e (texts_of settings group before).opens))
 
--- the request of an editor, which is at work, goes under the next number to s, which is ready; none of its tokens begins as the daemon's do (E10)
+-- s gave its result in this entry, and of all that waits in its group this request of e came first; since it is sent, s was told of e's documents and of nothing else (S2)
+pub record IsAwaited (settings : Settings) (before : List Event) (cause : Cause) (events : List Event) (s e : ℕ) (asked : List ℕ) : Type 0 where
+  pub group : ℕ
+  pub answer : List ℕ
+  pub request : Request
+  pub from : cause ≡ FromServer s answer
+  pub home : group_of s before ≡ Some group
+  pub stage : (life_of s before).stage ≡ Initializing
+  pub member : group_of s events ≡ Some group
+  pub last : start_of group before ≡ Some s → start_of group events ≡ Some s
+  pub first : first_waiting settings s events ≡ Some request
+  pub editor : request.editor ≡ e
+  pub bytes : request.id ≡ id_bytes asked
+  pub body : request.body ≡ asked
+  pub outs : List Out
+  pub earlier : List Event
+  pub entry : earlier ≡ behind (with_cause before cause) outs
+  pub place : events ≡ behind earlier (map (λ text. ToServer s text) (sync_bodies settings.limits.versions (λ u. held_at s u earlier) e (texts_of settings group earlier).opens))
+
+-- a request of e goes on by its own message, or by the result of s
+pub data Going (settings : Settings) (before : List Event) (cause : Cause) (events : List Event) (s e : ℕ) (asked : List ℕ) : Type 0 where
+  at_once : cause ≡ FromEditor e asked → IsBehindSync settings before events s e asked → Going settings before cause events s e asked
+  had_waited : IsAwaited settings before cause events s e asked → Going settings before cause events s e asked
+
+-- whose request start s is sent, where it is sent one
+abbrev pub asker_at : Settings → ℕ → List Event → Option Sender
+asker_at settings s events = sender_or (forwarding_of settings s events).sender (first_sender settings s events)
+
+-- no request of e under this id waits
+abbrev pub IsUnheld : Settings → List Event → ℕ → Id → Type 0
+IsUnheld settings events e id = (g : ℕ) → AllByRecursion (λ (r : Request). r.editor ≡ e → IsIdText id r.id → ⊥) (waiting_of settings g events)
+
+-- the request of an editor goes under the next number to s, which is ready; none of its tokens begins as the daemon's do (E10, S2)
 pub record IsForward (settings : Settings) (before : List Event) (cause : Cause) (events : List Event) (s : ℕ) (body : List ℕ) : Type 0 where
   pub sender : Sender
   pub asked : List ℕ
-  pub from : cause ≡ FromEditor sender.editor asked
+  pub own : sender_of sender.editor asked (message_of asked) ≡ Some sender
   pub free : reserves (params_of asked) ≡ false
-  pub synced : IsBehindSync settings before events s sender.editor asked
+  pub going : Going settings before cause events s sender.editor asked
   pub bytes : body ≡ forwarded_text (forwarding_of settings s events).next asked
   pub id : Id
   pub method : List ℕ
   pub params : Option Json
-  pub at_work : (forwarding_of settings s events).sender ≡ Some sender
+  pub at_work : asker_at settings s events ≡ Some sender
   pub says : message_of body ≡ request (integer (decimal (forwarding_of settings s events).next)) method params
   pub other : is_own method ≡ false
   pub room : nat_lt (forwarding_of settings s events).next settings.limits.requests ≡ true
@@ -150,6 +184,7 @@ pub record IsForward (settings : Settings) (before : List Event) (cause : Cause)
   pub waits : is_open id (open_of sender.editor events) ≡ true
   pub late : is_early (desk_of sender.editor events).phase ≡ false
   pub alone : IsAlone settings events sender.editor id
+  pub unheld : IsUnheld settings (events ++ said (ToServer s body) ∷ []) sender.editor id
 
 -- s doesn't move on in this entry, or was greeted in it before
 pub data Turn (before : List Event) (cause : Cause) (events : List Event) (s : ℕ) : Type 0 where

@@ -216,7 +216,7 @@ module _ (settings : Settings) (before : List Event) (facts : Facts settings bef
       where
         go : (b : Bool) → nat_eq n e ≡ b → sent_outs s k e (outs (lose_start settings before s n) events) ≡ (if b then the_end else [])
         go true same = subst (λ z. sent_outs s k e (outs (lose_start settings before s z) events) ≡ the_end) (sym (number_same n e same)) (own_marks events)
-        go false off = off_marks events (lose_start settings before s n) (start_by settings (λ places out. Markless out) n (λ places body. other_out n body off) s settings before events)
+        go false off = off_marks events (lose_start settings before s n) (start_by settings (λ places out. Markless out) n (λ places body. other_out n body off) s before events)
 
     each_marks : (ns : List ℕ) (events : List Event) → sent_outs s k e (outs (each (lose_start settings before s) ns) events) ≡ flat_map of_one ns
     each_marks [] events = refl

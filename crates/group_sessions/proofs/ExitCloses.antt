@@ -253,7 +253,7 @@ module _ (settings : Settings) (before : List Event) (facts : Facts settings bef
           same : Same e events
 
         stands_still : (k e : ℕ) (events : List Event) → nat_eq k e ≡ false → Stands e events → Stands e (behind events (outs (lose_start settings before s k) events))
-        stands_still k e events other h = record { runs = h.runs; same = same_behind e events (lose_start settings before s k) (start_by settings (Spares e) k (λ places body. told_there (RunsIn settings before) settings places k body e other) s settings before events) h.same }
+        stands_still k e events other h = record { runs = h.runs; same = same_behind e events (lose_start settings before s k) (start_by settings (Spares e) k (λ places body. told_there (RunsIn settings before) settings places k body e other) s before events) h.same }
 
         abbrev told : List Event
         told = behind now (outs (each (lose_sent settings before s) (members_in settings g before)) now)

@@ -21,13 +21,14 @@ use Rattle.mux_facts.proofs.Lists.{all_of}
 use Rattle.mux_facts.proofs.Words.{same_number}
 use Rattle.group_rows.specs.Asks.{members_in}
 use Rattle.group_rows.specs.ExitRows.{lose_sent, lost_row}
-use Rattle.group_rows.specs.Forwarded.{Forwarded, Forwarding, forwarding_of, forwards, is_of, no_forwarding, numbered}
+use Rattle.group_rows.specs.Forwarded.{Forwarded, Forwarding, first_sender, forwarding_of, forwards, is_of, no_forwarding, numbered}
 use Rattle.group_rows.specs.StopRows.{lose_request}
 use Rattle.group_facts.specs.Facts.{IsForwarded, OneRequest, is_early, is_exit}
 use Rattle.group_facts.specs.Settled.{IsSent, Settled, is_answered}
 use Rattle.group_facts.proofs.ExitEntry.{Exit}
 use Rattle.group_facts.proofs.Facts.{Facts}
-use Rattle.group_facts.proofs.Forwards.{forwarding_more, get_all, notified_all, notified_sender}
+use Rattle.group_rows.proofs.Frames.{forwarding_more}
+use Rattle.group_facts.proofs.Forwards.{get_all, notified_all, notified_sender}
 use Rattle.group_facts.proofs.PutOut.{outs_tested}
 use Rattle.group_facts.proofs.Quits.{not_stopped}
 use Rattle.group_facts.proofs.Sent.{OneOf}
@@ -60,7 +61,7 @@ module _ (settings : Settings) (t : ℕ) (Q : ℕ → ℕ → List ℕ → Type 
   holds_did : (events : List Event) (out : Out) → Holds (forwarding_of settings t events) → Holds (forwarding_of settings t (events ++ said out ∷ []))
   holds_did events (ToServer n body) h = subst Holds (sym (forwarding_more settings t events (said (ToServer n body)))) (go (nat_eq n t))
     where
-      go : (b : Bool) → Holds (if b then forwards (forwarding_of settings t events) (message_of body) else forwarding_of settings t events)
+      go : (b : Bool) → Holds (if b then forwards (first_sender settings t events) (forwarding_of settings t events) (message_of body) else forwarding_of settings t events)
       go true = holds_sent (forwarding_of settings t events) (message_of body) h
       go false = h
   holds_did events (ToEditor n body) h = subst Holds (sym (forwarding_more settings t events (said (ToEditor n body)))) h

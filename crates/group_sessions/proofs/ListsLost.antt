@@ -173,7 +173,7 @@ module _ (settings : Settings) (range : InRange settings) (before : List Event) 
     where
       go : (b : Bool) → nat_eq n e ≡ b → lists_to e (outs (lose_start settings before s n) events) ≡ (if b then due else [])
       go true same = subst (λ z. lists_to e (outs (lose_start settings before s z) events) ≡ due) (sym (number_same n e same)) (own_lists events)
-      go false off = off_lists e events (lose_start settings before s n) (start_by settings (λ places out. Listless e out) n (λ places body. other_out n body off) s settings before events)
+      go false off = off_lists e events (lose_start settings before s n) (start_by settings (λ places out. Listless e out) n (λ places body. other_out n body off) s before events)
 
   each_lists : (ns : List ℕ) (events : List Event) → lists_to e (outs (each (lose_start settings before s) ns) events) ≡ flat_map of_one ns
   each_lists [] events = refl

@@ -21,11 +21,11 @@ use Rattle.mux_facts.proofs.Lists.{all_filtered, all_join, all_of}
 use Rattle.mux_facts.proofs.Words.{number_same, open_last, open_more, still_open}
 use Rattle.session_laws.specs.ServerRules.{KeepsServer6, ServerRule6, cancelled_id, id_at, is_among, may_cancel, waiting_behind, waiting_told}
 use Rattle.session_laws.proofs.Server6Law.{free, response_free, spoken_free, waiting, waiting_more}
-use Rattle.group_rows.specs.Forwarded.{Forwarded, Forwarding, Sender, answered_by, cancelled_by, forwarding_behind, forwarding_of, forwards, is_written, names, numbered}
+use Rattle.group_rows.specs.Forwarded.{Forwarded, Forwarding, Sender, answered_by, cancelled_by, first_sender, forwarding_next, forwarding_of, forwards, is_written, names, numbered}
 use Rattle.group_rows.proofs.Going.{not_cancel}
 use Rattle.group_facts.specs.Legal.{Legal}
 use Rattle.group_facts.specs.Why.{WhyToServer, begins, greets, conveys, forwarded, notes, tells, shuts, cancels, is_uncancelled, responds, exits, resolves, cancels_work}
-use Rattle.group_facts.proofs.Forwards.{forwarding_more}
+use Rattle.group_rows.proofs.Frames.{forwarding_more}
 use Rattle.group_facts.proofs.RestLaws.{Inside, Law}
 use Rattle.group_sessions.proofs.PartLaws.{ServerRule, server_history}
 
@@ -39,7 +39,7 @@ TiedTo x ids = AllByRecursion (Named ids) x.open_requests
 abbrev Ties : Settings → List Event → Type 0
 Ties settings events = (s : ℕ) → TiedTo (forwarding_of settings s events) (waiting s events)
 
-more : (settings : Settings) (s : ℕ) (events : List Event) (event : Event) → TiedTo (forwarding_behind s (forwarding_of settings s events) event) (cond (is_of_server s event) (waiting_behind (waiting s events) event) (waiting s events)) → TiedTo (forwarding_of settings s (events ++ event ∷ [])) (waiting s (events ++ event ∷ []))
+more : (settings : Settings) (s : ℕ) (events : List Event) (event : Event) → TiedTo (forwarding_next settings s events (forwarding_of settings s events) event) (cond (is_of_server s event) (waiting_behind (waiting s events) event) (waiting s events)) → TiedTo (forwarding_of settings s (events ++ event ∷ [])) (waiting s (events ++ event ∷ []))
 more settings s events event h = subst₂ TiedTo (sym (forwarding_more settings s events event)) (sym (waiting_more s events event)) h
 
 either : (b : Bool) (x : Forwarding) (ids : List Id) → TiedTo x ids → TiedTo x (cond b ids ids)
@@ -138,7 +138,7 @@ told x ids not_message next_is h = h
 sent_it : (settings : Settings) (events : List Event) (n : ℕ) (body : List ℕ) → IsNumbered (forwarding_of settings n events).next (message_of body) → Ties settings events → Ties settings (events ++ said (ToServer n body) ∷ [])
 sent_it settings events n body next_is h s = more settings s events (said (ToServer n body)) (go (nat_eq n s) refl)
   where
-    go : (b : Bool) → nat_eq n s ≡ b → TiedTo (if b then forwards (forwarding_of settings s events) (message_of body) else forwarding_of settings s events) (cond b (waiting_told (waiting s events) (message_of body)) (waiting s events))
+    go : (b : Bool) → nat_eq n s ≡ b → TiedTo (if b then forwards (first_sender settings s events) (forwarding_of settings s events) (message_of body) else forwarding_of settings s events) (cond b (waiting_told (waiting s events) (message_of body)) (waiting s events))
     go true same = told (forwarding_of settings s events) (waiting s events) (message_of body) (subst (λ k. IsNumbered (forwarding_of settings k events).next (message_of body)) (number_same n s same) next_is) (h s)
     go false other = h s
 

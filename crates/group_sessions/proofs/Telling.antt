@@ -20,11 +20,12 @@ use Rattle.mux_facts.proofs.Words.{id_same, number_same}
 use Rattle.session_laws.proofs.Client4Law.{is_told}
 use Rattle.session_laws.proofs.Client6Law.{tokened, tokened_grows, tokened_left}
 use Rattle.session_laws.proofs.Tokens.{holds}
-use Rattle.group_rows.specs.Forwarded.{Forwarded, Forwarding, answered_by, cancelled_by, forwarding_behind, forwarding_of, forwards, is_written, no_forwarding, numbered}
+use Rattle.group_rows.specs.Forwarded.{Forwarded, Forwarding, answered_by, cancelled_by, forwarding_next, forwarding_of, forwards, is_written, no_forwarding, numbered}
 use Rattle.group_facts.specs.Facts.{AllForwarded, IsAlone, is_early}
 use Rattle.group_facts.specs.Why.{WhyToEditor, answers, asks, calls, passes, progresses, recalls, refuses, rejects, resumes, shows, spreads, turns_away, welcomes, loses, winds_up}
 use Rattle.group_facts.proofs.Apart.{alone_early}
-use Rattle.group_facts.proofs.Forwards.{forwarding_more, zip_all}
+use Rattle.group_rows.proofs.Frames.{forwarding_more}
+use Rattle.group_facts.proofs.Forwards.{zip_all}
 use Rattle.group_rows.specs.StopRows.{stopped}
 
 -- a token of this text is one of an open request under this id
@@ -163,7 +164,7 @@ module _ (settings : Settings) (events : List Event) where
   heard_told s x (Drained e k) h = h
   heard_told s x (Tick t) h = h
 
-pub ties_by : (settings : Settings) (events later : List Event) (event : Event) → later ≡ events ++ event ∷ [] → ((s : ℕ) → AllTold later (forwarding_behind s (forwarding_of settings s events) event).open_requests) → Ties settings later
+pub ties_by : (settings : Settings) (events later : List Event) (event : Event) → later ≡ events ++ event ∷ [] → ((s : ℕ) → AllTold later (forwarding_next settings s events (forwarding_of settings s events) event).open_requests) → Ties settings later
 ties_by settings events later event is h s = subst (λ (x : Forwarding). AllTold later x.open_requests) (sym (ap (forwarding_of settings s) is ∙ forwarding_more settings s events event)) (h s)
 
 silent_cause : (cause : Cause) → is_told (heard cause) ≡ false
@@ -182,7 +183,7 @@ ties_took settings before cause h = ties_by settings before (with_cause before c
     (λ s. heard_told settings (with_cause before cause) s (forwarding_of settings s before) cause (all_grown before (heard cause) (silent_cause cause) (forwarding_of settings s before).open_requests (h s)))
 
 -- an out that is no body
-pub ties_free : (settings : Settings) (events : List Event) (out : Out) → is_told (said out) ≡ false → ((s : ℕ) → (forwarding_behind s (forwarding_of settings s events) (said out)).open_requests ≡ (forwarding_of settings s events).open_requests) → Ties settings events → Ties settings (events ++ said out ∷ [])
+pub ties_free : (settings : Settings) (events : List Event) (out : Out) → is_told (said out) ≡ false → ((s : ℕ) → (forwarding_next settings s events (forwarding_of settings s events) (said out)).open_requests ≡ (forwarding_of settings s events).open_requests) → Ties settings events → Ties settings (events ++ said out ∷ [])
 ties_free settings events out off same h = ties_by settings events (events ++ said out ∷ []) (said out) refl
     (λ s. subst (AllTold (events ++ said out ∷ [])) (sym (same s)) (all_grown events (said out) off (forwarding_of settings s events).open_requests (h s)))
 

@@ -23,12 +23,13 @@ use Rattle.session_laws.specs.ClientRules.{tokened_behind}
 use Rattle.session_laws.specs.Progress.{token_at, tokens_at}
 use Rattle.session_laws.proofs.Client6Law.{tokened, tokened_grows, tokened_left, tokened_more}
 use Rattle.session_laws.proofs.Tokens.{holds, holds_last, open_behind, or_first}
-use Rattle.group_rows.specs.Forwarded.{Forwarding, Sender, forwarding_behind, forwarding_of, forwards, no_forwarding, numbered, sender_of, token_in}
+use Rattle.group_rows.specs.Forwarded.{Forwarding, Sender, first_sender, forwarding_behind, forwarding_of, forwards, no_forwarding, numbered, sender_of, token_in}
 use Rattle.group_rows.specs.Rows.{sync_bodies}
 use Rattle.group_rows.specs.Texts.{texts_of}
 use Rattle.group_facts.specs.Why.{IsForward, IsQuestion, WhyToServer, begins, cancels, cancels_work, exits, forwarded, greets, conveys, has_method, notes, resolves, responds, shuts, tells}
 use Rattle.group_facts.proofs.Apart.{grow, new}
-use Rattle.group_facts.proofs.Forwards.{forwarding_more, notified_sender}
+use Rattle.group_rows.proofs.Frames.{forwarding_more}
+use Rattle.group_facts.proofs.Forwards.{notified_sender}
 use Rattle.group_sessions.proofs.Brought.{Brought, brought, token_request}
 use Rattle.group_sessions.proofs.Telling.{Adds, AllTold, HasToken, IsTold, Ties, all_grown, forwards_told, ties_by}
 
@@ -169,7 +170,7 @@ module _ (settings : Settings) (before : List Event) (cause : Cause) (events : L
   plain : (m : Message) → message_of body ≡ m → Adds m → Ties settings events → Ties settings sent
   plain m says own h = ties_by settings events sent (said (ToServer n body)) refl (λ s. go s (nat_eq n s) (all_grown events (said (ToServer n body)) refl (forwarding_of settings s events).open_requests (h s)))
     where
-      go : (s : ℕ) (b : Bool) → AllTold sent (forwarding_of settings s events).open_requests → AllTold sent (if b then forwards (forwarding_of settings s events) (message_of body) else forwarding_of settings s events).open_requests
+      go : (s : ℕ) (b : Bool) → AllTold sent (forwarding_of settings s events).open_requests → AllTold sent (if b then forwards (first_sender settings s events) (forwarding_of settings s events) (message_of body) else forwarding_of settings s events).open_requests
       go s true k = forwards_told settings sent (forwarding_of settings s events) (message_of body) (subst Adds (sym says) own) k
       go s false k = k
 

@@ -20,13 +20,13 @@ use Rattle.mux_facts.specs.Allowed.{is_response}
 use Rattle.mux_facts.specs.Ranges.{InRange}
 use Rattle.mux_facts.proofs.Lists.{all_filtered}
 use Rattle.mux_facts.proofs.Reasons.{reasons_keep}
-use Rattle.group_rows.specs.Forwarded.{Forwarded, Forwarding, answered_by, cancelled_by, forwarding_behind, forwarding_of, forwards, is_written, no_forwarding, numbered, token_in}
+use Rattle.group_rows.specs.Forwarded.{Forwarded, Forwarding, answered_by, cancelled_by, first_sender, forwarding_next, forwarding_of, forwards, is_written, no_forwarding, numbered, token_in}
 use Rattle.group_rows.specs.Rows.{outs_of, sync_bodies}
 use Rattle.group_rows.specs.Texts.{texts_of}
 use Rattle.group_rows.specs.Reserved.{is_reserved}
 use Rattle.group_facts.specs.Why.{IsForward, Why, WhyToServer, begins, cancels, cancels_work, exits, forwarded, greets, conveys, notes, resolves, responds, shuts, tells}
 use Rattle.group_facts.proofs.Apart.{grow, new}
-use Rattle.group_facts.proofs.Forwards.{forwarding_more}
+use Rattle.group_rows.proofs.Frames.{forwarding_more}
 use Rattle.group_facts.proofs.Reached.{Reached, facts_at}
 use Rattle.group_facts.proofs.Table.{reasons}
 use Rattle.group_sessions.proofs.Brought.{Brought, brought}
@@ -55,7 +55,7 @@ Unreserved settings events = (s : ℕ) → AllUnreserved (forwarding_of settings
 
 -- One event more
 
-by_event : (settings : Settings) (events later : List Event) (event : Event) → later ≡ events ++ event ∷ [] → ((s : ℕ) → AllUnreserved (forwarding_behind s (forwarding_of settings s events) event).open_requests) → Unreserved settings later
+by_event : (settings : Settings) (events later : List Event) (event : Event) → later ≡ events ++ event ∷ [] → ((s : ℕ) → AllUnreserved (forwarding_next settings s events (forwarding_of settings s events) event).open_requests) → Unreserved settings later
 by_event settings events later event is h s = subst (λ (x : Forwarding). AllUnreserved x.open_requests) (sym (ap (forwarding_of settings s) is ∙ forwarding_more settings s events event)) (h s)
 
 cancelled : (f : Forwarded) (b : Bool) → IsUnreserved f → IsUnreserved (if b then record f { cancelled = true } else f)
@@ -117,7 +117,7 @@ module _ (settings : Settings) (before : List Event) (cause : Cause) (events : L
   plain : (m : Message) → message_of body ≡ m → Adds m → Unreserved settings events → Unreserved settings sent
   plain m says own h = by_event settings events sent (said (ToServer n body)) refl (λ s. go s (nat_eq n s))
     where
-      go : (s : ℕ) (b : Bool) → AllUnreserved (if b then forwards (forwarding_of settings s events) (message_of body) else forwarding_of settings s events).open_requests
+      go : (s : ℕ) (b : Bool) → AllUnreserved (if b then forwards (first_sender settings s events) (forwarding_of settings s events) (message_of body) else forwarding_of settings s events).open_requests
       go s true = forwards_unreserved (forwarding_of settings s events) (message_of body) (subst Adds (sym says) own) (h s)
       go s false = h s
 

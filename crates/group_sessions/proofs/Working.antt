@@ -23,13 +23,13 @@ use Rattle.session_laws.specs.Progress.{tokens_at, unanswered}
 use Rattle.session_laws.specs.ServerRules.{working_behind}
 use Rattle.session_laws.proofs.Server7Law.{is_from_server, working, working_grows, working_more}
 use Rattle.session_laws.proofs.Tokens.{holds, holds_last, holds_left, or_first}
-use Rattle.group_rows.specs.Forwarded.{Forwarded, Forwarding, answered_by, cancelled_by, forwarding_behind, forwarding_of, forwards, is_written, names, no_forwarding, numbered, token_in}
+use Rattle.group_rows.specs.Forwarded.{Forwarded, Forwarding, answered_by, cancelled_by, first_sender, forwarding_next, forwarding_of, forwards, is_written, names, no_forwarding, numbered, token_in}
 use Rattle.group_rows.specs.Rows.{sync_bodies}
 use Rattle.group_rows.specs.Texts.{texts_of}
 use Rattle.group_rows.specs.Tokens.{mark, work_mark}
 use Rattle.group_facts.specs.Why.{IsForward, WhyToServer, begins, cancels, cancels_work, exits, forwarded, greets, conveys, notes, resolves, responds, shuts, tells}
 use Rattle.group_facts.proofs.Apart.{grow, new}
-use Rattle.group_facts.proofs.Forwards.{forwarding_more}
+use Rattle.group_rows.proofs.Frames.{forwarding_more}
 use Rattle.group_sessions.proofs.SentWork.{SentWork, sent_work}
 use Rattle.group_sessions.proofs.Telling.{Adds}
 use Rattle.group_sessions.proofs.TellingSent.{AtWork, at_work, sender_still}
@@ -69,11 +69,11 @@ waits_behind s events (out ∷ outs) n h = subst (λ z. Waits s z n) (append_ass
 pub waits_took : (s : ℕ) (before : List Event) (e : ℕ) (asked : List ℕ) (n : ℕ) → Waits s before n → Waits s (with_cause before (FromEditor e asked)) n
 waits_took s before e asked n h = waits_later s before (heard (FromEditor e asked)) refl n h
 
-ties_by : (settings : Settings) (events later : List Event) (event : Event) → later ≡ events ++ event ∷ [] → ((s : ℕ) → AllWorking s later (forwarding_behind s (forwarding_of settings s events) event).open_requests) → Ties settings later
+ties_by : (settings : Settings) (events later : List Event) (event : Event) → later ≡ events ++ event ∷ [] → ((s : ℕ) → AllWorking s later (forwarding_next settings s events (forwarding_of settings s events) event).open_requests) → Ties settings later
 ties_by settings events later event is h s = subst (λ (x : Forwarding). AllWorking s later x.open_requests) (sym (ap (forwarding_of settings s) is ∙ forwarding_more settings s events event)) (h s)
 
 -- an event that is no message of a start, and leaves what is open
-pub ties_free : (settings : Settings) (events : List Event) (event : Event) → is_from_server event ≡ false → ((s : ℕ) → (forwarding_behind s (forwarding_of settings s events) event).open_requests ≡ (forwarding_of settings s events).open_requests) → Ties settings events → Ties settings (events ++ event ∷ [])
+pub ties_free : (settings : Settings) (events : List Event) (event : Event) → is_from_server event ≡ false → ((s : ℕ) → (forwarding_next settings s events (forwarding_of settings s events) event).open_requests ≡ (forwarding_of settings s events).open_requests) → Ties settings events → Ties settings (events ++ event ∷ [])
 ties_free settings events event off same h = ties_by settings events (events ++ event ∷ []) event refl (λ s. subst (AllWorking s (events ++ event ∷ [])) (sym (same s)) (all_later s events event off (forwarding_of settings s events).open_requests (h s)))
 
 -- A message of a start
@@ -114,7 +114,7 @@ ties_heard settings before n body h = ties_by settings before (with_cause before
 
 -- its program ended
 ties_ended : (settings : Settings) (before : List Event) (cause : Cause) (n : ℕ) → is_from_server (heard cause) ≡ false
-    → ((s : ℕ) → (forwarding_behind s (forwarding_of settings s before) (heard cause)).open_requests ≡ (if nat_eq n s then [] else (forwarding_of settings s before).open_requests)) → Ties settings before → Ties settings (with_cause before cause)
+    → ((s : ℕ) → (forwarding_next settings s before (forwarding_of settings s before) (heard cause)).open_requests ≡ (if nat_eq n s then [] else (forwarding_of settings s before).open_requests)) → Ties settings before → Ties settings (with_cause before cause)
 ties_ended settings before cause n off same h = ties_by settings before (with_cause before cause) (heard cause) refl (λ s. subst (AllWorking s (with_cause before cause)) (sym (same s)) (go s (nat_eq n s)))
   where
     go : (s : ℕ) (b : Bool) → AllWorking s (with_cause before cause) (if b then [] else (forwarding_of settings s before).open_requests)
@@ -177,7 +177,7 @@ module _ (settings : Settings) (range : InRange settings) (before : List Event) 
   plain : (m : Message) → message_of body ≡ m → Adds m → Ties settings events → Ties settings sent
   plain m says own h = ties_by settings events sent (said (ToServer n body)) refl (λ s. go s (nat_eq n s) (all_later s events (said (ToServer n body)) refl (forwarding_of settings s events).open_requests (h s)))
     where
-      go : (s : ℕ) (b : Bool) → AllWorking s sent (forwarding_of settings s events).open_requests → AllWorking s sent (if b then forwards (forwarding_of settings s events) (message_of body) else forwarding_of settings s events).open_requests
+      go : (s : ℕ) (b : Bool) → AllWorking s sent (forwarding_of settings s events).open_requests → AllWorking s sent (if b then forwards (first_sender settings s events) (forwarding_of settings s events) (message_of body) else forwarding_of settings s events).open_requests
       go s true k = forwards_working s sent (forwarding_of settings s events) (message_of body) (subst Adds (sym says) own) k
       go s false k = k
 
