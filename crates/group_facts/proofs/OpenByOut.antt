@@ -38,7 +38,7 @@ use Rattle.group_facts.proofs.RequestRow.{beside_other}
 use Rattle.group_facts.proofs.Table.{reasons}
 use Rattle.group_facts.proofs.OpenByPhase.{OpenDesk, OpenIf, answered_closed, if_closed, if_null, if_other, if_passed, if_refused, if_replied, if_welcomed}
 
-reasons_left : (R : List Event → Out → Type 0) (events : List Event) (xs ys : List Out) → Reasons R events (xs ++ ys) → Reasons R events xs
+pub reasons_left : (R : List Event → Out → Type 0) (events : List Event) (xs ys : List Out) → Reasons R events (xs ++ ys) → Reasons R events xs
 reasons_left R events [] ys h = tt
 reasons_left R events (x ∷ xs) ys h = (h.0, reasons_left R (events ++ said x ∷ []) xs ys h.1)
 

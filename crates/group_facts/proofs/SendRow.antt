@@ -301,6 +301,7 @@ module _ (settings : Settings) (range : InRange settings) (before : List Event) 
           home = home;
           stage = stage;
           member = there.group;
+          turn = calm.turn;
           last = there.last;
           first = first;
           editor = refl;

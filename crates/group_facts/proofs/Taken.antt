@@ -68,6 +68,38 @@ one_filtered P test keeps (x ∷ xs) (inr q) = go (test x) (one_filtered P test 
     go true k = inr k
     go false k = k
 
+-- A body to a start that has its reason
+
+module _ (settings : Settings) (before : List Event) (cause : Cause) (events : List Event) (s : ℕ) (body : List ℕ) where
+  own_asks : (i : Id) (method : List ℕ) (params : Option Json) → message_of body ≡ request i method params → is_own method ≡ true → asks (said (ToServer s body)) ≡ false
+  own_asks i method params says own = ap (λ m. asks (did (ToServer s body) m)) says ∙ ap not own
+
+  note_asks : (method : List ℕ) (params : Option Json) → message_of body ≡ notification method params → asks (said (ToServer s body)) ≡ false
+  note_asks method params says = ap (λ m. asks (did (ToServer s body) m)) says
+
+  answer_asks : (m : Message) → is_response m ≡ true → asks (did (ToServer s body) m) ≡ false
+  answer_asks (result i r) h = refl
+  answer_asks (error i x) h = refl
+  answer_asks (request i method params) h = absurd (cc)
+  answer_asks (notification method params) h = absurd (cc)
+  answer_asks not_json h = absurd (cc)
+  answer_asks not_message h = absurd (cc)
+
+  -- it is an editor's request, or none
+  pub forward_or_silent : WhyToServer settings before cause events s body → IsForward settings before cause events s body ⊎ (asks (said (ToServer s body)) ≡ false)
+  forward_or_silent (begins k) = inr (own_asks (integer (codes "1")) (codes "initialize") k.params k.says refl)
+  forward_or_silent (greets k) = inr (note_asks (codes "initialized") k.params k.says)
+  forward_or_silent (conveys k) = inr (note_asks (codes "workspace/didChangeConfiguration") k.params k.says)
+  forward_or_silent (forwarded k) = inl k
+  forward_or_silent (notes k) = inr (note_asks k.method k.params k.says)
+  forward_or_silent (tells k) = let m : Spoken (message_of body) = spoken (message_of body) k.spoken in inr (note_asks m.method m.params m.is)
+  forward_or_silent (cancels k) = inr (note_asks (codes "$/cancelRequest") (Some k.params) k.says)
+  forward_or_silent (cancels_work k) = inr (note_asks (codes "window/workDoneProgress/cancel") k.params k.says)
+  forward_or_silent (responds k) = inr (answer_asks (message_of body) k.response)
+  forward_or_silent (resolves k) = inr (answer_asks (message_of body) k.response)
+  forward_or_silent (exits k) = inr (note_asks (codes "exit") None k.says)
+  forward_or_silent (shuts k) = inr (own_asks (integer (decimal (next_number s events))) (codes "shutdown") None k.says refl)
+
 -- where an editor is at work none is taken
 worked : (n : ℕ) (m : Message) (rs : List Request) → without_first (Some n) m rs ≡ rs
 worked n m rs = refl
@@ -216,37 +248,13 @@ module _ (settings : Settings) (e : ℕ) (id : Id) where
 
   -- a body to a start that has its reason
   module _ (before : List Event) (cause : Cause) (lasts : AllLast before) (events : List Event) (s : ℕ) (body : List ℕ) where
-    own_asks : (i : Id) (method : List ℕ) (params : Option Json) → message_of body ≡ request i method params → is_own method ≡ true → asks (said (ToServer s body)) ≡ false
-    own_asks i method params says own = ap (λ m. asks (did (ToServer s body) m)) says ∙ ap not own
-
-    note_asks : (method : List ℕ) (params : Option Json) → message_of body ≡ notification method params → asks (said (ToServer s body)) ≡ false
-    note_asks method params says = ap (λ m. asks (did (ToServer s body) m)) says
-
-    answer_asks : (m : Message) → is_response m ≡ true → asks (did (ToServer s body) m) ≡ false
-    answer_asks (result i r) h = refl
-    answer_asks (error i x) h = refl
-    answer_asks (request i method params) h = absurd (cc)
-    answer_asks (notification method params) h = absurd (cc)
-    answer_asks not_json h = absurd (cc)
-    answer_asks not_message h = absurd (cc)
-
-    waits_by : WhyToServer settings before cause events s body → WaitsAt settings events e id → TakenAt settings (events ++ said (ToServer s body) ∷ []) e id
-    waits_by (begins k) p = inr (waits_silent events s body (own_asks (integer (codes "1")) (codes "initialize") k.params k.says refl) p)
-    waits_by (greets k) p = inr (waits_silent events s body (note_asks (codes "initialized") k.params k.says) p)
-    waits_by (conveys k) p = inr (waits_silent events s body (note_asks (codes "workspace/didChangeConfiguration") k.params k.says) p)
-    waits_by (forwarded k) p = taken_on before cause lasts events s body k k.going p
-    waits_by (notes k) p = inr (waits_silent events s body (note_asks k.method k.params k.says) p)
-    waits_by (tells k) p = let m : Spoken (message_of body) = spoken (message_of body) k.spoken in inr (waits_silent events s body (note_asks m.method m.params m.is) p)
-    waits_by (cancels k) p = inr (waits_silent events s body (note_asks (codes "$/cancelRequest") (Some k.params) k.says) p)
-    waits_by (cancels_work k) p = inr (waits_silent events s body (note_asks (codes "window/workDoneProgress/cancel") k.params k.says) p)
-    waits_by (responds k) p = inr (waits_silent events s body (answer_asks (message_of body) k.response) p)
-    waits_by (resolves k) p = inr (waits_silent events s body (answer_asks (message_of body) k.response) p)
-    waits_by (exits k) p = inr (waits_silent events s body (note_asks (codes "exit") None k.says) p)
-    waits_by (shuts k) p = inr (waits_silent events s body (own_asks (integer (decimal (next_number s events))) (codes "shutdown") None k.says refl) p)
+    waits_by : IsForward settings before cause events s body ⊎ (asks (said (ToServer s body)) ≡ false) → WaitsAt settings events e id → TakenAt settings (events ++ said (ToServer s body) ∷ []) e id
+    waits_by (inl k) p = taken_on before cause lasts events s body k k.going p
+    waits_by (inr none) p = inr (waits_silent events s body none p)
 
     pub taken_by : WhyToServer settings before cause events s body → TakenAt settings events e id → TakenAt settings (events ++ said (ToServer s body) ∷ []) e id
     taken_by why (inl k) = inl (sent_did settings e id events (ToServer s body) tt k)
-    taken_by why (inr k) = waits_by why k
+    taken_by why (inr k) = waits_by (forward_or_silent settings before cause events s body why) k
 
   -- Behind every cause
 

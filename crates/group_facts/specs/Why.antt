@@ -132,6 +132,11 @@ pub record IsBehindSync (settings : Settings) (before : List Event) (events : Li
   pub asks : AllByRecursion (IsQuestion e) questions
   pub place : events ≡ behind (with_cause before (FromEditor e asked)) (questions ++ map (λ text. ToServer s text) (sync_bodies settings.limits.versions (λ u. held_at s u before) e (texts_of settings group before).opens))
 
+-- s doesn't move on in this entry, or was greeted in it before
+pub data Turn (before : List Event) (cause : Cause) (events : List Event) (s : ℕ) : Type 0 where
+  stays : moves before cause s ≡ false → Turn before cause events s
+  greeted : (xs : List Event) → server_part s events ≡ server_part s before ++ heard cause ∷ said (ToServer s initialized_text) ∷ xs → Turn before cause events s
+
 -- s gave its result in this entry, and of all that waits in its group this request of e came first; since it is sent, s was told of e's documents and of nothing else (S2)
 pub record IsAwaited (settings : Settings) (before : List Event) (cause : Cause) (events : List Event) (s e : ℕ) (asked : List ℕ) : Type 0 where
   pub group : ℕ
@@ -141,6 +146,7 @@ pub record IsAwaited (settings : Settings) (before : List Event) (cause : Cause)
   pub home : group_of s before ≡ Some group
   pub stage : (life_of s before).stage ≡ Initializing
   pub member : group_of s events ≡ Some group
+  pub turn : Turn before cause events s
   pub last : start_of group before ≡ Some s → start_of group events ≡ Some s
   pub first : first_waiting settings s events ≡ Some request
   pub editor : request.editor ≡ e
@@ -185,11 +191,6 @@ pub record IsForward (settings : Settings) (before : List Event) (cause : Cause)
   pub late : is_early (desk_of sender.editor events).phase ≡ false
   pub alone : IsAlone settings events sender.editor id
   pub unheld : IsUnheld settings (events ++ said (ToServer s body) ∷ []) sender.editor id
-
--- s doesn't move on in this entry, or was greeted in it before
-pub data Turn (before : List Event) (cause : Cause) (events : List Event) (s : ℕ) : Type 0 where
-  stays : moves before cause s ≡ false → Turn before cause events s
-  greeted : (xs : List Event) → server_part s events ≡ server_part s before ++ heard cause ∷ said (ToServer s initialized_text) ∷ xs → Turn before cause events s
 
 -- s was greeted in this entry, and is told of the configuration that its group keeps, as it came (S2, E16)
 pub record IsConfiguring (settings : Settings) (before : List Event) (cause : Cause) (events : List Event) (s : ℕ) (body : List ℕ) : Type 0 where

@@ -58,6 +58,7 @@ use Rattle.event_model.specs.Phases.{desk_of, is_there}
 use Rattle.std.proofs.lemmas.Bool.{and_parts}
 use Rattle.group_facts.proofs.SlowRow.{parting_walk}
 use Rattle.event_model.proofs.Frames.{never}
+use Rattle.group_sessions.proofs.KeptTokens.{Kept, all_kept}
 
 -- What is told
 
@@ -196,13 +197,13 @@ module _ (settings : Settings) (range : InRange settings) (before : List Event) 
     rules = rules;
   }
 
-  step : (events : List Event) (out : Out) → Both events out → At events → At (events ++ said out ∷ [])
-  step events (ToEditor n body) why i = more events (ToEditor n body) why.0 i (λ on. let off : stopped events ≡ false = stopped_back events (said (ToEditor n body)) on in ties_told settings before cause events n body off ((((i.here).mid).steady).asked off) why.0 (i.ties off))
+  step : Kept settings before → (events : List Event) (out : Out) → Both events out → At events → At (events ++ said out ∷ [])
+  step kept events (ToEditor n body) why i = more events (ToEditor n body) why.0 i (λ on. let off : stopped events ≡ false = stopped_back events (said (ToEditor n body)) on in ties_told settings before cause events n body off ((((i.here).mid).steady).asked off) why.0 (i.ties off))
       (λ e. rule_more ClientRule6 (is_of_editor e) events (said (ToEditor n body)) (i.rules e) (λ same. subst (λ k. ClientRule6 (editor_part k events) (said (ToEditor n body))) (number_same n e same) (may_go events n body i why.0 why.1)))
-  step events (ToServer n body) why i = more events (ToServer n body) why.0 i (λ on. ties_sent settings before cause events n body why.0 (i.ties (stopped_back events (said (ToServer n body)) on))) (free events (said (ToServer n body)) refl i.rules)
-  step events (Spawn n g) why i = more events (Spawn n g) why.0 i (λ on. ties_free settings events (Spawn n g) refl (λ s. refl) (i.ties (stopped_back events (said (Spawn n g)) on))) (free events (said (Spawn n g)) refl i.rules)
-  step events (CloseEditor e) why i = more events (CloseEditor e) why.0 i (λ on. ties_free settings events (CloseEditor e) refl (λ s. refl) (i.ties (stopped_back events (said (CloseEditor e)) on))) (free events (said (CloseEditor e)) refl i.rules)
-  step events (EndServer n) why i = more events (EndServer n) why.0 i (λ on. ties_free settings events (EndServer n) refl (λ s. refl) (i.ties (stopped_back events (said (EndServer n)) on))) (free events (said (EndServer n)) refl i.rules)
+  step kept events (ToServer n body) why i = more events (ToServer n body) why.0 i (λ on. ties_sent settings before kept cause events n body why.0 (i.ties (stopped_back events (said (ToServer n body)) on))) (free events (said (ToServer n body)) refl i.rules)
+  step kept events (Spawn n g) why i = more events (Spawn n g) why.0 i (λ on. ties_free settings events (Spawn n g) refl (λ s. refl) (i.ties (stopped_back events (said (Spawn n g)) on))) (free events (said (Spawn n g)) refl i.rules)
+  step kept events (CloseEditor e) why i = more events (CloseEditor e) why.0 i (λ on. ties_free settings events (CloseEditor e) refl (λ s. refl) (i.ties (stopped_back events (said (CloseEditor e)) on))) (free events (said (CloseEditor e)) refl i.rules)
+  step kept events (EndServer n) why i = more events (EndServer n) why.0 i (λ on. ties_free settings events (EndServer n) refl (λ s. refl) (i.ties (stopped_back events (said (EndServer n)) on))) (free events (said (EndServer n)) refl i.rules)
 
   both : (events : List Event) (outs : List Out) → Reasons (Why settings before cause) events outs → Reasons (Heard settings before cause) events outs → Reasons Both events outs
   both events [] r h = tt
@@ -223,7 +224,7 @@ module _ (settings : Settings) (range : InRange settings) (all_heard : AllHeard 
   entry before so_far cause fits h =
       let facts : Facts settings before = facts_at settings range before so_far in
       let now : List Event = with_cause before cause in
-      let last : At settings range before facts cause (behind now (outs_of settings before cause)) = reasons_keep (Both settings range before facts cause) (At settings range before facts cause) (step settings range before facts cause)
+      let last : At settings range before facts cause (behind now (outs_of settings before cause)) = reasons_keep (Both settings range before facts cause) (At settings range before facts cause) (step settings range before facts cause (all_kept settings before so_far))
       now (outs_of settings before cause)
       (both settings range before facts cause now (outs_of settings before cause) (reasons settings range before facts cause).why (all_heard before so_far cause fits))
       (record {
@@ -244,7 +245,7 @@ module _ (settings : Settings) (range : InRange settings) (all_heard : AllHeard 
         rules = free settings range place facts (quitting e) place (said (CloseEditor e)) refl i.rules;
       })
       (λ events n body why i. record {
-        ties = λ on. ties_sent settings place (quitting e) events n body why (i.ties (stopped_back events (said (ToServer n body)) on));
+        ties = λ on. ties_sent settings place (all_kept settings place at) (quitting e) events n body why (i.ties (stopped_back events (said (ToServer n body)) on));
         rules = free settings range place facts (quitting e) events (said (ToServer n body)) refl i.rules;
       }) h
 

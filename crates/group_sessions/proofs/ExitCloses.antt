@@ -1,5 +1,5 @@
 -- X2: the tokens of a start that ends are ended at the editors that accepted them, and heard no end.
-use Rattle.std.proofs.Common.{◌≡◌, ℕ, ◌^◌, ◌<◌, ◌≤◌, Bool, true, false, ◌&&◌, ◌||◌, List, [], ◌∷◌, ◌++◌, append-nil, bytes_eq, codes, filter, nat_eq, Option, Some, None, refl, sym, ◌∙◌, ap, ap₂, subst, ltb-true, arith}
+use Rattle.std.proofs.Common.{◌≡◌, ℕ, ◌^◌, ◌<◌, ◌≤◌, Bool, true, false, ◌&&◌, ◌||◌, List, [], ◌∷◌, ◌++◌, append-nil, bytes_eq, codes, filter, nat_eq, Option, Some, None, refl, sym, ◌∙◌, ap, ap₂, subst, ltb-true, arith, append_assoc}
 use Rattle.std.specs.Prelude.{slice_get}
 use Rattle.std.specs.List.{AllByRecursion, list_any}
 use Rattle.std.proofs.lemmas.Bool.{and_parts}
@@ -28,7 +28,7 @@ use Rattle.group_words.specs.Houses.{groups_of, home_of, is_home}
 use Rattle.group_rows.specs.diagnostics_route.specs.declared.last_list.LastList.{LastList}
 use Rattle.group_rows.specs.Asks.{Ask, asks_of, has_number, is_with, members_in, next_ask, running_in}
 use Rattle.group_rows.specs.Created.{Taking, Token, created_mark, created_of, created_text, is_at}
-use Rattle.group_rows.specs.ExitRows.{begun_at, cancel_ask, cancel_take, empty_list, end_text, end_token, exit_in, has_begun, lose_sent, lose_start, lost_row, turn_out, unanswered_at}
+use Rattle.group_rows.specs.ExitRows.{begun_at, cancel_ask, cancel_take, empty_list, end_text, end_token, exit_in, has_begun, lose_sent, lose_start, lost_row, turn_out, unanswered_at, starts_again}
 use Rattle.group_rows.specs.Forwarded.{Forwarded, forwarding_of, is_of}
 use Rattle.group_rows.specs.Lists.{lists_of}
 use Rattle.group_rows.specs.Live.{live_of, unregister_text}
@@ -40,7 +40,7 @@ use Rattle.group_rows.proofs.ExitTexts.{empty_says, end_says, end_tree}
 use Rattle.group_rows.proofs.ListsKept.{IsList, lists_kept}
 use Rattle.group_rows.proofs.LiveTexts.{live_written, unregister_says}
 use Rattle.group_rows.proofs.Stops.{range_below}
-use Rattle.group_facts.specs.Facts.{IsAsked, IsForwarded, IsTake, is_exit}
+use Rattle.group_facts.specs.Facts.{IsAsked, IsForwarded, IsTake, is_exit, AllHeld}
 use Rattle.group_facts.proofs.AskingRows.{running_is}
 use Rattle.group_facts.proofs.ExitEntry.{Exit, failed_exit, gone_exit}
 use Rattle.group_facts.proofs.ExitOuts.{start_by}
@@ -55,6 +55,11 @@ use Rattle.group_sessions.proofs.Taken.{Rests, same_mark}
 use Rattle.group_sessions.proofs.TakingTies.{IsTied, TiedIf, accepted_aside, told_here, told_there}
 use Rattle.group_sessions.proofs.TellingPlaces.{RunsIn}
 use Rattle.group_sessions.proofs.EndTexts.{end_names, end_told, weaker}
+use Rattle.group_sessions.proofs.HeldPlaces.{held_lost, held_turned, turned_by}
+use Rattle.group_words.specs.Rows.{spawn}
+use Rattle.mux_facts.specs.Ranges.{InRange}
+use Rattle.group_words.specs.declared.kept.Kept.{Kept}
+use Rattle.mux_facts.proofs.Keeps.{behind_both}
 
 -- Messages
 
@@ -85,7 +90,7 @@ module _ (settings : Settings) (before : List Event) (facts : Facts settings bef
       go f true is z = here is
       go f false is z = f z
 
-  module _ (lasts : AllLast before) (cause : Cause) where
+  module _ (range : InRange settings) (lasts : AllLast before) (cause : Cause) where
     abbrev K : List Event → Out → Type 0
     K = Closes settings before cause
 
@@ -240,9 +245,11 @@ module _ (settings : Settings) (before : List Event) (facts : Facts settings bef
             (by_then (forgets_close _) (empties_close (lists_of s before) (lists_kept s before (facts.base).meant) _))))
 
       -- X3
-      turned_close : (es : List ℕ) (events : List Event) → Because K events (each turn_out es)
-      turned_close [] events = by_nothing
-      turned_close (e ∷ es) events = by_then (by_then (by_look (by_choose (λ waits. by_send (λ w params is. never (sym waits ∙ ap is_waiting w.running))) (λ late. by_nothing))) (by_send tt)) (turned_close es (behind events (outs (turn_out e) events)))
+      turned_close : (g : ℕ) (es : List ℕ) (events : List Event) → AllHeld settings events → Because K events (each (turn_out settings g) es)
+      turned_close g [] events held = by_nothing
+      turned_close g (e ∷ es) events held = by_then (turned_by settings K (λ places i text id y says. no_progress i text (error (Some id) y) says refl places) g e events held (λ places. tt)
+          (by_look (by_choose (λ waits. by_send (λ w params is. never (sym waits ∙ ap is_waiting w.running))) (λ late. by_nothing))))
+          (turned_close g es (behind events (outs (turn_out settings g e) events)) (held_turned settings g e events held))
 
       module _ (g : ℕ) (home : group_of s before ≡ Some g) where
         abbrev runs_here : ℕ → Bool
@@ -274,8 +281,24 @@ module _ (settings : Settings) (before : List Event) (facts : Facts settings bef
         losses_close = by_choose (λ ready. subst (λ ns. Because K told (each (lose_start settings before s) (filter runs_here ns))) (sym (range_below (editors_of before)))
             (by_rising (lose_start settings before s) Stands (λ e events h. start_close e h.runs events h.same) stands_still told runs_here (stands_told ready) (editors_of before))) (λ off. by_nothing)
 
+        abbrev errors : List Out
+        errors = outs (each (lose_sent settings before s) (members_in settings g before)) now
+
+        abbrev ending : Kept → Row
+        ending x = choose (starts_again settings before g x) (spawn g) (each (turn_out settings g) (members_in settings g before))
+
+        abbrev losing : Row
+        losing = choose (is_ready (life_of s before).stage) (each (lose_start settings before s) (running_in settings g before)) nothing
+
+        held_there : (x : Kept) → slice_get (groups_of settings before) g ≡ Some x → x.live ≡ true → AllHeld settings (behind told (outs losing told))
+        held_there x found live = subst (AllHeld settings) (behind_both now errors (outs losing told)) (held_lost settings before cause range facts s exit (errors ++ outs losing told) (outs (ending x) (behind told (outs losing told)))
+            (exit.row ∙ (ap (λ o. outs (on o nothing (λ h. on (slice_get (groups_of settings before) h) nothing (exit_in settings before s h))) now) home
+            ∙ (ap (λ o. outs (on o nothing (exit_in settings before s g)) now) found
+            ∙ (ap (λ b. outs (choose b (each (lose_sent settings before s) (members_in settings g before) ⨾ (losing ⨾ ending x)) nothing) now) live
+            ∙ sym (append_assoc errors (outs losing told) (outs (ending x) (behind told (outs losing told)))))))))
+
         group_close : Because K now (on (slice_get (groups_of settings before) g) nothing (exit_in settings before s g))
-        group_close = by_on (λ none. by_nothing) (λ x found. by_choose (λ live. by_then (sent_close (members_in settings g before) now) (by_then losses_close (by_choose (λ again. by_look (by_send tt)) (λ last. turned_close (members_in settings g before) _)))) (λ over. by_nothing))
+        group_close = by_on (λ none. by_nothing) (λ x found. by_choose (λ live. by_then (sent_close (members_in settings g before) now) (by_then losses_close (by_choose (λ again. by_look (by_send tt)) (λ last. turned_close g (members_in settings g before) _ (held_there x found live))))) (λ over. by_nothing))
 
       lost_close : Because K now (lost_row settings before s)
       lost_close = by_on (λ none. by_nothing) (λ g home. group_close g home)
@@ -283,13 +306,13 @@ module _ (settings : Settings) (before : List Event) (facts : Facts settings bef
       exit_close : Reasons K now (outs_of settings before cause)
       exit_close = subst (Reasons K now) (sym exit.row) lost_close.why
 
-  pub all_close : AllLast before → (cause : Cause) → Reasons (Closes settings before cause) (with_cause before cause) (outs_of settings before cause)
-  all_close lasts (StartFailed s) = exit_close lasts (StartFailed s) s (failed_exit settings before s)
-  all_close lasts (ServerGone s) = exit_close lasts (ServerGone s) s (gone_exit settings before s)
-  all_close lasts (Joined e) = not_lost lasts (Joined e) (λ s is. never (sym is)) (with_cause before (Joined e)) (outs_of settings before (Joined e))
-  all_close lasts (FromEditor e body) = not_lost lasts (FromEditor e body) (λ s is. never (sym is)) (with_cause before (FromEditor e body)) (outs_of settings before (FromEditor e body))
-  all_close lasts (EditorGone e why) = not_lost lasts (EditorGone e why) (λ s is. never (sym is)) (with_cause before (EditorGone e why)) (outs_of settings before (EditorGone e why))
-  all_close lasts (Started n) = not_lost lasts (Started n) (λ s is. never (sym is)) (with_cause before (Started n)) (outs_of settings before (Started n))
-  all_close lasts (FromServer n body) = not_lost lasts (FromServer n body) (λ s is. never (sym is)) (with_cause before (FromServer n body)) (outs_of settings before (FromServer n body))
-  all_close lasts (Drained e k) = not_lost lasts (Drained e k) (λ s is. never (sym is)) (with_cause before (Drained e k)) (outs_of settings before (Drained e k))
-  all_close lasts (Tick t) = not_lost lasts (Tick t) (λ s is. never (sym is)) (with_cause before (Tick t)) (outs_of settings before (Tick t))
+  pub all_close : InRange settings → AllLast before → (cause : Cause) → Reasons (Closes settings before cause) (with_cause before cause) (outs_of settings before cause)
+  all_close range lasts (StartFailed s) = exit_close range lasts (StartFailed s) s (failed_exit settings before s)
+  all_close range lasts (ServerGone s) = exit_close range lasts (ServerGone s) s (gone_exit settings before s)
+  all_close range lasts (Joined e) = not_lost range lasts (Joined e) (λ s is. never (sym is)) (with_cause before (Joined e)) (outs_of settings before (Joined e))
+  all_close range lasts (FromEditor e body) = not_lost range lasts (FromEditor e body) (λ s is. never (sym is)) (with_cause before (FromEditor e body)) (outs_of settings before (FromEditor e body))
+  all_close range lasts (EditorGone e why) = not_lost range lasts (EditorGone e why) (λ s is. never (sym is)) (with_cause before (EditorGone e why)) (outs_of settings before (EditorGone e why))
+  all_close range lasts (Started n) = not_lost range lasts (Started n) (λ s is. never (sym is)) (with_cause before (Started n)) (outs_of settings before (Started n))
+  all_close range lasts (FromServer n body) = not_lost range lasts (FromServer n body) (λ s is. never (sym is)) (with_cause before (FromServer n body)) (outs_of settings before (FromServer n body))
+  all_close range lasts (Drained e k) = not_lost range lasts (Drained e k) (λ s is. never (sym is)) (with_cause before (Drained e k)) (outs_of settings before (Drained e k))
+  all_close range lasts (Tick t) = not_lost range lasts (Tick t) (λ s is. never (sym is)) (with_cause before (Tick t)) (outs_of settings before (Tick t))

@@ -129,7 +129,7 @@ module _ (settings : Settings) (before : List Event) (s : ℕ) (k : Lives settin
   losses = outs losing told
 
   abbrev pub ending : Row
-  ending = choose (starts_again settings before k.group k.kept) (spawn k.group) (each turn_out (members_in settings k.group before))
+  ending = choose (starts_again settings before k.group k.kept) (spawn k.group) (each (turn_out settings k.group) (members_in settings k.group before))
 
   pub exit_parts : outs (lost_row settings before s) now ≡ errors ++ (losses ++ outs ending (behind told losses))
   exit_parts = rw (k.home, k.found, k.live) refl

@@ -1,5 +1,5 @@
 -- X3 of every exit: the group of the start gets a new one, or each editor of it is closed and it lives no more; and X1 to X3 of every legal history.
-use Rattle.std.proofs.Common.{◌≡◌, ℕ, Bool, true, false, not, ◌&&◌, ◌||◌, List, [], ◌∷◌, ◌++◌, flat_map, nat_eq, if◌then◌else◌, append-nil, append_assoc, Some, None, Option, inl, inr, refl, sym, ◌∙◌, ap, subst, arith}
+use Rattle.std.proofs.Common.{◌≡◌, ℕ, Bool, true, false, not, ◌&&◌, ◌||◌, List, [], ◌∷◌, ◌++◌, flat_map, nat_eq, if◌then◌else◌, append-nil, append_assoc, Some, None, Option, inl, inr, refl, sym, ◌∙◌, ap, subst, arith, ◌⊎◌}
 use Rattle.std.specs.Prelude.{slice_get}
 use Rattle.std.specs.List.{AllByRecursion, list_any}
 use Rattle.std.specs.Option.{option_map_or}
@@ -7,7 +7,7 @@ use Rattle.mux_history.specs.declared.cause.Cause.{Cause}
 use Rattle.mux_history.specs.declared.cause.Cause.TheVariants.{Joined, FromEditor, EditorGone, Started, StartFailed, FromServer, ServerGone, Drained, Tick}
 use Rattle.mux_history.specs.declared.entry.Entry.{Entry}
 use Rattle.mux_history.specs.declared.out.Out.{Out}
-use Rattle.mux_history.specs.declared.out.Out.TheVariants.{CloseEditor, Spawn}
+use Rattle.mux_history.specs.declared.out.Out.TheVariants.{CloseEditor, Spawn, ToServer, ToEditor, EndServer}
 use Rattle.event_model.specs.declared.phase.Phase.TheVariants.{Running}
 use Rattle.event_model.specs.Event.{Event, behind, events_of, heard, with_cause}
 use Rattle.event_model.specs.Parts.{editor_part}
@@ -50,13 +50,23 @@ use Rattle.group_sessions.proofs.Client7Law.{all_at}
 use Rattle.group_sessions.proofs.Enrolled.{names}
 use Rattle.group_sessions.proofs.ExitOuts.{Lives, any_each, any_first, any_second, ending, errors, exit_parts, lives_parts, losses, member_named, one_named, told}
 use Rattle.group_sessions.proofs.ExitsCleared.{asks_back, home, lists_emptied, takes_back, tokens_ended}
-use Rattle.group_sessions.proofs.ExitsRefused.{refuses_all}
+use Rattle.group_sessions.proofs.ExitsRefused.{refuses_all, IsUnasking}
 use Rattle.group_sessions.proofs.ListsLaw.{legal_parts, lists_law}
 use Rattle.group_sessions.proofs.Registered.{ids, none_has}
 use Rattle.group_sessions.proofs.TellingPlaces.{last_starts}
 use Rattle.group_sessions.proofs.Tied.{All, IsTied, live_rests, live_took}
 use Rattle.group_sessions.specs.ExitReplay.{Chosen, Clears, ExitsEnd, IsAskBack, IsEnded, IsTakeBack, KeepsCleared, GoesOn, KeepsGroups, KeepsRefused, Refuses, closes, is_housed, is_member, spawns_for}
 use Rattle.group_sessions.specs.LastLists.{due_ending, emptied, is_hearing, lists_due, lists_to}
+use Rattle.group_rows.specs.Waiting.{part, refuse_held}
+use Rattle.group_facts.specs.Why.{AllSlow, AllWhy, Going, HasParts, IsForward, SlowOuts, at_once, had_waited, quitting}
+use Rattle.group_facts.proofs.Everywhere.{entry_parts}
+use Rattle.group_facts.proofs.Taken.{forward_or_silent}
+use Rattle.group_rows.proofs.Moments.{asks}
+use Rattle.group_rows.specs.Forwarded.{Sender, sender_of}
+use Rattle.mux_facts.proofs.Lists.{all_join}
+use Rattle.rpc_message.specs.Message.{message_of}
+use Rattle.group_rows.specs.Ends.{exit_text}
+use Rattle.group_rows.proofs.Exits.{exit_says}
 
 module _ (settings : Settings) (before : List Event) (facts : Facts settings before) (cause : Cause) (s : ℕ) (exit : Exit settings before cause s) (k : Lives settings before s) (slow : List Out) where
   abbrev now : List Event
@@ -80,15 +90,17 @@ module _ (settings : Settings) (before : List Event) (facts : Facts settings bef
       (any_second test (losses settings before s k now) (outs (ending settings before s k now) last) h)))
 
   renewed : starts_again settings before k.group k.kept ≡ true → list_any (spawns_for (group_of s before)) (row ++ slow) ≡ true
-  renewed again = among (spawns_for (group_of s before)) (ap (λ b. list_any (spawns_for (group_of s before)) (outs (choose b (spawn k.group) (each turn_out (members_in settings k.group before))) last)) again
+  renewed again = among (spawns_for (group_of s before)) (ap (λ b. list_any (spawns_for (group_of s before)) (outs (choose b (spawn k.group) (each (turn_out settings k.group) (members_in settings k.group before))) last)) again
       ∙ (ap (λ o. spawns_for o (Spawn (starts_of last) k.group) || false) k.home ∙ ap (λ b. b || false) (same_number k.group)))
 
-  turned : (e n : ℕ) (events : List Event) → n ≡ e → list_any (closes e) (outs (turn_out n) events) ≡ true
-  turned e n events is = any_second (closes e) (outs (refuse_initialize n) events) (CloseEditor n ∷ []) (ap (λ z. nat_eq z e || false) is ∙ ap (λ b. b || false) (same_number e))
+  turned : (e n : ℕ) (events : List Event) → n ≡ e → list_any (closes e) (outs (turn_out settings k.group n) events) ≡ true
+  turned e n events is = let refused : List Event = behind events (outs (refuse_initialize n) events) in
+      any_second (closes e) (outs (refuse_initialize n) events) (outs (part settings k.group n) refused)
+      (any_second (closes e) (outs (refuse_held settings k.group n) refused) (CloseEditor n ∷ []) (ap (λ z. nat_eq z e || false) is ∙ ap (λ b. b || false) (same_number e)))
 
   shut : starts_again settings before k.group k.kept ≡ false → (e : ℕ) → is_member settings before s e ≡ true → list_any (closes e) (row ++ slow) ≡ true
-  shut over e member = among (closes e) (ap (λ b. list_any (closes e) (outs (choose b (spawn k.group) (each turn_out (members_in settings k.group before))) last)) over
-      ∙ any_each (closes e) turn_out (λ (n : ℕ). n ≡ e) (turned e) (members_in settings k.group before) (one_named e (members_in settings k.group before) (member_named settings before s k (facts.steady).editors e member)) last)
+  shut over e member = among (closes e) (ap (λ b. list_any (closes e) (outs (choose b (spawn k.group) (each (turn_out settings k.group) (members_in settings k.group before))) last)) over
+      ∙ any_each (closes e) (turn_out settings k.group) (λ (n : ℕ). n ≡ e) (turned e) (members_in settings k.group before) (one_named e (members_in settings k.group before) (member_named settings before s k (facts.steady).editors e member)) last)
 
   -- the group lives no more
   over_now : not (begins_again settings before s) ≡ true → (g : ℕ) → group_of s before ≡ Some g → lives_at g (groups_of settings now) ≡ false
@@ -146,8 +158,56 @@ module _ (settings : Settings) (range : InRange settings) (before later : List E
       legal_more : (xs : List Entry) (x : Entry) → Legal settings xs → LegalFrom settings xs (x ∷ later) → Legal settings (xs ++ x ∷ [])
       legal_more xs x a b = legal_from [] xs x a (b.0, b.1, tt)
 
+  -- no editor's request goes on in it
+  parts : HasParts settings old entry.cause entry.outs
+  parts = subst (HasParts settings old entry.cause) (sym legal.1) (entry_parts settings range old entry.cause legal.0 facts)
+
+  row_unasking : (place : List Event) (c : Cause) → ((n : ℕ) (events : List Event) (body : List ℕ) → IsForward settings place c events n body → ⊥) → (events : List Event) (xs : List Out) → AllWhy settings place c events xs → AllByRecursion IsUnasking xs
+  row_unasking place c none events [] why = tt
+  row_unasking place c none events (ToServer n body ∷ xs) why = (by (forward_or_silent settings place c events n body why.0), row_unasking place c none (events ++ said (ToServer n body) ∷ []) xs why.1)
+    where
+      by : IsForward settings place c events n body ⊎ (asks (said (ToServer n body)) ≡ false) → asks (said (ToServer n body)) ≡ false
+      by (inl k) = absurd (none n events body k)
+      by (inr silent) = silent
+  row_unasking place c none events (ToEditor n body ∷ xs) why = (tt, row_unasking place c none (events ++ said (ToEditor n body) ∷ []) xs why.1)
+  row_unasking place c none events (Spawn n g ∷ xs) why = (tt, row_unasking place c none (events ++ said (Spawn n g) ∷ []) xs why.1)
+  row_unasking place c none events (CloseEditor n ∷ xs) why = (tt, row_unasking place c none (events ++ said (CloseEditor n) ∷ []) xs why.1)
+  row_unasking place c none events (EndServer n ∷ xs) why = (tt, row_unasking place c none (events ++ said (EndServer n) ∷ []) xs why.1)
+
+  none_by_exit : (n : ℕ) (events : List Event) (body : List ℕ) → IsForward settings old entry.cause events n body → ⊥
+  none_by_exit n events body k = by k.going
+    where
+      by : Going settings old entry.cause events n (k.sender).editor k.asked → ⊥
+      by (at_once from sync) = never (sym is ∙ ap (λ c. is_exit c s) from)
+      by (had_waited w) = never (sym is ∙ ap (λ c. is_exit c s) w.from)
+
+  -- nor by one that is slow
+  none_slow : (place : List Event) (e n : ℕ) (events : List Event) (body : List ℕ) → IsForward settings place (quitting e) events n body → ⊥
+  none_slow place e n events body k = by k.going
+    where
+      by : Going settings place (quitting e) events n (k.sender).editor k.asked → ⊥
+      by (at_once from sync) = no_sender (ap (λ z. sender_of (k.sender).editor z (message_of z)) (exit_asked e (k.sender).editor k.asked from) ∙ k.own)
+        where
+          exit_asked : (e i : ℕ) (asked : List ℕ) → quitting e ≡ FromEditor i asked → exit_text ≡ asked
+          exit_asked e i asked same = cc
+
+          no_sender : sender_of (k.sender).editor exit_text (message_of exit_text) ≡ Some k.sender → ⊥
+          no_sender its = absurd (let clash : ◌≡◌ {A = Option Sender} None (Some k.sender) = sym (ap (sender_of (k.sender).editor exit_text) exit_says) ∙ its in cc)
+      by (had_waited w) = other e n w.answer w.from
+        where
+          other : (e i : ℕ) (answer : List ℕ) → quitting e ≡ FromServer i answer → ⊥
+          other e i answer same = absurd (cc)
+
+  slow_unasking : (place : List Event) (xs : List SlowOuts) → AllSlow settings place xs → AllByRecursion IsUnasking (flat_map (λ (x : SlowOuts). x.outs) xs)
+  slow_unasking place [] h = tt
+  slow_unasking place (x ∷ xs) h = all_join IsUnasking x.outs (flat_map (λ (y : SlowOuts). y.outs) xs) (row_unasking place (quitting x.editor) (none_slow place x.editor) place x.outs h.1.0) (slow_unasking (behind place x.outs) xs h.1.1)
+
+  unasking : AllByRecursion IsUnasking entry.outs
+  unasking = subst (AllByRecursion IsUnasking) (sym parts.parts) (all_join IsUnasking parts.row (flat_map (λ (x : SlowOuts). x.outs) parts.slow)
+      (row_unasking old entry.cause none_by_exit (with_cause old entry.cause) parts.row parts.why) (slow_unasking (behind (with_cause old entry.cause) parts.row) parts.slow parts.leave))
+
   refused_there : Refuses settings old s entry.outs (behind (with_cause old entry.cause) entry.outs)
-  refused_there = refuses_all settings old facts entry.cause s exit slow (lives_parts settings old s housed) entry.outs sent (settled_at settings range (behind (with_cause old entry.cause) entry.outs) reached_after)
+  refused_there = refuses_all settings old facts entry.cause s exit slow (lives_parts settings old s housed) entry.outs sent unasking (settled_at settings range (behind (with_cause old entry.cause) entry.outs) reached_after)
 
   goes_on_there : GoesOn settings old s entry.outs (behind (with_cause old entry.cause) entry.outs)
   goes_on_there = goes_on settings old facts entry.cause s exit (lives_parts settings old s housed) slow entry.outs sent
@@ -269,4 +329,4 @@ module _ (settings : Settings) (range : InRange settings) (history : List Entry)
       cleared_there settings range before later entry parts.0 parts.1 s exits housed e hears (lists_law settings range history legal before later entry is e)
 
   pub exits_law : ExitsEnd settings history
-  exits_law = record { refused = refused_law; cleared = cleared_law; groups = groups_law }
+  exits_law = record { refused = refused_law; cleared = cleared_law; groups = groups_law; held = ? }

@@ -41,6 +41,8 @@ pub mod CreatedFold
 pub mod HeldFold
 pub mod TakingTies
 pub mod Unreserved
+mod HeldPlaces
+mod KeptTokens
 pub mod TellingPlaces
 pub mod Taken
 pub mod Heard

@@ -28,7 +28,7 @@ use Rattle.mux_facts.proofs.Keeps.{behind_both}
 use Rattle.mux_facts.proofs.Tellings.{sent_more}
 use Rattle.group_words.specs.Houses.{is_first_error}
 use Rattle.group_rows.specs.Earlier.{configuration_of, configure, differs, given_of, part_row, shown_in}
-use Rattle.group_rows.specs.Rows.{first_result, from_server, hasty_row, outs_of, refused_row, replay, replay_bodies, result_in, waiting_in, welcome, welcome_all}
+use Rattle.group_rows.specs.Rows.{first_result, from_server, hasty_row, outs_of, refused_row, replay, replay_bodies, result_in, waiting_in, welcome, welcome_all, send_held}
 use Rattle.group_rows.specs.StopRows.{close_each}
 use Rattle.group_rows.specs.Texts.{texts_of}
 use Rattle.group_rows.proofs.Frames.{texts_stay}
@@ -41,7 +41,10 @@ use Rattle.group_facts.proofs.Reached.{facts_at, reached}
 use Rattle.group_sessions.proofs.DueWords.{flat_join}
 use Rattle.group_sessions.proofs.ListsLaw.{legal_parts}
 use Rattle.group_sessions.proofs.Replayed.{IsSilent, all_spoken, replay_speaks, replayed_all, silent_outs, silent_spoken, texts_spoken, to}
-use Rattle.group_sessions.specs.ExitReplay.{IsReplayed, Replays, gives_result, held_of, spoken_to}
+use Rattle.group_sessions.specs.ExitReplay.{IsReplayed, Replays, gives_result, held_of, spoken_to, IsReplayedFirst}
+use Rattle.group_rows.specs.Waiting.{part}
+use Rattle.group_facts.proofs.HeldOuts.{parts_by}
+use Rattle.group_facts.proofs.Begun.{all_outs}
 
 initializing_is : (stage : Stage) → is_initializing stage ≡ true → stage ≡ Initializing
 initializing_is Initializing h = refl
@@ -112,26 +115,37 @@ module _ (settings : Settings) (before : List Event) (facts : Facts settings bef
   abbrev welcomed : List Out
   welcomed = outs (welcome_all settings body g) at_4
 
-  row_is : outs_of settings before (FromServer s body) ≡ partings ++ (greeting ++ (conveyed ++ (replayed ++ welcomed)))
+  -- what waited is sent behind it
+  abbrev at_5 : List Event
+  at_5 = behind at_4 welcomed
+
+  abbrev released : List Out
+  released = outs (send_held settings s g) at_5
+
+  -- the outs to the last document that is opened, and those behind it
+  abbrev first_outs : List Out
+  first_outs = partings ++ (greeting ++ (conveyed ++ replayed))
+
+  row_is : outs_of settings before (FromServer s body) ≡ partings ++ (greeting ++ (conveyed ++ (replayed ++ (welcomed ++ released))))
   row_is = ap (λ z. outs (from_server settings s before body (message_of body) z) now) stage
       ∙ (ap (λ b. outs (choose b (first_result settings before s body) (choose (is_first_error (message_of body)) (refused_row settings before s body) (hasty_row s body (message_of body)))) now) first
       ∙ ap (λ o. outs (on o nothing (result_in settings before s body)) now) home)
 
-  parts : behind now (outs_of settings before (FromServer s body)) ≡ behind at_4 welcomed
-  parts = ap (behind now) row_is ∙ (behind_both now partings (greeting ++ (conveyed ++ (replayed ++ welcomed)))
-      ∙ (behind_both at_1 greeting (conveyed ++ (replayed ++ welcomed)) ∙ (behind_both at_2 conveyed (replayed ++ welcomed) ∙ behind_both at_3 replayed welcomed)))
+  split : outs_of settings before (FromServer s body) ≡ first_outs ++ (welcomed ++ released)
+  split = row_is ∙ sym (append_assoc partings (greeting ++ (conveyed ++ replayed)) (welcomed ++ released)
+      ∙ ap (λ z. partings ++ z) (append_assoc greeting (conveyed ++ replayed) (welcomed ++ released) ∙ ap (λ z. greeting ++ z) (append_assoc conveyed replayed (welcomed ++ released))))
+
+  parts : behind now first_outs ≡ at_4
+  parts = behind_both now partings (greeting ++ (conveyed ++ replayed)) ∙ (behind_both at_1 greeting (conveyed ++ replayed) ∙ behind_both at_2 conveyed replayed)
 
   -- all but the replay say nothing of documents
 
   partings_silent : AllByRecursion IsSilent partings
   partings_silent = go (differs (given_of g before) body)
     where
-      closes : (es : List ℕ) (events : List Event) → AllByRecursion IsSilent (outs (close_each es) events)
-      closes [] events = tt
-      closes (e ∷ es) events = (tt, closes es (behind events (CloseEditor e ∷ [])))
-
-      go : (b : Bool) → AllByRecursion IsSilent (outs (choose b (close_each (shown_in settings g before)) nothing) now)
-      go true = closes (shown_in settings g before) now
+      go : (b : Bool) → AllByRecursion IsSilent (outs (choose b (each (part settings g) (shown_in settings g before)) nothing) now)
+      go true = all_outs IsSilent now (outs (each (part settings g) (shown_in settings g before)) now)
+          (parts_by settings (λ places out. IsSilent out) g (λ e places text. tt) (λ e places. tt) (shown_in settings g before) now).why
       go false = tt
 
   conveyed_silent : AllByRecursion IsSilent conveyed
@@ -140,13 +154,6 @@ module _ (settings : Settings) (before : List Event) (facts : Facts settings bef
       go : (o : Option (List ℕ)) → configuration_of settings g before ≡ o → AllByRecursion IsSilent (outs (on o nothing (λ text. send (ToServer s text))) at_2)
       go None kept = tt
       go (Some text) kept = let k = configures_by (message_of text) (configured settings g before (facts.base).meant text kept) in (ap saying_of k.1, tt)
-
-  welcomed_told : AllByRecursion IsTold welcomed
-  welcomed_told = go (waiting_in settings g at_4) at_4
-    where
-      go : (es : List ℕ) (events : List Event) → AllByRecursion IsTold (outs (each (welcome body) es) events)
-      go [] events = tt
-      go (e ∷ es) events = (tt, go es (behind events (outs (welcome body e) events)))
 
   replayed_is : replayed ≡ to s (replay_bodies [] opens opens)
   replayed_is = outs_to_start s (replay_bodies [] opens opens) at_3
@@ -158,27 +165,29 @@ module _ (settings : Settings) (before : List Event) (facts : Facts settings bef
   none_held w = silent_outs s w at_2 conveyed conveyed_silent ∙ (silent_outs s w at_1 greeting (ap saying_of initialized_law, tt) ∙ (silent_outs s w now partings partings_silent
       ∙ (ap (λ (x : Sent). x.held) (sent_more s w before (heard (FromServer s body))) ∙ (facts.steady).untold s (ap is_unready stage) w)))
 
-  texts_still : texts_of settings g (behind now (outs_of settings before (FromServer s body))) ≡ texts_of settings g at_3
-  texts_still = ap (texts_of settings g) parts ∙ (texts_told settings g at_4 welcomed welcomed_told
-      ∙ (ap (λ z. texts_of settings g (behind at_3 z)) replayed_is ∙ texts_spoken s settings g at_3 (replay_bodies [] opens opens) (replay_speaks s opens spelt [] opens)))
+  texts_still : texts_of settings g at_4 ≡ texts_of settings g at_3
+  texts_still = ap (λ z. texts_of settings g (behind at_3 z)) replayed_is ∙ texts_spoken s settings g at_3 (replay_bodies [] opens opens) (replay_speaks s opens spelt [] opens)
 
-  spoken : flat_map (spoken_to s) (outs_of settings before (FromServer s body)) ≡ replay_bodies [] opens opens
-  spoken = ap (flat_map (spoken_to s)) row_is
-      ∙ (flat_join (spoken_to s) partings (greeting ++ (conveyed ++ (replayed ++ welcomed))) ∙ (ap (λ z. z ++ flat_map (spoken_to s) (greeting ++ (conveyed ++ (replayed ++ welcomed)))) (silent_spoken s partings partings_silent)
-      ∙ (flat_join (spoken_to s) greeting (conveyed ++ (replayed ++ welcomed)) ∙ (ap (λ z. z ++ flat_map (spoken_to s) (conveyed ++ (replayed ++ welcomed))) (silent_spoken s greeting (ap saying_of initialized_law, tt))
-      ∙ (flat_join (spoken_to s) conveyed (replayed ++ welcomed) ∙ (ap (λ z. z ++ flat_map (spoken_to s) (replayed ++ welcomed)) (silent_spoken s conveyed conveyed_silent)
-      ∙ (flat_join (spoken_to s) replayed welcomed ∙ (ap₂ (λ u v. u ++ v) (ap (flat_map (spoken_to s)) replayed_is ∙ all_spoken s (replay_bodies [] opens opens) (replay_speaks s opens spelt [] opens)) (silent_spoken s welcomed (told_silent welcomed welcomed_told))
-      ∙ append-nil (replay_bodies [] opens opens)))))))))
+  spoken : flat_map (spoken_to s) first_outs ≡ replay_bodies [] opens opens
+  spoken = flat_join (spoken_to s) partings (greeting ++ (conveyed ++ replayed)) ∙ (ap (λ z. z ++ flat_map (spoken_to s) (greeting ++ (conveyed ++ replayed))) (silent_spoken s partings partings_silent)
+      ∙ (flat_join (spoken_to s) greeting (conveyed ++ replayed) ∙ (ap (λ z. z ++ flat_map (spoken_to s) (conveyed ++ replayed)) (silent_spoken s greeting (ap saying_of initialized_law, tt))
+      ∙ (flat_join (spoken_to s) conveyed replayed ∙ (ap (λ z. z ++ flat_map (spoken_to s) replayed) (silent_spoken s conveyed conveyed_silent)
+      ∙ (ap (flat_map (spoken_to s)) replayed_is ∙ all_spoken s (replay_bodies [] opens opens) (replay_speaks s opens spelt [] opens)))))))
 
-  held_there : (w : List ℕ) → held_at s w (behind now (outs_of settings before (FromServer s body))) ≡ held_of w opens
-  held_there w = ap (held_at s w) parts ∙ (silent_outs s w at_4 welcomed (told_silent welcomed welcomed_told) ∙ (ap (λ z. held_at s w (behind at_3 z)) replayed_is ∙ replayed_all s opens spelt at_3 none_held w))
+  held_there : (w : List ℕ) → held_at s w at_4 ≡ held_of w opens
+  held_there w = ap (λ z. held_at s w (behind at_3 z)) replayed_is ∙ replayed_all s opens spelt at_3 none_held w
 
-  pub replayed_there : IsReplayed s (texts_of settings g (behind now (outs_of settings before (FromServer s body)))).opens (outs_of settings before (FromServer s body)) (behind now (outs_of settings before (FromServer s body)))
-  replayed_there = subst (λ (x : Texts). IsReplayed s x.opens (outs_of settings before (FromServer s body)) (behind now (outs_of settings before (FromServer s body)))) (sym texts_still) (record { bodies = spoken; held = held_there })
+  pub replayed_there : IsReplayedFirst settings g s now (outs_of settings before (FromServer s body))
+  replayed_there = record {
+    first = first_outs;
+    rest = welcomed ++ released;
+    parts = split;
+    replayed = subst (λ z. IsReplayed s (texts_of settings g z).opens first_outs z) (sym parts) (subst (λ (x : Texts). IsReplayed s x.opens first_outs at_4) (sym texts_still) (record { bodies = spoken; held = held_there }));
+  }
 
 module _ (settings : Settings) (range : InRange settings) (history : List Entry) (legal : Legal settings history) where
   pub replayed_law : Replays settings history
   replayed_law before later entry is s g body from gives home =
       let parts : LegalFrom settings [] before × LegalFrom settings before (entry ∷ later) = legal_parts settings [] before (entry ∷ later) (subst (Legal settings) is legal) in
-      subst (λ c. IsReplayed s (texts_of settings g (behind (with_cause (events_of before) c) (outs_of settings (events_of before) c))).opens (outs_of settings (events_of before) c) (behind (with_cause (events_of before) c) (outs_of settings (events_of before) c))) (sym from)
+      subst (λ c. IsReplayedFirst settings g s (with_cause (events_of before) c) (outs_of settings (events_of before) c)) (sym from)
       (replayed_there settings (events_of before) (facts_at settings range (events_of before) (reached settings before parts.0)) s g body gives home)

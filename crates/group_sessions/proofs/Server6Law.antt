@@ -21,7 +21,7 @@ use Rattle.mux_facts.proofs.Lists.{all_filtered, all_join, all_of}
 use Rattle.mux_facts.proofs.Words.{number_same, open_last, open_more, still_open}
 use Rattle.session_laws.specs.ServerRules.{KeepsServer6, ServerRule6, cancelled_id, id_at, is_among, may_cancel, waiting_behind, waiting_told}
 use Rattle.session_laws.proofs.Server6Law.{free, response_free, spoken_free, waiting, waiting_more}
-use Rattle.group_rows.specs.Forwarded.{Forwarded, Forwarding, Sender, answered_by, cancelled_by, first_sender, forwarding_next, forwarding_of, forwards, is_written, names, numbered}
+use Rattle.group_rows.specs.Forwarded.{Forwarded, Forwarding, Sender, answered_by, cancelled_by, first_sender, forwarding_next, forwarding_of, forwards, is_written, names, numbered, sender_or}
 use Rattle.group_rows.proofs.Going.{not_cancel}
 use Rattle.group_facts.specs.Legal.{Legal}
 use Rattle.group_facts.specs.Why.{WhyToServer, begins, greets, conveys, forwarded, notes, tells, shuts, cancels, is_uncancelled, responds, exits, resolves, cancels_work}
@@ -119,27 +119,27 @@ one_more : (ids : List Id) (id : Id) (o : Option Sender) (n : ℕ) → id ≡ in
 one_more ids id None n is = tt
 one_more ids id (Some sender) n is = (λ open_still. subst (λ z. is_open z (ids ++ id ∷ []) ≡ true) is (open_last id ids), tt)
 
-told : (x : Forwarding) (ids : List Id) (m : Message) → IsNumbered x.next m → TiedTo x ids → TiedTo (forwards x m) (waiting_told ids m)
-told x ids (request id method params) next_is h = go (is_own method) refl
+told : (first : Option Sender) (x : Forwarding) (ids : List Id) (m : Message) → IsNumbered x.next m → TiedTo x ids → TiedTo (forwards first x m) (waiting_told ids m)
+told first x ids (request id method params) next_is h = go (is_own method) refl
   where
-    go : (b : Bool) → is_own method ≡ b → TiedTo (if b then x else record { sender = x.sender; next = x.next + 1; open_requests = x.open_requests ++ numbered x.sender x.next }) (ids ++ id ∷ [])
+    go : (b : Bool) → is_own method ≡ b → TiedTo (if b then x else record { sender = x.sender; next = x.next + 1; open_requests = x.open_requests ++ numbered (sender_or x.sender first) x.next }) (ids ++ id ∷ [])
     go true own = all_more ids id x.open_requests h
-    go false other = all_join (Named (ids ++ id ∷ [])) x.open_requests (numbered x.sender x.next) (all_more ids id x.open_requests h) (one_more ids id x.sender x.next (next_is other))
-told x ids (notification method params) next_is h = go (bytes_eq method (codes "$/cancelRequest"))
+    go false other = all_join (Named (ids ++ id ∷ [])) x.open_requests (numbered (sender_or x.sender first) x.next) (all_more ids id x.open_requests h) (one_more ids id (sender_or x.sender first) x.next (next_is other))
+told first x ids (notification method params) next_is h = go (bytes_eq method (codes "$/cancelRequest"))
   where
     go : (b : Bool) → TiedTo (if b then record { sender = x.sender; next = x.next; open_requests = map (cancelled_by (named_of (codes "id") params)) x.open_requests } else x) (if b then without (cancelled_id params) ids else ids)
     go true = cancelled_all (named_of (codes "id") params) ids x.open_requests h
     go false = h
-told x ids (result id r) next_is h = h
-told x ids (error id e) next_is h = h
-told x ids not_json next_is h = h
-told x ids not_message next_is h = h
+told first x ids (result id r) next_is h = h
+told first x ids (error id e) next_is h = h
+told first x ids not_json next_is h = h
+told first x ids not_message next_is h = h
 
 sent_it : (settings : Settings) (events : List Event) (n : ℕ) (body : List ℕ) → IsNumbered (forwarding_of settings n events).next (message_of body) → Ties settings events → Ties settings (events ++ said (ToServer n body) ∷ [])
 sent_it settings events n body next_is h s = more settings s events (said (ToServer n body)) (go (nat_eq n s) refl)
   where
     go : (b : Bool) → nat_eq n s ≡ b → TiedTo (if b then forwards (first_sender settings s events) (forwarding_of settings s events) (message_of body) else forwarding_of settings s events) (cond b (waiting_told (waiting s events) (message_of body)) (waiting s events))
-    go true same = told (forwarding_of settings s events) (waiting s events) (message_of body) (subst (λ k. IsNumbered (forwarding_of settings k events).next (message_of body)) (number_same n s same) next_is) (h s)
+    go true same = told (first_sender settings s events) (forwarding_of settings s events) (waiting s events) (message_of body) (subst (λ k. IsNumbered (forwarding_of settings k events).next (message_of body)) (number_same n s same) next_is) (h s)
     go false other = h s
 
 response_numbered : (n : ℕ) (m : Message) → is_response m ≡ true → IsNumbered n m

@@ -14,15 +14,13 @@ use Rattle.event_model.specs.Members.{named_of, params_of}
 use Rattle.event_model.specs.Requests.{answered_id, is_own, next_number}
 use Rattle.event_model.specs.Settings.{Settings}
 use Rattle.event_model.proofs.Frames.{never}
-use Rattle.mux_model.specs.Documents.{held_at}
 use Rattle.mux_model.specs.Fits.{fits_behind}
 use Rattle.mux_facts.specs.Allowed.{is_response}
 use Rattle.mux_facts.specs.Ranges.{InRange}
 use Rattle.mux_facts.proofs.Lists.{all_filtered}
 use Rattle.mux_facts.proofs.Reasons.{reasons_keep}
-use Rattle.group_rows.specs.Forwarded.{Forwarded, Forwarding, answered_by, cancelled_by, first_sender, forwarding_next, forwarding_of, forwards, is_written, no_forwarding, numbered, token_in}
-use Rattle.group_rows.specs.Rows.{outs_of, sync_bodies}
-use Rattle.group_rows.specs.Texts.{texts_of}
+use Rattle.group_rows.specs.Forwarded.{Forwarded, Forwarding, answered_by, cancelled_by, first_sender, forwarding_next, forwarding_of, forwards, is_written, no_forwarding, numbered, token_in, Sender, sender_or}
+use Rattle.group_rows.specs.Rows.{outs_of}
 use Rattle.group_rows.specs.Reserved.{is_reserved}
 use Rattle.group_facts.specs.Why.{IsForward, Why, WhyToServer, begins, cancels, cancels_work, exits, forwarded, greets, conveys, notes, resolves, responds, shuts, tells}
 use Rattle.group_facts.proofs.Apart.{grow, new}
@@ -32,7 +30,7 @@ use Rattle.group_facts.proofs.Table.{reasons}
 use Rattle.group_sessions.proofs.Brought.{Brought, brought}
 use Rattle.group_sessions.proofs.CreatedFold.{free_of, is_free}
 use Rattle.group_sessions.proofs.Telling.{Adds}
-use Rattle.group_sessions.proofs.TellingSent.{AtWork, at_work, sender_still}
+use Rattle.group_sessions.proofs.TellingSent.{AtWork, at_work}
 use Rattle.group_sessions.proofs.Walk.{KeepsSlow, walk}
 use Rattle.group_facts.proofs.SlowRow.{parting, parting_why}
 use Rattle.group_facts.specs.Why.{quitting}
@@ -74,35 +72,35 @@ ended : (b : Bool) (x : Forwarding) → AllUnreserved x.open_requests → AllUnr
 ended true x h = tt
 ended false x h = h
 
-heard_unreserved : (s : ℕ) (x : Forwarding) (cause : Cause) → AllUnreserved x.open_requests → AllUnreserved (forwarding_behind s x (heard cause)).open_requests
-heard_unreserved s x (FromServer n body) h = fewer (nat_eq n s) (λ f. not (answered_by (answered_id (message_of body)) f)) x.open_requests h
-heard_unreserved s x (StartFailed n) h = ended (nat_eq n s) x h
-heard_unreserved s x (ServerGone n) h = ended (nat_eq n s) x h
-heard_unreserved s x (FromEditor e body) h = h
-heard_unreserved s x (Joined e) h = h
-heard_unreserved s x (EditorGone e why) h = h
-heard_unreserved s x (Started n) h = h
-heard_unreserved s x (Drained e k) h = h
-heard_unreserved s x (Tick t) h = h
+heard_unreserved : (settings : Settings) (s : ℕ) (before : List Event) (x : Forwarding) (cause : Cause) → AllUnreserved x.open_requests → AllUnreserved (forwarding_next settings s before x (heard cause)).open_requests
+heard_unreserved settings s before x (FromServer n body) h = fewer (nat_eq n s) (λ f. not (answered_by (answered_id (message_of body)) f)) x.open_requests h
+heard_unreserved settings s before x (StartFailed n) h = ended (nat_eq n s) x h
+heard_unreserved settings s before x (ServerGone n) h = ended (nat_eq n s) x h
+heard_unreserved settings s before x (FromEditor e body) h = h
+heard_unreserved settings s before x (Joined e) h = h
+heard_unreserved settings s before x (EditorGone e why) h = h
+heard_unreserved settings s before x (Started n) h = h
+heard_unreserved settings s before x (Drained e k) h = h
+heard_unreserved settings s before x (Tick t) h = h
 
 took : (settings : Settings) (before : List Event) (cause : Cause) → Unreserved settings before → Unreserved settings (with_cause before cause)
-took settings before cause h = by_event settings before (with_cause before cause) (heard cause) refl (λ s. heard_unreserved s (forwarding_of settings s before) cause (h s))
+took settings before cause h = by_event settings before (with_cause before cause) (heard cause) refl (λ s. heard_unreserved settings s before (forwarding_of settings s before) cause (h s))
 
-forwards_unreserved : (x : Forwarding) (m : Message) → Adds m → AllUnreserved x.open_requests → AllUnreserved (forwards x m).open_requests
-forwards_unreserved x (request id method ps) own h = go (is_own method) own
+forwards_unreserved : (first : Option Sender) (x : Forwarding) (m : Message) → Adds m → AllUnreserved x.open_requests → AllUnreserved (forwards first x m).open_requests
+forwards_unreserved first x (request id method ps) own h = go (is_own method) own
   where
-    go : (b : Bool) → b ≡ true → AllUnreserved (if b then x else record { sender = x.sender; next = x.next + 1; open_requests = x.open_requests ++ numbered x.sender x.next }).open_requests
+    go : (b : Bool) → b ≡ true → AllUnreserved (if b then x else record { sender = x.sender; next = x.next + 1; open_requests = x.open_requests ++ numbered (sender_or x.sender first) x.next }).open_requests
     go true k = h
     go false k = never (sym k)
-forwards_unreserved x (notification method ps) own h = go (bytes_eq method (codes "$/cancelRequest"))
+forwards_unreserved first x (notification method ps) own h = go (bytes_eq method (codes "$/cancelRequest"))
   where
     go : (b : Bool) → AllUnreserved (if b then record { sender = x.sender; next = x.next; open_requests = map (cancelled_by (named_of (codes "id") ps)) x.open_requests } else x).open_requests
     go true = all_cancelled (named_of (codes "id") ps) x.open_requests h
     go false = h
-forwards_unreserved x (result id r) own h = h
-forwards_unreserved x (error id r) own h = h
-forwards_unreserved x not_json own h = h
-forwards_unreserved x not_message own h = h
+forwards_unreserved first x (result id r) own h = h
+forwards_unreserved first x (error id r) own h = h
+forwards_unreserved first x not_json own h = h
+forwards_unreserved first x not_message own h = h
 
 -- A body to a start
 
@@ -118,7 +116,7 @@ module _ (settings : Settings) (before : List Event) (cause : Cause) (events : L
   plain m says own h = by_event settings events sent (said (ToServer n body)) refl (λ s. go s (nat_eq n s))
     where
       go : (s : ℕ) (b : Bool) → AllUnreserved (if b then forwards (first_sender settings s events) (forwarding_of settings s events) (message_of body) else forwarding_of settings s events).open_requests
-      go s true = forwards_unreserved (forwarding_of settings s events) (message_of body) (subst Adds (sym says) own) (h s)
+      go s true = forwards_unreserved (first_sender settings s events) (forwarding_of settings s events) (message_of body) (subst Adds (sym says) own) (h s)
       go s false = h s
 
   answer_adds : (m : Message) → is_response m ≡ true → Adds m
@@ -131,11 +129,8 @@ module _ (settings : Settings) (before : List Event) (cause : Cause) (events : L
 
   -- an editor's request
   module _ (k : IsForward settings before cause events n body) where
-    abbrev outs : List Out
-    outs = (k.synced).questions ++ map (λ z. ToServer n z) (sync_bodies settings.limits.versions (λ u. held_at n u before) (k.sender).editor (texts_of settings (k.synced).group before).opens)
-
     its : AtWork (k.sender).editor k.asked k.sender
-    its = at_work (k.sender).editor k.asked k.sender (sym (sender_still settings n before (k.sender).editor k.asked outs) ∙ ap (λ z. (forwarding_of settings n z).sender) (sym (k.synced).place) ∙ k.at_work)
+    its = at_work (k.sender).editor k.asked k.sender k.own
 
     free_named : (name bytes : List ℕ) → is_reserved (named_of name (params_of k.asked)) ≡ false → token_in name k.asked ≡ Some bytes → IsFreeText bytes
     free_named name bytes off is = let b : Brought name k.asked bytes = brought name k.asked bytes is in record { id = b.id; text = b.text; free = free_of (named_of name (params_of k.asked)) b.id b.names (ap not off) }

@@ -14,7 +14,6 @@ use Rattle.event_model.specs.Members.{bytes_if, is_token, named_of, params_of}
 use Rattle.event_model.specs.Requests.{answered_id, is_open, is_own, next_number}
 use Rattle.event_model.specs.Settings.{Settings}
 use Rattle.event_model.proofs.Frames.{never}
-use Rattle.mux_model.specs.Documents.{held_at}
 use Rattle.mux_facts.specs.Allowed.{is_response}
 use Rattle.mux_facts.specs.Ranges.{InRange}
 use Rattle.mux_facts.proofs.Lists.{all_filtered, all_of}
@@ -23,16 +22,14 @@ use Rattle.session_laws.specs.Progress.{tokens_at, unanswered}
 use Rattle.session_laws.specs.ServerRules.{working_behind}
 use Rattle.session_laws.proofs.Server7Law.{is_from_server, working, working_grows, working_more}
 use Rattle.session_laws.proofs.Tokens.{holds, holds_last, holds_left, or_first}
-use Rattle.group_rows.specs.Forwarded.{Forwarded, Forwarding, answered_by, cancelled_by, first_sender, forwarding_next, forwarding_of, forwards, is_written, names, no_forwarding, numbered, token_in}
-use Rattle.group_rows.specs.Rows.{sync_bodies}
-use Rattle.group_rows.specs.Texts.{texts_of}
+use Rattle.group_rows.specs.Forwarded.{Forwarded, Forwarding, answered_by, cancelled_by, first_sender, forwarding_next, forwarding_of, forwards, is_written, names, no_forwarding, numbered, token_in, Sender, sender_or}
 use Rattle.group_rows.specs.Tokens.{mark, work_mark}
 use Rattle.group_facts.specs.Why.{IsForward, WhyToServer, begins, cancels, cancels_work, exits, forwarded, greets, conveys, notes, resolves, responds, shuts, tells}
 use Rattle.group_facts.proofs.Apart.{grow, new}
 use Rattle.group_rows.proofs.Frames.{forwarding_more}
 use Rattle.group_sessions.proofs.SentWork.{SentWork, sent_work}
 use Rattle.group_sessions.proofs.Telling.{Adds}
-use Rattle.group_sessions.proofs.TellingSent.{AtWork, at_work, sender_still}
+use Rattle.group_sessions.proofs.TellingSent.{AtWork, at_work}
 
 -- the daemon's token for the work of request n waits there
 abbrev pub Waits : ℕ → List Event → ℕ → Type 0
@@ -147,21 +144,21 @@ module _ (s : ℕ) (events : List Event) where
   all_cancelled j [] h = tt
   all_cancelled j (f ∷ fs) h = (cancelled f (is_written j f.number) h.0, all_cancelled j fs h.1)
 
-  forwards_working : (x : Forwarding) (m : Message) → Adds m → AllWorking s events x.open_requests → AllWorking s events (forwards x m).open_requests
-  forwards_working x (request id method ps) own h = go (is_own method) own
+  forwards_working : (first : Option Sender) (x : Forwarding) (m : Message) → Adds m → AllWorking s events x.open_requests → AllWorking s events (forwards first x m).open_requests
+  forwards_working first x (request id method ps) own h = go (is_own method) own
     where
-      go : (b : Bool) → b ≡ true → AllWorking s events (if b then x else record { sender = x.sender; next = x.next + 1; open_requests = x.open_requests ++ numbered x.sender x.next }).open_requests
+      go : (b : Bool) → b ≡ true → AllWorking s events (if b then x else record { sender = x.sender; next = x.next + 1; open_requests = x.open_requests ++ numbered (sender_or x.sender first) x.next }).open_requests
       go true k = h
       go false k = never (sym k)
-  forwards_working x (notification method ps) own h = go (bytes_eq method (codes "$/cancelRequest"))
+  forwards_working first x (notification method ps) own h = go (bytes_eq method (codes "$/cancelRequest"))
     where
       go : (b : Bool) → AllWorking s events (if b then record { sender = x.sender; next = x.next; open_requests = map (cancelled_by (named_of (codes "id") ps)) x.open_requests } else x).open_requests
       go true = all_cancelled (named_of (codes "id") ps) x.open_requests h
       go false = h
-  forwards_working x (result id r) own h = h
-  forwards_working x (error id r) own h = h
-  forwards_working x not_json own h = h
-  forwards_working x not_message own h = h
+  forwards_working first x (result id r) own h = h
+  forwards_working first x (error id r) own h = h
+  forwards_working first x not_json own h = h
+  forwards_working first x not_message own h = h
 
 token_there : (name body bytes : List ℕ) → token_in name body ≡ Some bytes → is_token (named_of name (params_of body)) ≡ true
 token_there name body bytes h = go (is_token (named_of name (params_of body))) h
@@ -178,7 +175,7 @@ module _ (settings : Settings) (range : InRange settings) (before : List Event) 
   plain m says own h = ties_by settings events sent (said (ToServer n body)) refl (λ s. go s (nat_eq n s) (all_later s events (said (ToServer n body)) refl (forwarding_of settings s events).open_requests (h s)))
     where
       go : (s : ℕ) (b : Bool) → AllWorking s sent (forwarding_of settings s events).open_requests → AllWorking s sent (if b then forwards (first_sender settings s events) (forwarding_of settings s events) (message_of body) else forwarding_of settings s events).open_requests
-      go s true k = forwards_working s sent (forwarding_of settings s events) (message_of body) (subst Adds (sym says) own) k
+      go s true k = forwards_working s sent (first_sender settings s events) (forwarding_of settings s events) (message_of body) (subst Adds (sym says) own) k
       go s false k = k
 
   answer_adds : (m : Message) → is_response m ≡ true → Adds m
@@ -193,11 +190,8 @@ module _ (settings : Settings) (range : InRange settings) (before : List Event) 
     abbrev next : ℕ
     next = (forwarding_of settings n events).next
 
-    abbrev outs : List Out
-    outs = (k.synced).questions ++ map (λ z. ToServer n z) (sync_bodies settings.limits.versions (λ u. held_at n u before) (k.sender).editor (texts_of settings (k.synced).group before).opens)
-
     its : AtWork (k.sender).editor k.asked k.sender
-    its = at_work (k.sender).editor k.asked k.sender (sym (sender_still settings n before (k.sender).editor k.asked outs) ∙ ap (λ z. (forwarding_of settings n z).sender) (sym (k.synced).place) ∙ k.at_work)
+    its = at_work (k.sender).editor k.asked k.sender k.own
 
     small : next < 2 ^ 64
     small = let low : next < settings.limits.requests = ltb-true next settings.limits.requests k.room in let wide : settings.limits.requests < 2 ^ 32 = range.requests in omega (arith, low, wide)
