@@ -3,7 +3,7 @@ use Rattle.std.proofs.Common.{◌≡◌, ◌+◌, [], ◌∷◌, ◌++◌, nat_l
 use Rattle.std.proofs.lemmas.Result.{err_from_is_err_and}
 use Rattle.mux_hub.specs.Entries.{emits, entry_of, most_events, passes}
 use Rattle.mux_hub.specs.Hubs.{HubView, HubStands}
-use Rattle.mux_hub.proofs.HubLaw.{append_says, few_says, many_says, stepped}
+use Rattle.mux_hub.proofs.HubLaw.{append_ends, append_says, few_says, many_says, number_ends, stepped}
 use Rattle.mux_hub.proofs.hub.Hub.step.Goals as goal
 
 pub returns-clause-outs : goal.returns-clause-outs
@@ -58,3 +58,12 @@ returns-in_err-append-clause-numbers g c = λ history h fresh.
     (λ settings before l e d. c.in_ok-outs.ensures.takes settings before l (e ∙ sym c.as_slice.ensures.value) d) c.in-Some.events (sym c.in-Some.is ∙ (c.counted.ensures ∙ ap (λ n. if nat_lt most_events (c.self.inside.events + (1 + n)) then None else Some (c.self.inside.events + (1 + n))) c.len.ensures))) h in
     let p = err_from_is_err_and c.from_residual-in_err-append.result c.from_residual-in_err-append.ensures.1 in
     rw p.1 (append_says (passes c.args.self.now.settings history c.args.cause) _ _ p.2 few)
+
+pub returns-in_default-clause-complete : goal.returns-in_default-clause-complete
+returns-in_default-clause-complete g c = λ history h fresh room quiet.
+    number_ends (passes c.args.self.now.settings history c.args.cause) (returns-in_default-clause-numbers g c history h fresh) room
+
+pub returns-in_err-append-clause-complete : goal.returns-in_err-append-clause-complete
+returns-in_err-append-clause-complete g c = λ history h fresh room quiet.
+    let p = err_from_is_err_and c.from_residual-in_err-append.result c.from_residual-in_err-append.ensures.1 in
+    rw p.1 (append_ends c.append.result c.in_err-append.e _ _ _ c.in_err-append.is p.2 c.append.ensures.cause quiet)
