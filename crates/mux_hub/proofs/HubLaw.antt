@@ -1,12 +1,11 @@
 -- A step of the hub leads from a history to the longer one.
 use Rattle.std.proofs.Common.{◌≡◌, ℕ, ◌+◌, ◌^◌, ◌<◌, ◌≤◌, List, [], ◌∷◌, ◌++◌, length, nat_lt, if◌then◌else◌, ap, sym, subst, ◌∙◌, append_assoc, append-nil, refl, arith, lit≤, Bool, true, false}
-use Rattle.std.specs.Prelude.{Option, Some, None, Result, Err, IsTrue}
+use Rattle.std.specs.Prelude.{Option, Some, None, Err, IsTrue}
 use Rattle.std.proofs.lemmas.List.Sums.{fold-append}
 use Rattle.mux_history.specs.declared.cause.Cause.{Cause}
 use Rattle.mux_history.specs.declared.out.Out.{Out}
 use Rattle.mux_history.specs.declared.entry.Entry.{Entry}
-use Rattle.mux_history.specs.Journals.{append_told, AppendCause}
-use Rattle.outside_io.specs.Faults.{Rose}
+use Rattle.mux_history.specs.Journals.{append_told}
 use Rattle.event_model.specs.Event.{Event, behind, events_of, with_cause, with_entry}
 use Rattle.event_model.specs.Settings.{Settings}
 use Rattle.mux_facts.specs.Ranges.{InRange}
@@ -26,7 +25,6 @@ use Rattle.mux_causes.specs.Backlogs.{BacklogsStand}
 use Rattle.mux_hub.specs.Entries.{emits, entry_of, most_events, passes}
 use Rattle.mux_hub.specs.Faults.{Counted, step_fault_of}
 use Rattle.mux_hub.specs.declared.fault.StepFault.{StepFault}
-use Rattle.mux_hub.specs.declared.fault.StepFault.TheVariants as step_fault
 use Rattle.mux_history.specs.declared.journal.JournalFault.{JournalFault}
 use Rattle.mux_history.specs.declared.journal.JournalFault.TheVariants.{Failed, Memory}
 use Rattle.mux_hub.proofs.OwnTexts.{own_more}
@@ -115,15 +113,6 @@ module _ {J : Type 0} (told : J → Option (List Entry)) (hub : HubView J) (caus
 pub append_says : (p : Bool) (fault : JournalFault) (e : StepFault) → e ≡ step_fault_of fault → p ≡ false → Counted p (Err e)
 append_says p Failed e is few = subst (λ x. Counted p (Err x)) (sym is) few
 append_says p Memory e is few = subst (λ x. Counted p (Err x)) (sym is) tt
-
--- where a step answered so, with room and a journal that didn't fail, only memory was wanted
-pub number_ends : (p : Bool) → p ≡ true → p ≡ false → step_fault.Numbers ≡ step_fault.Memory
-number_ends true many few = absurd cc
-number_ends false many few = absurd cc
-
-pub append_ends : (result : Result (Unit {0}) JournalFault) (fault : JournalFault) (e : StepFault) (before now : ℕ) → result ≡ Err fault → e ≡ step_fault_of fault → AppendCause before now result → ¬ Rose before now → e ≡ step_fault.Memory
-append_ends result Failed e before now gave is cause quiet = absurd (quiet (cause.failed gave))
-append_ends result Memory e before now gave is cause quiet = is
 
 -- tables and counts of nothing stand for the empty history, and are sound
 pub begins : {J : Type 0} (told : J → Option (List Entry)) (settings : Settings) (kept : Tables) (carries : CarriesView) (counts places : List ℕ) (journal : J) → Tells (told journal) [] → Stands settings kept [] → DocumentsStand settings nothing_owed kept [] → CarriedStand settings carries []

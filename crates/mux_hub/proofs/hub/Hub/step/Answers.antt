@@ -3,7 +3,7 @@ use Rattle.std.proofs.Common.{◌≡◌, ◌+◌, [], ◌∷◌, ◌++◌, nat_l
 use Rattle.std.proofs.lemmas.Result.{err_from_is_err_and}
 use Rattle.mux_hub.specs.Entries.{emits, entry_of, most_events, passes}
 use Rattle.mux_hub.specs.Hubs.{HubView, HubStands}
-use Rattle.mux_hub.proofs.HubLaw.{append_ends, append_says, few_says, many_says, number_ends, stepped}
+use Rattle.mux_hub.proofs.HubLaw.{append_says, few_says, many_says, stepped}
 use Rattle.mux_hub.proofs.hub.Hub.step.Goals as goal
 
 pub returns-clause-outs : goal.returns-clause-outs
@@ -61,9 +61,4 @@ returns-in_err-append-clause-numbers g c = λ history h fresh.
 
 pub returns-in_default-clause-complete : goal.returns-in_default-clause-complete
 returns-in_default-clause-complete g c = λ history h fresh room quiet.
-    number_ends (passes c.args.self.now.settings history c.args.cause) (returns-in_default-clause-numbers g c history h fresh) room
-
-pub returns-in_err-append-clause-complete : goal.returns-in_err-append-clause-complete
-returns-in_err-append-clause-complete g c = λ history h fresh room quiet.
-    let p = err_from_is_err_and c.from_residual-in_err-append.result c.from_residual-in_err-append.ensures.1 in
-    rw p.1 (append_ends c.append.result c.in_err-append.e _ _ _ c.in_err-append.is p.2 c.append.ensures.cause quiet)
+    let many : passes c.args.self.now.settings history c.args.cause ≡ true = returns-in_default-clause-numbers g c history h fresh in absurd cc
