@@ -19,6 +19,7 @@ use std::process::ExitCode;
 use std::time::{CpuClock, Duration};
 
 const DOCUMENTS: u64 = 30;
+
 const OPEN: u64 = 20;
 
 const INITIALIZE: [&str; 2] = [
@@ -41,7 +42,10 @@ const HOVER: [&str; 2] = [
     ",\"method\":\"textDocument/hover\",\"params\":{\"textDocument\":{\"uri\":\"file:///w/1\"},\"position\":{\"line\":1,\"character\":5}}}",
 ];
 
-const HOVERED: [&str; 2] = ["{\"jsonrpc\":\"2.0\",\"id\":", ",\"result\":{\"contents\":\"c\"}}"];
+const HOVERED: [&str; 2] = [
+    "{\"jsonrpc\":\"2.0\",\"id\":",
+    ",\"result\":{\"contents\":\"c\"}}",
+];
 
 // The hub, how many outs it gave, and how many bytes to the editor aren't written yet.
 #[derive(Drop)]
@@ -79,7 +83,9 @@ fn take(session: &mut Session, cause: Cause) -> Option<()>
 fn written(alloc: Global, parts: [&str; 2], number: u64) -> Option<Body> {
     let mut bytes = Vec::from_slice(alloc, parts[0].as_bytes()).ok()?;
     let mut buffer = Buffer::new();
-    bytes.extend_from_slice(buffer.format(number).as_bytes()).ok()?;
+    bytes
+        .extend_from_slice(buffer.format(number).as_bytes())
+        .ok()?;
     bytes.extend_from_slice(parts[1].as_bytes()).ok()?;
     if bytes.len() > 1024 {
         return None;
