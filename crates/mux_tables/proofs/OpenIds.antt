@@ -1,6 +1,6 @@
 -- What editors called their open requests.
 use Rattle.std.proofs.Common.{◌≡◌, ℕ, zero, suc, ◌+◌, ◌<◌, ◌≤◌, Bool, true, false, cond, List, [], ◌∷◌, ◌++◌, drop, flat_map, map, length, get_or, refl, ap, sym, subst, ◌∙◌, append_assoc, append-nil, arith, nat_eq, if◌then◌else◌}
-use Rattle.std.specs.Prelude.{Option, Some, None, option_map, filter, find, slice_get}
+use Rattle.std.specs.Prelude.{Some, option_map, filter, find, slice_get}
 use Rattle.std.proofs.lemmas.Bool.Decides.{nat_tests}
 use Rattle.event_model.specs.Event.{Event}
 use Rattle.event_model.specs.Settings.{Settings}

@@ -1,6 +1,5 @@
 -- What becomes of the tokens that starts created, where an event comes to the other tables.
 use Rattle.std.proofs.Common.{◌≡◌, ℕ, Bool, true, false, not, cond, List, [], ◌∷◌, ◌++◌, codes, bytes_eq, refl, ap, sym, subst, ◌∙◌, nat_eq}
-use Rattle.std.specs.Prelude.{Option, Some, None, is_some}
 use Rattle.std.specs.List.Sorted.{IsStrictlySortedBy}
 use Rattle.std.specs.Map.{keys_of}
 use Rattle.std.specs.Ordering.{nat_cmp}
@@ -9,22 +8,21 @@ use Rattle.lsp_method.specs.Class.{class_of}
 use Rattle.lsp_method.specs.declared.variants.Class.{Class}
 use Rattle.lsp_method.specs.declared.variants.Class.TheVariants.{Lowest}
 use Rattle.lsp_method.specs.declared.variants.Origin.TheVariants.{Server}
-use Rattle.mux_history.specs.declared.cause.Cause.TheVariants.{FromEditor, EditorGone, StartFailed, FromServer, ServerGone}
-use Rattle.mux_history.specs.declared.out.Out.TheVariants.{CloseEditor, ToEditor}
+use Rattle.mux_history.specs.declared.cause.Cause.TheVariants.{FromEditor, FromServer}
+use Rattle.mux_history.specs.declared.out.Out.TheVariants.{ToEditor}
 use Rattle.rpc_message.specs.Message.{Message, request, notification}
 use Rattle.event_model.specs.Event.{Event, did, requests, took}
-use Rattle.event_model.specs.Requests.{answered_id}
 use Rattle.event_model.specs.Settings.{Settings}
 use Rattle.event_model.specs.Stages.{is_first_result}
 use Rattle.event_model.proofs.Frames.{never}
 use Rattle.group_words.specs.Houses.{is_first_error}
 use Rattle.group_laws.specs.group_rows.specs.Asks.{is_patient, may_wait}
-use Rattle.group_laws.specs.group_rows.specs.Created.{Created, answered, created_next, created_of, is_creating, left, names_create, spoken}
+use Rattle.group_laws.specs.group_rows.specs.Created.{Created, answered, created_next, created_of, is_creating, left, names_create}
 use Rattle.mux_tokens.specs.Rows.{Rows, left_each}
 use Rattle.mux_tokens.specs.Stands.{CreatedStand, CreatedStay, TakesNone, TokensStay}
 use Rattle.mux_tokens.proofs.Rows.{num_same}
 use Rattle.mux_tokens.proofs.Standing.{left_moves, stay_stands}
-use Rattle.mux_tokens.proofs.Stays.{passes_by, passes_stay, takes_none}
+use Rattle.mux_tokens.proofs.Stays.{passes_stay, takes_none}
 use Rattle.mux_tables.specs.declared.tables.Origins.{Origins}
 use Rattle.mux_tables.specs.declared.tables.Tables.{Tables}
 use Rattle.mux_tables.specs.Stands.{is_answer, is_request}

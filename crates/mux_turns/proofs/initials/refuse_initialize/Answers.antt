@@ -1,5 +1,5 @@
 -- The `initialize` of an editor that waits fails.
-use Rattle.std.proofs.Common.{true, false, ap, sym, ◌∙◌}
+use Rattle.std.proofs.Common.{ap, sym, ◌∙◌}
 use Rattle.std.specs.Prelude.{Some}
 use Rattle.event_model.specs.Event.{behind}
 use Rattle.event_model.specs.Phases.{is_waiting}
