@@ -1,5 +1,5 @@
 // The hub: the tables, the journal, and whether a step had a fault.
-ghost use Rattle.std.specs.Prelude.{◌≡◌, ◌+◌, ◌^◌, ◌≤◌, ◌<◌, ◌↔◌, List, [], ◌∷◌, ◌++◌, true, false, nat_lt, if◌then◌else◌, Some, None, IsTrue, IsNone, IfOk, OnOk, OnErr, IsErrOf, IsOkUnless, IfErr, slice_get};
+ghost use Rattle.std.specs.Prelude.{◌≡◌, ℕ, ◌+◌, ◌^◌, ◌≤◌, ◌<◌, ◌↔◌, List, [], ◌∷◌, ◌++◌, true, false, nat_lt, if◌then◌else◌, Some, None, IsTrue, IsNone, IfOk, OnOk, OnErr, IsErrOf, IsOkUnless, IfErr, slice_get};
 ghost use Rattle.group_sessions.specs.group_facts.specs.Ceilings.{HaveCeilings};
 ghost use Rattle.outside_io.specs.Faults.{Rose};
 ghost use Rattle.mux_history.specs.declared.entry.Entry.{Entry};
@@ -200,6 +200,8 @@ impl<J: Journal> Hub<J> {
             → Counted (passes self.old.settings history cause) result }
         ensures journal_only { IsErrOf result StepFault.Journal → Rose (J.faults self.old.journal) (J.faults self.new.journal) }
         ensures later { J.faults self.old.journal ≤ J.faults self.new.journal }
+        ensures once { (history : List Entry) (s : ℕ) → HubStands J.told self.old history
+            → IfOk result (λ outs. spawns s (history ++ record { cause = cause; outs = outs } ∷ []) ≤ 1) }
         ensures complete { (history : List Entry) → HubStands J.told self.old history → self.old.spent ≡ false
             → passes self.old.settings history cause ≡ false → ¬ Rose (J.faults self.old.journal) (J.faults self.new.journal)
             → IsOkUnless result StepFault.Memory }
