@@ -1,5 +1,5 @@
 -- The program's answers, from where its run ended.
-use Rattle.std.proofs.Common.{lit<, lit≤, ◌≡◌, ℕ, zero, suc, ◌+◌, ◌≤◌, List, [], ◌++◌, length, take, refl, ap, sym, subst, ◌∙◌, arith, option_map, IfSome, inl, inr, ◌⊎◌}
+use Rattle.std.proofs.Common.{lit<, lit≤, ◌≡◌, ℕ, zero, suc, ◌+◌, ◌≤◌, List, [], ◌++◌, length, take, refl, ap, sym, subst, subst₂, ◌∙◌, arith, option_map, IfSome, inl, inr, ◌⊎◌}
 use Rattle.std.specs.Prelude.{Option, Some, None, Result, Ok, Err}
 use Rattle.std.specs.Io.KnownBytes.{append_known}
 use Rattle.std.proofs.lemmas.List.{append-nil}
@@ -7,6 +7,8 @@ use Rattle.mux_history.specs.declared.entry.Entry.{Entry}
 use Rattle.mux_hub.specs.Hubs.{HubView, Tells}
 use Rattle.mux_hub.specs.group_facts.specs.Legal.{Legal}
 use Rattle.outside_io.specs.Faults.{Rose}
+use Rattle.event_model.specs.declared.settings.Limits.{Limits}
+use Rattle.event_model.specs.declared.settings.Server.{Server}
 use Rattle.event_model.specs.Settings.{Settings}
 use Rattle.lspmux_program.specs.declared.refusal.Refusal.{Refusal}
 use Rattle.lspmux_program.specs.declared.stop.Stop.{Stop}
@@ -45,6 +47,10 @@ pub ran_of : {J : Type 0} (told : J → Option (List Entry)) (settings : Setting
     → Driven told settings input left w v hub result → hub.settings ≡ settings → settings ≡ built_in → journal ≡ hub.journal → Ran told journal input left w v result
 ran_of told settings journal input left w v hub result d s b j =
     ran_built_in told journal input left w v hub result (subst (λ q. Driven told q input left w v hub result) b d) (s ∙ b) j
+
+-- the settings of a hub that was made of the built-in ones
+pub are_built_in : (settings : Settings) (limits : Limits) (servers : List Server) → settings ≡ record { limits = limits; servers = servers; default = 0 } → limits ≡ built_in.limits → servers ≡ built_in.servers → settings ≡ built_in
+are_built_in settings limits servers s l v = subst₂ (λ x y. settings ≡ record { limits = x; servers = y; default = 0 }) l v s
 
 -- no hub was made
 unread : (input : Option (List ℕ)) → option_map lines_of input ≡ option_map (λ lines. [] ++ lines) (option_map lines_of input)
