@@ -23,7 +23,7 @@ ghost use Rattle.rpc_message.specs.Message.{Id, id_bytes, message_of};
 ghost use Rattle.rpc_message.specs.ValueTexts.{IsIdText};
 ghost use Rattle.mux_tables.specs.declared.tables.Start.{Start};
 ghost use Rattle.mux_tables.specs.Documents.{AllStand, DocumentsStand, Owed, nothing_owed, syncing};
-ghost use Rattle.mux_tables.specs.Stands.{Keeps, Sends, Stands, number_in};
+ghost use Rattle.mux_tables.specs.Stands.{Keeps, Sends, Stands, house_in, number_in, stage_in};
 
 use crate::tables::Tables;
 use event_model::Phase;
@@ -109,6 +109,8 @@ impl Tables {
         ensures requests { self.new.requests ≡ self.old.requests }
         ensures versions { self.new.versions ≡ self.old.versions }
         ensures starts { OnOk result (map number_in self.new.lasts.items ≡ map number_in self.old.lasts.items) }
+        ensures stages { OnOk result (map stage_in self.new.lasts.items ≡ map stage_in self.old.lasts.items) }
+        ensures groups { OnOk result (map house_in self.new.lasts.items ≡ map house_in self.old.lasts.items) }
         ensures waiting { OnOk result ((x : Start) → slice_get self.old.lasts.items g ≡ Some x
             → Becomes x.life.group (drop 1) self.old.origins.waiting self.new.origins.waiting) }
         ensures does { (settings : Settings) (base : List Event) (s : ℕ) (name : Id) (method : List ℕ) (ps : Option Json) (r : Waits)
