@@ -79,6 +79,20 @@ const RENEWED_TO_THE_LIMIT: [(&str, &str); 11] = [
     ),
 ];
 
+// A second exit, where one new start is the limit.
+const RENEWED_ONCE: [(&str, &str); 4] = [
+    ("exit 0\n", ">spawn 1 0\n"),
+    (
+        "up 1\n",
+        ">sv 1 {\"jsonrpc\":\"2.0\",\"id\":1,\"method\":\"initialize\",\"params\":{\"processId\":null,\"clientInfo\":{\"name\":\"lspmux\"},\"rootUri\":\"file:///w\",\"capabilities\":{},\"trace\":\"off\"}}\n",
+    ),
+    (
+        "sv 1 {\"jsonrpc\":\"2.0\",\"id\":1,\"result\":{\"capabilities\":{}}}\n",
+        ">sv 1 {\"jsonrpc\":\"2.0\",\"method\":\"initialized\",\"params\":{}}\n",
+    ),
+    ("exit 1\n", ">close 0\n"),
+];
+
 // The editor that ran is down, and another waits: a new start comes for that one, and none once it is gone.
 const NEEDED: [(&str, &str); 8] = [
     ("exit 0\n", ">spawn 1 0\n"),
@@ -275,7 +289,9 @@ fn new_starts_are_counted(rt: HostRuntime) -> Result<(), Fail> {
     let alloc = rt.alloc();
     let mut few = limits(MOST, MOST);
     few.restarts = 3;
-    play(&rt, alloc, few, &[&RENEWED_TO_THE_LIMIT], Ok(()))
+    play(&rt, alloc, few, &[&RENEWED_TO_THE_LIMIT], Ok(()))?;
+    few.restarts = 1;
+    play(&rt, alloc, few, &[&OPENING, &RENEWED_ONCE], Ok(()))
 }
 
 #[test]
