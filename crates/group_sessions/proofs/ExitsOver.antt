@@ -9,7 +9,7 @@ use Rattle.mux_history.specs.declared.entry.Entry.{Entry}
 use Rattle.mux_history.specs.declared.out.Out.{Out}
 use Rattle.mux_history.specs.declared.out.Out.TheVariants.{CloseEditor, Spawn, ToServer, ToEditor, EndServer}
 use Rattle.event_model.specs.declared.phase.Phase.TheVariants.{Running}
-use Rattle.event_model.specs.Event.{Event, behind, events_of, heard, with_cause}
+use Rattle.event_model.specs.Event.{Event, behind, events_of, heard, with_cause, said}
 use Rattle.event_model.specs.Parts.{editor_part}
 use Rattle.event_model.specs.Phases.{desk_of, is_running}
 use Rattle.event_model.specs.Row.{choose, each, outs}
@@ -329,4 +329,4 @@ module _ (settings : Settings) (range : InRange settings) (history : List Entry)
       cleared_there settings range before later entry parts.0 parts.1 s exits housed e hears (lists_law settings range history legal before later entry is e)
 
   pub exits_law : ExitsEnd settings history
-  exits_law = record { refused = refused_law; cleared = cleared_law; groups = groups_law; held = ? }
+  exits_law = record { refused = refused_law; cleared = cleared_law; groups = groups_law }

@@ -1,5 +1,5 @@
 -- What the exit of a start leaves, whose group lives (X1 to X3): its requests are answered, nothing of it is left open at editors, and its group goes on with a new start, or ends; and what a start's first result brings it (S2, X4; LSP 3.17, Lifecycle Messages).
-use Rattle.std.specs.Prelude.{◌≡◌, ℕ, Bool, true, false, not, ◌&&◌, ◌||◌, List, [], ◌∷◌, ◌++◌, bytes_eq, flat_map, nat_eq, if◌then◌else◌}
+use Rattle.std.specs.Prelude.{◌≡◌, ℕ, Bool, true, false, ◌&&◌, List, [], ◌∷◌, ◌++◌, bytes_eq, flat_map, nat_eq, if◌then◌else◌}
 use Rattle.std.specs.Prelude.{Option, Some, None}
 use Rattle.std.specs.List.{AllByRecursion, list_any}
 use Rattle.std.specs.Option.{option_map}
@@ -32,8 +32,6 @@ use Rattle.group_rows.specs.Leaves.{cancel_text}
 use Rattle.group_rows.specs.Lists.{lists_of}
 use Rattle.group_rows.specs.Rows.{outs_of, replay_bodies}
 use Rattle.group_rows.specs.Texts.{texts_of}
-use Rattle.group_rows.specs.Waiting.{waiting_of}
-use Rattle.group_rows.specs.held_requests.specs.declared.request.Request.{Request}
 use Rattle.group_facts.specs.Facts.{is_exit, is_in}
 use Rattle.group_facts.specs.Lively.{lives_at}
 use Rattle.group_sessions.specs.LastLists.{is_hearing}
@@ -111,16 +109,6 @@ Chosen settings before s outs after false = IsOver settings before s outs after
 abbrev pub GoesOn : Settings → List Event → ℕ → List Out → List Event → Type 0
 GoesOn settings before s outs after = Chosen settings before s outs after (begins_again settings before s)
 
--- X3: a request that waited before the entry waits after it, or is answered by the error RequestFailed under its id, or its editor isn't there
-abbrev pub is_same : Request → Request → Bool
-is_same r q = nat_eq q.editor r.editor && (bytes_eq q.id r.id && bytes_eq q.body r.body)
-
-abbrev pub IsKeptHeld : Settings → List Out → List Event → ℕ → Request → Type 0
-IsKeptHeld settings outs after g r = (list_any (is_same r) (waiting_of settings g after) || (list_any (sends r.editor (error_text r.id request_failed)) outs || not (is_there (desk_of r.editor after).phase))) ≡ true
-
-abbrev pub HoldsOn : Settings → List Event → ℕ → List Out → List Event → Type 0
-HoldsOn settings before s outs after = (g : ℕ) → AllByRecursion (IsKeptHeld settings outs after g) (waiting_of settings g before)
-
 -- what holds of each entry in which a start exits whose group lives before it, by the events before the entry, its outs, and the events behind these
 abbrev pub AtExits : (Settings → List Event → ℕ → List Out → List Event → Type 0) → Settings → List Entry → Type 0
 AtExits R settings history = (before later : List Entry) (entry : Entry) → history ≡ before ++ entry ∷ later → (s : ℕ) → is_exit entry.cause s ≡ true → is_housed settings (events_of before) s ≡ true
@@ -132,18 +120,14 @@ KeepsRefused settings history = AtExits Refuses settings history
 abbrev pub KeepsGroups : Settings → List Entry → Type 0
 KeepsGroups settings history = AtExits GoesOn settings history
 
-abbrev pub KeepsHeld : Settings → List Entry → Type 0
-KeepsHeld settings history = AtExits HoldsOn settings history
-
 abbrev pub KeepsCleared : Settings → List Entry → Type 0
 KeepsCleared settings history = AtExits ClearsAll settings history
 
--- X1 to X3 of each exit, and what waits
+-- X1 to X3 of each exit
 pub record ExitsEnd (settings : Settings) (history : List Entry) : Type 0 where
   pub refused : KeepsRefused settings history
   pub cleared : KeepsCleared settings history
   pub groups : KeepsGroups settings history
-  pub held : KeepsHeld settings history
 
 -- S2: the first result of start s
 abbrev pub gives_result : ℕ → List Event → List ℕ → Bool
