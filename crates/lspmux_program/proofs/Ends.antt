@@ -1,5 +1,5 @@
 -- The program's answers, from where its run ended.
-use Rattle.std.proofs.Common.{lit<, lit≤, ◌≡◌, ℕ, zero, suc, ◌+◌, ◌≤◌, List, [], ◌++◌, length, take, refl, ap, sym, subst, ◌∙◌, arith, option_map, IfSome, inl, inr, ◌⊎◌}
+use Rattle.std.proofs.Common.{lit<, lit≤, ◌≡◌, ℕ, zero, suc, ◌+◌, ◌≤◌, List, [], ◌++◌, length, take, refl, ap, sym, subst, subst₂, ◌∙◌, arith, option_map, IfSome, inl, inr, ◌⊎◌}
 use Rattle.std.specs.Prelude.{Option, Some, None, Result, Ok, Err}
 use Rattle.std.specs.Io.KnownBytes.{append_known}
 use Rattle.std.proofs.lemmas.List.{append-nil}
@@ -7,6 +7,8 @@ use Rattle.mux_history.specs.declared.entry.Entry.{Entry}
 use Rattle.mux_hub.specs.Hubs.{HubView, Tells}
 use Rattle.mux_hub.specs.group_facts.specs.Legal.{Legal}
 use Rattle.outside_io.specs.Faults.{Rose}
+use Rattle.event_model.specs.declared.settings.Limits.{Limits}
+use Rattle.event_model.specs.declared.settings.Server.{Server}
 use Rattle.event_model.specs.Settings.{Settings}
 use Rattle.lspmux_program.specs.declared.refusal.Refusal.{Refusal}
 use Rattle.lspmux_program.specs.declared.stop.Stop.{Stop}
@@ -16,20 +18,22 @@ use Rattle.lspmux_program.proofs.Passing.{not_too_many}
 use Rattle.lspmux_program.specs.Lines.{lines_of}
 use Rattle.drive_text.specs.Outs.{outs_text}
 use Rattle.mux_hub.specs.group_facts.specs.OwnTexts.{OwnTexts}
-use Rattle.mux_hub.specs.group_facts.proofs.OwnVersions.{own_versions_hold}
-use Rattle.mux_hub.specs.group_facts.proofs.Switching.{switches_hold}
-use Rattle.mux_hub.proofs.Sessions.{due_law, lists_law, sessions_kept}
+use Rattle.mux_hub.specs.Sessions.{Sessions}
+use Rattle.mux_hub.proofs.Sessions.{sessions_hold}
 use Rattle.lspmux_program.specs.Program.{status_of, fault_line, status_line, refused_line, Ran, Drove, JournalTells, words_line, IsUnrefused, Undisturbed}
 use Rattle.lspmux_program.specs.Reports.{Wrote, Reported, said, unsaid}
 use Rattle.lspmux_program.specs.Runs.{built_in, Refused, Outcome, drive_of, IsRunOfRead, PassesFirst, TakesFirst, WroteFront}
 use Rattle.lspmux_program.specs.Stops.{Gives, Driven}
+
+built_in_sessions : (history : List Entry) → Legal built_in history → OwnTexts built_in history → Sessions built_in history
+built_in_sessions history legal own = sessions_hold built_in (record { requests = lit< tt; versions = lit< tt }) history legal own
 
 ran_built_in : {J : Type 0} (told : J → Option (List Entry)) (journal : J) (input left w v : Option (List ℕ)) (hub : HubView J) (result : Result (Unit {0}) Stop)
     → Driven told built_in input left w v hub result → hub.settings ≡ built_in → journal ≡ hub.journal → Ran told journal input left w v result
 ran_built_in told journal input left w v hub result d s j = record {
   history = d.history;
   legal = subst (λ q. Legal q d.history) s d.stands.legal;
-  own = subst (λ q. OwnTexts q d.history) s d.stands.own;
+  sessions = built_in_sessions d.history (subst (λ q. Legal q d.history) s d.stands.legal) (subst (λ q. OwnTexts q d.history) s d.stands.own);
   few = d.stands.few;
   told_by = subst (λ q. Tells (told q) d.history) (sym j) d.stands.told_by;
   rest = d.rest;
@@ -44,6 +48,10 @@ pub ran_of : {J : Type 0} (told : J → Option (List Entry)) (settings : Setting
 ran_of told settings journal input left w v hub result d s b j =
     ran_built_in told journal input left w v hub result (subst (λ q. Driven told q input left w v hub result) b d) (s ∙ b) j
 
+-- the settings of a hub that was made of the built-in ones
+pub are_built_in : (settings : Settings) (limits : Limits) (servers : List Server) → settings ≡ record { limits = limits; servers = servers; default = 0 } → limits ≡ built_in.limits → servers ≡ built_in.servers → settings ≡ built_in
+are_built_in settings limits servers s l v = subst₂ (λ x y. settings ≡ record { limits = x; servers = y; default = 0 }) l v s
+
 -- no hub was made
 unread : (input : Option (List ℕ)) → option_map lines_of input ≡ option_map (λ lines. [] ++ lines) (option_map lines_of input)
 unread None = refl
@@ -57,7 +65,7 @@ pub never_ran : {J : Type 0} (told : J → Option (List Entry)) (journal : J) (i
 never_ran told journal input w t = record {
   history = [];
   legal = tt;
-  own = tt;
+  sessions = built_in_sessions [] tt tt;
   few = lit≤ tt;
   told_by = t;
   rest = option_map lines_of input;
@@ -76,12 +84,7 @@ pub drove_done : {J : Type 0} (told : J → Option (List Entry)) (journal : J) (
 drove_done told journal input left w v failed r = record {
   history = r.history;
   legal = r.legal;
-  sessions = sessions_kept built_in (record { requests = lit< tt; versions = lit< tt }) r.history r.legal;
-  due = due_law built_in (record { requests = lit< tt; versions = lit< tt }) r.history r.legal;
-  lists = lists_law built_in (record { requests = lit< tt; versions = lit< tt }) r.history r.legal;
-  switches = switches_hold built_in (record { requests = lit< tt; versions = lit< tt }) r.history r.legal;
-  versions = own_versions_hold built_in (record { requests = lit< tt; versions = lit< tt }) r.history r.legal;
-  own = r.own;
+  sessions = r.sessions;
   few = r.few;
   told_by = r.told_by;
   finished = λ _. record { gives = given_input input (record { history = r.history; refused = None }) r.done.1; wrote = r.done.0 };
@@ -117,12 +120,7 @@ silent : {J : Type 0} (told : J → Option (List Entry)) (journal : J) (input le
 silent told journal input left w v u failed s status r m six seven nine l e = record {
   history = r.history;
   legal = r.legal;
-  sessions = sessions_kept built_in (record { requests = lit< tt; versions = lit< tt }) r.history r.legal;
-  due = due_law built_in (record { requests = lit< tt; versions = lit< tt }) r.history r.legal;
-  lists = lists_law built_in (record { requests = lit< tt; versions = lit< tt }) r.history r.legal;
-  switches = switches_hold built_in (record { requests = lit< tt; versions = lit< tt }) r.history r.legal;
-  versions = own_versions_hold built_in (record { requests = lit< tt; versions = lit< tt }) r.history r.legal;
-  own = r.own;
+  sessions = r.sessions;
   few = r.few;
   told_by = r.told_by;
   finished = λ e. absurd (omega (arith, e, m));
@@ -156,12 +154,7 @@ spoken : {J : Type 0} (told : J → Option (List Entry)) (journal : J) (input le
 spoken told journal input left w v u failed s status r m o f six seven nine = record {
   history = r.history;
   legal = r.legal;
-  sessions = sessions_kept built_in (record { requests = lit< tt; versions = lit< tt }) r.history r.legal;
-  due = due_law built_in (record { requests = lit< tt; versions = lit< tt }) r.history r.legal;
-  lists = lists_law built_in (record { requests = lit< tt; versions = lit< tt }) r.history r.legal;
-  switches = switches_hold built_in (record { requests = lit< tt; versions = lit< tt }) r.history r.legal;
-  versions = own_versions_hold built_in (record { requests = lit< tt; versions = lit< tt }) r.history r.legal;
-  own = r.own;
+  sessions = r.sessions;
   few = r.few;
   told_by = r.told_by;
   finished = λ e. absurd (omega (arith, e, m));
@@ -183,12 +176,7 @@ refused_at : {J : Type 0} (told : J → Option (List Entry)) (journal : J) (inpu
 refused_at told journal input left w v u failed k refusal r f = record {
   history = r.history;
   legal = r.legal;
-  sessions = sessions_kept built_in (record { requests = lit< tt; versions = lit< tt }) r.history r.legal;
-  due = due_law built_in (record { requests = lit< tt; versions = lit< tt }) r.history r.legal;
-  lists = lists_law built_in (record { requests = lit< tt; versions = lit< tt }) r.history r.legal;
-  switches = switches_hold built_in (record { requests = lit< tt; versions = lit< tt }) r.history r.legal;
-  versions = own_versions_hold built_in (record { requests = lit< tt; versions = lit< tt }) r.history r.legal;
-  own = r.own;
+  sessions = r.sessions;
   few = r.few;
   told_by = r.told_by;
   finished = λ e. absurd (omega (arith, e));
@@ -224,12 +212,7 @@ pub drove_words : {J : Type 0} (told : J → Option (List Entry)) (journal : Opt
 drove_words told journal input left w v failed t f = record {
   history = [];
   legal = tt;
-  sessions = sessions_kept built_in (record { requests = lit< tt; versions = lit< tt }) [] tt;
-  due = due_law built_in (record { requests = lit< tt; versions = lit< tt }) [] tt;
-  lists = lists_law built_in (record { requests = lit< tt; versions = lit< tt }) [] tt;
-  switches = switches_hold built_in (record { requests = lit< tt; versions = lit< tt }) [] tt;
-  versions = own_versions_hold built_in (record { requests = lit< tt; versions = lit< tt }) [] tt;
-  own = tt;
+  sessions = built_in_sessions [] tt tt;
   few = lit≤ tt;
   told_by = t;
   finished = λ e. absurd (omega (arith, e));

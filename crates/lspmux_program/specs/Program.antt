@@ -5,14 +5,9 @@ use Rattle.std.specs.Io.KnownBytes.{append_known}
 use Rattle.mux_history.specs.declared.entry.Entry.{Entry}
 use Rattle.mux_hub.specs.Entries.{most_events}
 use Rattle.mux_hub.specs.Hubs.{Tells}
+use Rattle.mux_hub.specs.Sessions.{Sessions}
 use Rattle.event_model.specs.Event.{events_of}
-use Rattle.mux_hub.specs.session_laws.specs.Sessions.{KeepsSessions}
-use Rattle.mux_hub.specs.Due.{KeepsDue}
-use Rattle.mux_hub.specs.LastLists.{KeepsLists}
 use Rattle.mux_hub.specs.group_facts.specs.Legal.{Legal}
-use Rattle.mux_hub.specs.group_facts.specs.OwnTexts.{OwnTexts}
-use Rattle.mux_hub.specs.group_facts.specs.OwnVersions.{OwnVersions}
-use Rattle.mux_hub.specs.group_facts.specs.Switches.{Switches}
 use Rattle.outside_io.specs.Faults.{Rose}
 use Rattle.lspmux_program.specs.declared.refusal.Refusal.{Refusal}
 use Rattle.lspmux_program.specs.declared.refusal.Refusal.TheVariants.{Form, Absent}
@@ -82,7 +77,7 @@ JournalRose faults _ _ = ⊥
 pub record Ran {J : Type 0} (told : J → Option (List Entry)) (journal : J) (input left : Option (List ℕ)) (written now : Option (List ℕ)) (result : Result (Unit {0}) Stop) : Type 0 where
   pub history : List Entry
   pub legal : Legal built_in history
-  pub own : OwnTexts built_in history
+  pub sessions : Sessions built_in history
   pub few : length (events_of history) ≤ most_events
   pub told_by : Tells (told journal) history
   pub rest : Option (List Line)
@@ -119,19 +114,12 @@ pub record CutOff (input left before now : Option (List ℕ)) (failed : Type 0) 
   -- status 9: the next line isn't refused; with its entry the causes and outs would be more than 2^63 - 1
   pub too_many : status ≡ 9 → IfSome rest (PassesFirst built_in history)
 
--- a run of the program: there is a legal history of conforming sessions, in which each editor was told of each token that a start
--- created what it was due, and was sent just the lists of diagnostics that it was due, each message that went on behind a sync stood on
--- its editor's own texts, just those documents were switched before it on which the server didn't agree, and each answer had its
--- editor's own versions or was an error, of at most 2^63 - 1 causes and outs, which the journal tells where it tells
+-- a run of the program: there is a legal history of conforming sessions, of at most 2^63 - 1 causes and outs, which the journal tells
+-- where it tells
 pub record Drove {J : Type 0} (told : J → Option (List Entry)) (journal : Option J) (input left before now : Option (List ℕ)) (failed : Type 0) (status : ℕ) : Type 0 where
   pub history : List Entry
   pub legal : Legal built_in history
-  pub sessions : KeepsSessions history
-  pub due : KeepsDue built_in history
-  pub lists : KeepsLists built_in history
-  pub switches : Switches built_in history
-  pub versions : OwnVersions built_in history
-  pub own : OwnTexts built_in history
+  pub sessions : Sessions built_in history
   pub few : length (events_of history) ≤ most_events
   pub told_by : JournalTells told journal history
   pub finished : status ≡ 0 → Finished input before now history

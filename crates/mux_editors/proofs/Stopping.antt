@@ -94,18 +94,18 @@ module _ (settings : Settings) (before : List Event) (e : ℕ) (body : List ℕ)
       let told = events ++ said (ToEditor e (ok_text (id_bytes body) (codes "null"))) ∷ [] in
       (tt, aside_join (outs (each (refuse_open settings before) lost) told) _ (refuses_aside settings before lost told) (closes_aside shut (behind told (outs (each (refuse_open settings before) lost) told))))
 
-  still_numbered : (t u : Tables) (ys : List Out) (lost shut : List ℕ) → Known settings before → Halts settings t (behind base []) → Does (λ t events. Halts settings t events) (first_parts lost shut) base t [] u ys → Numbered (behind base ys)
+  still_numbered : (t u : Tables) (ys : List Out) (lost shut : List ℕ) → Known settings before → Halts settings t (behind base []) → Does (λ t events. Halts settings t events) (first_parts lost shut) base t [] u ys → Numbered settings (behind base ys)
   still_numbered t u ys lost shut known here d =
       let sent : behind base ys ≡ behind (behind base []) (outs (first_parts lost shut) (behind base [])) = ap (behind base) (d.done here).outs ∙ behind_more base [] (outs (first_parts lost shut) (behind base [])) in
-      subst Numbered (sym sent) (numbered_asides (outs (first_parts lost shut) (behind base [])) (behind base []) (parts_aside lost shut (behind base [])) (subst Numbered (sym (append-nil base)) (numbered_heard before e body known.numbered)))
+      subst (Numbered settings) (sym sent) (numbered_asides settings (outs (first_parts lost shut) (behind base [])) (behind base []) (parts_aside lost shut (behind base [])) (subst (Numbered settings) (sym (append-nil base)) (numbered_heard settings before e body known.numbered)))
 
   pub stops_all : Known settings before → Settled settings before → (t t0 u v : Tables) → Stands settings t before → Stands settings t0 base → DocumentsStand settings nothing_owed t0 base
       → (xs told refused closed ys : List Out) (lost shut live : List ℕ) → xs ≡ [] → lost ≡ there_in before → shut ≡ there_in before → live ≡ all_from 0 is_live (groups_of settings before)
       → Does (λ t events. Stands settings t events) answer base t0 xs t0 told → ((owed : Owed) → DocumentsStand settings owed t0 (behind base xs) → DocumentsStand settings owed t0 (behind base told))
-      → (AllForwarded before → Refusing settings before (behind base told) → Does (λ t events. Stands settings t events) (each (refuse_open settings before) lost) base t0 told t0 refused)
+      → (AllForwarded settings before → Refusing settings before (behind base told) → Does (λ t events. Stands settings t events) (each (refuse_open settings before) lost) base t0 told t0 refused)
       → ((owed : Owed) → DocumentsStand settings owed t0 (behind base told) → DocumentsStand settings owed t0 (behind base refused))
       → Does (λ t events. Halts settings t events) (close_each shut) base t0 refused u closed
-      → ((owed : Owed) → Numbered (behind base closed) → Does (λ k events. AllStand settings k events) (each end_group live) base (u, owed) closed (v, owed) ys)
+      → ((owed : Owed) → Numbered settings (behind base closed) → Does (λ k events. AllStand settings k events) (each end_group live) base (u, owed) closed (v, owed) ys)
       → Done (λ k events. AllStand settings k events) (stop_row settings before e body) base [] (v, nothing_owed) ys
   stops_all known settled t t0 u v was st ds xs told refused closed ys lost shut live first those these alive tells told_docs refuses refused_docs closes ends =
       let says = subst (λ ws. Does (λ t events. Stands settings t events) answer base t0 ws t0 told) first tells in
@@ -114,9 +114,9 @@ module _ (settings : Settings) (before : List Event) (e : ℕ) (body : List ℕ)
       let here : Halts settings t0 (behind base []) = subst (λ es. Halts settings t0 es) (sym none) (st, (nothing_owed, ds)) in
       let begins : Refusing settings before (behind base []) = subst (Refusing settings before) (sym none) (refusing_heard settings before e body stop known.waiting settled.seated) in
       let goes_on : Refusing settings before (behind base told) = refusing_on settings t0 before base [] told {row = answer} (λ events. (tt, tt)) says here.0 begins in
-      let forwarded : AllForwarded before = asked_while before known.asked known.quit e parts.0 in
+      let forwarded : AllForwarded settings before = asked_while settings before known.asked known.quit e parts.0 in
       let one = halts_does settings t0 t0 base [] told says says_docs in
       let two = halts_does settings t0 t0 base told refused (refuses forwarded goes_on) refused_docs in
-      let numbered : Numbered (behind base closed) = still_numbered t0 u closed lost shut known here (does_then one (does_then two closes)) in
+      let numbered : Numbered settings (behind base closed) = still_numbered t0 u closed lost shut known here (does_then one (does_then two closes)) in
       stops_done settings before base e body t0 u v told refused closed ys lost shut live st ds those these alive one two closes
       (halts_each settings u v base closed ys (λ owed. ends owed numbered)) (unready t v ys was known settled)

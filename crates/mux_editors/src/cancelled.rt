@@ -62,7 +62,7 @@ fn uncancelled(ids: &IdTable, e: u64, id: &[u8]) -> Option<u32>
 fn named(tables: &Tables, e: u64, message: &Message) -> Option<Target>
     ensures inside { IfSome result (λ x. x.group < length tables.now.lasts.items) }
     ensures names { (settings : Settings) (before : List Event) (body method : List ℕ) (params : Option Json) → IsRead message.now body
-        → message_of body ≡ notification method params → AllForwarded before → Stands settings tables.now before
+        → message_of body ≡ notification method params → AllForwarded settings before → Stands settings tables.now before
         → Names settings before e body params (map number_in tables.now.lasts.items) result }
 {
     let id = cancelled_id(message)?;

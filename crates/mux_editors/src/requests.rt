@@ -64,7 +64,7 @@ fn send_on(
     ensures does { (settings : Settings) (before : List Event) (body method : List ℕ) (id : Id) (params : Option Json) (s : ℕ) → IsRead message.now body
         → message_of body ≡ request id method params → is_other (class_of method Editor false) ≡ true → AllByRecursion (IsQuestion e) outs.old
         → slice_get (map number_in tables.old.lasts.items) g ≡ Some s → (x : Start) → slice_get tables.old.lasts.items g ≡ Some x
-        → OnOk result (Does (λ k events. AllStand settings k events) (sync_row settings before x.life.group s e ⨾ forward s body) (with_cause before (FromEditor e body))
+        → OnOk result (Does (λ k events. AllStand settings k events) (sync_row settings before x.life.group s e ⨾ forward settings s body) (with_cause before (FromEditor e body))
         (tables.old, nothing_owed) outs.old (tables.new, nothing_owed) outs.new) }
 {
     let n = tables.next_number(g);

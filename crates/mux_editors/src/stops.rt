@@ -32,8 +32,8 @@ use std::alloc::Global;
 fn lose_at(tables: &Tables, alloc: Global, outs: &mut Outs, g: usize, e: u64) -> Result<(), Memory>
     requires { g < length tables.now.lasts.items }
     ensures does { (settings : Settings) (base : List Event) (s : ℕ) → slice_get (map number_in tables.now.lasts.items) g ≡ Some s
-        → AllByRecursion IsNamed (ids_at e (forwarding_of s (behind base outs.old)).open_requests)
-        → OnOk result (Does (λ t events. Stands settings t events) (each (refuse_id e) (ids_at e (forwarding_of s (behind base outs.old)).open_requests))
+        → AllByRecursion IsNamed (ids_at e (forwarding_of settings s (behind base outs.old)).open_requests)
+        → OnOk result (Does (λ t events. Stands settings t events) (each (refuse_id e) (ids_at e (forwarding_of settings s (behind base outs.old)).open_requests))
         base tables.now outs.old tables.now outs.new) }
     ensures documents { (settings : Settings) (owed : Owed) (base : List Event) → DocumentsStand settings owed tables.now (behind base outs.old)
         → OnOk result (DocumentsStand settings owed tables.now (behind base outs.new)) }
@@ -47,8 +47,8 @@ fn lose_at(tables: &Tables, alloc: Global, outs: &mut Outs, g: usize, e: u64) ->
 
 // Where its group, which has this number, has such a start.
 fn lose_in(tables: &Tables, alloc: Global, outs: &mut Outs, home: u64, e: u64) -> Result<(), Memory>
-    ensures does { (settings : Settings) (before base : List Event) → Stays settings before (behind base outs.old) → AllForwarded before
-        → OnOk result (Does (λ t events. Stands settings t events) (lose_from before e (start_of home before)) base tables.now outs.old tables.now outs.new) }
+    ensures does { (settings : Settings) (before base : List Event) → Stays settings before (behind base outs.old) → AllForwarded settings before
+        → OnOk result (Does (λ t events. Stands settings t events) (lose_from settings before e (start_of home before)) base tables.now outs.old tables.now outs.new) }
     ensures documents { (settings : Settings) (owed : Owed) (base : List Event) → DocumentsStand settings owed tables.now (behind base outs.old)
         → OnOk result (DocumentsStand settings owed tables.now (behind base outs.new)) }
 {
@@ -64,7 +64,7 @@ fn lose_in(tables: &Tables, alloc: Global, outs: &mut Outs, home: u64, e: u64) -
 // Where it is in a group.
 fn lose_requests(tables: &Tables, alloc: Global, outs: &mut Outs, e: u64) -> Result<(), Memory>
     requires { e < length tables.now.editors }
-    ensures does { (settings : Settings) (before base : List Event) → Stays settings before (behind base outs.old) → AllForwarded before
+    ensures does { (settings : Settings) (before base : List Event) → Stays settings before (behind base outs.old) → AllForwarded settings before
         → OnOk result (Does (λ t events. Stands settings t events) (lose_requests settings before e) base tables.now outs.old tables.now outs.new) }
     ensures documents { (settings : Settings) (owed : Owed) (base : List Event) → DocumentsStand settings owed tables.now (behind base outs.old)
         → OnOk result (DocumentsStand settings owed tables.now (behind base outs.new)) }
@@ -81,7 +81,7 @@ fn lose_requests(tables: &Tables, alloc: Global, outs: &mut Outs, e: u64) -> Res
 // What is open at an editor fails.
 fn refuse_open(tables: &Tables, alloc: Global, outs: &mut Outs, e: u64) -> Result<(), Memory>
     requires { e < length tables.now.editors }
-    ensures does { (settings : Settings) (before base : List Event) → AllForwarded before → Refusing settings before (behind base outs.old)
+    ensures does { (settings : Settings) (before base : List Event) → AllForwarded settings before → Refusing settings before (behind base outs.old)
         → OnOk result (Does (λ t events. Stands settings t events) (refuse_open settings before e) base tables.now outs.old tables.now outs.new) }
     ensures documents { (settings : Settings) (owed : Owed) (base : List Event) → DocumentsStand settings owed tables.now (behind base outs.old)
         → OnOk result (DocumentsStand settings owed tables.now (behind base outs.new)) }
@@ -99,7 +99,7 @@ fn refuse_each(
     editors: &[u64],
 ) -> Result<(), Memory>
     requires { All (λ e. e < length tables.now.editors) editors.now }
-    ensures does { (settings : Settings) (before base : List Event) → AllForwarded before → Refusing settings before (behind base outs.old)
+    ensures does { (settings : Settings) (before base : List Event) → AllForwarded settings before → Refusing settings before (behind base outs.old)
         → OnOk result (Does (λ t events. Stands settings t events) (each (refuse_open settings before) editors.now) base
         tables.now outs.old tables.now outs.new) }
     ensures documents { (settings : Settings) (owed : Owed) (base : List Event) → DocumentsStand settings owed tables.now (behind base outs.old)

@@ -1,6 +1,6 @@
 -- How many editors joined and how many starts were spawned, by the entries of a history and by its events.
 use Rattle.std.proofs.Common.{◌≡◌, ℕ, ◌+◌, ◌≤◌, ◌<◌, List, [], ◌∷◌, ◌++◌, fold, length, map, refl, ap, sym, ◌∙◌, subst, true, false, arith}
-use Rattle.std.specs.Prelude.{Option}
+use Rattle.std.specs.Prelude.{Option, IsTrue}
 use Rattle.std.proofs.lemmas.List.Sums.{fold-append}
 use Rattle.mux_history.specs.Cores.{joins, joined, spawns}
 use Rattle.mux_history.specs.declared.cause.Cause.{Cause}
@@ -12,10 +12,12 @@ use Rattle.event_model.specs.Event.{Event, heard, said, with_cause, with_entry, 
 use Rattle.event_model.specs.Phases.{editors_of, editors_behind}
 use Rattle.event_model.specs.Settings.{Settings}
 use Rattle.mux_facts.specs.Ranges.{InRange}
+use Rattle.mux_model.specs.Fits.{fits}
 use Rattle.group_sessions.specs.session_laws.proofs.SpawnedLaw.{counts_above, counts_below}
 use Rattle.group_sessions.specs.group_facts.specs.Legal.{Legal}
 use Rattle.group_sessions.proofs.SpawnedLaw.{numbered, spawned_once_law}
 use Rattle.event_model.specs.Spawns.{starts_of}
+use Rattle.mux_hub.proofs.HubLaw.{legal_more}
 use Rattle.mux_hub.proofs.Spawned.{servers_count}
 use Rattle.mux_hub.specs.Entries.{emits, entry_of}
 use Rattle.mux_hub.specs.Hubs.{HubView, HubStands}
@@ -69,8 +71,7 @@ server_missing told hub history s range h fresh l =
     (λ same. counts_above history s (numbered hub.settings range history h.legal) (subst (λ m. m ≤ s) count l), λ zeros. refl)
 
 -- behind one more entry no start was spawned twice
-pub once_more : {J : Type 0} (told : J → Option (List Entry)) (settings : Settings) (hub : HubView J) (history : List Entry) (cause : Cause) (xs : List Out) → InRange settings → hub.settings ≡ settings → xs ≡ emits settings history cause
-    → HubStands told hub (history ++ entry_of settings history cause ∷ []) → (s : ℕ) → spawns s (history ++ record { cause = cause; outs = xs } ∷ []) ≤ 1
-once_more told settings hub history cause xs range kept same h s =
-    let legal : Legal settings (history ++ entry_of settings history cause ∷ []) = subst (λ q. Legal q (history ++ entry_of settings history cause ∷ [])) kept h.legal in
-    subst (λ ys. spawns s (history ++ record { cause = cause; outs = ys } ∷ []) ≤ 1) (sym same) (spawned_once_law settings range (history ++ entry_of settings history cause ∷ []) legal s)
+pub once_more : (settings : Settings) → InRange settings → (history : List Entry) (cause : Cause) (xs : List Out) → Legal settings history → IsTrue (fits history cause) → xs ≡ emits settings history cause
+    → (s : ℕ) → spawns s (history ++ record { cause = cause; outs = xs } ∷ []) ≤ 1
+once_more settings range history cause xs legal f same s =
+    subst (λ ys. spawns s (history ++ record { cause = cause; outs = ys } ∷ []) ≤ 1) (sym same) (spawned_once_law settings range (history ++ entry_of settings history cause ∷ []) (legal_more settings history cause legal f) s)

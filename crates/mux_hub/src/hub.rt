@@ -1,5 +1,5 @@
 // The hub: the tables, the journal, and whether a step had a fault.
-ghost use Rattle.std.specs.Prelude.{◌≡◌, ◌+◌, ◌^◌, ◌≤◌, ◌<◌, ◌↔◌, List, [], ◌∷◌, ◌++◌, true, false, nat_lt, if◌then◌else◌, Some, None, IsTrue, IsNone, IfOk, OnOk, OnErr, IsErrOf, IfErr, slice_get};
+ghost use Rattle.std.specs.Prelude.{◌≡◌, ℕ, ◌+◌, ◌^◌, ◌≤◌, ◌<◌, ◌↔◌, List, [], ◌∷◌, ◌++◌, true, false, nat_lt, if◌then◌else◌, Some, None, IsTrue, IsNone, IfOk, OnOk, OnErr, IsErrOf, IsOkUnless, IfErr, slice_get};
 ghost use Rattle.group_sessions.specs.group_facts.specs.Ceilings.{HaveCeilings};
 ghost use Rattle.outside_io.specs.Faults.{Rose};
 ghost use Rattle.mux_history.specs.declared.entry.Entry.{Entry};
@@ -183,7 +183,8 @@ impl<J: Journal> Hub<J> {
     }
 
     /// Takes a cause and gives its outs: those of the routing table. The entry was appended to the journal. Where the causes and outs
-    /// would be more than 2^63 - 1, the answer is `Numbers`, and nothing is appended.
+    /// would be more than 2^63 - 1, the answer is `Numbers`, and nothing is appended. A hub that isn't spent gives them unless they would,
+    /// the journal fails, or memory runs out.
     pub fn step(&mut self, cause: Cause) -> Result<Outs, StepFault>
         requires small { body_length cause ≤ 268435456 }
         requires fits { (history : List Entry) → HubStands J.told self.old history → self.old.spent ≡ false → IsTrue (fits history cause) }
@@ -199,6 +200,11 @@ impl<J: Journal> Hub<J> {
             → Counted (passes self.old.settings history cause) result }
         ensures journal_only { IsErrOf result StepFault.Journal → Rose (J.faults self.old.journal) (J.faults self.new.journal) }
         ensures later { J.faults self.old.journal ≤ J.faults self.new.journal }
+        ensures once { (history : List Entry) (s : ℕ) → HubStands J.told self.old history
+            → IfOk result (λ outs. spawns s (history ++ record { cause = cause; outs = outs } ∷ []) ≤ 1) }
+        ensures complete { (history : List Entry) → HubStands J.told self.old history → self.old.spent ≡ false
+            → passes self.old.settings history cause ≡ false → ¬ Rose (J.faults self.old.journal) (J.faults self.new.journal)
+            → IsOkUnless result StepFault.Memory }
     {
         if self.spent {
             return Err(StepFault::Spent);

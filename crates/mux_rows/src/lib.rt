@@ -26,6 +26,8 @@ mod restarts;
 #[cfg(test)]
 mod slow;
 #[cfg(test)]
+mod stages;
+#[cfg(test)]
 mod statuses;
 #[cfg(test)]
 mod stops;
@@ -35,3 +37,5 @@ mod tests;
 mod tokens;
 #[cfg(test)]
 mod versions;
+#[cfg(test)]
+mod waiting;

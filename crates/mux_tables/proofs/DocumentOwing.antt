@@ -1,5 +1,5 @@
 -- E6: an editor is closed while starts are owed bodies already: there is what each is owed behind it.
-use Rattle.std.proofs.Common.{◌≡◌, ℕ, ◌<◌, ◌^◌, Bool, true, false, List, [], ◌∷◌, ◌++◌, nat_eq, refl, sym, ap, subst, ◌∙◌, append-nil, arith, length, if◌then◌else◌}
+use Rattle.std.proofs.Common.{◌≡◌, ℕ, ◌<◌, ◌^◌, false, List, [], ◌∷◌, ◌++◌, nat_eq, refl, sym, ap, subst, ◌∙◌, length, if◌then◌else◌}
 use Rattle.std.specs.Prelude.{Option, Some, None, slice_get}
 use Rattle.std.specs.List.{AllByRecursion}
 use Rattle.std.proofs.lemmas.Bool.{ne_eqb}
@@ -24,14 +24,14 @@ use Rattle.group_laws.specs.Stands.{HeldStands, TextsStand}
 use Rattle.group_laws.proofs.Entries.{encoding_told, known_sent, texts_told}
 use Rattle.group_laws.proofs.Leaving.{leave_orderly, leave_outs, leave_speaks, leave_spelt, leave_stays, leave_texts}
 use Rattle.group_laws.proofs.Left.{left_held}
-use Rattle.group_words.specs.Houses.{home_of, is_home}
+use Rattle.group_words.specs.Houses.{is_home}
 use Rattle.mux_tables.specs.declared.tables.Start.{Start}
 use Rattle.mux_tables.specs.declared.tables.Tables.{Tables}
 use Rattle.mux_tables.specs.Documents.{AllTell, DocumentsStand, IsOwned, Owed, SharedStands, StartTold, StepAt, StepFrom, nothing_owed, to}
 use Rattle.mux_tables.specs.Stands.{IsPlace, Stands}
 use Rattle.mux_tables.proofs.DocumentFrames.{SentSame, sent_behind_same, untold_stays}
 use Rattle.mux_tables.proofs.DocumentLeft.{closed_away, closed_parts, closed_rest, kept_owners}
-use Rattle.mux_tables.proofs.DocumentMoves.{Rest, documents_all, documents_at, documents_set, set_same}
+use Rattle.mux_tables.proofs.DocumentMoves.{documents_all, documents_at, documents_set, set_same}
 use Rattle.mux_tables.proofs.Frames.{itself}
 use Rattle.mux_tables.proofs.Placed.{groups_apart}
 

@@ -1,5 +1,5 @@
 -- An editor leaves all starts, one after the other.
-use Rattle.std.proofs.Common.{◌≡◌, ℕ, ◌+◌, ◌<◌, Bool, true, false, cond, List, [], ◌∷◌, length, get_or, drop, map, refl, sym, subst, ◌∙◌, ap, add-one, drop-cons}
+use Rattle.std.proofs.Common.{◌≡◌, ℕ, ◌+◌, ◌<◌, false, cond, List, [], ◌∷◌, length, get_or, drop, refl, sym, subst, ◌∙◌, ap, add-one, drop-cons}
 use Rattle.std.specs.Prelude.{Option, Some, None, option_map}
 use Rattle.std.specs.Map.{keys_of, set_value}
 use Rattle.std.specs.List.{AllByRecursion}

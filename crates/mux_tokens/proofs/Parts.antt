@@ -1,22 +1,14 @@
 -- What is kept of one editor, one step further.
-use Rattle.std.proofs.Common.{◌≡◌, ℕ, ◌<◌, Bool, true, false, not, ◌&&◌, ◌||◌, cond, List, [], ◌∷◌, ◌++◌, filter, find, map, refl, sym, subst, ◌∙◌, ap, arith, nat_eq, nat_lt, length, is_some, if◌then◌else◌}
+use Rattle.std.proofs.Common.{◌≡◌, ℕ, Bool, true, false, not, ◌&&◌, cond, List, [], ◌∷◌, ◌++◌, filter, find, refl, sym, ◌∙◌, ap, arith, nat_eq, is_some}
 use Rattle.std.specs.Prelude.{Option, Some, None, option_map}
 use Rattle.std.specs.List.{AllByRecursion}
-use Rattle.std.specs.Map.{set_value}
-use Rattle.std.specs.Ordering.{nat_cmp}
-use Rattle.std.specs.BTreeMap.{is_at}
-use Rattle.json_text.specs.Json.{Json}
 use Rattle.event_model.proofs.Frames.{never}
-use Rattle.group_rows.specs.Created.{Taking, Token, is_at as is_with, is_begin, is_end, is_over, may_hold}
+use Rattle.group_rows.specs.Created.{Taking, is_at as is_with}
 use Rattle.group_rows.specs.Created as fold
-use Rattle.progress_route.specs.declared.kind.Kind.{Kind}
-use Rattle.progress_route.specs.declared.kind.Kind.TheVariants.{Begin, End, Other}
-use Rattle.progress_route.specs.Tables.{Held, Part, asked, at, hear, held_first, held_more, hold, less, no_part, put, settled, told}
-use Rattle.progress_route.specs.Tables as table
-use Rattle.mux_tokens.specs.Stands.{AreApart, AreFresh, IsFresh, IsOther, PartStands, Up, accepted_at, asked_at, held_of, is_held_by, is_open_as, is_open_of, waits_at}
-use Rattle.mux_tokens.proofs.Finding.{all_so, find_gone, find_kept, find_last, find_map, find_miss, find_none, find_passes}
-use Rattle.mux_tokens.proofs.Rows.{at_less, at_put, at_set, num_back, num_itself, num_same, up_less, up_put, up_set}
-use Rattle.mux_tokens.proofs.Seats.{SameSeat, all_beside}
+use Rattle.progress_route.specs.Tables.{Part, asked, at, held_first, no_part, put}
+use Rattle.mux_tokens.specs.Stands.{AreFresh, IsFresh, PartStands, asked_at, held_of, is_held_by, is_open_as, is_open_of, waits_at}
+use Rattle.mux_tokens.proofs.Finding.{all_so, find_kept, find_last, find_miss, find_none}
+use Rattle.mux_tokens.proofs.Rows.{at_put, num_back, num_itself, num_same, up_put}
 
 -- Nothing
 

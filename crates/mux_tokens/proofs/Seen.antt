@@ -3,7 +3,6 @@ use Rattle.std.proofs.Common.{◌≡◌, ℕ, ◌+◌, ◌<◌, ◌≤◌, ◌^�
 use Rattle.std.specs.Prelude.{Option, Some, None, option_map}
 use Rattle.std.specs.List.{AllByRecursion, list_any}
 use Rattle.std.specs.Option.{option_and_then}
-use Rattle.std.specs.Map.{keys_of}
 use Rattle.rpc_message.specs.Message.{Id, Message}
 use Rattle.rpc_message.specs.ValueTexts.{IsIdText}
 use Rattle.event_model.specs.Event.{Event}
@@ -13,9 +12,8 @@ use Rattle.group_rows.specs.Created.{Created, Taking, Token, created_of, has_acc
 use Rattle.group_rows.specs.Forwarded.{names}
 use Rattle.progress_route.specs.Names.{Text}
 use Rattle.progress_route.specs.Tables.{Part, accepted_in, all_in, all_of, at, bodies_of, given, given_to, held_in, number_in, token_at, token_in}
-use Rattle.progress_route.specs.Tables as table
 use Rattle.mux_tokens.specs.Rows.{Rows, table_of}
-use Rattle.mux_tokens.specs.Stands.{CreatedStand, PartStands, TokensStand, Up, accepted_at, begin_at, held_of, is_held_by, is_open_as, part_in, row_of}
+use Rattle.mux_tokens.specs.Stands.{CreatedStand, PartStands, Up, accepted_at, begin_at, held_of, is_held_by, is_open_as, part_in, row_of}
 use Rattle.mux_tokens.proofs.Finding.{all_both, all_so}
 use Rattle.mux_tokens.proofs.Rows.{hit, num_back, num_below, num_itself}
 use Rattle.mux_tokens.proofs.Settled.{seat}

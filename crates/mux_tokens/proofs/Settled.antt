@@ -1,12 +1,12 @@
 -- What is kept of one editor, where it answers what it was asked to take.
-use Rattle.std.proofs.Common.{◌≡◌, ℕ, Bool, true, false, not, ◌&&◌, cond, List, [], ◌∷◌, ◌++◌, find, flat_map, refl, sym, subst, ◌∙◌, ap, arith, nat_eq, if◌then◌else◌}
-use Rattle.std.specs.Prelude.{Option, Some, None, option_map}
+use Rattle.std.proofs.Common.{◌≡◌, ℕ, Bool, true, false, not, ◌&&◌, cond, List, [], ◌∷◌, find, flat_map, refl, sym, subst, ◌∙◌, ap, arith, nat_eq, if◌then◌else◌}
+use Rattle.std.specs.Prelude.{Some, None, option_map}
 use Rattle.std.specs.List.{AllByRecursion}
 use Rattle.event_model.proofs.Frames.{never}
 use Rattle.group_rows.specs.Created.{Taking, is_at as is_with}
-use Rattle.progress_route.specs.Tables.{Held, Part, at, begun_of, less, put, settled}
+use Rattle.progress_route.specs.Tables.{Part, at, begun_of, less, put, settled}
 use Rattle.mux_tokens.specs.Stands.{AreApart, IsOther, PartStands, Up, accepted_at, asked_at, held_of, is_held_by, is_open_as, is_open_of, waits_at}
-use Rattle.mux_tokens.proofs.Finding.{all_both, all_so, all_true, find_passes, spread_first, spread_none, spread_same}
+use Rattle.mux_tokens.proofs.Finding.{all_so, all_true, find_passes, spread_first, spread_none, spread_same}
 use Rattle.mux_tokens.proofs.Rows.{at_less, at_put, num_back, num_itself, num_same, up_less, up_put}
 use Rattle.mux_tokens.proofs.Seats.{all_beside}
 

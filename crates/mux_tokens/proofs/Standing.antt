@@ -1,20 +1,18 @@
 -- The tokens of all starts, one event further.
-use Rattle.std.proofs.Common.{◌≡◌, ℕ, ◌<◌, ◌^◌, Bool, true, false, not, ◌&&◌, cond, List, [], ◌∷◌, ◌++◌, codes, decimal, find, refl, sym, subst, ◌∙◌, ap, nat_eq, if◌then◌else◌}
+use Rattle.std.proofs.Common.{◌≡◌, ℕ, ◌<◌, ◌^◌, Bool, true, false, not, ◌&&◌, cond, List, [], ◌∷◌, ◌++◌, codes, find, refl, sym, subst, ◌∙◌, ap, nat_eq, if◌then◌else◌}
 use Rattle.std.specs.Prelude.{Option, Some, None, is_some, option_map}
 use Rattle.std.specs.Option.{option_and_then}
-use Rattle.std.specs.List.{AllByRecursion}
 use Rattle.std.specs.List.Sorted.{IsStrictlySortedBy}
 use Rattle.std.specs.Map.{keys_of}
 use Rattle.std.specs.Ordering.{nat_cmp}
 use Rattle.json_text.specs.Json.{Json}
-use Rattle.mux_history.specs.declared.cause.Cause.TheVariants.{FromEditor, EditorGone, StartFailed, FromServer, ServerGone}
-use Rattle.mux_history.specs.declared.out.Out.TheVariants.{CloseEditor, ToEditor}
+use Rattle.mux_history.specs.declared.cause.Cause.TheVariants.{FromEditor, FromServer}
+use Rattle.mux_history.specs.declared.out.Out.TheVariants.{ToEditor}
 use Rattle.rpc_message.specs.Message.{Id, Message, request, notification}
 use Rattle.event_model.specs.Event.{Event, did, requests, took}
 use Rattle.event_model.specs.Requests.{answered_id}
 use Rattle.event_model.specs.Settings.{Settings}
 use Rattle.event_model.specs.Stages.{is_ready, life_of}
-use Rattle.event_model.proofs.Frames.{never}
 use Rattle.group_words.proofs.Frames.{past_more}
 use Rattle.group_rows.specs.Asks.{next_ask}
 use Rattle.group_rows.specs.Created.{Created, Taking, Token, accepts, answered, settled, is_answered, is_at as is_with, created_next, created_of, created_token, if_new, is_begin, is_called, is_creating, is_end, is_numbered, is_progress, left, may_create, named_token, no_created, progressed, spoken, token_called, token_marked, token_of, with_asked, with_token}

@@ -13,7 +13,7 @@ use Rattle.event_model.proofs.Frames.{never}
 use Rattle.group_rows.specs.Created.{Created, Taking, answered, created_next, created_of, created_token, is_answered, is_creating, is_progress, left, named_token, progressed, settled, spoken, token_called, token_marked, with_asked, with_token}
 use Rattle.group_rows.specs.Asks.{next_ask}
 use Rattle.group_rows.specs.Live.{is_heard}
-use Rattle.mux_tokens.specs.Stands.{CreatedStay, TakesNone, TokensStay}
+use Rattle.mux_tokens.specs.Stands.{TakesNone}
 
 -- An editor's message
 

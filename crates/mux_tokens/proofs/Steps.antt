@@ -1,28 +1,24 @@
 -- The tokens of one start, one step further.
-use Rattle.std.proofs.Common.{◌≡◌, ℕ, ◌+◌, ◌<◌, ◌≤◌, ◌^◌, Bool, true, false, not, ◌&&◌, ◌||◌, cond, List, [], ◌∷◌, ◌++◌, filter, find, flat_map, map, refl, sym, subst, ◌∙◌, ap, ap₂, arith, nat_eq, is_some, if◌then◌else◌}
+use Rattle.std.proofs.Common.{◌≡◌, ℕ, ◌+◌, ◌<◌, ◌^◌, Bool, true, false, not, ◌&&◌, ◌||◌, cond, List, [], ◌∷◌, ◌++◌, filter, find, map, refl, sym, subst, ◌∙◌, ap, ap₂, arith, nat_eq, is_some, if◌then◌else◌}
 use Rattle.std.specs.Prelude.{Option, Some, None, option_map}
 use Rattle.std.specs.List.{AllByRecursion, list_any}
 use Rattle.std.specs.Option.{option_and_then}
-use Rattle.std.specs.Map.{set_value}
-use Rattle.std.specs.Ordering.{nat_cmp}
-use Rattle.std.specs.BTreeMap.{is_at}
 use Rattle.json_text.specs.Json.{Json}
 use Rattle.rpc_message.specs.Message.{Message}
 use Rattle.event_model.specs.Requests.{answered_id}
-use Rattle.event_model.proofs.Frames.{never}
 use Rattle.group_rows.specs.Created.{Created, Taking, Token, accepts, is_answered, is_at as is_with, is_begin, is_end, is_numbered, is_over, lives, no_created, progressed, with_asked, with_token}
 use Rattle.group_rows.specs.Created as fold
 use Rattle.group_rows.specs.Forwarded.{names}
 use Rattle.progress_route.specs.declared.kind.Kind.{Kind}
 use Rattle.progress_route.specs.Names.{Text}
-use Rattle.progress_route.specs.Tables.{Part, Table, answered_to, at, changed, changed_to, created, edited, edited_to, less, no_part, nothing, put_to, settled, taken_to, token_at, token_in, told, told_all}
+use Rattle.progress_route.specs.Tables.{Part, Table, answered_to, at, changed, changed_to, created, edited, edited_to, no_part, nothing, put_to, settled, taken_to, token_at, token_in, told, told_all}
 use Rattle.progress_route.specs.Tables as table
-use Rattle.mux_tokens.specs.Stands.{AreApart, AreFresh, IsFresh, PartStands, TokensStand, Up, begin_at, is_open_as, part_in, row_of}
-use Rattle.mux_tokens.proofs.Finding.{all_both, all_kept, all_last, all_mapped, all_so, all_spread, all_true, find_passes, none_found, spread_as, spread_still}
-use Rattle.mux_tokens.proofs.Names.{begins_more, begins_so, by_number, names_so, progressed_tokens, rows_below, rows_more, same_number, up_begins, up_names}
+use Rattle.mux_tokens.specs.Stands.{AreFresh, PartStands, TokensStand, Up, is_open_as, part_in, row_of}
+use Rattle.mux_tokens.proofs.Finding.{all_both, all_kept, all_last, all_mapped, all_so, all_spread, none_found, spread_as, spread_still}
+use Rattle.mux_tokens.proofs.Names.{begins_more, begins_so, by_number, names_so, rows_below, rows_more, same_number, up_begins, up_names}
 use Rattle.mux_tokens.proofs.Parts.{asked_apart, asked_stands, left_apart, left_stands, none_stands}
-use Rattle.mux_tokens.proofs.Rows.{at_each, at_less, at_put, at_set, hit, num_back, num_itself, num_same, up_each, up_last, up_less, up_put, up_set}
-use Rattle.mux_tokens.proofs.Seats.{IsFew, SameSeat, apart_kept, apart_last, apart_mapped, apart_spread}
+use Rattle.mux_tokens.proofs.Rows.{at_each, at_less, at_put, at_set, hit, num_back, num_same, up_each, up_last, up_less, up_put, up_set}
+use Rattle.mux_tokens.proofs.Seats.{IsFew, apart_kept, apart_last, apart_mapped, apart_spread}
 use Rattle.mux_tokens.proofs.Settled.{answered_list, same_token, settled_apart, settled_stands, settles, taken_from}
 use Rattle.mux_tokens.proofs.Told.{same_taking, told_nothing, told_stands}
 

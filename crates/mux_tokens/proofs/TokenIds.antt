@@ -1,5 +1,5 @@
 -- The bytes of the tokens that live are texts of what they are, whatever the events are; so they are found by their bytes as by their ids.
-use Rattle.std.proofs.Common.{◌≡◌, ℕ, Bool, true, false, not, ◌&&◌, cond, List, [], ◌∷◌, ◌++◌, codes, filter, find, map, nat_eq, if◌then◌else◌, is_some, refl, sym, subst, ◌∙◌, ap, ap₂}
+use Rattle.std.proofs.Common.{◌≡◌, ℕ, Bool, true, false, not, ◌&&◌, cond, List, [], ◌∷◌, ◌++◌, codes, find, map, nat_eq, if◌then◌else◌, is_some, refl, sym, subst, ◌∙◌, ap, ap₂}
 use Rattle.std.specs.Prelude.{Option, Some, None}
 use Rattle.std.specs.List.{AllByRecursion}
 use Rattle.std.specs.Option.{option_and_then, option_map}
@@ -14,7 +14,7 @@ use Rattle.json_text.proofs.Laws.{tree_sound}
 use Rattle.json_text.proofs.Moves.{Placed, moved}
 use Rattle.mux_history.specs.declared.cause.Cause.TheVariants.{FromEditor, EditorGone, StartFailed, FromServer, ServerGone}
 use Rattle.mux_history.specs.declared.out.Out.TheVariants.{CloseEditor, ToEditor}
-use Rattle.rpc_message.specs.Message.{Id, Message, request, notification, id_of, same_id, slice_of}
+use Rattle.rpc_message.specs.Message.{Id, request, notification, id_of, same_id, slice_of}
 use Rattle.rpc_message.specs.ValueTexts.{IsIdText}
 use Rattle.event_model.specs.Event.{Event, did, requests, took}
 use Rattle.event_model.specs.Members.{bytes_if, is_token, named_of, params_of}
@@ -22,10 +22,9 @@ use Rattle.event_model.specs.Settings.{Settings}
 use Rattle.event_model.specs.Stages.{life_of, is_ready}
 use Rattle.group_words.specs.Past.{past}
 use Rattle.group_rows.specs.Asks.{next_ask}
-use Rattle.group_rows.specs.Created.{Created, Token, answered, begun_by, created_next, created_of, created_token, first_begin, if_new, is_called, is_creating, is_ended_by, is_numbered, is_progress, left, may_create, named_token, no_created, progressed, spoken, token_called, token_marked, token_of, with_asked, with_token}
+use Rattle.group_rows.specs.Created.{Created, Token, answered, begun_by, created_next, created_of, created_token, first_begin, if_new, is_called, is_creating, is_ended_by, is_numbered, is_progress, left, may_create, named_token, no_created, progressed, token_called, token_marked, token_of, with_asked, with_token}
 use Rattle.group_rows.specs.Forwarded.{token_in}
 use Rattle.group_rows.specs.Live.{is_heard}
-use Rattle.id_rewrite.specs.Forms.{same_form}
 use Rattle.id_rewrite.proofs.Finding.{texts_same}
 use Rattle.progress_route.specs.Tables.{number_in}
 use Rattle.mux_tokens.specs.Stands.{row_of}

@@ -1,16 +1,13 @@
 -- What is kept of one editor, where progress of a token comes.
 use Rattle.std.proofs.Common.{◌≡◌, ℕ, Bool, true, false, not, ◌&&◌, ◌||◌, cond, List, [], ◌∷◌, ◌++◌, filter, find, map, refl, sym, ◌∙◌, ap, nat_eq, nat_lt, length, if◌then◌else◌}
 use Rattle.std.specs.Prelude.{Option, Some, None, option_map}
-use Rattle.std.specs.Map.{set_value}
-use Rattle.std.specs.Ordering.{nat_cmp}
-use Rattle.std.specs.BTreeMap.{is_at}
 use Rattle.json_text.specs.Json.{Json}
 use Rattle.event_model.proofs.Frames.{never}
 use Rattle.group_rows.specs.Created.{Taking, is_at as is_with, is_begin, is_end, is_over, may_hold}
 use Rattle.group_rows.specs.Created as fold
 use Rattle.progress_route.specs.declared.kind.Kind.{Kind}
 use Rattle.progress_route.specs.declared.kind.Kind.TheVariants.{Begin, End, Other}
-use Rattle.progress_route.specs.Tables.{Held, Part, at, hear, held_more, hold, less, no_part, told}
+use Rattle.progress_route.specs.Tables.{Held, Part, at, hear, held_more, hold, no_part, told}
 use Rattle.progress_route.specs.Tables as table
 use Rattle.mux_tokens.specs.Stands.{PartStands, Up, accepted_at, asked_at, held_of, is_held_by, is_open_as, is_open_of, waits_at}
 use Rattle.mux_tokens.proofs.Finding.{find_gone, find_kept, find_map, find_passes}

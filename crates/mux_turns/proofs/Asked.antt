@@ -147,7 +147,7 @@ module _ (settings : Settings) (t : Tables) (before : List Event) (e : ℕ) (i :
         go true rest = refl
         go false rest = rest
 
-    pub sent_here : (p : ℕ) (z : Start) (b : Bool) → AllForwarded before → Stands settings t before → home_of settings e before ≡ Some z.life.group → slice_get t.lasts.items p ≡ Some z → b ≡ is_some (number_under e w z.ids.requests) → b ≡ is_open i (open_of e before)
+    pub sent_here : (p : ℕ) (z : Start) (b : Bool) → AllForwarded settings before → Stands settings t before → home_of settings e before ≡ Some z.life.group → slice_get t.lasts.items p ≡ Some z → b ≡ is_some (number_under e w z.ids.requests) → b ≡ is_open i (open_of e before)
     sent_here p z b asked st home here is =
         let g = z.life.group in
         let last = st.lasts.each p z here in
@@ -158,7 +158,7 @@ module _ (settings : Settings) (t : Tables) (before : List Event) (e : ℕ) (i :
         let x = known.sent e i served h in
         let group : x.group ≡ g = same_item (sym x.home ∙ home) in
         let start : x.start ≡ z.life.start = same_item (sym x.last ∙ (ap (λ n. start_of n before) group ∙ last.start)) in
-        open_found z.ids.requests x.place x.request (subst (λ fs. slice_get fs x.place ≡ Some x.request) (ap (λ n. (forwarding_of n before).open_requests) start ∙ opened) x.at) x.editor x.text)
+        open_found z.ids.requests x.place x.request (subst (λ fs. slice_get fs x.place ≡ Some x.request) (ap (λ n. (forwarding_of settings n before).open_requests) start ∙ opened) x.at) x.editor x.text)
 
 -- where none can be open under it
 pub alone_else : (p : Phase) (i : Id) (ids : List Id) → (p ≡ Waiting → ⊥) → (p ≡ Answered → ⊥) → (p ≡ Running → ⊥) → (p ≡ Down → ⊥) → false ≡ doubles p i ids

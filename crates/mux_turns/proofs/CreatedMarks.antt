@@ -1,20 +1,17 @@
 -- The daemon's own tokens for those that starts create, as they are read and written.
-use Rattle.std.proofs.Common.{◌≡◌, ℕ, ◌<◌, ◌^◌, Bool, true, false, List, [], ◌∷◌, ◌++◌, drop, length, take, take-append-drop, refl, ap, sym, ◌∙◌, arith, bytes_eq, codes, decimal, nat_eq}
+use Rattle.std.proofs.Common.{◌≡◌, ℕ, ◌<◌, ◌^◌, Bool, true, false, List, [], ◌∷◌, ◌++◌, drop, length, take, take-append-drop, refl, ap, sym, ◌∙◌, arith, bytes_eq, codes, decimal}
 use Rattle.std.specs.Prelude.{Option, Some, None, encode_utf8_all}
-use Rattle.std.specs.Option.{option_map_or}
 use Rattle.std.specs.Str.{IsAscii}
-use Rattle.std.proofs.lemmas.Bool.Decides.{nat_tests}
 use Rattle.std.proofs.lemmas.Fmt.{IsAscii-decimal}
 use Rattle.std.proofs.lemmas.List.{append_cancel_left, append_cancel_right}
 use Rattle.std.proofs.lemmas.Slice.Eq.{bytes_eq-Decides}
 use Rattle.std.proofs.lemmas.Str.{IsAscii-append, encodes-IsAscii, encodes_same}
 use Rattle.std.proofs.lemmas.Str.Ascii.{IsAscii-from_all}
 use Rattle.json_text.specs.Json.{Json, word, number, string, array, object}
-use Rattle.event_model.specs.Members.{string_of}
 use Rattle.event_model.proofs.Frames.{never}
 use Rattle.group_facts.specs.group_rows.specs.Created.{created_mark}
 use Rattle.group_facts.specs.mux_members.specs.Tokens.{text_of}
-use Rattle.mux_turns.specs.Creates.{CreatedAt, WritesCreated, created_front, is_created_mark}
+use Rattle.mux_turns.specs.Creates.{CreatedAt, WritesCreated, created_front}
 use Rattle.mux_turns.proofs.Numbers.{decimals, tested, unread, unwritten}
 
 mark_is : (s k : ℕ) → created_mark s k ≡ created_front s ++ decimal k

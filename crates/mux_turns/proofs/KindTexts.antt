@@ -1,5 +1,5 @@
 -- S13: what a notification says of the progress of its token.
-use Rattle.std.proofs.Common.{◌≡◌, ℕ, ◌<◌, Bool, true, false, List, refl, ap, sym, ◌∙◌, arith, bytes_eq, codes}
+use Rattle.std.proofs.Common.{◌≡◌, ℕ, true, false, List, refl, ap, sym, ◌∙◌, arith, bytes_eq, codes}
 use Rattle.std.specs.Prelude.{Option, Some, None, encode_utf8_all, option_map}
 use Rattle.std.specs.Option.{option_map_or}
 use Rattle.std.specs.Str.{IsAscii}

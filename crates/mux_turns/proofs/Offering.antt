@@ -18,7 +18,7 @@ use Rattle.group_facts.specs.Settled.{Settled}
 use Rattle.group_facts.proofs.Marks.{mark_number, mark_start, marked_same}
 use Rattle.group_facts.proofs.Takings.{uncreated_heard}
 use Rattle.group_facts.specs.group_rows.specs.Asks.{has_number, next_ask}
-use Rattle.group_facts.specs.group_rows.specs.Created.{Created, Token, created_mark, created_of, is_creating, is_marked, is_numbered, token_marked}
+use Rattle.group_facts.specs.group_rows.specs.Created.{Created, Token, created_mark, created_of, is_creating, is_marked, is_numbered}
 use Rattle.group_facts.specs.group_rows.specs.CreatedRows.{create_text}
 use Rattle.group_facts.specs.group_rows.proofs.CreatedKept.{IsWritten, found_one, tokens_written}
 use Rattle.group_facts.specs.group_rows.proofs.CreatedTexts.{create_says, create_tree}

@@ -1,22 +1,19 @@
 -- S8 and L2: what offers of tokens leave as it is.
-use Rattle.std.proofs.Common.{◌≡◌, ℕ, ◌<◌, ◌^◌, Bool, true, false, ◌&&◌, List, [], ◌∷◌, ◌++◌, append-nil, codes, decimal, nat_eq, refl, ap, sym, subst, ◌∙◌, arith, ltb-true}
-use Rattle.std.specs.Prelude.{Option, None, Some}
-use Rattle.std.specs.List.{AllByRecursion}
-use Rattle.mux_history.specs.declared.out.Out.{Out}
+use Rattle.std.proofs.Common.{◌≡◌, ℕ, ◌<◌, ◌^◌, Bool, true, false, ◌&&◌, List, [], ◌∷◌, append-nil, codes, decimal, nat_eq, refl, ap, sym, subst, ◌∙◌, arith, ltb-true}
+use Rattle.std.specs.Prelude.{Some}
 use Rattle.mux_history.specs.declared.out.Out.TheVariants.{ToEditor}
 use Rattle.rpc_message.specs.Message.{integer, message_of}
 use Rattle.event_model.specs.Event.{Event, behind, said}
 use Rattle.event_model.specs.Row.{choose, each, nothing, outs, send}
 use Rattle.event_model.specs.Settings.{Settings}
-use Rattle.event_model.proofs.Turns.{behind_more}
 use Rattle.group_facts.proofs.Asks.{call_hurried}
 use Rattle.group_facts.proofs.AskingRows.{creates_all}
 use Rattle.group_facts.specs.group_rows.specs.Asks.{has_number, next_ask}
-use Rattle.group_facts.specs.group_rows.specs.Created.{Token, created_of, is_numbered}
+use Rattle.group_facts.specs.group_rows.specs.Created.{Token, created_of}
 use Rattle.group_facts.specs.group_rows.specs.CreatedRows.{create_text, offer}
 use Rattle.group_facts.specs.group_rows.specs.LiveRows.{call}
 use Rattle.group_facts.specs.group_rows.proofs.CreatedTexts.{create_says, create_tree}
-use Rattle.mux_tables.specs.mux_tokens.proofs.Fresh.{fresh_untaken, tokens_behind, untaken_offered, untaken_stay}
+use Rattle.mux_tables.specs.mux_tokens.proofs.Fresh.{fresh_untaken, tokens_behind, untaken_offered}
 use Rattle.mux_tables.specs.mux_tokens.proofs.Standing.{created_more}
 use Rattle.mux_tables.specs.mux_tokens.proofs.Stays.{called_stays}
 use Rattle.mux_turns.specs.Calls.{IsCall}

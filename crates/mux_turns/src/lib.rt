@@ -16,6 +16,7 @@ mod own;
 mod placing;
 mod refusals;
 mod tokens;
+mod waits;
 
 pub use answered::{answered_ask, answered_number};
 pub use calls::{call_registered, call_unregistered, call_unregistered_any};
@@ -35,4 +36,5 @@ pub use placing::{found, turn_away, waits, welcome};
 pub use refusals::{
     asked_at, refuse, refuse_early, refuse_request, refuse_reserved, refuse_wrong, reject,
 };
-pub use tokens::{forwarded_text, is_reserved, mark_text, marked, marked_text, reserves};
+pub use tokens::{forwarded_text, is_reserved, mark_text, marked, marked_text, reserves, token_text};
+pub use waits::{refuse_held, refuse_ids};

@@ -26,7 +26,7 @@ returns-in-None-clause-does c = λ settings before body params read says served 
     let e = c.args.e in
     let m = message_of body in
     let cancel = codes "$/cancelRequest" in
-    let silent = subst (λ o. Names settings before e body params (map number_in c.args.tables.now.lasts.items) o) c.in-None.is (c.named-request.ensures.names settings before body cancel params read says (asked_while before known.asked known.quit e (served_there (desk_of e before).phase served)) st) in
+    let silent = subst (λ o. Names settings before e body params (map number_in c.args.tables.now.lasts.items) o) c.in-None.is (c.named-request.ensures.names settings before body cancel params read says (asked_while settings before known.asked known.quit e (served_there (desk_of e before).phase served)) st) in
     let begun = c.in_ok-hear_running.ensures.begun settings before body served (notice_makes cancel params refl m says) (answers_none settings e m before (ap is_answer says)) (takes_none settings e m before (ap (requests (codes "shutdown")) says) (ap is_answer says)) (cancel_keeps before e body params says) first known.meant settled st ds in
     then_rest begun.done (does_alike (λ _. silent) does_nothing)
 
@@ -38,7 +38,7 @@ returns-in_ok-pass_cancel-in-Some-clause-does c = λ settings before body params
     let t = c.args.tables.now in
     let u = c.hear_running.new.tables in
     let r = c.in-Some.request in
-    let names = subst (λ o. Names settings before e body params (map number_in t.lasts.items) o) c.in-Some.is (c.named-request.ensures.names settings before body cancel params read says (asked_while before known.asked known.quit e (served_there (desk_of e before).phase served)) st) in
+    let names = subst (λ o. Names settings before e body params (map number_in t.lasts.items) o) c.in-Some.is (c.named-request.ensures.names settings before body cancel params read says (asked_while settings before known.asked known.quit e (served_there (desk_of e before).phase served)) st) in
     let x = item_at t.lasts.items r.group c.in-Some.ensures.inside in
     let s = x.0.life.start in
     let y = same_kept unasked u.lasts.items t.lasts.items (sym c.in_ok-hear_running.ensures.rest) r.group x.0 x.1 in

@@ -60,7 +60,7 @@ returns-in_ok-send_on-in-Some-clause-does c = λ settings before body method id 
     let serve = serves method (not_own method other) in
     let begun = c.in_ok-hear_running.ensures.begun settings before body served (request_makes method id params serve m says) (answers_none settings e m before (ap is_answer says)) (takes_none settings e m before (no_shutdown m (request_makes method id params serve m says)) (ap is_answer says)) (request_keeps method id params serve before e m says) first meant settled st ds in
     then_rest begun.done (does_alike (λ _. c.in-Some.ensures.goes settings before body s x.0 x.1 (number_there t.lasts.items g x.0 x.1) (sym (c.in_ok-reserved.ensures body method id params read says) ∙ c.if-reserved.false) st)
-    (by_kept (λ n k. Does (λ k events. AllStand settings k events) (sync_row settings before n k e ⨾ forward k body) (with_cause before (FromEditor e body)) (u, nothing_owed) xs (c.send_on.new.tables, nothing_owed) c.send_on.new.outs) x.0 y.0 y.1.1
+    (by_kept (λ n k. Does (λ k events. AllStand settings k events) (sync_row settings before n k e ⨾ forward settings k body) (with_cause before (FromEditor e body)) (u, nothing_owed) xs (c.send_on.new.tables, nothing_owed) c.send_on.new.outs) x.0 y.0 y.1.1
     (c.in_ok-send_on-in-Some.ensures.does settings before body method id params y.0.life.start read says other begun.asks (number_there u.lasts.items g y.0 y.1.0) y.0 y.1.0)))
 
 pub send_on-requires-clause-group : goal.send_on-requires-clause-group

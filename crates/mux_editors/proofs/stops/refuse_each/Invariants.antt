@@ -13,8 +13,8 @@ use Rattle.mux_editors.proofs.stops.refuse_each.Given as goal
 
 abbrev pub invariant-loop-e : goal.invariant-loop-e
 invariant-loop-e l = record {
-  refusing : (settings : Settings) (before base : List Event) → AllForwarded before → Refusing settings before (behind base l.initial.outs) → Stands settings l.tables (behind base l.initial.outs) → Refusing settings before (behind base l.outs);
-  does : (settings : Settings) (before base : List Event) → AllForwarded before → Refusing settings before (behind base l.initial.outs)
+  refusing : (settings : Settings) (before base : List Event) → AllForwarded settings before → Refusing settings before (behind base l.initial.outs) → Stands settings l.tables (behind base l.initial.outs) → Refusing settings before (behind base l.outs);
+  does : (settings : Settings) (before base : List Event) → AllForwarded settings before → Refusing settings before (behind base l.initial.outs)
       → Does (λ t events. Stands settings t events) (each (refuse_open settings before) (take l.e-index l.editors)) base l.tables l.initial.outs l.tables l.outs;
   documents : (settings : Settings) (owed : Owed) (base : List Event) → DocumentsStand settings owed l.tables (behind base l.initial.outs) → DocumentsStand settings owed l.tables (behind base l.outs);
 }

@@ -1,5 +1,5 @@
 -- What a notification says of the progress of its token.
-use Rattle.std.proofs.Common.{◌≡◌, ap, bytes_eq, codes, refl, subst, sym, ◌∙◌}
+use Rattle.std.proofs.Common.{ap, bytes_eq, codes, refl, subst, sym, ◌∙◌}
 use Rattle.json_nodes.specs.At.{Found}
 use Rattle.event_model.specs.Members.{named_of}
 use Rattle.rpc_message.specs.Parsed.{FoundBare, params_of}

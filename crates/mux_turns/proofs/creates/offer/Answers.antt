@@ -1,5 +1,5 @@
 -- An editor is asked to take a token under its next number.
-use Rattle.std.proofs.Common.{ap, ap₂, subst, sym, ◌∙◌}
+use Rattle.std.proofs.Common.{ap₂, subst, sym, ◌∙◌}
 use Rattle.mux_history.specs.declared.out.Out.TheVariants.{ToEditor}
 use Rattle.event_model.specs.Does.{Does}
 use Rattle.event_model.specs.Event.{behind}

@@ -10,7 +10,7 @@ use Rattle.mux_turns.proofs.doubled.is_sent.Goals as goal
 pub returns-in-Some : goal.returns-in-Some
 returns-in-Some c = λ settings before i facts known st text served.
     let here = read_here c.args.tables.now.lasts.items c.in-Some.g c.index.result.now c.in-Some.ensures.inside c.index.ensures in
-    sent_here settings c.args.tables.now before c.args.e i known served c.args.id.now text c.in-Some.g c.index.result.now c.is_some.result (asked_while before facts.asked facts.quit c.args.e (answered_there (desk_of c.args.e before).phase served)) st (c.in-Some.ensures.home settings before c.index.result.now here st)
+    sent_here settings c.args.tables.now before c.args.e i known served c.args.id.now text c.in-Some.g c.index.result.now c.is_some.result (asked_while settings before facts.asked facts.quit c.args.e (answered_there (desk_of c.args.e before).phase served)) st (c.in-Some.ensures.home settings before c.index.result.now here st)
     here (c.is_some.ensures ∙ ap is_some c.find.ensures.exact)
 
 pub returns-in-None : goal.returns-in-None

@@ -1,8 +1,10 @@
 -- A step that answers Ok: the turn is the routing table's, and the hub stands for the longer history.
 use Rattle.std.proofs.Common.{◌≡◌, ◌+◌, [], ◌∷◌, ◌++◌, nat_lt, if◌then◌else◌, Some, None, ap, sym, subst, ◌∙◌, true, false}
 use Rattle.std.proofs.lemmas.Result.{err_from_is_err_and}
+use Rattle.mux_facts.specs.Ranges.{InRange}
 use Rattle.mux_hub.specs.Entries.{emits, entry_of, most_events, passes}
 use Rattle.mux_hub.specs.Hubs.{HubView, HubStands}
+use Rattle.mux_hub.proofs.Counts.{once_more}
 use Rattle.mux_hub.proofs.HubLaw.{append_says, few_says, many_says, stepped}
 use Rattle.mux_hub.proofs.hub.Hub.step.Goals as goal
 
@@ -58,3 +60,13 @@ returns-in_err-append-clause-numbers g c = λ history h fresh.
     (λ settings before l e d. c.in_ok-outs.ensures.takes settings before l (e ∙ sym c.as_slice.ensures.value) d) c.in-Some.events (sym c.in-Some.is ∙ (c.counted.ensures ∙ ap (λ n. if nat_lt most_events (c.self.inside.events + (1 + n)) then None else Some (c.self.inside.events + (1 + n))) c.len.ensures))) h in
     let p = err_from_is_err_and c.from_residual-in_err-append.result c.from_residual-in_err-append.ensures.1 in
     rw p.1 (append_says (passes c.args.self.now.settings history c.args.cause) _ _ p.2 few)
+
+pub returns-in_default-clause-complete : goal.returns-in_default-clause-complete
+returns-in_default-clause-complete g c = λ history h fresh room quiet.
+    let many : passes c.args.self.now.settings history c.args.cause ≡ true = returns-in_default-clause-numbers g c history h fresh in absurd cc
+
+pub returns-clause-once : goal.returns-clause-once
+returns-clause-once g c = λ history s h.
+    let fresh : c.args.self.now.spent ≡ false = ap (λ (v : HubView g.row.J.Denot). v.spent) (sym c.self.view_is) ∙ c.if-self.false in
+    let range : InRange c.args.self.now.settings = subst (λ (v : HubView g.row.J.Denot). InRange v.settings) c.self.view_is c.self.invariant.range in
+    once_more c.args.self.now.settings range history c.args.cause c.in_ok-outs.outs h.legal (c.requires.fits history h fresh) (returns-clause-outs g c history h) s

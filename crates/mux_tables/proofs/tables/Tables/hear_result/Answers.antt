@@ -16,9 +16,9 @@ returns-clause-stands c = λ settings events s body at first named shows st.
     c.forget.ensures.requests c.forget.ensures.next c.forget.ensures.limit c.forget.ensures.order refl refl refl refl refl refl st
 
 pub returns-clause-documents : goal.returns-clause-documents
-returns-clause-documents c = λ settings events s body at gives st ds x here mine.
+returns-clause-documents c = λ settings events s body xs at parts gives st ds x here mine.
     let z = c.index_mut-last.result.now in
-    ready_documents_by settings c.args.self.now _ events c.args.g s c.start-start.result c.args.encoding z (record z { life = c.result.new.self; ids = c.forget.new.ids; shown = Some c.args.shown }) body (message_of body) c.args.n c.args.parted.now c.in_ok-owed.owed x here at c.requires.group c.index_mut-last.ensures.value (c.requires.stage z (read_here c.args.self.now.lasts.items c.args.g z c.requires.group c.index_mut-last.ensures.value))
+    ready_documents_by settings c.args.self.now _ events c.args.g s c.start-start.result c.args.encoding z (record z { life = c.result.new.self; ids = c.forget.new.ids; shown = Some c.args.shown }) body (message_of body) c.args.n xs c.args.parted.now parts c.in_ok-owed.owed x here at c.requires.group c.index_mut-last.ensures.value (c.requires.stage z (read_here c.args.self.now.lasts.items c.args.g z c.requires.group c.index_mut-last.ensures.value))
     gives c.result.ensures c.forget.ensures.requests c.start-start.ensures refl refl c.in_ok-owed.ensures mine st ds
 
 pub returns-clause-starts : goal.returns-clause-starts

@@ -1,5 +1,5 @@
 -- Whether all was stopped.
-use Rattle.std.proofs.Common.{sym, ◌∙◌}
+use Rattle.std.proofs.Common.{sym}
 use Rattle.mux_tables.proofs.tables.Tables.is_stopped.Goals as goal
 
 pub returns : goal.returns
