@@ -119,7 +119,7 @@ module _ (settings : Settings) (e : ℕ) (id : Id) where
   waits_quiet events event off home k = record { group = k.group; home = home ∙ k.home; among = subst Among (sym (waiting_stays settings k.group events event off)) k.among }
 
   -- a body to an editor that doesn't answer it
-  waits_told : (events : List Event) (n : ℕ) (body : List ℕ) → (nat_eq n e ≡ true → answered_id (message_of body) ≡ Some id → ⊥) → WaitsAt settings events e id → WaitsAt settings (events ++ said (ToEditor n body) ∷ []) e id
+  pub waits_told : (events : List Event) (n : ℕ) (body : List ℕ) → (nat_eq n e ≡ true → answered_id (message_of body) ≡ Some id → ⊥) → WaitsAt settings events e id → WaitsAt settings (events ++ said (ToEditor n body) ∷ []) e id
   waits_told events n body away k = waits_more events (said (ToEditor n body)) (λ g at. home_did settings e events (ToEditor n body) ∙ at)
       (λ g h. one_filtered (IsBy e id) (λ r. not (is_answered n (answered_id (message_of body)) r)) (λ r mine. ap not (kept (answered_id (message_of body)) away r mine)) (waiting_of settings g events) h) k
     where
@@ -133,7 +133,7 @@ module _ (settings : Settings) (e : ℕ) (id : Id) where
           go true same false is = ap (λ o. option_map_or (same_id i) o false) (text_meant id r.id mine.1) ∙ is
 
   -- the end of another editor's link
-  waits_closed : (events : List Event) (n : ℕ) → nat_eq n e ≡ false → WaitsAt settings events e id → WaitsAt settings (events ++ said (CloseEditor n) ∷ []) e id
+  pub waits_closed : (events : List Event) (n : ℕ) → nat_eq n e ≡ false → WaitsAt settings events e id → WaitsAt settings (events ++ said (CloseEditor n) ∷ []) e id
   waits_closed events n other k = waits_more events (said (CloseEditor n)) (λ g at. home_did settings e events (CloseEditor n) ∙ at)
       (λ g h. one_filtered (IsBy e id) (λ r. not (is_of n r)) (λ r mine. ap not (ap (λ z. nat_eq z n) mine.0 ∙ swapped_numbers n e other)) (waiting_of settings g events) h) k
 
@@ -147,7 +147,7 @@ module _ (settings : Settings) (e : ℕ) (id : Id) where
       go false rs h = h
 
   -- one that is no editor's request
-  waits_silent : (events : List Event) (s : ℕ) (body : List ℕ) → asks (said (ToServer s body)) ≡ false → WaitsAt settings events e id → WaitsAt settings (events ++ said (ToServer s body) ∷ []) e id
+  pub waits_silent : (events : List Event) (s : ℕ) (body : List ℕ) → asks (said (ToServer s body)) ≡ false → WaitsAt settings events e id → WaitsAt settings (events ++ said (ToServer s body) ∷ []) e id
   waits_silent events s body none k = waits_more events (said (ToServer s body)) (λ g at. home_did settings e events (ToServer s body) ∙ at)
       (λ g h. subst Among (sym (left_quiet (is_home g (group_of s events)) (worker_of events) s body (message_of body) (waiting_of settings g events) refl none)) h) k
 

@@ -13,7 +13,7 @@ use Rattle.event_model.specs.declared.phase.Phase.TheVariants.{Running}
 use Rattle.event_model.specs.Event.{Event, behind, heard, said, same_id, with_cause}
 use Rattle.event_model.specs.Phases.{desk_of, editors_of, is_running, is_there, is_waiting}
 use Rattle.event_model.specs.Requests.{is_open}
-use Rattle.event_model.specs.Row.{Row, choose, each, nothing, on, outs, send}
+use Rattle.event_model.specs.Row.{Row, choose, each, nothing, on, outs, send, ◌⨾◌}
 use Rattle.event_model.specs.Settings.{Settings}
 use Rattle.event_model.specs.Spawns.{group_of}
 use Rattle.event_model.specs.Stages.{is_ended, is_ready, life_of}

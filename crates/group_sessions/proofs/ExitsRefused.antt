@@ -1,9 +1,8 @@
 -- X1 of every exit: the requests that the start had to answer are answered by an error, and behind the entry none of them is open.
-use Rattle.std.proofs.Common.{◌≡◌, ℕ, ◌+◌, Bool, true, false, ◌&&◌, ◌||◌, if◌then◌else◌, List, [], ◌∷◌, ◌++◌, filter, map, nat_eq, append-nil, append_assoc, None, refl, sym, ◌∙◌, ap, ap₂, subst, ◌⊎◌, inl, inr, not, Option}
+use Rattle.std.proofs.Common.{◌≡◌, ℕ, ◌+◌, Bool, true, false, ◌&&◌, ◌||◌, if◌then◌else◌, List, [], ◌∷◌, ◌++◌, filter, map, nat_eq, append-nil, append_assoc, refl, sym, ◌∙◌, ap, ap₂, subst, ◌⊎◌, inl, inr, not, Option}
 use Rattle.std.specs.List.{AllByRecursion, list_any}
 use Rattle.std.proofs.lemmas.Slice.Eq.{bytes_eq-Decides}
 use Rattle.mux_history.specs.declared.cause.Cause.{Cause}
-use Rattle.mux_history.specs.declared.cause.Cause.TheVariants.{Joined, FromEditor, EditorGone, Started, StartFailed, FromServer, ServerGone, Drained, Tick}
 use Rattle.mux_history.specs.declared.out.Out.{Out}
 use Rattle.mux_history.specs.declared.out.Out.TheVariants.{ToEditor, ToServer, Spawn, CloseEditor, EndServer}
 use Rattle.rpc_message.specs.Message.{Id, Message, error, message_of, not_json, not_message, notification, request, result}
@@ -21,14 +20,14 @@ use Rattle.mux_facts.proofs.Lists.{all_of}
 use Rattle.mux_facts.proofs.Words.{same_number}
 use Rattle.group_rows.specs.Asks.{members_in}
 use Rattle.group_rows.specs.ExitRows.{lose_sent, lost_row}
-use Rattle.group_rows.specs.Forwarded.{Forwarded, Forwarding, first_sender, forwarding_of, forwards, is_of, no_forwarding, numbered, Sender, sender_or}
+use Rattle.group_rows.specs.Forwarded.{Forwarded, Forwarding, first_sender, forwarding_of, forwards, is_of, numbered, Sender, sender_or}
 use Rattle.group_rows.specs.StopRows.{lose_request}
-use Rattle.group_facts.specs.Facts.{IsForwarded, OneRequest, is_early, is_exit, IsHeld}
+use Rattle.group_facts.specs.Facts.{IsForwarded, OneRequest, is_early, IsHeld}
 use Rattle.group_facts.specs.Settled.{IsSent, Settled, is_answered, IsKeptBack}
 use Rattle.group_facts.proofs.ExitEntry.{Exit}
 use Rattle.group_facts.proofs.Facts.{Facts}
 use Rattle.group_rows.proofs.Frames.{forwarding_more, waiting_stays}
-use Rattle.group_facts.proofs.Forwards.{get_all, notified_all, notified_sender}
+use Rattle.group_facts.proofs.Forwards.{get_all, notified_all}
 use Rattle.group_facts.proofs.PutOut.{outs_tested}
 use Rattle.group_facts.proofs.Quits.{not_stopped}
 use Rattle.group_facts.proofs.Sent.{OneOf}

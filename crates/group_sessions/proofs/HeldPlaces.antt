@@ -1,5 +1,5 @@
 -- Requests that wait, at every place of an entry: they are held there, and the rows that part with editors refuse them by errors.
-use Rattle.std.proofs.Common.{◌≡◌, ℕ, Bool, true, List, [], ◌∷◌, ◌++◌, Option, Some, refl, subst, not, append-nil, append_assoc, map, sym}
+use Rattle.std.proofs.Common.{◌≡◌, ℕ, List, [], ◌∷◌, ◌++◌, Some, refl, subst, not, append-nil, append_assoc, map, sym}
 use Rattle.std.specs.List.{AllByRecursion}
 use Rattle.json_text.specs.Json.{Json}
 use Rattle.mux_history.specs.declared.cause.Cause.{Cause}

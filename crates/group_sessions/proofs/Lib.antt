@@ -41,6 +41,7 @@ pub mod CreatedFold
 pub mod HeldFold
 pub mod TakingTies
 pub mod Unreserved
+mod ExitsHeld
 mod HeldPlaces
 mod KeptTokens
 pub mod TellingPlaces

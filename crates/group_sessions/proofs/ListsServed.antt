@@ -57,7 +57,6 @@ use Rattle.group_facts.proofs.Still.{unended, unshut}
 use Rattle.group_sessions.proofs.ListsNone.{Listless, Off, lists_join, off_lists, plain_out}
 use Rattle.group_sessions.proofs.ListsShown.{all_full, own_full, same_due}
 use Rattle.group_sessions.specs.LastLists.{at_start, due_opening, gives_list, lists_to, of_start, shown_full}
-use Rattle.group_rows.specs.held_requests.specs.declared.request.Request.{Request}
 use Rattle.group_facts.proofs.Held.{named_held, cancelled_says}
 use Rattle.group_rows.specs.Waiting.{cancelled_text}
 

@@ -1,5 +1,5 @@
 -- S2 with X4 of every first result: what the start has behind the row is what is open at editors of its group.
-use Rattle.std.proofs.Common.{◌≡◌, ℕ, Bool, true, false, List, [], ◌∷◌, ◌++◌, append-nil, append_assoc, flat_map, map, Option, Some, None, refl, sym, ◌∙◌, ap, ap₂, subst}
+use Rattle.std.proofs.Common.{◌≡◌, ℕ, Bool, true, false, List, [], ◌∷◌, ◌++◌, append-nil, append_assoc, flat_map, map, Option, Some, None, refl, sym, ◌∙◌, ap, subst}
 use Rattle.std.specs.List.{AllByRecursion}
 use Rattle.std.proofs.lemmas.Bool.{and_parts}
 use Rattle.document_model.specs.Opens.{Open}
@@ -9,7 +9,7 @@ use Rattle.document_model.specs.Texts.{Texts}
 use Rattle.mux_history.specs.declared.cause.Cause.TheVariants.{FromServer}
 use Rattle.mux_history.specs.declared.entry.Entry.{Entry}
 use Rattle.mux_history.specs.declared.out.Out.{Out}
-use Rattle.mux_history.specs.declared.out.Out.TheVariants.{ToEditor, ToServer, CloseEditor}
+use Rattle.mux_history.specs.declared.out.Out.TheVariants.{ToEditor, ToServer}
 use Rattle.rpc_message.specs.Message.{message_of}
 use Rattle.rpc_message.specs.Texts.{initialized_text}
 use Rattle.rpc_message.proofs.Fixed.{initialized_law}
@@ -28,8 +28,7 @@ use Rattle.mux_facts.proofs.Keeps.{behind_both}
 use Rattle.mux_facts.proofs.Tellings.{sent_more}
 use Rattle.group_words.specs.Houses.{is_first_error}
 use Rattle.group_rows.specs.Earlier.{configuration_of, configure, differs, given_of, part_row, shown_in}
-use Rattle.group_rows.specs.Rows.{first_result, from_server, hasty_row, outs_of, refused_row, replay, replay_bodies, result_in, waiting_in, welcome, welcome_all, send_held}
-use Rattle.group_rows.specs.StopRows.{close_each}
+use Rattle.group_rows.specs.Rows.{first_result, from_server, hasty_row, outs_of, refused_row, replay, replay_bodies, result_in, welcome_all, send_held}
 use Rattle.group_rows.specs.Texts.{texts_of}
 use Rattle.group_rows.proofs.Frames.{texts_stay}
 use Rattle.group_facts.specs.Facts.{Opened, is_unready}

@@ -35,7 +35,6 @@ use Rattle.group_words.specs.Houses.{groups_of}
 use Rattle.group_words.specs.Rows.{initialize_of}
 use Rattle.group_rows.specs.Earlier.{differs, given_of, part_row, shown_in}
 use Rattle.group_rows.specs.Rows.{outs_of, result_in}
-use Rattle.group_rows.specs.StopRows.{close_each}
 use Rattle.group_facts.specs.Facts.{Housed, IsHoused, IsWritten, Written, is_unready}
 use Rattle.group_rows.proofs.Going.{no_initialized}
 use Rattle.group_facts.specs.Legal.{Legal}

@@ -1,6 +1,6 @@
 -- Pieces, one after the other.
-use Rattle.std.proofs.Common.{◌≡◌, ℕ, suc, zero, ◌+◌, ◌-◌, ◌^◌, ◌<◌, ◌≤◌, get_or, Bool, true, false, List, [], ◌∷◌, ◌++◌, length, take, drop, refl, sym, ap, ◌∙◌, arith, subst, append_assoc, append-nil, length-append}
-use Rattle.std.specs.Prelude.{min, nat_lt}
+use Rattle.std.proofs.Common.{◌≡◌, ℕ, suc, zero, ◌+◌, ◌-◌, ◌<◌, ◌≤◌, get_or, Bool, true, false, List, [], ◌∷◌, ◌++◌, length, take, drop, refl, sym, ap, ◌∙◌, arith, subst, append_assoc, append-nil, length-append}
+use Rattle.std.specs.Prelude.{nat_lt}
 use Rattle.std.proofs.lemmas.Bool.Decides.{nat_tests}
 use Rattle.std.proofs.lemmas.List.{take-append-drop, take_at, drop_at, take_more, take_all, drop_all, length-take-le, length-drop, get_or_past, get_or_default}
 use Rattle.text_pieces.specs.declared.cut.Cut.{Cut}
@@ -102,13 +102,6 @@ cut_no_order ps a b p q h = go (nat_lt b.index a.index) refl
 -- a piece read from a list
 pub text_turn : (ps : List (List ℕ)) (i : ℕ) (x : List ℕ) → i < length ps → x ≡ get_or ps i x → text_of (take (i + 1) ps) ≡ text_of (take i ps) ++ x
 text_turn ps i x h e = text_more ps i x h ∙ ap (λ l. text_of (take i ps) ++ l) (sym e)
-
--- how many bytes there are with one piece more, as far as the machine counts
-pub counted_on : (ps : List (List ℕ)) (i : ℕ) (x : List ℕ) (n r : ℕ) → i < length ps → x ≡ get_or ps i x → n ≡ min (length (text_of (take i ps))) (2 ^ 64 - 1) → r ≡ min (n + length x) (2 ^ 64 - 1)
-    → r ≡ min (length (text_of (take (i + 1) ps))) (2 ^ 64 - 1)
-counted_on ps i x n r h e before now =
-    let t : length (text_of (take (i + 1) ps)) ≡ length (text_of (take i ps)) + length x = ap length (text_turn ps i x h e) ∙ length-append (text_of (take i ps)) x in
-    omega (arith, t, before, now)
 
 -- a piece put behind others
 pub text_pushed : (ps qs : List (List ℕ)) (p x : List ℕ) → qs ≡ ps ++ p ∷ [] → p ≡ x → text_of qs ≡ text_of ps ++ x

@@ -102,8 +102,7 @@ impl Text for PieceText {
     }
 
     fn equals(&self, other: &Self) -> bool {
-        length(self.pieces.as_slice()) == length(other.pieces.as_slice())
-            && equal(self.pieces.as_slice(), other.pieces.as_slice())
+        equal(self.pieces.as_slice(), other.pieces.as_slice())
     }
 
     fn apply(

@@ -2,7 +2,7 @@ use Rattle.std.proofs.Common.{sym, ◌∙◌}
 use Rattle.std.specs.Prelude.{bytes_eq}
 use Rattle.text_pieces.specs.Pieces.{text_of}
 use Rattle.text_pieces.proofs.Same.{same_on, same_not, cut_off, was_same, was_other}
-use Rattle.text_pieces.proofs.equal.equal.Goals as goal
+use Rattle.text_pieces.proofs.equal.same.Goals as goal
 
 pub returns-then-ne : goal.returns-then-ne
 returns-then-ne c = same_not c.split_at.result.0.now c.split_at-in-loop-left.result.0.now _ _ _ _ _ (c.split_at.ensures.front_len ∙ sym c.split_at-in-loop-left.ensures.front_len)
