@@ -5,7 +5,7 @@ use Rattle.event_model.proofs.Turns.{does_next, does_whole}
 use Rattle.mux_tables.specs.Stands.{Stands}
 use Rattle.mux_turns.specs.Initials.{IsNamed, refuse_id}
 use Rattle.mux_turns.proofs.Failing.{named_at}
-use Rattle.mux_turns.proofs.waits.refuse_ids.Goals as goal
+use Rattle.mux_turns.proofs.held.refuse_ids.Goals as goal
 
 pub loop-id-preserved : goal.loop-id-preserved
 loop-id-preserved c = record {
