@@ -219,14 +219,14 @@ module _ (settings : Settings) (events : List Event) (g s : ℕ) (code : Encodin
   -- what is said of links leaves what is said of groups and starts that there weren't yet
   rest_parted : (t : Tables) (ys : List Out) (ns : List ℕ) (now : List Event) → Parts ys ns → Rest settings t events now → Rest settings t events (behind now ys)
   rest_parted t [] ns now p h = subst (Rest settings t events) (sym (append-nil now)) h
-  rest_parted t (ToEditor e told ∷ ys) ns now p h = subst (Rest settings t events) (sym (behind_more now (ToEditor e told ∷ []) ys)) (rest_parted t ys ns (now ++ said (ToEditor e told) ∷ []) p (record {
-    texts = λ j l k. texts_stay settings j now (said (ToEditor e told)) refl ∙ h.texts j l k;
-    encoding = λ j l. encoding_stays j now (said (ToEditor e told)) refl ∙ h.encoding j l;
-    founds = λ j k. h.founds j (founds_kept now (said (ToEditor e told)) refl j k);
-    starts = λ n l. h.starts n (starts_kept now (said (ToEditor e told)) refl n l);
-    sent = λ n l. sent_then n events now (now ++ said (ToEditor e told) ∷ []) (h.sent n l) (sent_stays n now (said (ToEditor e told)) refl);
-    moments = λ j x n q at there. moment_stays settings x.life.start n now (said (ToEditor e told)) refl ∙ h.moments j x n q at there;
-    left = λ k l. left_stays now (said (ToEditor e told)) refl k (h.left k l);
+  rest_parted t (ToEditor e text ∷ ys) ns now p h = subst (Rest settings t events) (sym (behind_more now (ToEditor e text ∷ []) ys)) (rest_parted t ys ns (now ++ said (ToEditor e text) ∷ []) p (record {
+    texts = λ j l k. texts_stay settings j now (said (ToEditor e text)) refl ∙ h.texts j l k;
+    encoding = λ j l. encoding_stays j now (said (ToEditor e text)) refl ∙ h.encoding j l;
+    founds = λ j k. h.founds j (founds_kept now (said (ToEditor e text)) refl j k);
+    starts = λ n l. h.starts n (starts_kept now (said (ToEditor e text)) refl n l);
+    sent = λ n l. sent_then n events now (now ++ said (ToEditor e text) ∷ []) (h.sent n l) (sent_stays n now (said (ToEditor e text)) refl);
+    moments = λ j x n q at there. moment_stays settings x.life.start n now (said (ToEditor e text)) refl ∙ h.moments j x n q at there;
+    left = λ k l. left_stays now (said (ToEditor e text)) refl k (h.left k l);
   }))
   rest_parted t (CloseEditor e ∷ ys) [] now p h = absurd p
   rest_parted t (CloseEditor e ∷ ys) (k ∷ ns) now p h = subst (Rest settings t events) (sym (behind_more now (CloseEditor e ∷ []) ys)) (rest_parted t ys ns (now ++ said (CloseEditor e) ∷ []) p.1 (record {
@@ -238,7 +238,7 @@ module _ (settings : Settings) (events : List Event) (g s : ℕ) (code : Encodin
     moments = λ j x n q at there. moment_stays settings x.life.start n now (said (CloseEditor e)) refl ∙ h.moments j x n q at there;
     left = λ k l. left_stays now (said (CloseEditor e)) refl k (h.left k l);
   }))
-  rest_parted t (ToServer e told ∷ ys) ns now p h = absurd p
+  rest_parted t (ToServer e text ∷ ys) ns now p h = absurd p
   rest_parted t (Spawn e k ∷ ys) ns now p h = absurd p
   rest_parted t (EndServer e ∷ ys) ns now p h = absurd p
 

@@ -29,7 +29,7 @@ use Rattle.mux_tables.specs.Notes.{NotesStand}
 use Rattle.mux_tables.specs.Stands.{Exits}
 use Rattle.mux_tables.proofs.DocumentEvents.{shared_notified, shared_quiet}
 use Rattle.mux_tables.proofs.DocumentFrames.{all_owned, owner_stays, sent_silent, shared_stays, start_stays}
-use Rattle.mux_tables.proofs.DocumentMoves.{Rest, documents_all, documents_at, documents_last, documents_set, founds_kept, quiet_documents, rest_quiet, starts_kept}
+use Rattle.mux_tables.proofs.DocumentMoves.{Rest, documents_all, documents_at, documents_last, documents_set, founds_kept, quiet_documents, rest_none, rest_quiet, starts_kept}
 use Rattle.mux_tables.proofs.Noting.{asks_aside, asks_on, left_stays, moment_stays, notes_cancelled, notes_gone}
 use Rattle.mux_tables.proofs.Starts.{read_here}
 
@@ -44,15 +44,15 @@ pub told_documents : (settings : Settings) (owed : Owed) (t u : Tables) (base : 
 told_documents settings owed t u base xs ys e body ls ds vs is = documents_said settings owed owed t u (ToEditor e body) base xs ys is
     (quiet_documents settings owed t u (behind base xs) (said (ToEditor e body)) refl refl (ap (λ v. v.items) ls) (ap (λ v. v.items) ds) vs (λ g o k. refl) (left_stays (behind base xs) (said (ToEditor e body)) refl))
 
--- an answer, where the documents are ahead of the events by it already
-pub answered_ahead : (settings : Settings) (owed : Owed) (t u : Tables) (base : List Event) (xs ys more : List Out) (e : ℕ) (body : List ℕ) → u.lasts ≡ t.lasts → u.documents ≡ t.documents → u.versions ≡ t.versions → ys ≡ xs ++ ToEditor e body ∷ []
-    → DocumentsStand settings owed t (behind (behind base xs) (ToEditor e body ∷ more)) → DocumentsStand settings owed u (behind (behind base ys) more)
-answered_ahead settings owed t u base xs ys more e body ls ds vs is s =
-    subst (DocumentsStand settings owed u) (behind_more (behind base xs) (ToEditor e body ∷ []) more ∙ ap (λ es. behind es more) (sym (ap (behind base) is ∙ behind_more base xs (ToEditor e body ∷ []))))
+-- outs that change no documents, where these are ahead of the events by them already
+pub ahead_stays : (settings : Settings) (owed : Owed) (t u : Tables) (base : List Event) (xs ys zs more : List Out) → u.lasts ≡ t.lasts → u.documents ≡ t.documents → u.versions ≡ t.versions → ys ≡ xs ++ zs
+    → DocumentsStand settings owed t (behind (behind base xs) (zs ++ more)) → DocumentsStand settings owed u (behind (behind base ys) more)
+ahead_stays settings owed t u base xs ys zs more ls ds vs is s =
+    subst (DocumentsStand settings owed u) (behind_more (behind base xs) zs more ∙ ap (λ es. behind es more) (sym (ap (behind base) is ∙ behind_more base xs zs)))
     (documents_all settings owed owed t u later later (rest_none settings t later) vs (ap (λ v. v.items) ls) (ap (λ v. v.items) ds) (λ g x d at h. h) s)
   where
     later : List Event
-    later = behind (behind base xs) (ToEditor e body ∷ more)
+    later = behind (behind base xs) (zs ++ more)
 
 -- a body to a start that tells of no document, and goes on without a sync
 pub rest_notified : (settings : Settings) (t : Tables) (events : List Event) (n : ℕ) (body : List ℕ) (m : Message) → saying_of m ≡ nothing → is_synced m ≡ false → Rest settings t events (events ++ did (ToServer n body) m ∷ [])

@@ -7,6 +7,7 @@ mod created;
 mod documents;
 mod halts;
 mod hears;
+mod holds;
 mod last_lists;
 mod looks;
 mod losses;
@@ -25,7 +26,6 @@ mod statuses;
 mod stops;
 mod tables;
 mod tokens;
-mod waits;
 
 pub use ask_route;
 pub use diagnostics_route;

@@ -78,17 +78,12 @@ impl Tables {
     }
 
     /// An answer to its request of this id goes to an editor, which it leaves in its phase; where the request waited it waits no more.
-    pub fn answer(
-        &mut self,
-        outs: &mut Outs,
-        e: u64,
-        id: &[u8],
-        body: Body,
-    ) -> Result<(), Memory>
+    pub fn answer(&mut self, outs: &mut Outs, e: u64, id: &[u8], body: Body) -> Result<(), Memory>
         ensures requests { self.new.requests ≡ self.old.requests }
         ensures versions { self.new.versions ≡ self.old.versions }
         ensures lasts { self.new.lasts ≡ self.old.lasts }
         ensures editors { self.new.editors ≡ self.old.editors }
+        ensures same { self.new.documents ≡ self.old.documents }
         ensures outs { OnOk result (outs.new ≡ outs.old ++ ToEditor e body ∷ []) }
         ensures waiting { (settings : Settings) (events : List Event) → Stands settings self.old events
             → BecomesAt (home_of settings e events) (less (is_waiting_under e id.now)) self.old.origins.waiting self.new.origins.waiting }
@@ -96,10 +91,6 @@ impl Tables {
             → OnOk result (Does (λ t events. Stands settings t events) (send (ToEditor e body)) base self.old outs.old self.new outs.new) }
         ensures documents { (settings : Settings) (owed : Owed) (base : List Event) → DocumentsStand settings owed self.old (behind base outs.old)
             → OnOk result (DocumentsStand settings owed self.new (behind base outs.new)) }
-        // where the documents are ahead of the events, by this answer and what else is said of links
-        ensures ahead { (settings : Settings) (owed : Owed) (base : List Event) (more : List Out)
-            → DocumentsStand settings owed self.old (behind (behind base outs.old) (ToEditor e body ∷ more))
-            → OnOk result (DocumentsStand settings owed self.new (behind (behind base outs.new) more)) }
     {
         let home = self.home(e);
         self.origins.waiting.answer(home, e, id);
@@ -108,13 +99,7 @@ impl Tables {
     }
 
     /// The result of its `initialize`, which has this id, goes to an editor that waits.
-    pub fn welcome(
-        &mut self,
-        outs: &mut Outs,
-        e: u64,
-        id: &[u8],
-        body: Body,
-    ) -> Result<(), Memory>
+    pub fn welcome(&mut self, outs: &mut Outs, e: u64, id: &[u8], body: Body) -> Result<(), Memory>
         requires { e < length self.old.editors }
         ensures requests { self.new.requests ≡ self.old.requests }
         ensures versions { self.new.versions ≡ self.old.versions }

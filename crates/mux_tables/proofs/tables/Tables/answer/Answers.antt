@@ -3,7 +3,7 @@ use Rattle.std.proofs.Common.{refl, subst, sym}
 use Rattle.mux_waits.specs.Rows.{BecomesAt}
 use Rattle.mux_waits.specs.held_requests.specs.Tables.{is_under}
 use Rattle.mux_waits.specs.numbered_rows.specs.Rows.{less}
-use Rattle.mux_tables.proofs.DocumentSaid.{answered_ahead, told_documents}
+use Rattle.mux_tables.proofs.DocumentSaid.{told_documents}
 use Rattle.mux_tables.proofs.Said.{answer_does}
 use Rattle.mux_tables.proofs.tables.Tables.answer.Goals as goal
 
@@ -16,6 +16,3 @@ returns-clause-documents c = λ settings owed base ds. told_documents settings o
 
 pub returns-clause-waiting : goal.returns-clause-waiting
 returns-clause-waiting c = λ settings events st. subst (λ home. BecomesAt home (less (is_under c.args.e c.args.id.now)) c.args.self.now.origins.waiting c.answer.new.self) (sym (c.home-home.ensures settings events st)) c.answer.ensures
-
-pub returns-clause-ahead : goal.returns-clause-ahead
-returns-clause-ahead c = λ settings owed base more ds. answered_ahead settings owed c.args.self.now _ base c.args.outs.now c.push.new.self more c.args.e c.args.body refl refl refl c.in_ok-push.ensures.ok ds

@@ -43,14 +43,7 @@ impl Tables {
 
     /// E10: a request of an editor that is served waits in its group, whose last start isn't ready; behind it the editor is in this
     /// phase. Where the answer is an error the tables stand for nothing any more.
-    pub fn hold(
-        &mut self,
-        g: u64,
-        e: u64,
-        phase: Phase,
-        id: Body,
-        body: Body,
-    ) -> Result<(), Memory>
+    pub fn hold(&mut self, g: u64, e: u64, phase: Phase, id: Body, body: Body) -> Result<(), Memory>
         requires editor { e < length self.old.editors }
         requires joined { phase ≢ Absent }
         requires room { takes e (length body) (held_of g self.old.origins.waiting) ≡ true }
