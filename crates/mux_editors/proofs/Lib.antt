@@ -24,3 +24,4 @@ mod Telling
 pub mod Turns
 pub mod Unopened
 pub mod Working
+pub mod Staying

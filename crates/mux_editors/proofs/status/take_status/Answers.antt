@@ -18,6 +18,7 @@ use Rattle.mux_editors.proofs.Asides.{unnamed_unopened}
 use Rattle.mux_turns.proofs.Departing.{behind_first}
 use Rattle.mux_turns.proofs.Keeping.{keeps_reply, told_as}
 use Rattle.mux_editors.proofs.Lspmux.{lspmux_is, own_keeps, own_others, own_placed, own_shuts, own_stays, own_stops, status_asks, status_unnamed, status_unstopped}
+use Rattle.mux_editors.proofs.Staying.{unheld_own}
 use Rattle.mux_turns.proofs.Matched.{whole_entry}
 use Rattle.mux_editors.proofs.status.take_status.Goals as goal
 
@@ -29,7 +30,7 @@ returns-clause-does c = λ settings before body read asks single servers first k
     let xs = c.args.outs.now in
     let own = status_asks (message_of body) asks in
     let k = lspmux_is (message_of body) own in
-    let heard = c.hear_editor.ensures.stands settings before body st (answers_none settings e (message_of body) before (ap is_answer k.is)) (takes_none settings e (message_of body) before (own_shuts (message_of body) own) (ap is_answer k.is)) (own_placed before e body own) (own_stops before e body own (status_unstopped (message_of body) asks)) (unnamed_unopened settings.servers before e (message_of body) (status_unnamed (message_of body) asks))
+    let heard = c.hear_editor.ensures.stands settings before body st (answers_none settings e (message_of body) before (ap is_answer k.is)) (takes_none settings e (message_of body) before (own_shuts (message_of body) own) (ap is_answer k.is)) (unheld_own settings e body (message_of body) before k.id k.method k.params k.is k.own) (own_placed before e body own) (own_stops before e body own (status_unstopped (message_of body) asks)) (unnamed_unopened settings.servers before e (message_of body) (status_unnamed (message_of body) asks))
     (own_stays before e body own ∙ sym (c.phase_of-phase.ensures.stands settings before st)) in
     let docs = c.hear_editor.ensures.documents settings nothing_owed before body (own_keeps before e body own) ds in
     let told = ok_text (id_bytes body) (status_text (items_of settings before)) in
