@@ -25,3 +25,4 @@ pub mod Turns
 pub mod Unopened
 pub mod Working
 pub mod Staying
+pub mod KeptBack
