@@ -168,7 +168,8 @@ pub fn take_request(
         → OnOk result (Done (λ k events. AllStand settings k events) (running_row settings before e (message_of body) ⨾ request_row settings before e body)
         (with_cause before (FromEditor e body)) [] (tables.new, nothing_owed) outs.new) }
 {
-    if reserves(alloc, message)? {
+    let reserved = reserves(alloc, message)?;
+    if reserved {
         hear_running(tables, alloc, outs, e)?;
         refuse_reserved(tables, alloc, outs, e, message)?;
         return Ok(());
