@@ -33,7 +33,7 @@ use Rattle.mux_tables.specs.mux_waits.proofs.Unheld.{and_off}
 use Rattle.mux_tables.specs.Stands.{HasEnded, start_for}
 use Rattle.mux_turns.specs.Waits.{waiting_at, waiting_row}
 use Rattle.mux_turns.proofs.Rows.{is_first, is_second}
-use Rattle.mux_editors.proofs.Serving.{Serves}
+use Rattle.mux_editors.proofs.Classes.{Serves}
 use Rattle.mux_turns.specs.group_facts.specs.Facts.{is_up}
 use Rattle.mux_turns.specs.group_facts.specs.Settled.{Settled}
 use Rattle.mux_turns.specs.group_facts.proofs.LiveGroups.{lives_busy}
