@@ -26,6 +26,6 @@ returns-clause-does c = λ settings before body method id params read says down 
     let stays = desk_now before e body Down (ap (λ p. (desk_hears p (desk_of e before).initialize body (message_of body)).phase) down) in
     let heard = c.hear_editor.ensures.stands settings before body st (answers_none settings e (message_of body) before (ap is_answer says)) (takes_unserved settings before settled c.args.tables.now st e (message_of body) (ap is_served down)) (unheld_unserved settings e body (message_of body) before (ap is_served down)) (ap (λ p. places p (message_of body)) down) unstopped (old_unopened settings.servers before e (message_of body) (ap is_new down)) stays in
     let docs = c.hear_editor.ensures.documents settings nothing_owed before body (unserved_keeps before e (message_of body) (ap is_served down)) ds in
-    whole_entry (λ k events. AllStand settings k events) (answer_error e body (wrong_code method invalid_request)) base (u, nothing_owed) (u, nothing_owed) c.args.outs.now c.refuse_wrong.new.outs first (heard, docs)
-    (all_does settings u u nothing_owed nothing_owed base c.args.outs.now c.refuse_wrong.new.outs (c.in_ok-refuse_wrong.ensures.does settings base body method id params read says)
+    whole_entry (λ k events. AllStand settings k events) (answer_error e body (wrong_code method invalid_request)) base (u, nothing_owed) (c.refuse_wrong.new.tables, nothing_owed) c.args.outs.now c.refuse_wrong.new.outs first (heard, docs)
+    (all_does settings u c.refuse_wrong.new.tables nothing_owed nothing_owed base c.args.outs.now c.refuse_wrong.new.outs (c.in_ok-refuse_wrong.ensures.does settings base body method id params read says)
     (λ _ d. c.in_ok-refuse_wrong.ensures.documents settings nothing_owed base d))
