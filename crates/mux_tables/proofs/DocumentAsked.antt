@@ -24,7 +24,7 @@ use Rattle.event_model.specs.Phases.{desk_of, is_running}
 use Rattle.event_model.specs.Row.{look, send, ◌⨾◌}
 use Rattle.event_model.specs.Settings.{Settings}
 use Rattle.event_model.specs.Spawns.{group_of, start_behind, start_of, starts_behind, starts_of}
-use Rattle.event_model.proofs.Frames.{never, one_more, outs_more, outs_still}
+use Rattle.event_model.proofs.Frames.{never, outs_more, outs_still}
 use Rattle.event_model.proofs.Turns.{behind_more, does_entry}
 use Rattle.event_model.proofs.Places.{get_set_same}
 use Rattle.focus_switch.specs.Documents.{Documents, version_held}

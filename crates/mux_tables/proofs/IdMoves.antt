@@ -9,7 +9,6 @@ use Rattle.mux_history.specs.declared.out.Out.TheVariants.{ToServer}
 use Rattle.rpc_message.specs.Message.{Message, request, notification, Id}
 use Rattle.event_model.specs.Event.{Event, took, did}
 use Rattle.event_model.specs.Requests.{answered_id, is_own}
-use Rattle.event_model.proofs.Frames.{one_more}
 use Rattle.event_model.specs.Members.{named_of}
 use Rattle.event_model.specs.Settings.{Settings}
 use Rattle.id_rewrite.specs.declared.pending.Pending.{Pending}

@@ -13,21 +13,22 @@ ghost use Rattle.group_laws.specs.mux_model.specs.Rows.{to_start};
 ghost use Rattle.group_laws.specs.group_rows.specs.Waiting.{first_waiting, is_for_start, is_meant, is_restarting, waiting_of, worker_of};
 ghost use Rattle.json_text.specs.Json.{Json};
 ghost use Rattle.mux_history.specs.declared.cause.Cause.TheVariants.{FromEditor};
-ghost use Rattle.mux_history.specs.declared.out.Out.TheVariants.{ToServer};
+ghost use Rattle.mux_history.specs.declared.out.Out.TheVariants.{ToEditor, ToServer};
 ghost use Rattle.mux_waits.specs.held_requests.specs.declared.request.Request.{Request as Waits};
 ghost use Rattle.mux_waits.specs.held_requests.specs.Tables.{ids_of, of_editor, takes};
 ghost use Rattle.mux_waits.specs.Rows.{Becomes, held_of};
+ghost use Rattle.mux_waits.specs.Stands.{AnswersId};
 ghost use Rattle.rpc_message.specs.Message as message;
 ghost use Rattle.rpc_message.specs.Message.{Id, id_bytes, message_of};
 ghost use Rattle.rpc_message.specs.ValueTexts.{IsIdText};
 ghost use Rattle.mux_tables.specs.declared.tables.Start.{Start};
 ghost use Rattle.mux_tables.specs.Documents.{AllStand, DocumentsStand, Owed, nothing_owed, syncing};
-ghost use Rattle.mux_tables.specs.Stands.{Sends, Stands, number_in};
+ghost use Rattle.mux_tables.specs.Stands.{Keeps, Sends, Stands, house_in, number_in, stage_in};
 
 use crate::tables::Tables;
 use event_model::Phase;
 use message_body::{Body, Memory};
-use mux_history::Outs;
+use mux_history::{Out, Outs};
 use mux_waits::held_requests::Request;
 use std::alloc::Global;
 
@@ -82,7 +83,8 @@ impl Tables {
 
     /// S2: the request that has waited longest in a group. It takes no memory.
     pub fn first_waiting(&self, g: u64) -> Option<&Request>
-        ensures { (settings : Settings) (events : List Event) → Stands settings self.now events
+        ensures kept { option_copied result ≡ slice_get (held_of g self.now.origins.waiting) 0 }
+        ensures stands { (settings : Settings) (events : List Event) → Stands settings self.now events
             → option_copied result ≡ slice_get (waiting_of settings g events) 0 }
     {
         self.origins.waiting.first(g)
@@ -107,6 +109,8 @@ impl Tables {
         ensures requests { self.new.requests ≡ self.old.requests }
         ensures versions { self.new.versions ≡ self.old.versions }
         ensures starts { OnOk result (map number_in self.new.lasts.items ≡ map number_in self.old.lasts.items) }
+        ensures stages { OnOk result (map stage_in self.new.lasts.items ≡ map stage_in self.old.lasts.items) }
+        ensures groups { OnOk result (map house_in self.new.lasts.items ≡ map house_in self.old.lasts.items) }
         ensures waiting { OnOk result ((x : Start) → slice_get self.old.lasts.items g ≡ Some x
             → Becomes x.life.group (drop 1) self.old.origins.waiting self.new.origins.waiting) }
         ensures does { (settings : Settings) (base : List Event) (s : ℕ) (name : Id) (method : List ℕ) (ps : Option Json) (r : Waits)
@@ -120,6 +124,29 @@ impl Tables {
         let group = self.lasts[g].life.group();
         self.origins.waiting.pop(group);
         self.ask(alloc, outs, g, e, id, work, partial, text)?;
+        Ok(())
+    }
+
+    /// S2: the request that has waited longest in a group is answered so, and waits no more.
+    pub fn answer_first(
+        &mut self,
+        outs: &mut Outs,
+        g: u64,
+        e: u64,
+        body: Body,
+    ) -> Result<(), Memory>
+        ensures requests { self.new.requests ≡ self.old.requests }
+        ensures versions { self.new.versions ≡ self.old.versions }
+        ensures lasts { self.new.lasts ≡ self.old.lasts }
+        ensures waiting { Becomes g (drop 1) self.old.origins.waiting self.new.origins.waiting }
+        ensures does { (settings : Settings) (base : List Event) (r : Waits) → slice_get (waiting_of settings g (behind base outs.old)) 0 ≡ Some r
+            → r.editor ≡ e → Keeps e body (behind base outs.old) → AnswersId r.id body
+            → OnOk result (Does (λ t events. Stands settings t events) (send (ToEditor e body)) base self.old outs.old self.new outs.new) }
+        ensures documents { (settings : Settings) (owed : Owed) (base : List Event) → DocumentsStand settings owed self.old (behind base outs.old)
+            → OnOk result (DocumentsStand settings owed self.new (behind base outs.new)) }
+    {
+        self.origins.waiting.pop(g);
+        outs.push(Out::ToEditor(e, body))?;
         Ok(())
     }
 }

@@ -229,6 +229,8 @@ impl Tables {
         ensures requests { self.new.requests ≡ self.old.requests }
         ensures versions { self.new.versions ≡ self.old.versions }
         ensures starts { OnOk result (map number_in self.new.lasts.items ≡ map number_in self.old.lasts.items) }
+        ensures stages { OnOk result (map stage_in self.new.lasts.items ≡ map stage_in self.old.lasts.items) }
+        ensures groups { OnOk result (map house_in self.new.lasts.items ≡ map house_in self.old.lasts.items) }
         ensures origins { self.new.origins ≡ self.old.origins }
         // S2: where the request had waited longest in the group, and was just taken out
         ensures waited { (settings : Settings) (base : List Event) (t : State) (x : Start) (s : ℕ) (name : Id) (method : List ℕ) (ps : Option Json) (r : Waits)

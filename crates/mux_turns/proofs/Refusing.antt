@@ -1,5 +1,5 @@
 -- Requests of an editor that wait are refused, under their own ids.
-use Rattle.std.proofs.Common.{◌≡◌, ℕ, Bool, true, false, List, [], ◌∷◌, ◌++◌, filter, map, nat_eq, if◌then◌else◌, refl, ap, ap₂, sym, subst, ◌∙◌}
+use Rattle.std.proofs.Common.{◌≡◌, ℕ, Bool, true, false, List, [], ◌∷◌, ◌++◌, filter, map, nat_eq, if◌then◌else◌, refl, ap, ap₂, sym, subst, ◌∙◌, append-nil, append_assoc}
 use Rattle.std.specs.List.{AllByRecursion}
 use Rattle.mux_history.specs.declared.out.Out.{Out}
 use Rattle.mux_history.specs.declared.out.Out.TheVariants.{ToEditor}
@@ -19,6 +19,7 @@ use Rattle.mux_tables.specs.mux_waits.specs.held_requests.specs.Tables.{ids_of, 
 use Rattle.mux_tables.specs.mux_waits.specs.Stands.{IsHeld}
 use Rattle.mux_tables.specs.Stands.{Stands}
 use Rattle.mux_turns.specs.Initials.{IsNamed, refuse_id}
+use Rattle.mux_turns.specs.Welcomes.{Informs, IsToEditor}
 
 -- each of them is the editor's own
 held_rows : (e : ℕ) (rs : List Request) → Alike (each refuse_waiting (of_editor e rs)) (each (refuse_id e) (ids_of (of_editor e rs)))
@@ -51,3 +52,17 @@ refuses_held settings t u base xs ys g e ids are d = does_knowing (λ st.
     let each_named : AllByRecursion IsNamed ids = subst (AllByRecursion IsNamed) (sym (are st)) (held_named settings g e (behind base xs) (waiting_of settings g (behind base xs)) (subst (AllByRecursion (IsHeld settings g (behind base xs))) held.same held.each)) in
     does_look (λ _. refl) (does_alike (λ _. held_rows e (waiting_of settings g (behind base xs)))
     (subst (λ ws. Does (λ t events. Stands settings t events) (each (refuse_id e) ws) base t xs u ys) (are st) (d each_named))))
+
+-- what is said so
+pub informs_none : (xs : List Out) → Informs xs xs
+informs_none xs = record { more = []; is = sym (append-nil xs); all = tt }
+
+pub informs_one : (xs ys : List Out) (e : ℕ) (text : List ℕ) → ys ≡ xs ++ ToEditor e text ∷ [] → Informs xs ys
+informs_one xs ys e text is = record { more = ToEditor e text ∷ []; is = is; all = (tt, tt) }
+
+all_join : (xs ys : List Out) → AllByRecursion IsToEditor xs → AllByRecursion IsToEditor ys → AllByRecursion IsToEditor (xs ++ ys)
+all_join [] ys h k = k
+all_join (x ∷ xs) ys h k = (h.0, all_join xs ys h.1 k)
+
+pub informs_then : (xs ys zs : List Out) → Informs xs ys → Informs ys zs → Informs xs zs
+informs_then xs ys zs p q = record { more = p.more ++ q.more; is = q.is ∙ (ap (λ ws. ws ++ q.more) p.is ∙ append_assoc xs p.more q.more); all = all_join p.more q.more p.all q.all }

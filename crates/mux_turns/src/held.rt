@@ -9,6 +9,7 @@ ghost use Rattle.group_facts.specs.group_rows.specs.Waiting.{refuse_held};
 ghost use Rattle.mux_tables.specs.Documents.{DocumentsStand, Owed};
 ghost use Rattle.mux_tables.specs.Stands.{Stands};
 ghost use Rattle.mux_turns.specs.Initials.{IsNamed, refuse_id};
+ghost use Rattle.mux_turns.specs.Welcomes.{Informs};
 
 use crate::initials::refuse_id;
 use message_body::{Body, Memory};
@@ -28,6 +29,8 @@ pub fn refuse_ids(
     ensures versions { tables.new.versions ≡ tables.old.versions }
     ensures lasts { tables.new.lasts ≡ tables.old.lasts }
     ensures editors { tables.new.editors ≡ tables.old.editors }
+    ensures same { tables.new.documents ≡ tables.old.documents }
+    ensures told { OnOk result (Informs outs.old outs.new) }
     ensures does { (settings : Settings) (base : List Event) → AllByRecursion IsNamed ids.now
         → OnOk result (Does (λ t events. Stands settings t events) (each (refuse_id e) ids.now) base tables.old outs.old tables.new outs.new) }
     ensures documents { (settings : Settings) (owed : Owed) (base : List Event) → DocumentsStand settings owed tables.old (behind base outs.old)
@@ -51,6 +54,8 @@ pub fn refuse_held(
     ensures versions { tables.new.versions ≡ tables.old.versions }
     ensures lasts { tables.new.lasts ≡ tables.old.lasts }
     ensures editors { tables.new.editors ≡ tables.old.editors }
+    ensures same { tables.new.documents ≡ tables.old.documents }
+    ensures told { OnOk result (Informs outs.old outs.new) }
     ensures does { (settings : Settings) (base : List Event)
         → OnOk result (Does (λ t events. Stands settings t events) (refuse_held settings g e) base tables.old outs.old tables.new outs.new) }
     ensures documents { (settings : Settings) (owed : Owed) (base : List Event) → DocumentsStand settings owed tables.old (behind base outs.old)

@@ -8,7 +8,7 @@ ghost use Rattle.group_facts.specs.group_rows.specs.StopRows.{refuse_initialize}
 ghost use Rattle.mux_tables.specs.Documents.{DocumentsStand, Owed};
 ghost use Rattle.mux_tables.specs.Stands.{Stands};
 ghost use Rattle.mux_turns.specs.Initials.{AllHoused, IsNamed, refuse_id};
-ghost use Rattle.mux_turns.specs.Welcomes.{AllAsking};
+ghost use Rattle.mux_turns.specs.Welcomes.{AllAsking, Informs};
 
 use event_model::Phase;
 use message_body::Memory;
@@ -29,6 +29,8 @@ pub fn refuse_id(
     ensures versions { tables.new.versions ≡ tables.old.versions }
     ensures lasts { tables.new.lasts ≡ tables.old.lasts }
     ensures editors { tables.new.editors ≡ tables.old.editors }
+    ensures same { tables.new.documents ≡ tables.old.documents }
+    ensures told { OnOk result (Informs outs.old outs.new) }
     ensures does { (settings : Settings) (base : List Event) → IsNamed id.now
         → OnOk result (Does (λ t events. Stands settings t events) (refuse_id e id.now) base tables.old outs.old tables.new outs.new) }
     ensures documents { (settings : Settings) (owed : Owed) (base : List Event) → DocumentsStand settings owed tables.old (behind base outs.old)

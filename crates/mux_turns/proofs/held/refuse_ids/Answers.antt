@@ -5,7 +5,13 @@ use Rattle.event_model.proofs.Turns.{does_next, does_whole}
 use Rattle.mux_tables.specs.Stands.{Stands}
 use Rattle.mux_turns.specs.Initials.{IsNamed, refuse_id}
 use Rattle.mux_turns.proofs.Failing.{named_at}
+use Rattle.mux_turns.proofs.Refusing.{informs_none, informs_then}
 use Rattle.mux_turns.proofs.held.refuse_ids.Goals as goal
+
+pub loop-id-initial : goal.loop-id-initial
+loop-id-initial c = record {
+  told = informs_none c.args.outs.now;
+}
 
 pub loop-id-preserved : goal.loop-id-preserved
 loop-id-preserved c = record {
@@ -13,6 +19,8 @@ loop-id-preserved c = record {
   versions = c.refuse_id.ensures.versions ∙ c.loop-id.invariant.versions;
   lasts = c.refuse_id.ensures.lasts ∙ c.loop-id.invariant.lasts;
   editors = c.refuse_id.ensures.editors ∙ c.loop-id.invariant.editors;
+  same = c.refuse_id.ensures.same ∙ c.loop-id.invariant.same;
+  told = informs_then c.initial.outs c.loop-id.outs c.refuse_id.new.outs c.loop-id.invariant.told c.in_ok-refuse_id.ensures.told;
   does = λ settings base named.
       let e = c.args.e in
       let ids = c.args.ids.now in

@@ -7,7 +7,11 @@ use Rattle.rpc_message.proofs.Fixed.{error_law, id_as_response}
 use Rattle.event_model.specs.Event.{behind}
 use Rattle.event_model.specs.Requests.{answered_id}
 use Rattle.mux_turns.proofs.Keeping.{keeps_error, told_as}
+use Rattle.mux_turns.proofs.Refusing.{informs_one}
 use Rattle.mux_turns.proofs.initials.refuse_id.Goals as goal
+
+pub returns-clause-told : goal.returns-clause-told
+returns-clause-told c = informs_one c.args.outs.now c.answer.new.outs c.args.e c.in_ok-text.text c.in_ok-answer.ensures.outs
 
 pub returns-clause-does : goal.returns-clause-does
 returns-clause-does c = λ settings base named.

@@ -6,7 +6,7 @@ use Rattle.mux_history.specs.declared.out.Out.TheVariants.{ToServer}
 use Rattle.mux_tables.specs.declared.tables.Start.{Start}
 use Rattle.mux_tables.specs.Notes.{StampsAt}
 use Rattle.mux_tables.proofs.DocumentAsked.{asked_does, passed_on}
-use Rattle.mux_tables.proofs.Starts.{read_here, read_same, start_at_place, starts_stay}
+use Rattle.mux_tables.proofs.Starts.{houses_stay, read_here, read_same, stages_stay, start_at_place, starts_stay}
 use Rattle.mux_tables.proofs.tables.Tables.ask.Goals as goal
 use Rattle.event_model.specs.Event.{behind}
 use Rattle.rpc_message.specs.Message.{message_of}
@@ -22,6 +22,12 @@ keep-requires c = c.requires.left c.index_mut-last.result.now (read_here c.args.
 
 pub returns-clause-starts : goal.returns-clause-starts
 returns-clause-starts c = starts_stay c.args.self.now.lasts.items c.args.g c.index_mut-last.result.now (record c.index_mut-last.result.now { ids = c.keep.new.ids }) c.requires.group c.index_mut-last.ensures.value refl
+
+pub returns-clause-stages : goal.returns-clause-stages
+returns-clause-stages c = stages_stay c.args.self.now.lasts.items c.args.g c.index_mut-last.result.now (record c.index_mut-last.result.now { ids = c.keep.new.ids }) c.requires.group c.index_mut-last.ensures.value refl
+
+pub returns-clause-groups : goal.returns-clause-groups
+returns-clause-groups c = houses_stay c.args.self.now.lasts.items c.args.g c.index_mut-last.result.now (record c.index_mut-last.result.now { ids = c.keep.new.ids }) c.requires.group c.index_mut-last.ensures.value refl
 
 pub returns-clause-does : goal.returns-clause-does
 returns-clause-does c = λ settings base s name method ps at says own sends works x here.

@@ -1,5 +1,5 @@
 -- A request waits.
-use Rattle.std.proofs.Common.{List, [], ◌∷◌, ◌++◌, refl, ap, length, subst, ◌∙◌}
+use Rattle.std.proofs.Common.{[], ◌∷◌, ◌++◌, refl, ap, length, subst, ◌∙◌}
 use Rattle.std.proofs.lemmas.List.{length-set}
 use Rattle.mux_waits.specs.held_requests.specs.Tables.{asked}
 use Rattle.mux_waits.specs.Rows.{Becomes}
