@@ -37,4 +37,6 @@ pub use placing::{found, turn_away, waits, welcome};
 pub use refusals::{
     asked_at, refuse, refuse_early, refuse_request, refuse_reserved, refuse_wrong, reject,
 };
-pub use tokens::{forwarded_text, is_reserved, mark_text, marked, marked_text, reserves, token_text};
+pub use tokens::{
+    forwarded_text, is_reserved, mark_text, marked, marked_text, reserves, token_text,
+};
