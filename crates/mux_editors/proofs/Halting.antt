@@ -180,9 +180,9 @@ pub opens_refused : (settings : Settings) (t m n u : Tables) (before base : List
     → (Refusing settings before (behind base ys) → Does (λ t events. Stands settings t events) (lose_requests settings before e) base m ys n zs)
     → (Refusing settings before (behind base zs) → Does (λ t events. Stands settings t events) (lose_waiting settings before e) base n zs u ws) → Does (λ t events. Stands settings t events) (refuse_open settings before e) base t xs u ws
 opens_refused settings t m n u before base xs ys zs ws e r one two three = does_knowing (λ st.
-    let then : Refusing settings before (behind base ys) = refusing_on settings t m before base xs ys (first_told e) one st r in
-    let last : Refusing settings before (behind base zs) = refusing_on settings m n before base ys zs (lose_told settings before e) (two then) (one.done st).stands then in
-    does_then one (does_then (two then) (three last)))
+    let next : Refusing settings before (behind base ys) = refusing_on settings t m before base xs ys (first_told e) one st r in
+    let last : Refusing settings before (behind base zs) = refusing_on settings m n before base ys zs (lose_told settings before e) (two next) (one.done st).stands next in
+    does_then one (does_then (two next) (three last)))
 
 pub refusing_next : (settings : Settings) (t u : Tables) (before base : List Event) (xs ys : List Out) (e : ℕ) → Refusing settings before (behind base xs) → Stands settings t (behind base xs) → Does (λ t events. Stands settings t events) (refuse_open settings before e) base t xs u ys → Refusing settings before (behind base ys)
 refusing_next settings t u before base xs ys e r st d = refusing_on settings t u before base xs ys (open_told settings before e) d st r

@@ -33,7 +33,7 @@ use Rattle.mux_tables.specs.mux_waits.proofs.Unheld.{and_off}
 use Rattle.mux_tables.specs.Stands.{HasEnded, start_for}
 use Rattle.mux_turns.specs.Waits.{waiting_at, waiting_row}
 use Rattle.mux_turns.proofs.Rows.{is_first, is_second}
-use Rattle.mux_editors.proofs.Classes.{Serves}
+use Rattle.mux_editors.proofs.Classes.{NotOwn, serves, swapped}
 use Rattle.mux_turns.specs.group_facts.specs.Facts.{is_up}
 use Rattle.mux_turns.specs.group_facts.specs.Settled.{Settled}
 use Rattle.mux_turns.specs.group_facts.proofs.LiveGroups.{lives_busy}
@@ -86,18 +86,15 @@ other_wrong class.Other h = refl
 other_wrong k h = absurd (cc)
 
 -- a request of class Other under no id that is open, without a token that might be the daemon's, is for the start
-pub asks_start : (before : List Event) (e : ℕ) (body : List ℕ) (m : Message) (id : Id) (method : List ℕ) (params : Option Json) → m ≡ request id method params → is_other (class_of method Editor false) ≡ true → Serves method → is_own method ≡ false
+pub asks_start : (before : List Event) (e : ℕ) (body : List ℕ) (m : Message) (id : Id) (method : List ℕ) (params : Option Json) → m ≡ request id method params → is_other (class_of method Editor false) ≡ true → NotOwn method
     → is_doubled before e m ≡ false → reserves (params_of body) ≡ false → is_for_start before e body m ≡ true
-asks_start before e body m id method params says other serve passed single free =
+asks_start before e body m id method params says other own single free =
+    let serve = serves method own in
     let request_is : Message = request id method params in
     let lspmux : is_multiplexer_request request_is ≡ false = rw (serve.opens, serve.status, serve.stops) refl in
-    let placed : is_misplaced method ≡ false = ap₂ (λ a b. a || b) (starts (bytes_eq (codes "initialize") method) refl) (other_wrong (class_of method Editor false) other) in
+    let placed : is_misplaced method ≡ false = ap₂ (λ a b. a || b) (swapped method (codes "initialize") own.initialize) (other_wrong (class_of method Editor false) other) in
     ap (is_for_start before e body) says
     ∙ (ap (λ b. not b && (not (is_multiplexer_request request_is) && (not (is_misplaced method) && (not (bytes_eq (codes "shutdown") method) && not (reserves (params_of body)))))) (sym (ap (is_doubled before e) says) ∙ single)
     ∙ (ap (λ b. not b && (not (is_misplaced method) && (not (bytes_eq (codes "shutdown") method) && not (reserves (params_of body))))) lspmux
     ∙ (ap (λ b. not b && (not (bytes_eq (codes "shutdown") method) && not (reserves (params_of body)))) placed
     ∙ (ap (λ b. not b && not (reserves (params_of body))) serve.stays ∙ ap not free))))
-  where
-    starts : (b : Bool) → bytes_eq (codes "initialize") method ≡ b → b ≡ false
-    starts false h = refl
-    starts true h = never (sym (ap (λ b. b || bytes_eq (codes "shutdown") method) h) ∙ passed)

@@ -3,7 +3,7 @@ use Rattle.std.proofs.Common.{◌<◌, ap, subst, sym, ◌∙◌}
 use Rattle.event_model.specs.Does.{Does}
 use Rattle.event_model.specs.Event.{with_cause}
 use Rattle.event_model.specs.Row.{◌⨾◌}
-use Rattle.event_model.proofs.Places.{item_at}
+use Rattle.event_model.proofs.Places.{item_at, same_item}
 use Rattle.event_model.proofs.Turns.{does_alike}
 use Rattle.group_rows.specs.Rows.{forward, sync_row}
 use Rattle.mux_history.specs.declared.cause.Cause.TheVariants.{FromEditor}
@@ -18,7 +18,12 @@ use Rattle.mux_tables.specs.mux_tokens.proofs.Stays.{takes_none}
 use Rattle.mux_editors.proofs.Beginning.{by_kept, same_kept, same_length}
 use Rattle.mux_editors.proofs.Classes.{not_own, serves}
 use Rattle.mux_editors.proofs.Runs.{no_shutdown, then_rest}
+use Rattle.event_model.specs.Spawns.{start_of}
+use Rattle.event_model.specs.Stages.{Life, is_ready}
+use Rattle.mux_tables.specs.Stands.{of_life}
+use Rattle.mux_editors.proofs.KeptBack.{full_ready}
 use Rattle.mux_editors.proofs.Serving.{request_keeps, request_makes}
+use Rattle.mux_editors.proofs.Staying.{unheld_refused, unheld_reserved}
 use Rattle.mux_editors.proofs.requests.take_request.Goals as goal
 
 pub returns-then-reserved-clause-does : goal.returns-then-reserved-clause-does
@@ -50,8 +55,10 @@ returns-in_ok-send_on-in-Some-clause-does c = λ settings before body method id 
     let x = item_at t.lasts.items g c.in-Some.ensures.inside in
     let y = same_kept unasked u.lasts.items t.lasts.items (sym c.in_ok-hear_running-in-Some.ensures.rest) g x.0 x.1 in
     let s = x.0.life.start in
+    let last = st.lasts.each g x.0 x.1 in
+    let ready = ap (λ (l : Life). is_ready l.stage) (last.parts of_life) ∙ ap is_ready (c.in-Some.ensures.takes x.0 x.1).0 in
     let serve = serves method (not_own method other) in
-    let begun = c.in_ok-hear_running-in-Some.ensures.begun settings before body served (request_makes method id params serve m says) (answers_none settings e m before (ap is_answer says)) (takes_none settings e m before (no_shutdown m (request_makes method id params serve m says)) (ap is_answer says)) (unheld_refused settings e body m before (λ h home. full_ready settings before e body h s (ap (λ n. start_of n before) (same_item (sym home ∙ c.in-Some.ensures.home settings before x.0 x.1 st)) ∙ sym (st.lasts.each g x.0 x.1).start) (ap is_ready (stage_here settings t before g x.0 st x.1) ∙ ap is_ready (c.in-Some.ensures.takes x.0 x.1).0))) (request_keeps method id params serve before e m says) first meant settled st ds in
+    let begun = c.in_ok-hear_running-in-Some.ensures.begun settings before body served (request_makes method id params serve m says) (answers_none settings e m before (ap is_answer says)) (takes_none settings e m before (no_shutdown m (request_makes method id params serve m says)) (ap is_answer says)) (unheld_refused settings e body m before (λ h home. full_ready settings before e body h s (ap (λ n. start_of n before) (same_item (sym home ∙ c.in-Some.ensures.home settings before x.0 x.1 st)) ∙ last.start) ready)) (request_keeps method id params serve before e m says) first meant settled st ds in
     then_rest begun.done (does_alike (λ _. c.in-Some.ensures.goes settings before body s x.0 x.1 (number_there t.lasts.items g x.0 x.1) (sym (c.in_ok-reserved.ensures body method id params read says) ∙ c.if-reserved.false) st)
     (by_kept (λ n k. Does (λ k events. AllStand settings k events) (sync_row settings before n k e ⨾ forward settings k body) (with_cause before (FromEditor e body)) (u, nothing_owed) xs (c.send_on.new.tables, nothing_owed) c.send_on.new.outs) x.0 y.0 y.1.1
     (c.in_ok-send_on-in-Some.ensures.does settings before body method id params y.0.life.start read says other begun.asks (number_there u.lasts.items g y.0 y.1.0) y.0 y.1.0)))

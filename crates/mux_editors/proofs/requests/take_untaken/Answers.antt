@@ -10,7 +10,7 @@ use Rattle.mux_tables.proofs.Asking.{answers_none}
 use Rattle.mux_tables.proofs.DocumentOwed.{all_does}
 use Rattle.mux_tables.specs.mux_tokens.proofs.Stays.{takes_none}
 use Rattle.std.proofs.lemmas.Bool.{and_parts}
-use Rattle.mux_editors.proofs.Classes.{not_own, passes, serves}
+use Rattle.mux_editors.proofs.Classes.{not_own, serves}
 use Rattle.mux_editors.proofs.KeptBack.{asks_start, both_hold, refused_here, waits_here}
 use Rattle.mux_editors.proofs.Runs.{no_shutdown, then_rest}
 use Rattle.mux_editors.proofs.Serving.{request_keeps, request_makes}
@@ -22,9 +22,9 @@ returns-in_ok-keep_back-in-Some-clause-does c = λ settings before body method i
     let m = message_of body in
     let serve = serves method (not_own method other) in
     let here = c.in-Some.ensures.held settings before body read st in
-    let asks = asks_start before c.args.e body m id method params says other serve (passes method (not_own method other)) single free in
-    let begun = c.in_ok-keep_back-in-Some.ensures.begun settings before body method id params read says asks here.0 here.1.0 served (request_makes method id params serve m says) first meant settled st ds in
-    then_rest begun.done (does_alike (λ _. alike_then row (waits_here settings before c.args.e body c.in-Some.g here.0 (both_hold here.1.0 here.1.1))) does_nothing)
+    let asks = asks_start before c.args.e body m id method params says other (not_own method other) single free in
+    let begun = c.in_ok-keep_back-in-Some.ensures.begun settings before body method id params read says asks here.0 here.1 served (request_makes method id params serve m says) first meant settled st ds in
+    then_rest begun.done (does_alike (λ _. alike_then row (waits_here settings before c.args.e body c.in-Some.g here.0 (both_hold here.1 here.2))) does_nothing)
 
 pub returns-in_ok-refuse_request-in-None-clause-does : goal.returns-in_ok-refuse_request-in-None-clause-does
 returns-in_ok-refuse_request-in-None-clause-does c = λ settings before body method id params read says other served single free row first meant settled st ds.
