@@ -26,3 +26,4 @@ pub mod Unopened
 pub mod Working
 pub mod Staying
 pub mod KeptBack
+pub mod Withdrawing

@@ -30,7 +30,13 @@ use rpc_message::{Message, ok_reply};
 use std::alloc::Global;
 
 // Those of its requests that the last start of its group, which is in this place, has to answer fail.
-fn lose_at(tables: &mut Tables, alloc: Global, outs: &mut Outs, g: usize, e: u64) -> Result<(), Memory>
+fn lose_at(
+    tables: &mut Tables,
+    alloc: Global,
+    outs: &mut Outs,
+    g: usize,
+    e: u64,
+) -> Result<(), Memory>
     requires { g < length tables.old.lasts.items }
     ensures requests { tables.new.requests ≡ tables.old.requests }
     ensures versions { tables.new.versions ≡ tables.old.versions }
@@ -49,7 +55,13 @@ fn lose_at(tables: &mut Tables, alloc: Global, outs: &mut Outs, g: usize, e: u64
 }
 
 // Where its group, which has this number, has such a start.
-fn lose_in(tables: &mut Tables, alloc: Global, outs: &mut Outs, home: u64, e: u64) -> Result<(), Memory>
+fn lose_in(
+    tables: &mut Tables,
+    alloc: Global,
+    outs: &mut Outs,
+    home: u64,
+    e: u64,
+) -> Result<(), Memory>
     ensures requests { tables.new.requests ≡ tables.old.requests }
     ensures versions { tables.new.versions ≡ tables.old.versions }
     ensures lasts { tables.new.lasts ≡ tables.old.lasts }
