@@ -1,5 +1,5 @@
 -- An editor's request goes on behind a sync.
-use Rattle.std.proofs.Common.{◌≡◌, ℕ, ◌<◌, ◌^◌, true, false, not, List, [], ◌∷◌, ◌++◌, map, refl, ap, ap₂, sym, subst, ◌∙◌, codes, arith}
+use Rattle.std.proofs.Common.{◌≡◌, ℕ, ◌<◌, ◌^◌, true, false, not, List, [], ◌∷◌, ◌++◌, map, ap, ap₂, sym, subst, ◌∙◌, codes, arith}
 use Rattle.std.specs.Prelude.{Option, Some, decimal, slice_get}
 use Rattle.std.specs.List.{AllByRecursion}
 use Rattle.json_text.specs.Json.{Json}
@@ -14,7 +14,6 @@ use Rattle.event_model.specs.Event.{Event, behind, heard, requests, with_cause}
 use Rattle.event_model.specs.Requests.{is_own}
 use Rattle.event_model.specs.Row.{look, outs, send, ◌⨾◌}
 use Rattle.event_model.specs.Settings.{Settings}
-use Rattle.event_model.proofs.Frames.{one_more}
 use Rattle.mux_model.specs.Documents.{held_at}
 use Rattle.mux_model.specs.Rows.{to_start}
 use Rattle.mux_model.proofs.DocumentFolds.{outs_to_start}

@@ -13,7 +13,6 @@ use Rattle.rpc_message.specs.Message.{Id, Message, request}
 use Rattle.rpc_message.specs.Texts.{request_failed}
 use Rattle.event_model.specs.Does.{Alike}
 use Rattle.event_model.specs.Members.{params_of}
-use Rattle.event_model.specs.Requests.{is_own}
 use Rattle.event_model.specs.Row.{nothing, on}
 use Rattle.event_model.proofs.Turns.{alike, alike_then}
 use Rattle.event_model.specs.declared.phase.Phase.{Phase}

@@ -1,5 +1,5 @@
 -- A cancel of an editor takes back what waits, goes on, or gives nothing.
-use Rattle.std.proofs.Common.{◌<◌, ap, codes, map, refl, subst, sym, ◌∙◌}
+use Rattle.std.proofs.Common.{◌<◌, ap, codes, refl, subst, sym, ◌∙◌}
 use Rattle.event_model.specs.Event.{requests, with_cause}
 use Rattle.event_model.specs.Phases.{desk_of}
 use Rattle.event_model.proofs.Turns.{does_alike}

@@ -1,7 +1,7 @@
 -- A request waits, and its editor may begin to run by it.
 use Rattle.std.proofs.Common.{◌≡◌, ℕ, List, true, subst, sym, ap, ◌∙◌, ◌++◌, [], ◌∷◌}
 use Rattle.event_model.specs.declared.phase.Phase.TheVariants.{Running}
-use Rattle.event_model.specs.Event.{Event, heard, with_cause}
+use Rattle.event_model.specs.Event.{heard}
 use Rattle.event_model.specs.Phases.{desk_of}
 use Rattle.group_rows.specs.Waiting.{is_for_start}
 use Rattle.mux_history.specs.declared.cause.Cause.TheVariants.{FromEditor}

@@ -1,5 +1,5 @@
 -- Whether a request may wait.
-use Rattle.std.proofs.Common.{ap, length, map, not, sym, subst, true, false, ◌≡◌, ◌∙◌}
+use Rattle.std.proofs.Common.{ap, length, sym, false, ◌≡◌, ◌∙◌}
 use Rattle.std.specs.Prelude.{Some}
 use Rattle.std.specs.Option.{option_and_then}
 use Rattle.event_model.specs.Spawns.{start_of}

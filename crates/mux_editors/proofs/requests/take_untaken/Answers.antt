@@ -1,5 +1,5 @@
 -- A request that no start takes waits, or is refused.
-use Rattle.std.proofs.Common.{ap, true, ◌&&◌, ◌∙◌}
+use Rattle.std.proofs.Common.{ap}
 use Rattle.event_model.specs.Event.{with_cause}
 use Rattle.event_model.proofs.Turns.{alike_then, does_alike, does_nothing}
 use Rattle.mux_history.specs.declared.cause.Cause.TheVariants.{FromEditor}
@@ -9,7 +9,6 @@ use Rattle.mux_tables.specs.Stands.{is_answer}
 use Rattle.mux_tables.proofs.Asking.{answers_none}
 use Rattle.mux_tables.proofs.DocumentOwed.{all_does}
 use Rattle.mux_tables.specs.mux_tokens.proofs.Stays.{takes_none}
-use Rattle.std.proofs.lemmas.Bool.{and_parts}
 use Rattle.mux_editors.proofs.Classes.{not_own, serves}
 use Rattle.mux_editors.proofs.KeptBack.{asks_start, both_hold, refused_here, waits_here}
 use Rattle.mux_editors.proofs.Runs.{no_shutdown, then_rest}
