@@ -1,5 +1,5 @@
 -- An editor's request goes on behind a sync.
-use Rattle.std.proofs.Common.{◌≡◌, ℕ, ◌<◌, ◌^◌, true, false, not, List, [], ◌∷◌, ◌++◌, map, refl, ap, ap₂, sym, subst, ◌∙◌, codes, arith}
+use Rattle.std.proofs.Common.{◌≡◌, ℕ, ◌<◌, ◌^◌, true, false, not, List, [], ◌∷◌, ◌++◌, map, ap, ap₂, sym, subst, ◌∙◌, codes, arith}
 use Rattle.std.specs.Prelude.{Option, Some, decimal, slice_get}
 use Rattle.std.specs.List.{AllByRecursion}
 use Rattle.json_text.specs.Json.{Json}
@@ -14,7 +14,6 @@ use Rattle.event_model.specs.Event.{Event, behind, heard, requests, with_cause}
 use Rattle.event_model.specs.Requests.{is_own}
 use Rattle.event_model.specs.Row.{look, outs, send, ◌⨾◌}
 use Rattle.event_model.specs.Settings.{Settings}
-use Rattle.event_model.proofs.Frames.{one_more}
 use Rattle.mux_model.specs.Documents.{held_at}
 use Rattle.mux_model.specs.Rows.{to_start}
 use Rattle.mux_model.proofs.DocumentFolds.{outs_to_start}
@@ -23,8 +22,8 @@ use Rattle.group_rows.specs.Forwarded.{Forwarding, first_sender, forwarding_of, 
 use Rattle.group_rows.specs.Rows.{forward, sync_bodies, sync_row}
 use Rattle.group_rows.specs.Tokens.{forwarded_text}
 use Rattle.group_rows.proofs.TokenTexts.{forwarded_says}
-use Rattle.group_rows.specs.Texts.{is_synced, texts_of}
-use Rattle.group_rows.specs.Waiting.{worker_of}
+use Rattle.group_rows.specs.Texts.{is_synced, texts_of, toucher, toucher_of}
+use Rattle.group_rows.specs.Waiting.{first_waiting, worker_of}
 use Rattle.group_rows.proofs.Frames.{forwarding_more}
 use Rattle.mux_tables.specs.declared.tables.Start.{Start}
 use Rattle.mux_tables.specs.declared.tables.Tables.{Tables}
@@ -84,8 +83,9 @@ module _ (settings : Settings) (t : Tables) (before : List Event) (body method :
         let goes = (text_says (bound k.0)).1 in
         let silent : saying_of (message_of text) ≡ nothing = ap saying_of goes in
         let goes_behind : is_synced (message_of text) ≡ true = ap is_synced goes ∙ ap not passed in
-        let row = row_bodies settings t now i e x d.0 text at d.1 ready silent goes_behind works k.0 k.1 in
-        let speak : AllTell (syncing settings now g x.life.start e) = subst AllTell (sym row) (tell settings t now i e x d.0 text at d.1 ready silent goes_behind works k.0 k.1) in
+        let touches : toucher_of settings x.life.start now (message_of text) ≡ Some e = ap (λ w. toucher w (message_of text) (first_waiting settings x.life.start now)) works in
+        let row = row_bodies settings t now i e x d.0 text at d.1 ready silent goes_behind touches k.0 k.1 in
+        let speak : AllTell (syncing settings now g x.life.start e) = subst AllTell (sym row) (tell settings t now i e x d.0 text at d.1 ready silent goes_behind touches k.0 k.1) in
         let st = stands_told settings t i x at (syncing settings now g x.life.start e) now speak k.0 in
         let told : (forwarding_of settings s (behind now (to s (syncing settings now g s e)))).next ≡ x.ids.next = subst (λ m. (forwarding_of settings m (behind now (to m (syncing settings now g m e)))).next ≡ x.ids.next) own ((st.lasts.each i x at).parts of_ids).next in
         ap (λ bs. (forwarding_of settings s (behind now (to s bs))).next) (sym same_bodies) ∙ (told ∙ sym next)

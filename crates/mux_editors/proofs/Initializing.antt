@@ -156,7 +156,7 @@ module _ (settings : Settings) (before : List Event) (e : ℕ) (body : List ℕ)
   next_now : (n : ℕ) (xs : List Out) → xs ≡ [] → n ≡ length (groups_of settings before) → IsNext n (behind base xs)
   next_now n xs first is =
       let here : (g : ℕ) → start_of g (behind base xs) ≡ start_of g before = λ g. ap (λ ys. start_of g (behind base ys)) first ∙ (ap (start_of g) (append-nil base) ∙ start_same g) in
-      subst (λ m. IsNext m (behind base xs)) (sym is) (record { none = λ h l. here settings h ∙ next_before.none h l })
+      subst (λ m. IsNext m (behind base xs)) (sym is) (record { none = λ h l. here h ∙ next_before.none h l })
 
   pub founds_next : (n : ℕ) (xs : List Out) → xs ≡ [] → Founds n ≡ placed_for settings before e body (groups_of settings before) → IsNext n (behind base xs)
   founds_next n xs first is = next_now n xs first (subst (Founded (length (groups_of settings before))) (sym is) (placed_next settings.limits.groups (key_for settings before e body) (declared_for settings before e body) (groups_of settings before)))

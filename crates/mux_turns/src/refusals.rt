@@ -9,6 +9,7 @@ ghost use Rattle.event_model.specs.Members.{params_of};
 ghost use Rattle.group_facts.specs.group_rows.specs.Rows.{answer_error, early_code, forward, request_row, sync_row, wrong_code};
 ghost use Rattle.group_facts.specs.group_rows.specs.Reserved.{reserves};
 ghost use Rattle.json_text.specs.Json.{Json};
+ghost use Rattle.group_words.specs.Houses.{home_of};
 ghost use Rattle.group_facts.specs.mux_model.specs.Rows.{malformed_code, malformed_row};
 ghost use Rattle.mux_tables.specs.declared.tables.Start.{Start};
 ghost use Rattle.mux_tables.specs.Documents.{DocumentsStand, Owed};
@@ -166,6 +167,8 @@ pub fn refuse_early(
 /// none where the editor is in no group, or the group has no start, or that start ended, isn't ready or has no number left: then it waits, or is to be refused.
 pub fn asked_at(tables: &Tables, e: u64) -> Option<usize>
     ensures inside { IfSome result (λ g. g < length tables.now.lasts.items) }
+    ensures home { IfSome result (λ g. (settings : Settings) (before : List Event) (x : Start) → slice_get tables.now.lasts.items g ≡ Some x
+        → Stands settings tables.now before → home_of settings e before ≡ Some x.life.group) }
     ensures takes { IfSome result (λ g. (x : Start) → slice_get tables.now.lasts.items g ≡ Some x → (x.life.stage ≡ Ready) × (x.ids.next < x.ids.limit)) }
     ensures waits { IfNone result ((settings : Settings) (before : List Event) (body : List ℕ) → reserves (params_of body) ≡ false
         → Stands settings tables.now before → Alike (request_row settings before e body) (waiting_row settings before e body)) }

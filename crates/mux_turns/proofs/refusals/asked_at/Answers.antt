@@ -6,6 +6,9 @@ use Rattle.event_model.proofs.Places.{item_at}
 use Rattle.mux_tables.proofs.Homes.{group_seen}
 use Rattle.mux_turns.proofs.refusals.asked_at.Goals as goal
 
+pub returns-then-can_ask-clause-home : goal.returns-then-can_ask-clause-home
+returns-then-can_ask-clause-home c = λ settings before x at st. c.in_ok-g.ensures.home settings before x at st
+
 pub returns-then-can_ask-clause-takes : goal.returns-then-can_ask-clause-takes
 returns-then-can_ask-clause-takes c = λ x at. taken x c.can_ask.result (c.can_ask.ensures.takes x at) c.if-can_ask.true
 
