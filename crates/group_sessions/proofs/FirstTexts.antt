@@ -68,6 +68,11 @@ pub record IsAsked (r : Request) : Type 0 where
   pub says : message_of r.body ≡ request id method params
   pub other : is_own method ≡ false
 
+-- what goes behind no sync
+abbrev pub IsFree : Out → Type 0
+IsFree (ToServer n body) = is_synced (message_of body) ≡ false
+IsFree out = Unit {0}
+
 module _ (settings : Settings) (range : InRange settings) (s g : ℕ) (code : Encoding) where
   -- what waits, what is open and what the start has, at a place
   pub record At (rs : List Request) (places : List Event) : Type 0 where
@@ -83,14 +88,23 @@ module _ (settings : Settings) (range : InRange settings) (s g : ℕ) (code : En
     pub versions : documents.versions ≡ settings.limits.versions
     pub held : Held documents (λ u. held_at s u places)
 
-  both_own : (places : List Event) (xs ys : List Out) → AllOnOwnTexts settings places xs → AllOnOwnTexts settings (behind places xs) ys → AllOnOwnTexts settings places (xs ++ ys)
+  pub both_own : (places : List Event) (xs ys : List Out) → AllOnOwnTexts settings places xs → AllOnOwnTexts settings (behind places xs) ys → AllOnOwnTexts settings places (xs ++ ys)
   both_own places [] ys f h = subst (λ z. AllOnOwnTexts settings z ys) (append-nil places) h
   both_own places (x ∷ xs) ys f h = (f.0, both_own (places ++ said x ∷ []) xs ys f.1 (subst (λ z. AllOnOwnTexts settings z ys) (sym (append_assoc places (said x ∷ []) (map said xs))) h))
 
   -- bodies on documents go behind no sync
-  speak_own : (places : List Event) (bodies : List (List ℕ)) → AllSpeak bodies → AllOnOwnTexts settings places (to s bodies)
+  pub speak_own : (places : List Event) (bodies : List (List ℕ)) → AllSpeak bodies → AllOnOwnTexts settings places (to s bodies)
   speak_own places [] h = tt
   speak_own places (b ∷ bodies) h = (λ goes. never (sym goes ∙ spoken_aside (message_of b) h.0), speak_own (places ++ said (ToServer s b) ∷ []) bodies h.1)
+
+  -- nor do these
+  pub free_own : (places : List Event) (xs : List Out) → AllByRecursion IsFree xs → AllOnOwnTexts settings places xs
+  free_own places [] h = tt
+  free_own places (ToServer n body ∷ xs) h = (λ goes. never (sym goes ∙ h.0), free_own (places ++ said (ToServer n body) ∷ []) xs h.1)
+  free_own places (ToEditor n body ∷ xs) h = (tt, free_own (places ++ said (ToEditor n body) ∷ []) xs h.1)
+  free_own places (Spawn n i ∷ xs) h = (tt, free_own (places ++ said (Spawn n i) ∷ []) xs h.1)
+  free_own places (CloseEditor n ∷ xs) h = (tt, free_own (places ++ said (CloseEditor n) ∷ []) xs h.1)
+  free_own places (EndServer n ∷ xs) h = (tt, free_own (places ++ said (EndServer n) ∷ []) xs h.1)
 
   -- what bodies to the start leave
   record Base (rs : List Request) (n : ℕ) (places : List Event) : Type 0 where
@@ -115,6 +129,10 @@ module _ (settings : Settings) (range : InRange settings) (s g : ℕ) (code : En
 
   given_said : (places : List Event) (out : Out) → starts.encoding_of s (places ++ said out ∷ []) ≡ starts.encoding_of s places
   given_said places out = fold-append (starts.encoding_behind s) None places (said out ∷ []) ∙ given_out (starts.encoding_of s places) out
+
+  pub given_outs : (places : List Event) (xs : List Out) → starts.encoding_of s (behind places xs) ≡ starts.encoding_of s places
+  given_outs places [] = ap (starts.encoding_of s) (append-nil places)
+  given_outs places (x ∷ xs) = ap (starts.encoding_of s) (sym (append_assoc places (said x ∷ []) (map said xs))) ∙ (given_outs (places ++ said x ∷ []) xs ∙ given_said places x)
 
   base_said : (rs : List Request) (n : ℕ) (places : List Event) (body : List ℕ) → speaks (saying_of (message_of body)) ≡ true → Base rs n places → Base rs n (places ++ said (ToServer s body) ∷ [])
   base_said rs n places body speak h = let m : Spoken (message_of body) = spoken (message_of body) speak in record {
