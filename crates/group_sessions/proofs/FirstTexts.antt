@@ -1,5 +1,5 @@
 -- S2: each request that waited stands, where it goes to the start, on its editor's own texts.
-use Rattle.std.proofs.Common.{◌≡◌, ℕ, ◌<◌, ◌^◌, Bool, true, false, not, ◌&&◌, cond, List, [], ◌∷◌, ◌++◌, append-nil, append_assoc, decimal, map, find, nat_eq, nat_lt, if◌then◌else◌, Option, Some, None, refl, sym, ◌∙◌, ap, ap₂, subst, arith, ltb-true}
+use Rattle.std.proofs.Common.{◌≡◌, ℕ, ◌<◌, ◌^◌, Bool, true, false, not, ◌&&◌, List, [], ◌∷◌, ◌++◌, append-nil, append_assoc, decimal, map, find, nat_eq, nat_lt, if◌then◌else◌, Option, Some, None, refl, sym, ◌∙◌, ap, ap₂, subst, arith, ltb-true}
 use Rattle.std.specs.Prelude.{drop, slice_get}
 use Rattle.std.specs.List.{AllByRecursion}
 use Rattle.std.specs.Option.{option_and_then, option_map}
@@ -7,7 +7,6 @@ use Rattle.json_text.specs.Json.{Json}
 use Rattle.position_codec.specs.declared.Encoding.{Encoding}
 use Rattle.document_model.specs.Helds.{HeldText}
 use Rattle.document_model.specs.Opens.{Open, holder, is_open_at}
-use Rattle.document_model.specs.Rows.{Agrees}
 use Rattle.document_model.specs.Sayings.{saying_of, speaks}
 use Rattle.document_model.specs.Texts.{Texts, found}
 use Rattle.document_model.proofs.Spoken.{AllSpeak}
@@ -18,7 +17,7 @@ use Rattle.mux_history.specs.declared.out.Out.{Out}
 use Rattle.mux_history.specs.declared.out.Out.TheVariants.{ToEditor, ToServer, Spawn, CloseEditor, EndServer}
 use Rattle.rpc_message.specs.Message.{Id, Message, request, integer, message_of, notification}
 use Rattle.rpc_message.specs.Texts.{error_text, request_failed}
-use Rattle.event_model.specs.Event.{Event, behind, said, did}
+use Rattle.event_model.specs.Event.{Event, behind, said, did, heard, with_cause}
 use Rattle.event_model.specs.Requests.{is_own}
 use Rattle.event_model.specs.Row.{each, outs, choose, ◌⨾◌}
 use Rattle.event_model.specs.Settings.{Settings}
@@ -59,6 +58,14 @@ use Rattle.group_rows.proofs.Moments.{asks}
 use Rattle.group_facts.proofs.Numbers.{forwarding_sent}
 use Rattle.group_facts.proofs.Forwards.{notified_next}
 use Rattle.group_sessions.proofs.Replayed.{silent_outs}
+use Rattle.event_model.specs.declared.stage.Stage.{Stage}
+use Rattle.event_model.specs.declared.stage.Stage.TheVariants.{Unspawned, Spawning, Initializing, Ready, Stopping, Ending, Ended}
+use Rattle.event_model.specs.Stages.{Life, is_first_result, is_initializing, is_ready, life_of, stage_ending, stage_hears, stage_told}
+use Rattle.mux_facts.proofs.Folds.{life_more}
+use Rattle.mux_history.specs.declared.cause.Cause.{Cause}
+use Rattle.mux_history.specs.declared.cause.Cause.TheVariants.{FromServer}
+use Rattle.group_facts.specs.Why.{IsAwaited}
+use Rattle.group_sessions.specs.ExitReplay.{gives_result}
 
 -- one that may go to a start
 pub record IsAsked (r : Request) : Type 0 where
@@ -297,3 +304,53 @@ module _ (settings : Settings) (range : InRange settings) (s g : ℕ) (code : En
       go false full off on = off full
       go true room off on = subst (λ b. AllOnOwnTexts settings places (outs (choose b (rows.sync_row settings places g s r.editor ⨾ forward settings s r.body) (refuse_waiting r)) places
           ++ outs (each (send_waiting settings g s) rs) (behind places (outs (choose b (rows.sync_row settings places g s r.editor ⨾ forward settings s r.body) (refuse_waiting r)) places)))) (sym room) (on room)
+
+-- Where a request that waited goes, the start gives its first result
+
+module _ (s : ℕ) where
+  ready_told : (stage : Stage) (m : Message) → is_ready (stage_told stage m) ≡ true → is_ready stage ≡ true
+  ready_told Ready m h = refl
+  ready_told Unspawned m h = h
+  ready_told Spawning m h = h
+  ready_told Initializing m h = h
+  ready_told Stopping m h = h
+  ready_told Ending m h = h
+  ready_told Ended m h = h
+
+  ready_ending : (stage : Stage) → is_ready (stage_ending stage) ≡ true → is_ready stage ≡ true
+  ready_ending Ended h = never (sym h)
+  ready_ending other h = never (sym h)
+
+  pick : (b : Bool) (x y : Life) → (is_ready x.stage ≡ true → is_ready y.stage ≡ true) → is_ready (if b then x else y).stage ≡ true → is_ready y.stage ≡ true
+  pick true x y f h = f h
+  pick false x y f h = h
+
+  -- outs make none ready
+  ready_did : (places : List Event) (out : Out) → is_ready (life_of s (places ++ said out ∷ [])).stage ≡ true → is_ready (life_of s places).stage ≡ true
+  ready_did places (ToServer n body) h = pick (nat_eq n s) (record { stage = stage_told (life_of s places).stage (message_of body); started = (life_of s places).started }) (life_of s places) (ready_told (life_of s places).stage (message_of body)) (ap (λ (l : Life). is_ready l.stage) (sym (life_more s places (said (ToServer n body)))) ∙ h)
+  ready_did places (Spawn n i) h = pick (nat_eq n s) (record { stage = Spawning; started = false }) (life_of s places) (λ k. never (sym k)) (ap (λ (l : Life). is_ready l.stage) (sym (life_more s places (said (Spawn n i)))) ∙ h)
+  ready_did places (EndServer n) h = pick (nat_eq n s) (record { stage = stage_ending (life_of s places).stage; started = (life_of s places).started }) (life_of s places) (ready_ending (life_of s places).stage) (ap (λ (l : Life). is_ready l.stage) (sym (life_more s places (said (EndServer n)))) ∙ h)
+  ready_did places (ToEditor n body) h = ap (λ (l : Life). is_ready l.stage) (sym (life_more s places (said (ToEditor n body)))) ∙ h
+  ready_did places (CloseEditor n) h = ap (λ (l : Life). is_ready l.stage) (sym (life_more s places (said (CloseEditor n)))) ∙ h
+
+  ready_before : (places : List Event) (xs : List Out) → is_ready (life_of s (behind places xs)).stage ≡ true → is_ready (life_of s places).stage ≡ true
+  ready_before places [] h = ap (λ z. is_ready (life_of s z).stage) (sym (append-nil places)) ∙ h
+  ready_before places (x ∷ xs) h = ready_did places x (ready_before (places ++ said x ∷ []) xs (ap (λ z. is_ready (life_of s z).stage) (append_assoc places (said x ∷ []) (map said xs)) ∙ h))
+
+pub waited_gives : (settings : Settings) (before : List Event) (cause : Cause) (events : List Event) (s e : ℕ) (asked : List ℕ) (w : IsAwaited settings before cause events s e asked) → (life_of s events).stage ≡ Ready → gives_result s before w.answer ≡ true
+waited_gives settings before cause events s e asked w ready = ap₂ (λ a b. a && b) (ap is_initializing w.stage) (first (is_first_result (message_of w.answer)) refl)
+  where
+    now : List Event
+    now = with_cause before (FromServer s w.answer)
+
+    ready_now : is_ready (life_of s now).stage ≡ true
+    ready_now = ap (λ c. is_ready (life_of s (with_cause before c)).stage) (sym w.from) ∙ ready_before s (with_cause before cause) w.outs (ap (λ z. is_ready (life_of s z).stage) (sym w.entry)
+        ∙ ready_before s w.earlier (map (λ text. ToServer s text) (sync_bodies settings.limits.versions (λ u. held_at s u w.earlier) e (texts_of settings w.group w.earlier).opens)) (ap (λ z. is_ready (life_of s z).stage) (sym w.place) ∙ ap is_ready ready))
+
+    stage_now : (life_of s now).stage ≡ (if is_first_result (message_of w.answer) then Ready else Initializing)
+    stage_now = ap (λ (l : Life). l.stage) (life_more s before (heard (FromServer s w.answer)))
+        ∙ (ap (λ b. (if b then record { stage = stage_hears (life_of s before).stage (message_of w.answer); started = (life_of s before).started } else life_of s before).stage) (same_number s) ∙ ap (λ z. stage_hears z (message_of w.answer)) w.stage)
+
+    first : (b : Bool) → is_first_result (message_of w.answer) ≡ b → b ≡ true
+    first true is = refl
+    first false off = never (sym (sym (ap is_ready (stage_now ∙ ap (λ b. if b then Ready else Initializing) off)) ∙ ready_now))
