@@ -80,6 +80,20 @@ abbrev pub IsFree : Out → Type 0
 IsFree (ToServer n body) = is_synced (message_of body) ≡ false
 IsFree out = Unit {0}
 
+module _ (settings : Settings) where
+  pub both_own : (places : List Event) (xs ys : List Out) → AllOnOwnTexts settings places xs → AllOnOwnTexts settings (behind places xs) ys → AllOnOwnTexts settings places (xs ++ ys)
+  both_own places [] ys f h = subst (λ z. AllOnOwnTexts settings z ys) (append-nil places) h
+  both_own places (x ∷ xs) ys f h = (f.0, both_own (places ++ said x ∷ []) xs ys f.1 (subst (λ z. AllOnOwnTexts settings z ys) (sym (append_assoc places (said x ∷ []) (map said xs))) h))
+
+  -- what goes behind no sync stands on none
+  pub free_own : (places : List Event) (xs : List Out) → AllByRecursion IsFree xs → AllOnOwnTexts settings places xs
+  free_own places [] h = tt
+  free_own places (ToServer n body ∷ xs) h = (λ goes. never (sym goes ∙ h.0), free_own (places ++ said (ToServer n body) ∷ []) xs h.1)
+  free_own places (ToEditor n body ∷ xs) h = (tt, free_own (places ++ said (ToEditor n body) ∷ []) xs h.1)
+  free_own places (Spawn n i ∷ xs) h = (tt, free_own (places ++ said (Spawn n i) ∷ []) xs h.1)
+  free_own places (CloseEditor n ∷ xs) h = (tt, free_own (places ++ said (CloseEditor n) ∷ []) xs h.1)
+  free_own places (EndServer n ∷ xs) h = (tt, free_own (places ++ said (EndServer n) ∷ []) xs h.1)
+
 module _ (settings : Settings) (range : InRange settings) (s g : ℕ) (code : Encoding) where
   -- what waits, what is open and what the start has, at a place
   pub record At (rs : List Request) (places : List Event) : Type 0 where
@@ -95,23 +109,10 @@ module _ (settings : Settings) (range : InRange settings) (s g : ℕ) (code : En
     pub versions : documents.versions ≡ settings.limits.versions
     pub held : Held documents (λ u. held_at s u places)
 
-  pub both_own : (places : List Event) (xs ys : List Out) → AllOnOwnTexts settings places xs → AllOnOwnTexts settings (behind places xs) ys → AllOnOwnTexts settings places (xs ++ ys)
-  both_own places [] ys f h = subst (λ z. AllOnOwnTexts settings z ys) (append-nil places) h
-  both_own places (x ∷ xs) ys f h = (f.0, both_own (places ++ said x ∷ []) xs ys f.1 (subst (λ z. AllOnOwnTexts settings z ys) (sym (append_assoc places (said x ∷ []) (map said xs))) h))
-
   -- bodies on documents go behind no sync
   pub speak_own : (places : List Event) (bodies : List (List ℕ)) → AllSpeak bodies → AllOnOwnTexts settings places (to s bodies)
   speak_own places [] h = tt
   speak_own places (b ∷ bodies) h = (λ goes. never (sym goes ∙ spoken_aside (message_of b) h.0), speak_own (places ++ said (ToServer s b) ∷ []) bodies h.1)
-
-  -- nor do these
-  pub free_own : (places : List Event) (xs : List Out) → AllByRecursion IsFree xs → AllOnOwnTexts settings places xs
-  free_own places [] h = tt
-  free_own places (ToServer n body ∷ xs) h = (λ goes. never (sym goes ∙ h.0), free_own (places ++ said (ToServer n body) ∷ []) xs h.1)
-  free_own places (ToEditor n body ∷ xs) h = (tt, free_own (places ++ said (ToEditor n body) ∷ []) xs h.1)
-  free_own places (Spawn n i ∷ xs) h = (tt, free_own (places ++ said (Spawn n i) ∷ []) xs h.1)
-  free_own places (CloseEditor n ∷ xs) h = (tt, free_own (places ++ said (CloseEditor n) ∷ []) xs h.1)
-  free_own places (EndServer n ∷ xs) h = (tt, free_own (places ++ said (EndServer n) ∷ []) xs h.1)
 
   -- what bodies to the start leave
   record Base (rs : List Request) (n : ℕ) (places : List Event) : Type 0 where
@@ -271,7 +272,7 @@ module _ (settings : Settings) (range : InRange settings) (s g : ℕ) (code : En
       }
 
       goes_own : AllOnOwnTexts settings places (to s bodies ++ ToServer s text ∷ [])
-      goes_own = both_own places (to s bodies) (ToServer s text ∷ []) (speak_own places bodies speak) (stands, tt)
+      goes_own = both_own settings places (to s bodies) (ToServer s text ∷ []) (speak_own places bodies speak) (stands, tt)
 
       goes_at : At rs (behind places (to s bodies ++ ToServer s text ∷ []))
       goes_at = subst (At rs) (sym (behind_both places (to s bodies) (ToServer s text ∷ []))) gone_at
@@ -294,7 +295,7 @@ module _ (settings : Settings) (range : InRange settings) (s g : ℕ) (code : En
   pub each_own : (rs : List Request) (places : List Event) → At rs places → AllByRecursion IsAsked rs → AllOnOwnTexts settings places (outs (each (send_waiting settings g s) rs) places)
   each_own [] places h asked = tt
   each_own (r ∷ rs) places h asked = go (has_room settings s places) refl (full_own (r ∷ rs) places) (λ room. subst (λ z. AllOnOwnTexts settings places (z ++ outs (each (send_waiting settings g s) rs) (behind places z))) (sym (sends r rs places h asked.0 room))
-      (both_own places (to s (bodies r rs places h asked.0) ++ ToServer s (text r rs places h asked.0 room) ∷ []) (outs (each (send_waiting settings g s) rs) (behind places (to s (bodies r rs places h asked.0) ++ ToServer s (text r rs places h asked.0 room) ∷ [])))
+      (both_own settings places (to s (bodies r rs places h asked.0) ++ ToServer s (text r rs places h asked.0 room) ∷ []) (outs (each (send_waiting settings g s) rs) (behind places (to s (bodies r rs places h asked.0) ++ ToServer s (text r rs places h asked.0 room) ∷ [])))
       (goes_own r rs places h asked.0 room) (each_own rs (behind places (to s (bodies r rs places h asked.0) ++ ToServer s (text r rs places h asked.0 room) ∷ [])) (goes_at r rs places h asked.0 room) asked.1)))
     where
       go : (b : Bool) → has_room settings s places ≡ b → (has_room settings s places ≡ false → AllOnOwnTexts settings places (outs (each (send_waiting settings g s) (r ∷ rs)) places))

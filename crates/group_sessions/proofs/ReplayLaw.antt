@@ -1,6 +1,6 @@
 -- S2 with X4 of every first result: what the start has behind the row is what is open at editors of its group.
 use Rattle.std.proofs.Common.{◌≡◌, ℕ, Bool, true, false, List, [], ◌∷◌, ◌++◌, append-nil, append_assoc, flat_map, map, Option, Some, None, refl, sym, ◌∙◌, ap, subst, ap₂, if◌then◌else◌}
-use Rattle.std.specs.List.{AllByRecursion}
+use Rattle.std.specs.List.{AllByRecursion, range_with_len}
 use Rattle.std.proofs.lemmas.Bool.{and_parts}
 use Rattle.document_model.specs.Opens.{Open}
 use Rattle.document_model.specs.Orderly.{AllSpelt}
@@ -17,7 +17,7 @@ use Rattle.rpc_message.proofs.Fixed.{initialized_law}
 use Rattle.event_model.specs.declared.stage.Stage.{Stage}
 use Rattle.event_model.specs.declared.stage.Stage.TheVariants.{Unspawned, Spawning, Initializing, Ready, Stopping, Ending, Ended}
 use Rattle.event_model.specs.Event.{Event, behind, events_of, heard, said, with_cause}
-use Rattle.event_model.specs.Row.{choose, each, nothing, on, outs, send}
+use Rattle.event_model.specs.Row.{choose, each, nothing, on, outs, send, ◌⨾◌}
 use Rattle.event_model.specs.Settings.{Settings}
 use Rattle.event_model.specs.Spawns.{group_of}
 use Rattle.event_model.specs.Stages.{is_first_result, is_initializing, life_of}
@@ -55,7 +55,7 @@ use Rattle.group_laws.proofs.Entries.{all_told, held_same, known_sent}
 use Rattle.group_laws.proofs.Replaying.{ready_outs, ready_stays, ready_texts}
 use Rattle.group_laws.proofs.ReplayHeld.{ready_held}
 use Rattle.group_facts.specs.OwnTexts.{AllOnOwnTexts}
-use Rattle.group_facts.specs.Why.{Why}
+use Rattle.group_facts.specs.Why.{Why, quitting}
 use Rattle.group_facts.proofs.HeldOn.{held_answered}
 use Rattle.group_facts.proofs.Housed.{group_more}
 use Rattle.group_facts.proofs.LastStarts.{groups_rest}
@@ -67,6 +67,12 @@ use Rattle.group_sessions.proofs.FirstTexts.{At, IsAsked, IsFree, both_own, each
 use Rattle.mux_facts.proofs.Lists.{all_join, all_of}
 use Rattle.mux_facts.proofs.Reasons.{Reasons}
 use Rattle.mux_facts.proofs.Words.{same_number}
+use Rattle.mux_model.specs.Fits.{fits_behind}
+use Rattle.group_facts.specs.SlowRows.{entry_outs, close_slow, is_slow, slow_row}
+use Rattle.group_facts.proofs.SlowRow.{parting, parting_why, quit_unsynced}
+use Rattle.group_facts.proofs.Known.{entry_keeps, slow_keeps_facts}
+use Rattle.group_rows.specs.Leaves.{leave_row}
+use Rattle.event_model.specs.Phases.{editors_of}
 
 initializing_is : (stage : Stage) → is_initializing stage ≡ true → stage ≡ Initializing
 initializing_is Initializing h = refl
@@ -316,7 +322,7 @@ module _ (settings : Settings) (before : List Event) (facts : Facts settings bef
     }
 
     abbrev own_both : (places : List Event) (xs ys : List Out) → AllOnOwnTexts settings places xs → AllOnOwnTexts settings (behind places xs) ys → AllOnOwnTexts settings places (xs ++ ys)
-    own_both = both_own settings range s g code.0
+    own_both = both_own settings
 
     partings_free : AllByRecursion IsFree partings
     partings_free = go (differs (given_of g before) body)
@@ -347,12 +353,64 @@ module _ (settings : Settings) (before : List Event) (facts : Facts settings bef
 
     pub first_own : AllOnOwnTexts settings now (outs_of settings before (FromServer s body))
     first_own = subst (AllOnOwnTexts settings now) (sym row_is)
-        (own_both now partings (greeting ++ (conveyed ++ (replayed ++ (welcomed ++ released)))) (free_own settings range s g code.0 now partings partings_free)
-        (own_both at_1 greeting (conveyed ++ (replayed ++ (welcomed ++ released))) (free_own settings range s g code.0 at_1 greeting (ap is_synced initialized_law, tt))
+        (own_both now partings (greeting ++ (conveyed ++ (replayed ++ (welcomed ++ released)))) (free_own settings now partings partings_free)
+        (own_both at_1 greeting (conveyed ++ (replayed ++ (welcomed ++ released))) (free_own settings at_1 greeting (ap is_synced initialized_law, tt))
         (own_both at_2 conveyed (replayed ++ (welcomed ++ released)) conveyed_own
         (own_both at_3 replayed (welcomed ++ released) (subst (AllOnOwnTexts settings at_3) (sym replayed_is) (speak_own settings range s g code.0 at_3 (replay_bodies [] opens opens) (replay_speaks s opens spelt [] opens)))
-        (own_both at_4 welcomed released (free_own settings range s g code.0 at_4 welcomed (all_of IsTold IsFree told_free welcomed welcomed_told))
+        (own_both at_4 welcomed released (free_own settings at_4 welcomed (all_of IsTold IsFree told_free welcomed welcomed_told))
         (each_own settings range s g code.0 (waiting_of settings g at_5) at_5 there asked))))))
+
+-- a start of no group gives nothing
+pub first_unhoused : (settings : Settings) (before : List Event) (s : ℕ) (body : List ℕ) → gives_result s before body ≡ true → group_of s before ≡ None → outs_of settings before (FromServer s body) ≡ []
+first_unhoused settings before s body gives home = ap (λ z. outs (from_server settings s before body (message_of body) z) now) (initializing_is (life_of s before).stage p.0)
+    ∙ (ap (λ b. outs (choose b (first_result settings before s body) (choose (is_first_error (message_of body)) (refused_row settings before s body) (hasty_row s body (message_of body)))) now) p.1
+    ∙ ap (λ o. outs (on o nothing (result_in settings before s body)) now) home)
+  where
+    now : List Event
+    now = with_cause before (FromServer s body)
+
+    p : (is_initializing (life_of s before).stage ≡ true) × (is_first_result (message_of body) ≡ true)
+    p = and_parts (is_initializing (life_of s before).stage) (is_first_result (message_of body)) gives
+
+-- The whole entry, with the editors that are slow behind the row
+
+module _ (settings : Settings) (range : InRange settings) where
+  quit_free : (place : List Event) (e : ℕ) (events : List Event) (xs : List Out) → Reasons (Why settings place (quitting e)) events xs → AllByRecursion IsFree xs
+  quit_free place e events [] h = tt
+  quit_free place e events (ToServer n text ∷ xs) h = (by (is_synced (message_of text)) refl, quit_free place e (events ++ said (ToServer n text) ∷ []) xs h.1)
+    where
+      by : (b : Bool) → is_synced (message_of text) ≡ b → b ≡ false
+      by true goes = absurd (quit_unsynced settings place e events n text h.0 goes)
+      by false off = refl
+  quit_free place e events (ToEditor n text ∷ xs) h = (tt, quit_free place e (events ++ said (ToEditor n text) ∷ []) xs h.1)
+  quit_free place e events (Spawn n i ∷ xs) h = (tt, quit_free place e (events ++ said (Spawn n i) ∷ []) xs h.1)
+  quit_free place e events (CloseEditor n ∷ xs) h = (tt, quit_free place e (events ++ said (CloseEditor n) ∷ []) xs h.1)
+  quit_free place e events (EndServer n ∷ xs) h = (tt, quit_free place e (events ++ said (EndServer n) ∷ []) xs h.1)
+
+  slow_free : (es : List ℕ) (place : List Event) → Facts settings place → AllByRecursion IsFree (outs (each (close_slow settings) es) place)
+  slow_free [] place h = tt
+  slow_free (e ∷ es) place h = go (is_slow settings e place) refl (λ z k. slow_free es z k)
+    where
+      go : (b : Bool) → is_slow settings e place ≡ b → ((z : List Event) → Facts settings z → AllByRecursion IsFree (outs (each (close_slow settings) es) z)) → AllByRecursion IsFree (outs (choose b (send (CloseEditor e) ⨾ leave_row settings place e) nothing) place
+          ++ outs (each (close_slow settings) es) (behind place (outs (choose b (send (CloseEditor e) ⨾ leave_row settings place e) nothing) place)))
+      go true slow others = all_join IsFree (parting settings place e) (outs (each (close_slow settings) es) (behind place (parting settings place e))) (quit_free place e place (parting settings place e) (parting_why settings range place h e slow))
+          (others (behind place (parting settings place e)) (slow_keeps_facts settings range place e slow h))
+      go false quick others = others (behind place []) (subst (Facts settings) (sym (append-nil place)) h)
+
+  pub entry_first : (before : List Event) → Facts settings before → (s : ℕ) (body : List ℕ) → fits_behind before (FromServer s body) ≡ true → gives_result s before body ≡ true
+      → AllOnOwnTexts settings (with_cause before (FromServer s body)) (entry_outs settings before (FromServer s body))
+  entry_first before facts s body fits gives = both_own settings now xs (outs (slow_row settings) (behind now xs)) (by_home (group_of s before) refl)
+      (free_own settings (behind now xs) (outs (slow_row settings) (behind now xs)) (slow_free (range_with_len 0 (editors_of (behind now xs))) (behind now xs) (entry_keeps settings range before (FromServer s body) fits facts)))
+    where
+      now : List Event
+      now = with_cause before (FromServer s body)
+
+      xs : List Out
+      xs = outs_of settings before (FromServer s body)
+
+      by_home : (o : Option ℕ) → group_of s before ≡ o → AllOnOwnTexts settings now xs
+      by_home (Some g) home = first_own settings before facts s g body gives home range
+      by_home None home = subst (AllOnOwnTexts settings now) (sym (first_unhoused settings before s body gives home)) tt
 
 module _ (settings : Settings) (range : InRange settings) (history : List Entry) (legal : Legal settings history) where
   pub replayed_law : Replays settings history
