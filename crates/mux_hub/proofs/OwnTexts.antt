@@ -49,7 +49,7 @@ use Rattle.mux_causes.specs.mux_tables.specs.Stands.{Stands, of_life}
 use Rattle.mux_causes.specs.mux_tables.proofs.DocumentMoves.{documents_at}
 use Rattle.mux_causes.specs.mux_tables.proofs.Homes.{kept_start}
 use Rattle.mux_causes.specs.mux_tables.proofs.Placed.{KeptAt}
-use Rattle.mux_hub.specs.Entries.{emits, entry_of}
+use Rattle.mux_hub.specs.Entries.{entry_of}
 use Rattle.mux_model.specs.Fits.{fits_behind}
 use Rattle.group_sessions.specs.group_facts.specs.SlowRows.{entry_outs}
 use Rattle.group_sessions.specs.group_facts.proofs.Facts.{Facts}
