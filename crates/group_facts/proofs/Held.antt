@@ -1,6 +1,6 @@
 -- Requests that wait: what holds of each of them, one event further, and why each is refused.
 use Rattle.std.proofs.Common.{◌≡◌, ℕ, Bool, true, false, not, ◌&&◌, cond, List, [], ◌∷◌, ◌++◌, filter, nat_eq, if◌then◌else◌, Option, None, Some, refl, sym, ◌∙◌, ap, ap₂, subst, arith, codes}
-use Rattle.std.specs.Prelude.{drop, IsUtf8, negsuc, find}
+use Rattle.std.specs.Prelude.{drop, find}
 use Rattle.std.specs.List.{AllByRecursion}
 use Rattle.std.specs.Option.{option_map_or, option_and_then}
 use Rattle.json_text.specs.Json.{Json}
@@ -8,7 +8,7 @@ use Rattle.mux_history.specs.declared.cause.Cause.{Cause}
 use Rattle.mux_history.specs.declared.out.Out.{Out}
 use Rattle.mux_history.specs.declared.out.Out.TheVariants.{ToEditor, ToServer, Spawn, CloseEditor, EndServer}
 use Rattle.rpc_message.specs.Message.{Message, request, Id, error, message_of, same_id, notification, result, not_json, not_message}
-use Rattle.rpc_message.specs.Texts.{error_text, error_tree, request_failed}
+use Rattle.rpc_message.specs.Texts.{error_text, error_tree, request_cancelled, request_failed}
 use Rattle.rpc_message.specs.ValueTexts.{IsIdText}
 use Rattle.rpc_message.proofs.Fixed.{error_law, id_as_response}
 use Rattle.event_model.specs.Event.{Event, behind, did, said}
@@ -43,8 +43,6 @@ use Rattle.group_facts.proofs.Apart.{fewer_said, grow, new, one_id}
 use Rattle.group_facts.proofs.Askers.{late_said}
 use Rattle.group_facts.proofs.HeldOuts.{kept_refused}
 use Rattle.group_facts.proofs.Forwards.{Fewer, alone_fewer, zip_all}
-use lib.Utf8.{encode}
-use Rattle.rpc_message.proofs.Replies.{error_reply_law}
 
 -- Lists
 
@@ -105,12 +103,8 @@ left_quiet true w n body m rs says quiet = refl
 left_quiet false w n body m rs says quiet = refl
 
 -- what answers one that is cancelled
-words_utf8 : IsUtf8 (codes "Request cancelled")
-unfolding encode
-words_utf8 = (codes "Request cancelled", (refl, refl))
-
 pub cancelled_says : (i : Id) (text : List ℕ) → IsIdText i text → (x : Json) × (message_of (cancelled_text text) ≡ error (Some i) x)
-cancelled_says i text is = (_, error_reply_law (Some i) text (negsuc 32799) (codes "Request cancelled") (id_as_response i text is) (omega arith) words_utf8)
+cancelled_says i text is = (_, error_law (Some i) text request_cancelled (id_as_response i text is))
 
 -- which is one of those that wait
 pub named_held : (settings : Settings) (e : ℕ) (params : Option Json) (events : List Event) (r : Request) (o : Option ℕ) → AllHeld settings events → option_and_then (λ g. waiting_named e params (waiting_of settings g events)) o ≡ Some r → (g : ℕ) × IsHeld settings g events r

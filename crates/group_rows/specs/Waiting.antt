@@ -1,5 +1,5 @@
 -- Requests of editors that wait until a start of their group is ready: which they are (E10), and what becomes of them (E6, E9, E11, L1, S2, S3, X3).
-use Rattle.std.specs.Prelude.{ℕ, Bool, false, not, ◌&&◌, ◌||◌, List, [], ◌∷◌, ◌++◌, codes, drop, filter, find, fold, length, bytes_eq, negsuc, if◌then◌else◌}
+use Rattle.std.specs.Prelude.{ℕ, Bool, false, not, ◌&&◌, ◌||◌, List, [], ◌∷◌, ◌++◌, codes, drop, filter, find, fold, length, bytes_eq, if◌then◌else◌}
 use Rattle.std.specs.Prelude.{Option, Some, None, slice_get}
 use Rattle.std.specs.Option.{option_and_then, option_map_or}
 use Rattle.json_text.specs.Json.{Json}
@@ -9,7 +9,7 @@ use Rattle.lsp_method.specs.declared.variants.Origin.TheVariants.{Editor}
 use Rattle.mux_history.specs.declared.cause.Cause.TheVariants.{FromEditor, EditorGone}
 use Rattle.mux_history.specs.declared.out.Out.TheVariants.{ToEditor, ToServer, CloseEditor}
 use Rattle.rpc_message.specs.Message.{Id, Message, request, id_bytes, id_of, same_id}
-use Rattle.rpc_message.specs.Texts.{error_reply_text, error_text, request_failed}
+use Rattle.rpc_message.specs.Texts.{error_text, request_cancelled, request_failed}
 use Rattle.event_model.specs.Event.{Event, took, did}
 use Rattle.event_model.specs.Members.{named_of, params_of}
 use Rattle.event_model.specs.Phases.{desk_of, is_multiplexer_request, is_served}
@@ -100,7 +100,7 @@ part settings g e = refuse_held settings g e ⨾ send (CloseEditor e)
 
 -- E11: the one that params name is answered so (LSP 3.17, Cancellation Support, and ErrorCodes, RequestCancelled)
 abbrev pub cancelled_text : List ℕ → List ℕ
-cancelled_text id = error_reply_text id (negsuc 32799) (codes "Request cancelled")
+cancelled_text id = error_text id request_cancelled
 
 abbrev pub waiting_named : ℕ → Option Json → List Request → Option Request
 waiting_named e params rs = option_and_then (λ id. find (is_meant e id) rs) (named_id params)

@@ -42,6 +42,7 @@ pub mod HeldFold
 pub mod TakingTies
 pub mod Unreserved
 mod ExitsHeld
+pub mod FirstTexts
 mod HeldPlaces
 mod KeptTokens
 pub mod TellingPlaces
