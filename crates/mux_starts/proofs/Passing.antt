@@ -1,7 +1,8 @@
 -- S2: what waits goes to a start behind a sync, or is refused, one after the other.
-use Rattle.std.proofs.Common.{◌≡◌, ℕ, ◌+◌, ◌<◌, ◌^◌, Bool, true, false, not, List, [], ◌∷◌, ◌++◌, length, drop, map, refl, ap, ap₂, sym, subst, ◌∙◌, append-nil, append_assoc, arith, codes, if◌then◌else◌, nat_eq}
+use Rattle.std.proofs.Common.{◌≡◌, ℕ, suc, ◌+◌, ◌<◌, ◌^◌, Bool, true, false, not, ◌&&◌, List, [], ◌∷◌, ◌++◌, length, drop, map, refl, ap, ap₂, sym, subst, ◌∙◌, append-nil, append_assoc, arith, codes, if◌then◌else◌, nat_eq}
 use Rattle.std.specs.Prelude.{Option, Some, None, decimal, slice_get}
 use Rattle.std.specs.Option.{option_and_then}
+use Rattle.std.proofs.lemmas.Bool.{and_parts}
 use Rattle.json_text.specs.Json.{Json}
 use Rattle.mux_history.specs.declared.cause.Cause.TheVariants.{FromServer}
 use Rattle.mux_history.specs.declared.out.Out.{Out}
@@ -19,7 +20,8 @@ use Rattle.event_model.specs.Row.{Row, choose, each, look, outs, send, ◌⨾◌
 use Rattle.event_model.specs.Settings.{Settings}
 use Rattle.event_model.specs.Spawns.{group_of}
 use Rattle.event_model.proofs.Frames.{never, one_more}
-use Rattle.event_model.proofs.Places.{same_item}
+use Rattle.event_model.specs.Stages.{Life, is_ready, life_of}
+use Rattle.event_model.proofs.Places.{item_at, same_item}
 use Rattle.event_model.proofs.Turns.{alike, alike_then, behind_more, does_alike, does_false, does_knowing, does_look, does_nothing, does_then, does_true}
 use Rattle.group_rows.specs.Forwarded.{Forwarding, Sender, first_sender, forwarding_next, forwarding_of, sender_of, sender_or, sender_waiting, token_in}
 use Rattle.group_rows.specs.Rows.{forward, has_room, send_held, send_waiting, sync_row}
@@ -34,7 +36,7 @@ use Rattle.mux_model.proofs.DocumentFolds.{outs_to_start}
 use Rattle.mux_tables.specs.declared.tables.Start.{Start}
 use Rattle.mux_tables.specs.declared.tables.Tables.{Tables}
 use Rattle.mux_tables.specs.Documents.{AllStand, AllTell, DocumentsStand, nothing_owed, syncing, to}
-use Rattle.mux_tables.specs.Stands.{Keeps, Sends, Stands, number_in, of_ids}
+use Rattle.mux_tables.specs.Stands.{Keeps, Sends, Stands, number_in, of_ids, of_life}
 use Rattle.mux_tables.specs.mux_waits.specs.held_requests.specs.declared.request.Request.{Request}
 use Rattle.mux_tables.specs.mux_waits.specs.Rows.{Becomes, Rows, held_of}
 use Rattle.mux_tables.specs.mux_waits.specs.Stands.{AnswersId, IsHeld}
@@ -45,6 +47,7 @@ use Rattle.mux_tables.proofs.DocumentOwed.{all_does, stands_told}
 use Rattle.mux_tables.proofs.Frames.{itself}
 use Rattle.mux_tables.proofs.Held.{first_toucher}
 use Rattle.mux_tables.proofs.Starts.{start_at_place}
+use Rattle.mux_turns.proofs.Departing.{mapped_on}
 use Rattle.mux_turns.proofs.Keeping.{keeps_error}
 use Rattle.mux_starts.specs.declared.held.Refusal.{Refusal}
 use Rattle.mux_starts.specs.declared.held.Sending.{Sending}
@@ -213,16 +216,16 @@ joined {p} {q} {r} = record {
       sym (append_assoc xs ys (outs r (behind events (xs ++ ys))) ∙ ap (λ es. xs ++ (ys ++ outs r es)) (behind_more events xs ys));
 }
 
-each_more : {A : Type 0} (row : A → Row) (as : List A) (a : A) → Alike (each row (as ++ a ∷ [])) (each row as ⨾ row a)
+each_more : {A : Type 0} (row : A → Row) (items : List A) (a : A) → Alike (each row (items ++ a ∷ [])) (each row items ⨾ row a)
 each_more row [] a = record { sends = λ events. append-nil (outs (row a) events) ∙ ap (outs (row a)) (sym (append-nil events)) }
-each_more row (x ∷ as) a = alike_then (after_alike (alike {r = row x} refl) (each_more row as a)) joined
+each_more row (x ∷ items) a = alike_then (after_alike (alike {r = row x} refl) (each_more row items a)) joined
 
 module _ (settings : Settings) (base : List Event) (g s : ℕ) where
   pub sent_none : (t : Tables) (xs : List Out) → AreSent settings base g s true t xs t xs
   sent_none t xs k = (record { sent = []; was = refl; does = does_nothing }, λ over. never over)
 
-  pub sent_more : (more : Bool) (t u v : Tables) (xs ys zs : List Out) → AreSent settings base g s true t xs u ys → Passes settings base g s more u ys v zs → AreSent settings base g s more t xs v zs
-  sent_more true t u v xs ys zs h p k =
+  pub sent_more : (more was : Bool) (t u v : Tables) (xs ys zs : List Out) → AreSent settings base g s was t xs u ys → Passes settings base g s more u ys v zs → AreSent settings base g s more t xs v zs
+  sent_more true was t u v xs ys zs h p k =
       let some = (h k).0 in
       let one = p (some.does.done k).stands in (
         record {
@@ -232,7 +235,7 @@ module _ (settings : Settings) (base : List Event) (g s : ℕ) where
         },
         λ over. never over,
       )
-  sent_more false t u v xs ys zs h p k =
+  sent_more false was t u v xs ys zs h p k =
       let some = (h k).0 in
       let none = p (some.does.done k).stands.0 in
       let there = ap (λ os. waiting_of settings g (behind base os)) none.1.1 in (
@@ -259,3 +262,31 @@ to_do false n = n
 pub fewer : (more : Bool) (g : ℕ) (old new : Rows) → Shrinks g more old new → to_do more (length (held_of g new)) < to_do true (length (held_of g old))
 fewer true g old new h = omega (arith, h)
 fewer false g old new h = subst (λ rows. length (held_of g rows) < length (held_of g old) + 1) (sym h) (omega arith)
+
+-- Whether a number is left
+
+pub room_left : (a b r : Bool) → r ≡ (a && b) → r ≡ true → b ≡ true
+room_left a b r is h = (and_parts a b (sym is ∙ h)).1
+
+pub room_gone : (a b r : Bool) → r ≡ (a && b) → r ≡ false → a ≡ true → b ≡ false
+room_gone true b r is off h = sym is ∙ off
+room_gone false b r is off h = never (sym h)
+
+-- Where starts stand
+
+length_map : {A B : Type 0} (f : A → B) (xs : List A) → length (map f xs) ≡ length xs
+length_map f [] = refl
+length_map f (x ∷ xs) = ap (λ n. suc n) (length_map f xs)
+
+pub inside_still : {A : Type 0} (f : Start → A) (i : ℕ) (ts us : List Start) → map f us ≡ map f ts → i < length ts → i < length us
+inside_still f i ts us same h = subst (λ n. i < n) (sym (length_map f ts) ∙ (ap length (sym same) ∙ length_map f us)) h
+
+pub kept_as : {A : Type 0} (f : Start → A) (v : A) (i : ℕ) (ts us : List Start) → map f us ≡ map f ts → i < length ts → ((x : Start) → slice_get ts i ≡ Some x → f x ≡ v) → (x : Start) → slice_get us i ≡ Some x → f x ≡ v
+kept_as f v i ts us same l h x here =
+    let z = item_at ts i l in
+    same_item (sym (mapped_on f us i x here) ∙ (ap (λ ns. slice_get ns i) same ∙ mapped_on f ts i z.0 z.1)) ∙ h z.0 z.1
+
+-- the start is ready
+pub ready_here : (settings : Settings) (t : Tables) (i s : ℕ) (events : List Event) (x : Start) → slice_get t.lasts.items i ≡ Some x → slice_get (map number_in t.lasts.items) i ≡ Some s → x.life.stage ≡ Ready → Stands settings t events → is_ready (life_of s events).stage ≡ true
+ready_here settings t i s events x here at ready st = ap (λ n. is_ready (life_of n events).stage) (sym (start_at_place t.lasts.items i s x here at))
+    ∙ (ap (λ (l : Life). is_ready l.stage) ((st.lasts.each i x here).parts of_life) ∙ ap is_ready ready)

@@ -144,8 +144,8 @@ pub parts : (settings : Settings) (t v u : Tables) (base : List Event) (xs ys zs
     → Does (λ t events. Stands settings t events) (refuse_held settings g e) base t xs v ys → (DocumentsStand settings nothing_owed t (behind base xs) → DocumentsStand settings nothing_owed v (behind base ys))
     → (IsUnready g v.lasts.items → home_of settings e (behind base ys) ≡ Some g → Does (λ k events. AllStand settings k events) (send (CloseEditor e)) base (v, nothing_owed) ys (u, nothing_owed) zs)
     → Does (λ k events. AllStand settings k events) (part settings g e) base (t, nothing_owed) xs (u, nothing_owed) zs
-parts settings t v u base xs ys zs g e unready home same told refuses docs closes = does_then (all_does settings t v nothing_owed nothing_owed base xs ys refuses (λ _ ds. docs ds))
-    (closes (subst (λ ls. IsUnready g ls.items) (sym same) unready) (same_home base xs ys (adds_told xs ys told) settings e ∙ home))
+parts settings t v u base xs ys zs g e unready home kept told refuses docs closes = does_then (all_does settings t v nothing_owed nothing_owed base xs ys refuses (λ _ ds. docs ds))
+    (closes (subst (λ ls. IsUnready g ls.items) (sym kept) unready) (same_home base xs ys (adds_told xs ys told) settings e ∙ home))
 
 -- An editor that waits gets the error
 

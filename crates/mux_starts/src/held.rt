@@ -36,21 +36,21 @@ struct Sending {
 }
 
 // One as it goes on under this number. Its body was read as it came, so that only memory can fail.
-fn sending_of(alloc: Global, request: &Request, n: u32) -> Result<Sending, Memory>
-    ensures { (method : List ℕ) (id : Id) (params : Option Json) → message_of request.now.body ≡ request id method params → IfOk result (IsSending n request.now) }
+fn sending_of(alloc: Global, held: &Request, n: u32) -> Result<Sending, Memory>
+    ensures { (method : List ℕ) (id : Id) (params : Option Json) → message_of held.now.body ≡ request id method params → IfOk result (IsSending n held.now) }
 {
-    let bytes = request.body.bytes();
+    let bytes = held.body.bytes();
     if bytes.len() > MOST {
         return Err(Memory);
     }
     match Message::read(alloc, bytes) {
         Ok(message) => {
             let text = forwarded_text(alloc, &message, n)?;
-            let id = request.id.copy(alloc)?;
+            let id = held.id.copy(alloc)?;
             let work = token_text(alloc, &message, "workDoneToken")?;
             let partial = token_text(alloc, &message, "partialResultToken")?;
             Ok(Sending {
-                editor: request.editor,
+                editor: held.editor,
                 id,
                 work,
                 partial,
@@ -77,8 +77,8 @@ fn first_sending(
     let n = tables.next_number(g);
     match tables.first_waiting(group) {
         None => Ok(None),
-        Some(request) => {
-            let sending = sending_of(alloc, request, n)?;
+        Some(held) => {
+            let sending = sending_of(alloc, held, n)?;
             Ok(Some(sending))
         }
     }
@@ -106,7 +106,8 @@ fn send_next(
         → (Stands settings tables.old (behind base outs.old) → has_room settings s (behind base outs.old) ≡ true)
         → IfOk result (λ more. Passes settings base group s more tables.old outs.old tables.new outs.new) }
 {
-    match first_sending(tables, alloc, g, group)? {
+    let first = first_sending(tables, alloc, g, group)?;
+    match first {
         None => Ok(false),
         Some(sending) => {
             let Sending {
@@ -137,10 +138,10 @@ fn first_refusal(tables: &Tables, alloc: Global, group: u64) -> Result<Option<Re
 {
     match tables.first_waiting(group) {
         None => Ok(None),
-        Some(request) => {
-            let body = error_answer(alloc, request.id.bytes(), ErrorCode::RequestFailed)?;
+        Some(held) => {
+            let body = error_answer(alloc, held.id.bytes(), ErrorCode::RequestFailed)?;
             Ok(Some(Refusal {
-                editor: request.editor,
+                editor: held.editor,
                 body,
             }))
         }
@@ -162,7 +163,8 @@ fn refuse_next(
         → (Stands settings tables.old (behind base outs.old) → has_room settings s (behind base outs.old) ≡ false)
         → IfOk result (λ more. Passes settings base group s more tables.old outs.old tables.new outs.new) }
 {
-    match first_refusal(tables, alloc, group)? {
+    let first = first_refusal(tables, alloc, group)?;
+    match first {
         None => Ok(false),
         Some(refusal) => {
             let Refusal { editor, body } = refusal;

@@ -22,9 +22,10 @@ returns-in_ok-put_out-in-Some-clause-adds c = adds_then c.args.outs.now c.answer
 
 pub returns-in_ok-put_out-in-Some-clause-does : goal.returns-in_ok-put_out-in-Some-clause-does
 returns-in_ok-put_out-in-Some-clause-does c = λ settings base body g read first unready home asks kept.
-    let own = c.bytes.ensures ∙ (c.in_ok-own-in-Some.ensures ∙ same_item (c.in-Some.ensures ∙ kept)) in
+    let it = c.in_ok-own-in-Some.ensures ∙ same_item (c.in-Some.ensures ∙ kept) in
+    let own = c.bytes.ensures ∙ it in
     let told = adds_one c.args.outs.now c.answer.new.outs (ToEditor c.args.e c.in_ok-text-in-Some.text) c.in_ok-answer-in-Some.ensures.outs in
     refuses settings c.args.tables.now c.answer.new.self c.put_out.new.tables base c.args.outs.now c.answer.new.outs c.put_out.new.outs c.args.e g body c.in_ok-text-in-Some.text first asks
     (c.in_ok-text-in-Some.ensures body read ∙ ap (λ w. with_id_text body w) own)
-    (λ keeps answers. c.in_ok-answer-in-Some.ensures.does settings base keeps (subst (λ w. AnswersId w c.in_ok-text-in-Some.text) (sym own) answers)) (λ ds. c.in_ok-answer-in-Some.ensures.documents settings nothing_owed base ds)
+    (λ keeps answers. c.in_ok-answer-in-Some.ensures.does settings base keeps (subst (λ w. AnswersId w c.in_ok-text-in-Some.text) (sym (c.bytes-in-Some.ensures ∙ it)) answers)) (λ ds. c.in_ok-answer-in-Some.ensures.documents settings nothing_owed base ds)
     (c.in_ok-put_out-in-Some.ensures.does settings base g (subst (λ ls. IsUnready g ls.items) (sym c.in_ok-answer-in-Some.ensures.lasts) unready) (same_home base c.args.outs.now c.answer.new.outs told settings c.args.e ∙ home))

@@ -1,10 +1,14 @@
 -- Those of a list are parted with.
-use Rattle.std.proofs.Common.{◌∙◌}
+use Rattle.std.proofs.Common.{refl, ◌∙◌}
 use Rattle.mux_starts.proofs.Parting.{parts_all, parts_next, parts_none}
 use Rattle.mux_starts.proofs.results.part_each.Goals as goal
 
-pub loop-e-initial : goal.loop-e-initial
-loop-e-initial c = record {
+pub loop-e-init : goal.loop-e-init
+loop-e-init c = record {
+  count = refl;
+  requests = refl;
+  versions = refl;
+  lasts = refl;
   parted = parts_none c.args.tables.now c.args.outs.now c.args.g;
 }
 

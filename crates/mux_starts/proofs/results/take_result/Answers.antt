@@ -19,7 +19,7 @@ use Rattle.group_words.specs.Houses.{home_of}
 use Rattle.group_words.specs.Rows.{shown_of}
 use Rattle.mux_model.specs.Rows.{to_start}
 use Rattle.mux_tables.specs.Documents.{AheadStand, AllStand, DocumentsStand, Parts, nothing_owed, owes, replaying, to}
-use Rattle.mux_tables.specs.Stands.{number_in, of_life}
+use Rattle.mux_tables.specs.Stands.{house_in, number_in, of_life}
 use Rattle.mux_tables.proofs.DocumentOwed.{all_does}
 use Rattle.mux_tables.proofs.Homes.{group_seen}
 use Rattle.mux_tables.proofs.Starts.{start_at_place}
@@ -31,13 +31,23 @@ use Rattle.mux_turns.proofs.Ready.{start_from}
 use Rattle.mux_starts.specs.Parted.{configured_row, parted}
 use Rattle.mux_starts.proofs.Parting.{parted_home}
 use Rattle.mux_starts.proofs.Replies.{first_encoding, initialized_quiet, initialized_silent}
-use Rattle.mux_starts.proofs.Passing.{idle_start}
+use Rattle.mux_starts.proofs.Passing.{idle_start, inside_still, kept_as}
 use Rattle.mux_starts.proofs.Resulting.{asking_behind, configured_so, given_so, idle_behind, result_entry, up_lives}
 use Rattle.mux_starts.proofs.results.take_result.Goals as goal
 
 pub part_each-requires : goal.part_each-requires
 part_each-requires c = subst (All (λ e. e < length c.hear_result.new.self.editors)) (sym c.deref-2.ensures.value)
     (subst (λ xs. All (λ e. e < length xs) c.in_ok-parted.parted.items) (sym c.in_ok-owed.ensures.editors) c.in_ok-parted.ensures.inside)
+
+pub send_held-requires-clause-group : goal.send_held-requires-clause-group
+send_held-requires-clause-group c = subst (λ ls. c.args.g < length ls.items) (sym (c.in_ok-greet_all.ensures.lasts ∙ c.part_each.ensures.lasts)) (inside_still number_in c.args.g c.args.tables.now.lasts.items c.hear_result.new.self.lasts.items c.in_ok-owed.ensures.starts c.requires.group)
+
+pub send_held-requires-clause-own : goal.send_held-requires-clause-own
+send_held-requires-clause-own c = λ x here.
+    kept_as house_in c.group_number-group.result c.args.g c.args.tables.now.lasts.items c.hear_result.new.self.lasts.items c.in_ok-owed.ensures.groups c.requires.group (λ z at. sym (c.group_number-group.ensures z at)) x (ap (λ ls. slice_get ls.items c.args.g) (sym (c.in_ok-greet_all.ensures.lasts ∙ c.part_each.ensures.lasts)) ∙ here)
+
+pub send_held-requires-clause-ready : goal.send_held-requires-clause-ready
+send_held-requires-clause-ready c = λ x here. c.in_ok-owed.ensures.ready x (ap (λ ls. slice_get ls.items c.args.g) (sym (c.in_ok-greet_all.ensures.lasts ∙ c.part_each.ensures.lasts)) ∙ here)
 
 pub returns-clause-does : goal.returns-clause-does
 returns-clause-does c = λ settings before body id value s read says first at none shown asking known settled carried st ds.
