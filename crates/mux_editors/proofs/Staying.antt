@@ -1,19 +1,22 @@
 -- Messages of editors that wait nowhere (E10).
-use Rattle.std.proofs.Common.{◌≡◌, ℕ, Bool, true, false, not, ◌&&◌, List, codes, bytes_eq, length, refl, ap, sym, ◌∙◌}
+use Rattle.std.proofs.Common.{◌≡◌, ℕ, Bool, true, false, not, ◌&&◌, List, codes, bytes_eq, length, nat_eq, refl, ap, sym, ◌∙◌}
 use Rattle.std.specs.Prelude.{Option, Some}
 use Rattle.json_text.specs.Json.{Json}
-use Rattle.rpc_message.specs.Message.{Id, Message, request, notification, result, error, not_json, not_message}
+use Rattle.mux_history.specs.declared.cause.Cause.TheVariants.{FromEditor}
+use Rattle.rpc_message.specs.Message.{Id, Message, message_of, request, notification, result, error, not_json, not_message}
 use Rattle.rpc_message.specs.declared.sort.Sort.TheVariants.{Request}
 use Rattle.rpc_message.specs.Sorts.{sort_of}
-use Rattle.event_model.specs.Event.{Event, notifies}
+use Rattle.event_model.specs.Event.{Event, heard, notifies, with_cause}
 use Rattle.event_model.specs.Members.{params_of}
 use Rattle.event_model.specs.Phases.{desk_of, is_malformed, is_multiplexer_request, is_served}
+use Rattle.mux_turns.specs.mux_facts.specs.Allowed.{is_response}
 use Rattle.event_model.specs.Settings.{Settings}
 use Rattle.event_model.proofs.Frames.{never}
 use Rattle.group_rows.specs.Reserved.{reserves}
 use Rattle.group_rows.specs.Rows.{may_wait}
 use Rattle.group_rows.specs.Waiting.{is_for_start, is_misplaced, is_restarting, waiting_of}
-use Rattle.group_words.specs.Houses.{home_of, is_doubled, is_home}
+use Rattle.group_words.specs.Houses.{home_of, is_doubled, is_home, places}
+use Rattle.group_words.proofs.Frames.{home_more}
 use Rattle.mux_tables.specs.mux_waits.specs.held_requests.specs.Tables.{takes}
 use Rattle.mux_tables.specs.mux_waits.specs.Stands.{Unheld}
 use Rattle.mux_tables.specs.mux_waits.proofs.Unheld.{and_off, unheld_by, unheld_full}
@@ -40,6 +43,14 @@ module _ (events : List Event) (e : ℕ) (body : List ℕ) where
   malformed_aside (error id r) h = refl
   malformed_aside not_json h = refl
   malformed_aside not_message h = refl
+
+  response_aside : (m : Message) → is_response m ≡ true → is_for_start events e body m ≡ false
+  response_aside (result id r) h = refl
+  response_aside (error id r) h = refl
+  response_aside (request id method params) h = absurd (cc)
+  response_aside (notification method params) h = refl
+  response_aside not_json h = refl
+  response_aside not_message h = refl
 
   unasked_aside : (m : Message) → (sort_of m ≡ Some Request → ⊥) → is_for_start events e body m ≡ false
   unasked_aside (request id method params) other = absurd (other refl)
@@ -77,6 +88,9 @@ unheld_notice settings e body m events name h = unheld_by settings e body m even
 pub unheld_unasked : (settings : Settings) (e : ℕ) (body : List ℕ) (m : Message) (events : List Event) → (sort_of m ≡ Some Request → ⊥) → Unheld settings e body m events
 unheld_unasked settings e body m events other = unheld_by settings e body m events (unasked_aside events e body m other)
 
+pub unheld_response : (settings : Settings) (e : ℕ) (body : List ℕ) (m : Message) (events : List Event) → is_response m ≡ true → Unheld settings e body m events
+unheld_response settings e body m events h = unheld_by settings e body m events (response_aside events e body m h)
+
 pub unheld_malformed : (settings : Settings) (e : ℕ) (body : List ℕ) (m : Message) (events : List Event) → is_malformed m ≡ true → Unheld settings e body m events
 unheld_malformed settings e body m events h = unheld_by settings e body m events (malformed_aside events e body m h)
 
@@ -96,3 +110,7 @@ module _ (settings : Settings) (e : ℕ) (body : List ℕ) (m : Message) (events
 -- E10: nor one that isn't to wait
 pub unheld_refused : (settings : Settings) (e : ℕ) (body : List ℕ) (m : Message) (events : List Event) → ((g : ℕ) → home_of settings e events ≡ Some g → may_wait settings events e body g ≡ false) → Unheld settings e body m events
 unheld_refused settings e body m events off = unheld_full settings e body m events off
+
+-- an editor's message that places it nowhere leaves all where they are
+pub home_heard : (settings : Settings) (before : List Event) (e : ℕ) (body : List ℕ) (n : ℕ) → places (desk_of e before).phase (message_of body) ≡ false → home_of settings n (with_cause before (FromEditor e body)) ≡ home_of settings n before
+home_heard settings before e body n placed = home_more settings n before (heard (FromEditor e body)) ∙ rw (placed, and_off (nat_eq e n)) refl

@@ -1,6 +1,6 @@
 -- Which ids are open at an editor, as the tables have it.
-use Rattle.std.proofs.Common.{◌≡◌, ℕ, zero, suc, ◌≤◌, Bool, true, false, cond, ◌&&◌, ◌||◌, List, [], ◌∷◌, map, length, find, nat_eq, refl, ap, sym, subst, ◌∙◌, arith, inl, inr}
-use Rattle.std.specs.Prelude.{◌⊎◌, Option, Some, None, is_some, option_map, slice_get}
+use Rattle.std.proofs.Common.{◌≡◌, ℕ, zero, suc, ◌≤◌, Bool, true, false, cond, ◌&&◌, ◌||◌, List, [], ◌∷◌, map, length, find, nat_eq, refl, ap, sym, subst, ◌∙◌, arith, inl, inr, Bor}
+use Rattle.std.specs.Prelude.{◌⊎◌, Option, Some, None, is_some, option_copied, option_map, slice_get}
 use Rattle.std.specs.List.{AllByRecursion}
 use Rattle.std.specs.Option.{option_and_then, option_map_or}
 use Rattle.std.proofs.lemmas.Bool.Decides.{nat_tests}
@@ -51,6 +51,10 @@ agree : (a b : Bool) → (a ≡ true → b ≡ true) → (b ≡ true → a ≡ t
 agree true b there back = sym (there refl)
 agree false true there back = back refl
 agree false false there back = refl
+
+pub copied_some : {A : Type 0} (r : Option (Bor A)) → is_some r ≡ is_some (option_copied r)
+copied_some None = refl
+copied_some (Some b) = refl
 
 same_editor : (a b : ℕ) → nat_eq a b ≡ true → a ≡ b
 same_editor a b h = grind (arith, nat_tests)
@@ -145,9 +149,9 @@ module _ (settings : Settings) (t : Tables) (before : List Event) (e : ℕ) (i :
         go false rest = rest
 
     pub sent_open : (p : ℕ) (z : Start) (b : Bool) → AllForwarded settings before → Stands settings t before → slice_get t.lasts.items p ≡ Some z → b ≡ is_some (number_under e w z.ids.requests) → b ≡ true → is_open i (open_of e before) ≡ true
-    sent_open p z b asked st here is yes =
+    sent_open p z b asked st here is so =
         let opened = ((st.lasts.each p z here).parts of_ids).open_requests in
-        found_open z.ids.requests (subst (AllByRecursion (IsForwarded before)) opened (asked z.life.start)) (sym is ∙ yes)
+        found_open z.ids.requests (subst (AllByRecursion (IsForwarded before)) opened (asked z.life.start)) (sym is ∙ so)
 
     pub sent_found : (p : ℕ) (z : Start) (b : Bool) → Stands settings t before → home_of settings e before ≡ Some z.life.group → slice_get t.lasts.items p ≡ Some z → b ≡ is_some (number_under e w z.ids.requests) → IsSent settings before e i → b ≡ true
     sent_found p z b st home here is x =
@@ -160,16 +164,16 @@ module _ (settings : Settings) (t : Tables) (before : List Event) (e : ℕ) (i :
 -- of what waits
 module _ (settings : Settings) (before : List Event) (e : ℕ) (i : Id) where
   meant_open : (g : ℕ) (rs : List Request) → AllByRecursion (IsHeld settings g before) rs → is_some (find (is_meant e i) rs) ≡ true → is_open i (open_of e before) ≡ true
-  meant_open g [] h yes = absurd (cc)
-  meant_open g (r ∷ rs) h yes = go (is_meant e i r) refl yes (λ k. meant_open g rs h.1 k)
+  meant_open g [] h so = absurd (cc)
+  meant_open g (r ∷ rs) h so = go (is_meant e i r) refl so (λ k. meant_open g rs h.1 k)
     where
       go : (b : Bool) → is_meant e i r ≡ b → is_some (cond b (Some r) (find (is_meant e i) rs)) ≡ true → (is_some (find (is_meant e i) rs) ≡ true → is_open i (open_of e before) ≡ true) → is_open i (open_of e before) ≡ true
-      go true m yes rest =
+      go true m so rest =
           let k = h.0 in
           let two = both (nat_eq r.editor e) (option_map_or (same_id i) (id_meant r.id) false) m in
           let same : i ≡ k.name = id_same i k.name (sym (ap (λ o. option_map_or (same_id i) o false) (text_meant k.name r.id (held_text settings g before r k))) ∙ two.1) in
           subst (λ n. is_open i (open_of n before) ≡ true) (same_editor r.editor e two.0) (subst (λ j. is_open j (open_of r.editor before) ≡ true) (sym same) k.open_id)
-      go false m yes rest = rest yes
+      go false m so rest = rest so
 
   meant_found : (rs : List Request) (k : ℕ) (r : Request) → slice_get rs k ≡ Some r → r.editor ≡ e → IsIdText i r.id → is_some (find (is_meant e i) rs) ≡ true
   meant_found [] k r at own id = absurd (nothing_some at)
@@ -203,9 +207,9 @@ module _ (settings : Settings) (before : List Event) (e : ℕ) (i : Id) where
       by (inr k) = kept k
 
 pub held_open : (settings : Settings) (t : Tables) (before : List Event) (e : ℕ) (i : Id) (g : ℕ) → Stands settings t before → is_some (find (is_meant e i) (waiting_of settings g before)) ≡ true → is_open i (open_of e before) ≡ true
-held_open settings t before e i g st yes =
+held_open settings t before e i g st so =
     let held = st.waiting g in
-    meant_open settings before e i g (waiting_of settings g before) (subst (AllByRecursion (IsHeld settings g before)) held.same held.each) yes
+    meant_open settings before e i g (waiting_of settings g before) (subst (AllByRecursion (IsHeld settings g before)) held.same held.each) so
 
 -- where none can be open under it
 pub alone_else : (p : Phase) (i : Id) (ids : List Id) → (p ≡ Waiting → ⊥) → (p ≡ Answered → ⊥) → (p ≡ Running → ⊥) → (p ≡ Down → ⊥) → false ≡ doubles p i ids

@@ -59,8 +59,8 @@ module _ (settings : Settings) (events : List Event) (k : Numbered settings even
   start_numbered s Initializing low = ended_numbered s
   start_numbered s other low = subst (Numbered settings) (sym (append-nil events)) k
 
-  pub group_numbered : (settings : Settings) (t : Tables) (g : ℕ) → Stands settings t events → Numbered settings (behind events (outs (end_group g) events))
-  group_numbered settings t g st = go (start_of g events) refl
+  pub group_numbered : (t : Tables) (g : ℕ) → Stands settings t events → Numbered settings (behind events (outs (end_group g) events))
+  group_numbered t g st = go (start_of g events) refl
     where
       the : {v w : ℕ} → ◌≡◌ {A = Option ℕ} (Some v) (Some w) → v ≡ w
       the e = cc
@@ -88,4 +88,4 @@ module _ (settings : Settings) (events : List Event) (k : Numbered settings even
 pub group_next : (settings : Settings) (owed : Owed) (t u : Tables) (base : List Event) (xs ys : List Out) (g : ℕ) → Numbered settings (behind base xs) → Does (λ k events. AllStand settings k events) (end_group g) base (t, owed) xs (u, owed) ys
     → AllStand settings (t, owed) (behind base xs) → Numbered settings (behind base ys)
 group_next settings owed t u base xs ys g numbered d st =
-    subst (Numbered settings) (sym (ap (behind base) (d.done st).outs ∙ behind_more base xs (outs (end_group g) (behind base xs)))) (group_numbered settings (behind base xs) numbered settings t g st.0)
+    subst (Numbered settings) (sym (ap (behind base) (d.done st).outs ∙ behind_more base xs (outs (end_group g) (behind base xs)))) (group_numbered settings (behind base xs) numbered t g st.0)

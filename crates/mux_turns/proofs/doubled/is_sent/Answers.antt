@@ -8,10 +8,10 @@ use Rattle.mux_turns.proofs.Asked.{answered_there, sent_found, sent_nowhere, sen
 use Rattle.mux_turns.proofs.doubled.is_sent.Goals as goal
 
 pub returns-in-Some-clause-open : goal.returns-in-Some-clause-open
-returns-in-Some-clause-open c = λ settings before i facts known st text served yes.
+returns-in-Some-clause-open c = λ settings before i facts known st text served so.
     let here = read_here c.args.tables.now.lasts.items c.in-Some.g c.index.result.now c.in-Some.ensures.inside c.index.ensures in
     sent_open settings c.args.tables.now before c.args.e i known served c.args.id.now text c.in-Some.g c.index.result.now c.is_some.result (asked_while settings before facts.asked facts.quit c.args.e (answered_there (desk_of c.args.e before).phase served)) st
-    here (c.is_some.ensures ∙ ap is_some c.find.ensures.exact) yes
+    here (c.is_some.ensures ∙ ap is_some c.find.ensures.exact) so
 
 pub returns-in-Some-clause-sent : goal.returns-in-Some-clause-sent
 returns-in-Some-clause-sent c = λ settings before i known st text served sent.

@@ -1,16 +1,23 @@
 -- What is open under some ids fails.
-use Rattle.std.proofs.Common.{◌≡◌, get_or, subst, sym, ◌∙◌}
+use Rattle.std.proofs.Common.{◌≡◌, get_or, refl, subst, sym, ◌∙◌}
 use Rattle.event_model.specs.Does.{Does}
-use Rattle.event_model.proofs.Turns.{does_next, does_whole}
+use Rattle.event_model.proofs.Turns.{does_next, does_nothing, does_whole}
 use Rattle.mux_tables.specs.Stands.{Stands}
 use Rattle.mux_turns.specs.Initials.{IsNamed, refuse_id}
 use Rattle.mux_turns.proofs.Failing.{named_at}
 use Rattle.mux_turns.proofs.Refusing.{informs_none, informs_then}
 use Rattle.mux_turns.proofs.held.refuse_ids.Goals as goal
 
-pub loop-id-initial : goal.loop-id-initial
-loop-id-initial c = record {
+pub loop-id-init : goal.loop-id-init
+loop-id-init c = record {
+  requests = refl;
+  versions = refl;
+  lasts = refl;
+  editors = refl;
+  same = refl;
   told = informs_none c.args.outs.now;
+  does = λ settings base named. does_nothing;
+  documents = λ settings owed base ds. ds;
 }
 
 pub loop-id-preserved : goal.loop-id-preserved
@@ -20,7 +27,7 @@ loop-id-preserved c = record {
   lasts = c.refuse_id.ensures.lasts ∙ c.loop-id.invariant.lasts;
   editors = c.refuse_id.ensures.editors ∙ c.loop-id.invariant.editors;
   same = c.refuse_id.ensures.same ∙ c.loop-id.invariant.same;
-  told = informs_then c.initial.outs c.loop-id.outs c.refuse_id.new.outs c.loop-id.invariant.told c.in_ok-refuse_id.ensures.told;
+  told = informs_then c.args.outs.now c.loop-id.outs c.refuse_id.new.outs c.loop-id.invariant.told c.in_ok-refuse_id.ensures.told;
   does = λ settings base named.
       let e = c.args.e in
       let ids = c.args.ids.now in
