@@ -14,7 +14,7 @@ use Rattle.group_rows.specs.ExitRows.{is_full}
 use Rattle.group_words.specs.Houses.{home_of, is_home}
 use Rattle.mux_exits.specs.declared.losses.Loss.{Loss}
 use Rattle.mux_exits.specs.declared.losses.Loss.TheVariants.{Emptied, Told}
-use Rattle.mux_exits.specs.Losses.{IsInside, Runs, emptied, emptied_at}
+use Rattle.mux_exits.specs.Losses.{IsInside, Runs, emptied, emptied_at, refused}
 use Rattle.mux_starts.specs.mux_facts.proofs.Lists.{all_filtered}
 
 -- one more of a list that is mapped, and the last

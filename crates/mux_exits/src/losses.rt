@@ -97,7 +97,7 @@ fn lose_requests(
     requires { g < length tables.now.lasts.items }
     ensures inside { (n : ℕ) → AllByRecursion (IsInside n) losses.old.items → OnOk result (AllByRecursion (IsInside n) losses.new.items) }
     ensures lost { (settings : Settings) (before : List Event) (s : ℕ) → slice_get (map number_in tables.now.lasts.items) g ≡ Some s
-        → Stands settings tables.now before → OnOk result (losses.new.items ≡ losses.old.items ++ lost_sent before s e) }
+        → Stands settings tables.now before → OnOk result (losses.new.items ≡ losses.old.items ++ lost_sent settings before s e) }
 {
     let ids = tables.ids_of(alloc, g, e)?;
     refuse_each(alloc, losses, e, &ids)?;
@@ -192,7 +192,7 @@ pub fn lose_all_requests(
     requires { g < length tables.now.lasts.items }
     ensures inside { (n : ℕ) → AllByRecursion (IsInside n) losses.old.items → OnOk result (AllByRecursion (IsInside n) losses.new.items) }
     ensures lost { (settings : Settings) (before : List Event) (s : ℕ) → slice_get (map number_in tables.now.lasts.items) g ≡ Some s
-        → Stands settings tables.now before → OnOk result (losses.new.items ≡ losses.old.items ++ flat_map (lost_sent before s) editors.now) }
+        → Stands settings tables.now before → OnOk result (losses.new.items ≡ losses.old.items ++ flat_map (lost_sent settings before s) editors.now) }
 {
     for e in editors {
         lose_requests(tables, alloc, losses, g, *e)?;

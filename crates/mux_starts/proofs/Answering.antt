@@ -111,6 +111,12 @@ module _ (settings : Settings) (before : List Event) (body : List ℕ) (s n : �
       → Alike (hand_on settings before s body (forwarded_as n p)) (reply_row (Some (record { editor = p.editor; id = id; body = text })))
   reply_given id text here is = subst (λ w. Alike (hand_on settings before s body (forwarded_as n p)) (send (ToEditor p.editor w))) (sym is) (is_first refl here)
 
+-- it answers the request that is found
+answers_it : (settings : Settings) (before : List Event) (s : ℕ) (body : List ℕ) (f : Forwarded) → find (answered_by (answered_id (message_of body))) (forwarding_of settings s before).open_requests ≡ Some f → IsAsked before f → (r : Option Reply) → Answers settings before s body f r
+    → MatchOption r (Unit {0}) (IsReply settings before s body)
+answers_it settings before s body f is known None k = tt
+answers_it settings before s body f is known (Some x) k = record { asked = f; known = known; response = answers_only (message_of body) f (forwarding_of settings s before).open_requests is; answers = k }
+
 -- and to a message
 module _ (settings : Settings) (before : List Event) (body : List ℕ) (s : ℕ) where
   abbrev found : Option Forwarded
@@ -122,13 +128,9 @@ module _ (settings : Settings) (before : List Event) (body : List ℕ) (s : ℕ)
   asked_by : (f : Forwarded) (r : Option Reply) → found ≡ Some f → Alike (hand_on settings before s body f) (reply_row r) → Alike (answer_row settings s before body (message_of body)) (reply_row r)
   asked_by f r is h = subst (λ o. Alike (on o nothing (hand_on settings before s body)) (reply_row r)) (sym is) h
 
-  answering : (f : Forwarded) → found ≡ Some f → IsAsked before f → (r : Option Reply) → Answers settings before s body f r → MatchOption r (Unit {0}) (IsReply settings before s body)
-  answering f is known None k = tt
-  answering f is known (Some x) k = record { asked = f; known = known; response = answers_only (message_of body) f (forwarding_of settings s before).open_requests is; answers = k }
-
   pub replied : (f : Forwarded) {E : Type 0} (result : Result (Option Reply) E) → found ≡ Some f → IsAsked before f → IfOk result (λ r. Alike (hand_on settings before s body f) (reply_row r) × Answers settings before s body f r)
       → IfOk result (λ r. Alike (answer_row settings before s body (message_of body)) (reply_row r) × MatchOption r (Unit {0}) (IsReply settings before s body))
-  replied f (Ok r) is known h = (asked_by f r is h.0, answering f is known r h.1)
+  replied f (Ok r) is known h = (asked_by f r is h.0, answers_it settings before s body f is known r h.1)
   replied f (Err e) is known h = tt
 
 -- it goes out
