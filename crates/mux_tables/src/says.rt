@@ -103,6 +103,7 @@ impl Tables {
         requires { e < length self.old.editors }
         ensures requests { self.new.requests ≡ self.old.requests }
         ensures versions { self.new.versions ≡ self.old.versions }
+        ensures lasts { self.new.lasts ≡ self.old.lasts }
         ensures count { OnOk result (length self.new.editors ≡ length self.old.editors) }
         ensures ids { OnOk result ((n : ℕ) → id_in (slice_get self.new.editors n) ≡ id_in (slice_get self.old.editors n)) }
         ensures outs { OnOk result (outs.new ≡ outs.old ++ ToEditor e body ∷ []) }

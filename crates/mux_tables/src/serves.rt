@@ -20,7 +20,7 @@ ghost use Rattle.mux_history.specs.declared.out.Out.{Out};
 ghost use Rattle.mux_tables.specs.Documents.{DocumentsStand, Owed, Parts, nothing_owed, owes, replaying, to};
 ghost use Rattle.group_laws.specs.group_rows.specs.Forwarded.{forwarding_of, is_under};
 ghost use Rattle.mux_tokens.specs.Stands.{CreatedStay};
-ghost use Rattle.mux_tables.specs.Stands.{Exits, ListsStay, LiveStay, NamesAt, ParkedStay, Stands, any_in, begun_at, forwarded_as, is_early, number_in, stage_in};
+ghost use Rattle.mux_tables.specs.Stands.{Exits, ListsStay, LiveStay, NamesAt, ParkedStay, Stands, any_in, begun_at, forwarded_as, house_in, is_early, number_in, stage_in};
 
 use crate::documents::{ready, remove, unready};
 use crate::requests::{answer, forget};
@@ -90,6 +90,7 @@ impl Tables {
         ensures versions { self.new.versions ≡ self.old.versions }
         ensures editors { OnOk result (self.new.editors ≡ self.old.editors) }
         ensures starts { OnOk result (map number_in self.new.lasts.items ≡ map number_in self.old.lasts.items) }
+        ensures groups { OnOk result (map house_in self.new.lasts.items ≡ map house_in self.old.lasts.items) }
         ensures ready { OnOk result ((x : Start) → slice_get self.new.lasts.items g ≡ Some x → x.life.stage ≡ Ready) }
         ensures stands { (settings : Settings) (events : List Event) (s : ℕ) (body : List ℕ)
             → slice_get (map number_in self.old.lasts.items) g ≡ Some s → is_first_result (message_of body) ≡ true

@@ -4,7 +4,7 @@ use Rattle.std.specs.Prelude.{Some}
 use Rattle.event_model.proofs.Places.{get_set_same, same_item}
 use Rattle.restart_replay.specs.Standings.{Standing}
 use Rattle.mux_tables.specs.declared.tables.Start.{Start}
-use Rattle.mux_tables.proofs.Starts.{read_here, starts_stay}
+use Rattle.mux_tables.proofs.Starts.{houses_stay, read_here, starts_stay}
 use Rattle.mux_tables.proofs.Served.{result_moves}
 use Rattle.rpc_message.specs.Message.{message_of}
 use Rattle.mux_tables.proofs.DocumentReady.{ready_documents_by}
@@ -23,6 +23,9 @@ returns-clause-documents c = λ settings events s body xs at parts gives st ds x
 
 pub returns-clause-starts : goal.returns-clause-starts
 returns-clause-starts c = starts_stay c.args.self.now.lasts.items c.args.g c.index_mut-last.result.now (record c.index_mut-last.result.now { life = c.result.new.self; ids = c.forget.new.ids; shown = Some c.args.shown }) c.requires.group c.index_mut-last.ensures.value (ap (λ (l : Standing). l.start) c.result.ensures)
+
+pub returns-clause-groups : goal.returns-clause-groups
+returns-clause-groups c = houses_stay c.args.self.now.lasts.items c.args.g c.index_mut-last.result.now (record c.index_mut-last.result.now { life = c.result.new.self; ids = c.forget.new.ids; shown = Some c.args.shown }) c.requires.group c.index_mut-last.ensures.value (ap (λ (l : Standing). l.group) c.result.ensures)
 
 pub returns-clause-ready : goal.returns-clause-ready
 returns-clause-ready c = λ x at. ap (λ (w : Start). w.life.stage) (sym (same_item (sym (get_set_same c.args.self.now.lasts.items c.args.g (record c.index_mut-last.result.now { life = c.result.new.self; ids = c.forget.new.ids; shown = Some c.args.shown }) c.requires.group) ∙ at))) ∙ ap (λ (l : Standing). l.stage) c.result.ensures
