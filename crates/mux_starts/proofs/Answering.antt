@@ -129,7 +129,7 @@ module _ (settings : Settings) (before : List Event) (body : List ℕ) (s : ℕ)
   asked_by f r is h = subst (λ o. Alike (on o nothing (hand_on settings before s body)) (reply_row r)) (sym is) h
 
   pub replied : (f : Forwarded) {E : Type 0} (result : Result (Option Reply) E) → found ≡ Some f → IsAsked before f → IfOk result (λ r. Alike (hand_on settings before s body f) (reply_row r) × Answers settings before s body f r)
-      → IfOk result (λ r. Alike (answer_row settings before s body (message_of body)) (reply_row r) × MatchOption r (Unit {0}) (IsReply settings before s body))
+      → IfOk result (λ r. Alike (answer_row settings s before body (message_of body)) (reply_row r) × MatchOption r (Unit {0}) (IsReply settings before s body))
   replied f (Ok r) is known h = (asked_by f r is h.0, answers_it settings before s body f is known r h.1)
   replied f (Err e) is known h = tt
 
