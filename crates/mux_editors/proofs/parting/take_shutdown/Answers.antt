@@ -32,7 +32,7 @@ returns-clause-does c = λ settings before body method id params read says asks 
     let o = owing_of settings before e t st u base c.in_ok-owed.owed (c.in_ok-owed.ensures.documents settings before body served down st ds) in
     let pays = pays_later settings before e t u c.in_ok-owed.owed o.0 (ap (λ ls. map number_in ls.items) lasts) (ap (λ ls. map stage_in ls.items) lasts) (ap (λ ls. map house_in ls.items) lasts) o.1.0 in
     let leaves = subst (λ ns. Leaves settings before e ns c.in_ok-left.left) (sym (ap (λ ls. ls.items) lasts)) (c.in_ok-left.ensures.leaves settings before st) in
-    let is : c.in_ok-text.text ≡ ok_text (id_bytes body) (codes "null") = c.in_ok-text.ensures ∙ ap (λ w. ok_text w (codes "null")) (c.id_bytes.ensures body read) in
+    let is : c.in_ok-text.text ≡ ok_text (id_bytes body) (codes "null") = c.in_ok-text.ensures ∙ ap (λ w. ok_text w (codes "null")) (c.id_bytes-id.ensures body read) in
     let at = stands_so before e body (request id method params) Down says (λ q i h. shutdown_downs method id params asks body q i h) served in
     let stays : ((desk_of e base).phase ≡ Waiting) → ⊥ = λ waits. absurd (let clash : Down ≡ Waiting = sym at ∙ waits in cc) in
     let keeps = keeps_result e c.in_ok-text.text base (Some id) null_tree (ap message_of is ∙ null_says body id method params says) stays in

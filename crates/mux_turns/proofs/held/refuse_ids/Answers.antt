@@ -6,7 +6,7 @@ use Rattle.mux_tables.specs.Stands.{Stands}
 use Rattle.mux_turns.specs.Initials.{IsNamed, refuse_id}
 use Rattle.mux_turns.proofs.Failing.{named_at}
 use Rattle.mux_turns.proofs.Refusing.{informs_none, informs_then}
-use Rattle.mux_turns.proofs.waits.refuse_ids.Goals as goal
+use Rattle.mux_turns.proofs.held.refuse_ids.Goals as goal
 
 pub loop-id-initial : goal.loop-id-initial
 loop-id-initial c = record {

@@ -9,7 +9,7 @@ use Rattle.mux_tables.specs.Documents.{DocumentsStand, Owed}
 use Rattle.mux_tables.specs.Stands.{Stands}
 use Rattle.mux_turns.specs.Initials.{IsNamed, refuse_id}
 use Rattle.mux_turns.specs.Welcomes.{Informs}
-use Rattle.mux_turns.proofs.waits.refuse_ids.Given as goal
+use Rattle.mux_turns.proofs.held.refuse_ids.Given as goal
 
 abbrev pub invariant-loop-id : goal.invariant-loop-id
 invariant-loop-id l = record {

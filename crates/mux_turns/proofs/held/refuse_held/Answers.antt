@@ -2,7 +2,7 @@
 use Rattle.std.proofs.Common.{◌∙◌}
 use Rattle.event_model.specs.Event.{behind}
 use Rattle.mux_turns.proofs.Refusing.{refuses_held}
-use Rattle.mux_turns.proofs.waits.refuse_held.Goals as goal
+use Rattle.mux_turns.proofs.held.refuse_held.Goals as goal
 
 pub returns-clause-does : goal.returns-clause-does
 returns-clause-does c = λ settings base.
