@@ -85,6 +85,17 @@ served_there Down h = absurd (cc)
 served_there Closed h = absurd (cc)
 served_there Gone h = absurd (cc)
 
+-- one that is served has begun, so where its message is under no open id of one that has, it is under none
+pub single_served : (p : Phase) (doubled : Bool) → is_served p ≡ true → (is_begun p && doubled) ≡ false → doubled ≡ false
+single_served Answered doubled h single = single
+single_served Running doubled h single = single
+single_served Absent doubled h single = absurd (cc)
+single_served New doubled h single = absurd (cc)
+single_served Waiting doubled h single = absurd (cc)
+single_served Down doubled h single = absurd (cc)
+single_served Closed doubled h single = absurd (cc)
+single_served Gone doubled h single = absurd (cc)
+
 -- such a request is refused by its method, is `shutdown`, or goes on
 pub other_class : (k : Class) → is_standard k ≡ true → (k ≡ class.Initialize → ⊥) → (k ≡ class.Wrong → ⊥) → (k ≡ class.Shutdown → ⊥) → is_other k ≡ true
 other_class class.Other h i w s = refl
