@@ -39,7 +39,7 @@ use mux_tables::Tables;
 use mux_tables::id_rewrite::IdTable;
 use mux_tables::mux_waits::held_requests::Request;
 use mux_turns::stage_at;
-use rpc_message::{Message, error_reply};
+use rpc_message::{ErrorCode, Message, error_answer};
 use std::alloc::Global;
 
 /// What a cancel names: a request that is open at the last start of a group, which is ready, and wasn't cancelled.
@@ -178,7 +178,7 @@ fn cancel_waiting(
     ensures documents { (settings : Settings) (owed : Owed) (base : List Event) → DocumentsStand settings owed tables.old (behind base outs.old)
         → OnOk result (DocumentsStand settings owed tables.new (behind base outs.new)) }
 {
-    let text = error_reply(alloc, id, -32_800, "Request cancelled")?;
+    let text = error_answer(alloc, id, ErrorCode::RequestCancelled)?;
     tables.answer(outs, e, id, text)?;
     Ok(())
 }
