@@ -1,6 +1,6 @@
 -- The answer of a start, passed on.
-use Rattle.std.proofs.Common.{◌≡◌, ℕ, Bool, true, false, List, [], ◌∷◌, find, refl, ap, ap₂, sym, subst, ◌∙◌, append-nil}
-use Rattle.std.specs.Prelude.{Option, Some, None, Result, Ok, Err, IfOk, OnOk, MatchOption, option_copied}
+use Rattle.std.proofs.Common.{◌≡◌, ℕ, true, false, List, [], find, refl, ap, ap₂, sym, subst, ◌∙◌, append-nil}
+use Rattle.std.specs.Prelude.{Option, Some, None, Result, Ok, Err, IfOk, MatchOption, option_copied}
 use Rattle.std.specs.Option.{option_and_then}
 use Rattle.std.specs.Borrow.{Bor}
 use Rattle.mux_history.specs.declared.cause.Cause.TheVariants.{FromServer}
@@ -8,7 +8,6 @@ use Rattle.mux_history.specs.declared.out.Out.{Out}
 use Rattle.mux_history.specs.declared.out.Out.TheVariants.{ToEditor}
 use Rattle.rpc_message.specs.Message.{Message, Id, message_of}
 use Rattle.rpc_message.specs.ValueTexts.{IsIdText}
-use Rattle.mux_turns.specs.mux_facts.specs.Allowed.{is_response}
 use Rattle.mux_turns.specs.mux_facts.proofs.Bodies.{IsResponseTo, is_error, is_result}
 use Rattle.mux_turns.specs.group_facts.proofs.AnswerRows.{answers_only, response_is}
 use Rattle.mux_turns.specs.group_facts.specs.Facts.{Meant}
@@ -21,7 +20,7 @@ use Rattle.event_model.specs.Does.{Alike, Does}
 use Rattle.event_model.specs.Event.{Event, behind, heard, said, with_cause}
 use Rattle.event_model.specs.Phases.{Desk, desk_behind, desk_of, is_there, phase_told}
 use Rattle.event_model.specs.Requests.{answered_id}
-use Rattle.event_model.specs.Row.{on, choose, nothing, outs, send}
+use Rattle.event_model.specs.Row.{on, nothing, send}
 use Rattle.event_model.specs.Settings.{Settings}
 use Rattle.event_model.proofs.Frames.{one_more}
 use Rattle.event_model.proofs.Turns.{alike, does_nothing}
