@@ -1,6 +1,6 @@
 -- The answer of a start, passed on.
-use Rattle.std.proofs.Common.{◌≡◌, ℕ, Bool, true, false, List, [], ◌∷◌, find, refl, ap, ap₂, sym, subst, ◌∙◌, append-nil}
-use Rattle.std.specs.Prelude.{Option, Some, None, Result, Ok, Err, IfOk, OnOk, MatchOption, option_copied}
+use Rattle.std.proofs.Common.{◌≡◌, ℕ, true, false, List, [], find, refl, ap, ap₂, sym, subst, ◌∙◌, append-nil}
+use Rattle.std.specs.Prelude.{Option, Some, None, Result, Ok, Err, IfOk, MatchOption, option_copied}
 use Rattle.std.specs.Option.{option_and_then}
 use Rattle.std.specs.Borrow.{Bor}
 use Rattle.mux_history.specs.declared.cause.Cause.TheVariants.{FromServer}
@@ -8,7 +8,6 @@ use Rattle.mux_history.specs.declared.out.Out.{Out}
 use Rattle.mux_history.specs.declared.out.Out.TheVariants.{ToEditor}
 use Rattle.rpc_message.specs.Message.{Message, Id, message_of}
 use Rattle.rpc_message.specs.ValueTexts.{IsIdText}
-use Rattle.mux_turns.specs.mux_facts.specs.Allowed.{is_response}
 use Rattle.mux_turns.specs.mux_facts.proofs.Bodies.{IsResponseTo, is_error, is_result}
 use Rattle.mux_turns.specs.group_facts.proofs.AnswerRows.{answers_only, response_is}
 use Rattle.mux_turns.specs.group_facts.specs.Facts.{Meant}
@@ -21,7 +20,7 @@ use Rattle.event_model.specs.Does.{Alike, Does}
 use Rattle.event_model.specs.Event.{Event, behind, heard, said, with_cause}
 use Rattle.event_model.specs.Phases.{Desk, desk_behind, desk_of, is_there, phase_told}
 use Rattle.event_model.specs.Requests.{answered_id}
-use Rattle.event_model.specs.Row.{on, choose, nothing, outs, send}
+use Rattle.event_model.specs.Row.{on, nothing, send}
 use Rattle.event_model.specs.Settings.{Settings}
 use Rattle.event_model.proofs.Frames.{one_more}
 use Rattle.event_model.proofs.Turns.{alike, does_nothing}
@@ -129,7 +128,7 @@ module _ (settings : Settings) (before : List Event) (body : List ℕ) (s : ℕ)
   asked_by f r is h = subst (λ o. Alike (on o nothing (hand_on settings before s body)) (reply_row r)) (sym is) h
 
   pub replied : (f : Forwarded) {E : Type 0} (result : Result (Option Reply) E) → found ≡ Some f → IsAsked before f → IfOk result (λ r. Alike (hand_on settings before s body f) (reply_row r) × Answers settings before s body f r)
-      → IfOk result (λ r. Alike (answer_row settings before s body (message_of body)) (reply_row r) × MatchOption r (Unit {0}) (IsReply settings before s body))
+      → IfOk result (λ r. Alike (answer_row settings s before body (message_of body)) (reply_row r) × MatchOption r (Unit {0}) (IsReply settings before s body))
   replied f (Ok r) is known h = (asked_by f r is h.0, answers_it settings before s body f is known r h.1)
   replied f (Err e) is known h = tt
 

@@ -9,7 +9,6 @@ use Rattle.mux_history.specs.declared.out.Out.{Out}
 use Rattle.mux_history.specs.declared.out.Out.TheVariants.{CloseEditor, EndServer, Spawn, ToEditor, ToServer}
 use Rattle.rpc_message.specs.Message.{Id, error, integer, message_of, request}
 use Rattle.rpc_message.specs.Texts.{error_text, error_tree, request_failed}
-use Rattle.rpc_message.specs.ValueTexts.{IsIdText}
 use Rattle.rpc_message.proofs.Fixed.{error_law, id_as_response}
 use Rattle.document_model.specs.Sayings.{nothing, saying_of}
 use Rattle.event_model.specs.declared.stage.Stage.TheVariants.{Ready}
@@ -51,7 +50,7 @@ use Rattle.mux_turns.proofs.Departing.{mapped_on}
 use Rattle.mux_turns.proofs.Keeping.{keeps_error}
 use Rattle.mux_starts.specs.declared.held.Refusal.{Refusal}
 use Rattle.mux_starts.specs.declared.held.Sending.{Sending}
-use Rattle.mux_starts.specs.Held.{AreSent, IsFirst, IsIdle, IsRefused, IsSending, Passes, PassesOne, PassesSome, Shrinks}
+use Rattle.mux_starts.specs.Held.{AreSent, IsIdle, IsRefused, IsSending, Passes, PassesOne, Shrinks}
 
 -- No message of an editor is at work
 

@@ -1,7 +1,6 @@
 -- S2: a start's first result: with whom it parts, what the start is told, and the whole entry.
-use Rattle.std.proofs.Common.{◌≡◌, ℕ, ◌+◌, ◌<◌, ◌≤◌, Bool, true, false, ◌&&◌, List, [], ◌∷◌, ◌++◌, append_assoc, append-nil, codes, drop, get_or, length, take, nat_eq, refl, ap, ap₂, sym, if◌then◌else◌, subst, ◌∙◌}
+use Rattle.std.proofs.Common.{◌≡◌, ℕ, Bool, true, false, ◌&&◌, List, [], ◌∷◌, ◌++◌, append-nil, codes, nat_eq, refl, ap, ap₂, sym, if◌then◌else◌, subst, ◌∙◌}
 use Rattle.std.specs.Prelude.{Option, Some, None, option_map, slice_get}
-use Rattle.std.proofs.lemmas.List.{drop_all, take_all, take_more}
 use Rattle.json_text.specs.Json.{Json}
 use Rattle.mux_history.specs.declared.cause.Cause.TheVariants.{FromServer}
 use Rattle.mux_history.specs.declared.out.Out.{Out}

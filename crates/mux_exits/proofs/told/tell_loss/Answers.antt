@@ -29,6 +29,6 @@ show-requires c = subst (IsInside (length c.args.tables.now.editors)) c.in-Empti
 
 pub returns-in_ok-show-in-Emptied-clause-does : goal.returns-in_ok-show-in-Emptied-clause-does
 returns-in_ok-show-in-Emptied-clause-does c = λ settings base call can idle.
-    tells_empty settings c.args.tables.now c.show.new.self base c.args.outs.now c.show.new.outs c.args.live.now c.args.loss can c.in-Emptied.e c.in-Emptied.uri c.bytes-in-Emptied.result.now c.in_ok-text-in-Emptied.text c.in-Emptied.is c.bytes-in-Emptied.ensures
-    (λ spelt. c.in_ok-text-in-Emptied.ensures (subst IsUtf8 (sym c.bytes.ensures) spelt) ∙ ap empty_text c.bytes.ensures)
+    tells_empty settings c.args.tables.now c.show.new.self base c.args.outs.now c.show.new.outs c.args.live.now c.args.loss can c.in-Emptied.e c.in-Emptied.uri c.bytes-in-Emptied-2.result.now c.in_ok-text-in-Emptied.text c.in-Emptied.is c.bytes-in-Emptied-2.ensures
+    (λ spelt. c.in_ok-text-in-Emptied.ensures (subst IsUtf8 (sym c.bytes-in-Emptied.ensures) spelt) ∙ ap empty_text c.bytes-in-Emptied.ensures)
     (λ list. c.in_ok-show-in-Emptied.ensures.does settings base list) (λ ds. c.in_ok-show-in-Emptied.ensures.documents settings nothing_owed base ds)

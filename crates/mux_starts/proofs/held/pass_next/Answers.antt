@@ -1,5 +1,5 @@
 -- It goes on, or is refused.
-use Rattle.std.proofs.Common.{ltb-true, nat_lt, ◌∙◌}
+use Rattle.std.proofs.Common.{ltb-true, nat_lt}
 use Rattle.event_model.specs.Event.{behind}
 use Rattle.event_model.specs.Stages.{is_ready, life_of}
 use Rattle.event_model.proofs.Places.{item_at}

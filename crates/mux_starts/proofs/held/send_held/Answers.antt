@@ -1,5 +1,5 @@
 -- All that waits goes on.
-use Rattle.std.proofs.Common.{◌<◌, ap, length, map, refl, sym, subst, ◌∙◌}
+use Rattle.std.proofs.Common.{◌<◌, ap, length, refl, sym, subst, ◌∙◌}
 use Rattle.std.specs.Prelude.{slice_get}
 use Rattle.event_model.specs.declared.stage.Stage.TheVariants.{Ready}
 use Rattle.mux_tables.specs.mux_waits.specs.Rows.{held_of}

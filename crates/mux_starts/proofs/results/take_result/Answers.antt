@@ -28,7 +28,7 @@ use Rattle.mux_turns.specs.Carried.{CarriedStand}
 use Rattle.mux_turns.proofs.CarriedOn.{gave}
 use Rattle.mux_turns.proofs.Listed.{meant_same}
 use Rattle.mux_turns.proofs.Ready.{start_from}
-use Rattle.mux_starts.specs.Parted.{configured_row, parted}
+use Rattle.mux_starts.specs.Parted.{configured_row}
 use Rattle.mux_starts.proofs.Parting.{parted_home}
 use Rattle.mux_starts.proofs.Replies.{first_encoding, initialized_quiet, initialized_silent}
 use Rattle.mux_starts.proofs.Passing.{idle_start, inside_still, kept_as}
