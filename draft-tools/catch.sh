@@ -1,0 +1,2 @@
+rm -f /work/h/lspmux-r0
+for i in $(seq 1 9000); do sleep 0.1; for p in $(pgrep -f ' drive$'); do e=$(readlink /proc/$p/exe); case "$e" in *ld-linux*) tr '\0' ' ' < /proc/$p/cmdline > /tmp/catch.cmd; for w in $(cat /tmp/catch.cmd); do case "$w" in *ld-linux*|drive|--*) ;; /tmp/rt-try*) if [ -f "$w" ] && [ -x "$w" ]; then cp "$w" /work/h/lspmux-r0 && echo "$p $w" > /tmp/catch.log && exit; fi;; esac; done;; esac; done; done
