@@ -18,10 +18,11 @@ use Rattle.event_model.specs.Settings.{Settings}
 use Rattle.event_model.proofs.Frames.{never}
 use Rattle.mux_facts.proofs.Lists.{all_filtered, all_join, all_of, found_is}
 use Rattle.mux_facts.proofs.Words.{same_number}
-use Rattle.group_rows.specs.Forwarded.{Forwarded, Forwarding, answered_by, forwarding_behind, forwarding_of, names, no_forwarding, numbered}
+use Rattle.group_rows.specs.Forwarded.{Forwarded, Forwarding, answered_by, first_sender, forwarding_next, forwarding_of, names, no_forwarding, numbered}
 use Rattle.group_facts.specs.Facts.{AllForwarded, Apart, IsAlone, IsForwarded, OneRequest, is_early}
 use Rattle.group_facts.specs.Why.{IsForward, WhyToServer, begins, greets, conveys, forwarded, notes, tells, shuts, cancels, responds, exits, resolves, cancels_work}
-use Rattle.group_facts.proofs.Forwards.{Fewer, fewer_notified, forwarding_more, more_requests, zip_all}
+use Rattle.group_rows.proofs.Frames.{forwarding_more}
+use Rattle.group_facts.proofs.Forwards.{Fewer, fewer_notified, more_requests, zip_all}
 use Rattle.group_facts.proofs.Levels.{each_start}
 use Rattle.group_facts.proofs.Numbers.{forwarding_other, forwarding_sent, response_forwards}
 use Rattle.mux_facts.specs.Allowed.{is_response}
@@ -38,28 +39,28 @@ one_id i j w h k = same (sym h.is ∙ ap id_of (one_tree w h.tree k.tree (id_tex
     same e = cc
 
 -- a request of e under an id that isn't open is open at no start
-pub alone_by : (before : List Event) → AllForwarded before → (e : ℕ) (id : Id) → is_open id (open_of e before) ≡ false → IsAlone before e id
-alone_by before asked e id fresh t = all_of (IsForwarded before) (λ (g : Forwarded). g.editor ≡ e → IsIdText id g.id → ⊥) (λ g k same text. clash g k same (one_id id k.id g.id text k.text)) (forwarding_of t before).open_requests (asked t)
+pub alone_by : (settings : Settings) (before : List Event) → AllForwarded settings before → (e : ℕ) (id : Id) → is_open id (open_of e before) ≡ false → IsAlone settings before e id
+alone_by settings before asked e id fresh t = all_of (IsForwarded before) (λ (g : Forwarded). g.editor ≡ e → IsIdText id g.id → ⊥) (λ g k same text. clash g k same (one_id id k.id g.id text k.text)) (forwarding_of settings t before).open_requests (asked t)
   where
     clash : (g : Forwarded) (k : IsForwarded before g) → g.editor ≡ e → id ≡ k.id → ⊥
     clash g k same is = never (sym (subst (λ z. is_open z (open_of g.editor before) ≡ true) (sym is) k.waits) ∙ ap (λ z. is_open id (open_of z before)) same ∙ fresh)
 
 -- nor is one of an editor that got no result yet
-pub alone_early : (before : List Event) → AllForwarded before → (e : ℕ) (id : Id) → is_early (desk_of e before).phase ≡ true → IsAlone before e id
-alone_early before asked e id early t = all_of (IsForwarded before) (λ (g : Forwarded). g.editor ≡ e → IsIdText id g.id → ⊥) (λ g k same text. never (sym early ∙ ap (λ z. is_early (desk_of z before).phase) (sym same) ∙ k.late)) (forwarding_of t before).open_requests (asked t)
+pub alone_early : (settings : Settings) (before : List Event) → AllForwarded settings before → (e : ℕ) (id : Id) → is_early (desk_of e before).phase ≡ true → IsAlone settings before e id
+alone_early settings before asked e id early t = all_of (IsForwarded before) (λ (g : Forwarded). g.editor ≡ e → IsIdText id g.id → ⊥) (λ g k same text. never (sym early ∙ ap (λ z. is_early (desk_of z before).phase) (sym same) ∙ k.late)) (forwarding_of settings t before).open_requests (asked t)
 
 -- One event more, behind which no request is open that wasn't before
 
-pub apart_fewer : (events later : List Event) → Fewer events later → Apart events → Apart later
-apart_fewer events later fewer h s = fewer s (λ n e i. (t : ℕ) → AllByRecursion (λ (g : Forwarded). (id : Id) → g.editor ≡ e → IsIdText id i → IsIdText id g.id → (t ≡ s) × (g.number ≡ n)) (forwarding_of t later).open_requests)
-    (all_of (λ (f : Forwarded). (t : ℕ) → AllByRecursion (OneRequest s f t) (forwarding_of t events).open_requests) (λ (f : Forwarded). (t : ℕ) → AllByRecursion (OneRequest s f t) (forwarding_of t later).open_requests)
-    (λ f k t. fewer t (λ n e i. (id : Id) → e ≡ f.editor → IsIdText id f.id → IsIdText id i → (t ≡ s) × (n ≡ f.number)) (k t)) (forwarding_of s events).open_requests (h s))
+pub apart_fewer : (settings : Settings) (events later : List Event) → Fewer settings events later → Apart settings events → Apart settings later
+apart_fewer settings events later fewer h s = fewer s (λ n e i. (t : ℕ) → AllByRecursion (λ (g : Forwarded). (id : Id) → g.editor ≡ e → IsIdText id i → IsIdText id g.id → (t ≡ s) × (g.number ≡ n)) (forwarding_of settings t later).open_requests)
+    (all_of (λ (f : Forwarded). (t : ℕ) → AllByRecursion (OneRequest s f t) (forwarding_of settings t events).open_requests) (λ (f : Forwarded). (t : ℕ) → AllByRecursion (OneRequest s f t) (forwarding_of settings t later).open_requests)
+    (λ f k t. fewer t (λ n e i. (id : Id) → e ≡ f.editor → IsIdText id f.id → IsIdText id i → (t ≡ s) × (n ≡ f.number)) (k t)) (forwarding_of settings s events).open_requests (h s))
 
 abbrev All3 : (ℕ → ℕ → List ℕ → Type 0) → List Forwarded → Type 0
 All3 Q fs = AllByRecursion (λ (f : Forwarded). Q f.number f.editor f.id) fs
 
-fewer_by : (events : List Event) (event : Event) → ((t : ℕ) (Q : ℕ → ℕ → List ℕ → Type 0) → All3 Q (forwarding_of t events).open_requests → All3 Q (forwarding_behind t (forwarding_of t events) event).open_requests) → Fewer events (events ++ event ∷ [])
-fewer_by events event f t Q h = subst (λ (x : Forwarding). All3 Q x.open_requests) (sym (forwarding_more t events event)) (f t Q h)
+fewer_by : (settings : Settings) (events : List Event) (event : Event) → ((t : ℕ) (Q : ℕ → ℕ → List ℕ → Type 0) → All3 Q (forwarding_of settings t events).open_requests → All3 Q (forwarding_next settings t events (forwarding_of settings t events) event).open_requests) → Fewer settings events (events ++ event ∷ [])
+fewer_by settings events event f t Q h = subst (λ (x : Forwarding). All3 Q x.open_requests) (sym (forwarding_more settings t events event)) (f t Q h)
 
 answered_fewer : (Q : ℕ → ℕ → List ℕ → Type 0) (b : Bool) (test : Forwarded → Bool) (fs : List Forwarded) → All3 Q fs → All3 Q (if b then filter test fs else fs)
 answered_fewer Q true test fs h = all_filtered (λ (f : Forwarded). Q f.number f.editor f.id) (λ (f : Forwarded). Q f.number f.editor f.id) test (λ f t k. k) fs h
@@ -70,25 +71,25 @@ ended_fewer : (Q : ℕ → ℕ → List ℕ → Type 0) (b : Bool) (x : Forwardi
 ended_fewer Q true x h = tt
 ended_fewer Q false x h = h
 
-pub fewer_took : (settings : Settings) (events : List Event) (cause : Cause) → Fewer events (with_cause events cause)
-fewer_took settings events (Joined e) = fewer_by events (heard (Joined e)) (λ t Q h. h)
-fewer_took settings events (FromEditor e body) = fewer_by events (heard (FromEditor e body)) (λ t Q h. h)
-fewer_took settings events (Started n) = fewer_by events (heard (Started n)) (λ t Q h. h)
-fewer_took settings events (FromServer n body) = fewer_by events (heard (FromServer n body)) (λ t Q h. answered_fewer Q (nat_eq n t) (λ f. not (answered_by (answered_id (message_of body)) f)) (forwarding_of t events).open_requests h)
-fewer_took settings events (Drained e k) = fewer_by events (heard (Drained e k)) (λ t Q h. h)
-fewer_took settings events (Tick t) = fewer_by events (heard (Tick t)) (λ s Q h. h)
-fewer_took settings events (EditorGone e why) = fewer_by events (heard (EditorGone e why)) (λ t Q h. h)
-fewer_took settings events (StartFailed n) = fewer_by events (heard (StartFailed n)) (λ t Q h. ended_fewer Q (nat_eq n t) (forwarding_of t events) h)
-fewer_took settings events (ServerGone n) = fewer_by events (heard (ServerGone n)) (λ t Q h. ended_fewer Q (nat_eq n t) (forwarding_of t events) h)
+pub fewer_took : (settings : Settings) (events : List Event) (cause : Cause) → Fewer settings events (with_cause events cause)
+fewer_took settings events (Joined e) = fewer_by settings events (heard (Joined e)) (λ t Q h. h)
+fewer_took settings events (FromEditor e body) = fewer_by settings events (heard (FromEditor e body)) (λ t Q h. h)
+fewer_took settings events (Started n) = fewer_by settings events (heard (Started n)) (λ t Q h. h)
+fewer_took settings events (FromServer n body) = fewer_by settings events (heard (FromServer n body)) (λ t Q h. answered_fewer Q (nat_eq n t) (λ f. not (answered_by (answered_id (message_of body)) f)) (forwarding_of settings t events).open_requests h)
+fewer_took settings events (Drained e k) = fewer_by settings events (heard (Drained e k)) (λ t Q h. h)
+fewer_took settings events (Tick t) = fewer_by settings events (heard (Tick t)) (λ s Q h. h)
+fewer_took settings events (EditorGone e why) = fewer_by settings events (heard (EditorGone e why)) (λ t Q h. h)
+fewer_took settings events (StartFailed n) = fewer_by settings events (heard (StartFailed n)) (λ t Q h. ended_fewer Q (nat_eq n t) (forwarding_of settings t events) h)
+fewer_took settings events (ServerGone n) = fewer_by settings events (heard (ServerGone n)) (λ t Q h. ended_fewer Q (nat_eq n t) (forwarding_of settings t events) h)
 
-pub asks_fewer : (events : List Event) (e : ℕ) (body : List ℕ) → Fewer events (with_cause events (FromEditor e body))
-asks_fewer events e body = fewer_by events (heard (FromEditor e body)) (λ t Q h. h)
+pub asks_fewer : (settings : Settings) (events : List Event) (e : ℕ) (body : List ℕ) → Fewer settings events (with_cause events (FromEditor e body))
+asks_fewer settings events e body = fewer_by settings events (heard (FromEditor e body)) (λ t Q h. h)
 
-pub fewer_said : (events : List Event) (out : Out) → ((s : ℕ) → (forwarding_behind s (forwarding_of s events) (said out)).open_requests ≡ (forwarding_of s events).open_requests) → Fewer events (events ++ said out ∷ [])
-fewer_said events out same = fewer_by events (said out) (λ t Q k. subst (All3 Q) (sym (same t)) k)
+pub fewer_said : (settings : Settings) (events : List Event) (out : Out) → ((s : ℕ) → (forwarding_next settings s events (forwarding_of settings s events) (said out)).open_requests ≡ (forwarding_of settings s events).open_requests) → Fewer settings events (events ++ said out ∷ [])
+fewer_said settings events out same = fewer_by settings events (said out) (λ t Q k. subst (All3 Q) (sym (same t)) k)
 
-pub apart_said : (events : List Event) (out : Out) → ((s : ℕ) → (forwarding_behind s (forwarding_of s events) (said out)).open_requests ≡ (forwarding_of s events).open_requests) → Apart events → Apart (events ++ said out ∷ [])
-apart_said events out same h = apart_fewer events (events ++ said out ∷ []) (fewer_said events out same) h
+pub apart_said : (settings : Settings) (events : List Event) (out : Out) → ((s : ℕ) → (forwarding_next settings s events (forwarding_of settings s events) (said out)).open_requests ≡ (forwarding_of settings s events).open_requests) → Apart settings events → Apart settings (events ++ said out ∷ [])
+apart_said settings events out same h = apart_fewer settings events (events ++ said out ∷ []) (fewer_said settings events out same) h
 
 -- A body to a start
 
@@ -96,31 +97,31 @@ module _ (settings : Settings) (before : List Event) (cause : Cause) (events : L
   abbrev sent : List Event
   sent = events ++ said (ToServer n body) ∷ []
 
-  pub own_fewer : (id : Id) (method : List ℕ) (params : Option Json) → message_of body ≡ request id method params → is_own method ≡ true → Fewer events sent
-  own_fewer id method params says own t Q h = each_start (λ z. All3 Q (forwarding_of z events).open_requests → All3 Q (forwarding_of z sent).open_requests) n
-      (λ k. subst (λ (x : Forwarding). All3 Q x.open_requests) (sym (forwarding_sent events n body (request id method params) says ∙ ap (λ c. if c then forwarding_of n events else more_requests (forwarding_of n events)) own)) k)
-      (λ z other k. subst (λ (x : Forwarding). All3 Q x.open_requests) (sym (forwarding_other events n body z other)) k) t h
+  pub own_fewer : (id : Id) (method : List ℕ) (params : Option Json) → message_of body ≡ request id method params → is_own method ≡ true → Fewer settings events sent
+  own_fewer id method params says own t Q h = each_start (λ z. All3 Q (forwarding_of settings z events).open_requests → All3 Q (forwarding_of settings z sent).open_requests) n
+      (λ k. subst (λ (x : Forwarding). All3 Q x.open_requests) (sym (forwarding_sent settings events n body (request id method params) says ∙ ap (λ c. if c then forwarding_of settings n events else more_requests (first_sender settings n events) (forwarding_of settings n events)) own)) k)
+      (λ z other k. subst (λ (x : Forwarding). All3 Q x.open_requests) (sym (forwarding_other settings events n body z other)) k) t h
 
-  pub response_fewer : is_response (message_of body) ≡ true → Fewer events sent
-  response_fewer answer t Q h = each_start (λ z. All3 Q (forwarding_of z events).open_requests → All3 Q (forwarding_of z sent).open_requests) n
-      (λ k. subst (λ (x : Forwarding). All3 Q x.open_requests) (sym (forwarding_sent events n body (message_of body) refl ∙ response_forwards (forwarding_of n events) (message_of body) answer)) k)
-      (λ z other k. subst (λ (x : Forwarding). All3 Q x.open_requests) (sym (forwarding_other events n body z other)) k) t h
+  pub response_fewer : is_response (message_of body) ≡ true → Fewer settings events sent
+  response_fewer answer t Q h = each_start (λ z. All3 Q (forwarding_of settings z events).open_requests → All3 Q (forwarding_of settings z sent).open_requests) n
+      (λ k. subst (λ (x : Forwarding). All3 Q x.open_requests) (sym (forwarding_sent settings events n body (message_of body) refl ∙ response_forwards (first_sender settings n events) (forwarding_of settings n events) (message_of body) answer)) k)
+      (λ z other k. subst (λ (x : Forwarding). All3 Q x.open_requests) (sym (forwarding_other settings events n body z other)) k) t h
 
   -- an editor's request: it alone is new
   module _ (k : IsForward settings before cause events n body) where
     unfoldable pub new : Forwarded
-    new = record { number = (forwarding_of n events).next; editor = (k.sender).editor; id = (k.sender).id; work = (k.sender).work; partial = (k.sender).partial; cancelled = false }
+    new = record { number = (forwarding_of settings n events).next; editor = (k.sender).editor; id = (k.sender).id; work = (k.sender).work; partial = (k.sender).partial; cancelled = false }
 
-    list_now : (forwarding_of n sent).open_requests ≡ (forwarding_of n events).open_requests ++ new ∷ []
+    list_now : (forwarding_of settings n sent).open_requests ≡ (forwarding_of settings n events).open_requests ++ new ∷ []
     unfolding new
-    list_now = ap (λ (x : Forwarding). x.open_requests) (forwarding_sent events n body (request (integer (decimal (forwarding_of n events).next)) k.method k.params) k.says
-        ∙ ap (λ c. if c then forwarding_of n events else more_requests (forwarding_of n events)) k.other)
-        ∙ ap (λ o. (forwarding_of n events).open_requests ++ numbered o (forwarding_of n events).next) k.at_work
+    list_now = ap (λ (x : Forwarding). x.open_requests) (forwarding_sent settings events n body (request (integer (decimal (forwarding_of settings n events).next)) k.method k.params) k.says
+        ∙ ap (λ c. if c then forwarding_of settings n events else more_requests (first_sender settings n events) (forwarding_of settings n events)) k.other)
+        ∙ ap (λ o. (forwarding_of settings n events).open_requests ++ numbered o (forwarding_of settings n events).next) k.at_work
 
-    pub grow : (t : ℕ) (P : Forwarded → Type 0) → AllByRecursion P (forwarding_of t events).open_requests → (n ≡ t → P new) → AllByRecursion P (forwarding_of t sent).open_requests
-    grow t P h f = each_start (λ z. AllByRecursion P (forwarding_of z events).open_requests → (n ≡ z → P new) → AllByRecursion P (forwarding_of z sent).open_requests) n
-        (λ a g. subst (AllByRecursion P) (sym list_now) (all_join P (forwarding_of n events).open_requests (new ∷ []) a (g refl, tt)))
-        (λ z other a g. subst (λ (x : Forwarding). AllByRecursion P x.open_requests) (sym (forwarding_other events n body z other)) a) t h f
+    pub grow : (t : ℕ) (P : Forwarded → Type 0) → AllByRecursion P (forwarding_of settings t events).open_requests → (n ≡ t → P new) → AllByRecursion P (forwarding_of settings t sent).open_requests
+    grow t P h f = each_start (λ z. AllByRecursion P (forwarding_of settings z events).open_requests → (n ≡ z → P new) → AllByRecursion P (forwarding_of settings z sent).open_requests) n
+        (λ a g. subst (AllByRecursion P) (sym list_now) (all_join P (forwarding_of settings n events).open_requests (new ∷ []) a (g refl, tt)))
+        (λ z other a g. subst (λ (x : Forwarding). AllByRecursion P x.open_requests) (sym (forwarding_other settings events n body z other)) a) t h f
 
     -- another request isn't under its id
     old_new : (s t : ℕ) (f : Forwarded) → (f.editor ≡ (k.sender).editor → IsIdText k.id f.id → ⊥) → OneRequest s f t new
@@ -131,26 +132,26 @@ module _ (settings : Settings) (before : List Event) (cause : Cause) (events : L
     unfolding new
     new_old s t g alone id same mine text = absurd (alone same (subst (λ z. IsIdText z g.id) (one_id id k.id (k.sender).id mine k.text) text))
 
-    forwarded_apart : Apart events → Apart sent
-    forwarded_apart h s = grow s (λ (f : Forwarded). (t : ℕ) → AllByRecursion (OneRequest s f t) (forwarding_of t sent).open_requests)
-        (zip_all (λ (f : Forwarded). (t : ℕ) → AllByRecursion (OneRequest s f t) (forwarding_of t events).open_requests) (λ (f : Forwarded). f.editor ≡ (k.sender).editor → IsIdText k.id f.id → ⊥)
-        (λ (f : Forwarded). (t : ℕ) → AllByRecursion (OneRequest s f t) (forwarding_of t sent).open_requests) (λ f a alone t. grow t (OneRequest s f t) (a t) (λ same. old_new s t f alone)) (forwarding_of s events).open_requests (h s) (k.alone s))
-        (λ here t. grow t (OneRequest s new t) (all_of (λ (g : Forwarded). g.editor ≡ (k.sender).editor → IsIdText k.id g.id → ⊥) (OneRequest s new t) (λ g alone. new_old s t g alone) (forwarding_of t events).open_requests (k.alone t))
+    forwarded_apart : Apart settings events → Apart settings sent
+    forwarded_apart h s = grow s (λ (f : Forwarded). (t : ℕ) → AllByRecursion (OneRequest s f t) (forwarding_of settings t sent).open_requests)
+        (zip_all (λ (f : Forwarded). (t : ℕ) → AllByRecursion (OneRequest s f t) (forwarding_of settings t events).open_requests) (λ (f : Forwarded). f.editor ≡ (k.sender).editor → IsIdText k.id f.id → ⊥)
+        (λ (f : Forwarded). (t : ℕ) → AllByRecursion (OneRequest s f t) (forwarding_of settings t sent).open_requests) (λ f a alone t. grow t (OneRequest s f t) (a t) (λ same. old_new s t f alone)) (forwarding_of settings s events).open_requests (h s) (k.alone s))
+        (λ here t. grow t (OneRequest s new t) (all_of (λ (g : Forwarded). g.editor ≡ (k.sender).editor → IsIdText k.id g.id → ⊥) (OneRequest s new t) (λ g alone. new_old s t g alone) (forwarding_of settings t events).open_requests (k.alone t))
         (λ there id same text mine. (sym there ∙ here, refl)))
 
-  pub apart_sent : WhyToServer settings before cause events n body → Apart events → Apart sent
-  apart_sent (begins k) h = apart_fewer events sent (own_fewer (integer (codes "1")) (codes "initialize") k.params k.says refl) h
-  apart_sent (greets k) h = apart_fewer events sent (fewer_notified n events body (codes "initialized") k.params k.says) h
-  apart_sent (conveys k) h = apart_fewer events sent (fewer_notified n events body (codes "workspace/didChangeConfiguration") k.params k.says) h
+  pub apart_sent : WhyToServer settings before cause events n body → Apart settings events → Apart settings sent
+  apart_sent (begins k) h = apart_fewer settings events sent (own_fewer (integer (codes "1")) (codes "initialize") k.params k.says refl) h
+  apart_sent (greets k) h = apart_fewer settings events sent (fewer_notified settings n events body (codes "initialized") k.params k.says) h
+  apart_sent (conveys k) h = apart_fewer settings events sent (fewer_notified settings n events body (codes "workspace/didChangeConfiguration") k.params k.says) h
   apart_sent (forwarded k) h = forwarded_apart k h
-  apart_sent (notes k) h = apart_fewer events sent (fewer_notified n events body k.method k.params k.says) h
-  apart_sent (tells k) h = let m : Spoken (message_of body) = spoken (message_of body) k.spoken in apart_fewer events sent (fewer_notified n events body m.method m.params m.is) h
-  apart_sent (cancels k) h = apart_fewer events sent (fewer_notified n events body (codes "$/cancelRequest") (Some k.params) k.says) h
-  apart_sent (cancels_work k) h = apart_fewer events sent (fewer_notified n events body (codes "window/workDoneProgress/cancel") k.params k.says) h
-  apart_sent (responds k) h = apart_fewer events sent (response_fewer k.response) h
-  apart_sent (resolves k) h = apart_fewer events sent (response_fewer k.response) h
-  apart_sent (exits k) h = apart_fewer events sent (fewer_notified n events body (codes "exit") None k.says) h
-  apart_sent (shuts k) h = apart_fewer events sent (own_fewer (integer (decimal (next_number n events))) (codes "shutdown") None k.says refl) h
+  apart_sent (notes k) h = apart_fewer settings events sent (fewer_notified settings n events body k.method k.params k.says) h
+  apart_sent (tells k) h = let m : Spoken (message_of body) = spoken (message_of body) k.spoken in apart_fewer settings events sent (fewer_notified settings n events body m.method m.params m.is) h
+  apart_sent (cancels k) h = apart_fewer settings events sent (fewer_notified settings n events body (codes "$/cancelRequest") (Some k.params) k.says) h
+  apart_sent (cancels_work k) h = apart_fewer settings events sent (fewer_notified settings n events body (codes "window/workDoneProgress/cancel") k.params k.says) h
+  apart_sent (responds k) h = apart_fewer settings events sent (response_fewer k.response) h
+  apart_sent (resolves k) h = apart_fewer settings events sent (response_fewer k.response) h
+  apart_sent (exits k) h = apart_fewer settings events sent (fewer_notified settings n events body (codes "exit") None k.says) h
+  apart_sent (shuts k) h = apart_fewer settings events sent (own_fewer (integer (decimal (next_number n events))) (codes "shutdown") None k.says refl) h
 
 -- A response that is passed on
 
@@ -163,16 +164,16 @@ find_true test (g ∷ fs) f h = go (test g) refl (λ k. find_true test fs f k) h
     go false e rest k = rest k
 
 -- behind the answer to f no other is open of its editor and under its id
-pub alone_answered : (before : List Event) (s : ℕ) (body : List ℕ) (f : Forwarded) (id : Id) → Apart before → find (answered_by (answered_id (message_of body))) (forwarding_of s before).open_requests ≡ Some f → IsIdText id f.id → IsAlone (with_cause before (FromServer s body)) f.editor id
-alone_answered before s body f id apart found text t = subst (λ (x : Forwarding). AllByRecursion (λ (g : Forwarded). g.editor ≡ f.editor → IsIdText id g.id → ⊥) x.open_requests) (sym (forwarding_more t before (heard (FromServer s body)))) (go (nat_eq s t) refl)
+pub alone_answered : (settings : Settings) (before : List Event) (s : ℕ) (body : List ℕ) (f : Forwarded) (id : Id) → Apart settings before → find (answered_by (answered_id (message_of body))) (forwarding_of settings s before).open_requests ≡ Some f → IsIdText id f.id → IsAlone settings (with_cause before (FromServer s body)) f.editor id
+alone_answered settings before s body f id apart found text t = subst (λ (x : Forwarding). AllByRecursion (λ (g : Forwarded). g.editor ≡ f.editor → IsIdText id g.id → ⊥) x.open_requests) (sym (forwarding_more settings t before (heard (FromServer s body)))) (go (nat_eq s t) refl)
   where
-    of_f : AllByRecursion (OneRequest s f t) (forwarding_of t before).open_requests
-    of_f = found_is (λ (z : Forwarded). (t : ℕ) → AllByRecursion (OneRequest s z t) (forwarding_of t before).open_requests) (answered_by (answered_id (message_of body))) f (forwarding_of s before).open_requests (apart s) found t
+    of_f : AllByRecursion (OneRequest s f t) (forwarding_of settings t before).open_requests
+    of_f = found_is (λ (z : Forwarded). (t : ℕ) → AllByRecursion (OneRequest s z t) (forwarding_of settings t before).open_requests) (answered_by (answered_id (message_of body))) f (forwarding_of settings s before).open_requests (apart s) found t
 
     answered : answered_by (answered_id (message_of body)) f ≡ true
-    answered = find_true (answered_by (answered_id (message_of body))) (forwarding_of s before).open_requests f found
+    answered = find_true (answered_by (answered_id (message_of body))) (forwarding_of settings s before).open_requests f found
 
-    go : (b : Bool) → nat_eq s t ≡ b → AllByRecursion (λ (g : Forwarded). g.editor ≡ f.editor → IsIdText id g.id → ⊥) (if b then filter (λ g. not (answered_by (answered_id (message_of body)) g)) (forwarding_of t before).open_requests else (forwarding_of t before).open_requests)
+    go : (b : Bool) → nat_eq s t ≡ b → AllByRecursion (λ (g : Forwarded). g.editor ≡ f.editor → IsIdText id g.id → ⊥) (if b then filter (λ g. not (answered_by (answered_id (message_of body)) g)) (forwarding_of settings t before).open_requests else (forwarding_of settings t before).open_requests)
     go true same = all_filtered (OneRequest s f t) (λ (g : Forwarded). g.editor ≡ f.editor → IsIdText id g.id → ⊥) (λ g. not (answered_by (answered_id (message_of body)) g))
-        (λ g left one editor mine. never (sym left ∙ ap not (ap (names (answered_id (message_of body))) (one id editor text mine).1 ∙ answered))) (forwarding_of t before).open_requests of_f
-    go false other = all_of (OneRequest s f t) (λ (g : Forwarded). g.editor ≡ f.editor → IsIdText id g.id → ⊥) (λ g one editor mine. never (sym (ap (λ z. nat_eq s z) (one id editor text mine).0 ∙ same_number s) ∙ other)) (forwarding_of t before).open_requests of_f
+        (λ g left one editor mine. never (sym left ∙ ap not (ap (names (answered_id (message_of body))) (one id editor text mine).1 ∙ answered))) (forwarding_of settings t before).open_requests of_f
+    go false other = all_of (OneRequest s f t) (λ (g : Forwarded). g.editor ≡ f.editor → IsIdText id g.id → ⊥) (λ g one editor mine. never (sym (ap (λ z. nat_eq s z) (one id editor text mine).0 ∙ same_number s) ∙ other)) (forwarding_of settings t before).open_requests of_f

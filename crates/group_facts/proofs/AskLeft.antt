@@ -1,5 +1,5 @@
 -- An editor that leaves was asked nothing any more; so behind every entry each editor that a start asked has its seat.
-use Rattle.std.proofs.Common.{◌≡◌, ℕ, Bool, true, false, ◌&&◌, List, [], ◌∷◌, ◌++◌, filter, map, nat_eq, codes, bytes_eq, Option, Some, None, ◌⊎◌, inl, inr, refl, sym, ◌∙◌, ap, subst, append_assoc, ◌||◌}
+use Rattle.std.proofs.Common.{◌≡◌, ℕ, Bool, true, false, ◌&&◌, List, [], ◌∷◌, ◌++◌, filter, map, nat_eq, codes, bytes_eq, Option, Some, None, ◌⊎◌, inl, inr, refl, sym, ◌∙◌, ap, subst, append_assoc, ◌||◌, append-nil}
 use Rattle.std.specs.List.{AllByRecursion}
 use Rattle.std.specs.Option.{option_map_or}
 use Rattle.std.proofs.lemmas.Bool.{and_parts}
@@ -17,14 +17,14 @@ use Rattle.event_model.specs.declared.phase.Phase.TheVariants.{Running}
 use Rattle.event_model.specs.Event.{Event, behind, requests, notifies, said, with_cause}
 use Rattle.event_model.specs.Phases.{desk_of, is_begun, is_new, is_running, is_waiting, is_there}
 use Rattle.event_model.specs.Requests.{is_open, open_of}
-use Rattle.event_model.specs.Row.{outs}
+use Rattle.event_model.specs.Row.{outs, on, nothing}
 use Rattle.event_model.specs.Settings.{Settings}
 use Rattle.event_model.specs.Spawns.{group_of, start_of}
 use Rattle.event_model.specs.Stages.{is_initializing, life_of}
 use Rattle.event_model.proofs.Frames.{never}
 use Rattle.mux_model.specs.Fits.{fits_behind}
 use Rattle.mux_facts.specs.Ranges.{InRange}
-use Rattle.mux_facts.proofs.Lists.{all_of}
+use Rattle.mux_facts.proofs.Lists.{all_of, all_join}
 use Rattle.mux_facts.proofs.Reasons.{reasons_keep}
 use Rattle.mux_facts.proofs.Words.{number_same, same_number}
 use Rattle.group_words.specs.Houses.{groups_of, home_of, is_doubled, is_first_error, is_home, placed_for, places, stops}
@@ -33,7 +33,7 @@ use Rattle.group_rows.specs.Earlier.{was_shown}
 use Rattle.group_rows.specs.ExitRows.{ends_group}
 use Rattle.group_rows.specs.Leaves.{leave_row}
 use Rattle.group_rows.specs.Rows.{closing_row, from_editor, gone_row, outs_of, shutdown_row}
-use Rattle.group_facts.specs.Facts.{ends_with, is_exit, is_in, is_other, is_parted, is_parting, is_refused, is_refusing, is_too_many, is_unready, ends_link, leaves, shuts, turned_away, is_crowded, is_put_out}
+use Rattle.group_facts.specs.Facts.{ends_with, is_exit, is_in, is_other, is_parted, is_parting, is_refused, is_refusing, is_too_many, is_unready, ends_link, leaves, shuts, turned_away, is_crowded, is_put_out, AllHeld}
 use Rattle.group_facts.specs.Lively.{Lively}
 use Rattle.group_facts.specs.Settled.{HasSeat, is_answered}
 use Rattle.group_facts.specs.Why.{Why, WhyToEditor, answers, asks, calls, loses, winds_up, passes, progresses, recalls, refuses, rejects, resumes, shows, spreads, turns_away, welcomes}
@@ -52,12 +52,24 @@ use Rattle.group_facts.proofs.Nulls.{null_said}
 use Rattle.group_facts.proofs.LastStarts.{AllLast, alive_exit, alive_initializing, start_kept}
 use Rattle.group_facts.proofs.PutOut.{homes_stay}
 use Rattle.group_facts.proofs.Table.{reasons}
-use Rattle.group_rows.specs.StopRows.{stopped}
+use Rattle.group_rows.specs.StopRows.{stopped, lose_waiting}
 use Rattle.group_facts.proofs.Quits.{one_of}
 use Rattle.group_facts.proofs.StopEntry.{before_on, unstopped}
+use Rattle.group_rows.specs.Waiting.{refuse_held}
+use Rattle.mux_facts.proofs.Keeps.{behind_both}
+use Rattle.group_facts.proofs.Held.{refusals_are}
+use Rattle.group_facts.proofs.HeldOn.{held_heard}
 
 the : {v w : ℕ} → ◌≡◌ {A = Option ℕ} (Some v) (Some w) → v ≡ w
 the e = cc
+
+-- the refusals of what waits ask nothing
+lose_unsaid : (settings : Settings) (before : List Event) (n : ℕ) (events : List Event) → AllHeld settings events → AllByRecursion Unsaid (outs (lose_waiting settings before n) events)
+lose_unsaid settings before n events held = go (home_of settings n before)
+  where
+    go : (o : Option ℕ) → AllByRecursion Unsaid (outs (on o nothing (λ g. refuse_held settings g n)) events)
+    go None = tt
+    go (Some g) = refusals_are settings Unsaid (λ k text id x says. ap is_question says) g n events held
 
 -- What a message of an editor that runs gives, where the editor leaves
 
@@ -117,30 +129,48 @@ module _ (settings : Settings) (range : InRange settings) (before : List Event) 
         go (inl parts) = parts
         go (inr stop) = never (sym (and_parts (stops before n (message_of body)) (is_there (desk_of e before).phase) stop).0 ∙ on)
 
-    parted : (out : Out) → Unsaid out → outs_of settings before (FromEditor n body) ≡ out ∷ outs (leave_row settings before n) (with_cause before (FromEditor n body) ++ said out ∷ []) → (s : ℕ) → AllByRecursion (Away n) (asks_of settings s (later (FromEditor n body)))
-    parted out none is s = subst (λ xs. AllByRecursion (Away n) (asks_of settings s (behind heard_now xs))) (sym is)
-        (subst (λ z. AllByRecursion (Away n) (asks_of settings s z)) (append_assoc heard_now (said out ∷ []) (map said (outs (leave_row settings before n) (heard_now ++ said out ∷ []))))
-        (leave_clean settings before (FromEditor n body) (facts.steady).asks n (heard_now ++ said out ∷ [])
-        (λ t. did_all settings (MidSeat settings before (FromEditor n body) t) t heard_now out none (took_all settings (MidSeat settings before (FromEditor n body) t) t before (FromEditor n body) (seats_in (FromEditor n body) fits t)))
-        (λ t. did_all settings (Pending n (filter (is_with n) (asks_of settings t before))) t heard_now out none (took_all settings (Pending n (filter (is_with n) (asks_of settings t before))) t before (FromEditor n body) (all_pending n (asks_of settings t before)))) s))
-      where
-        heard_now : List Event
-        heard_now = with_cause before (FromEditor n body)
+    abbrev heard_now : List Event
+    heard_now = with_cause before (FromEditor n body)
+
+    unsaid_all : (P : Ask → Type 0) (t : ℕ) (events : List Event) (xs : List Out) → AllByRecursion Unsaid xs → AllByRecursion P (asks_of settings t events) → AllByRecursion P (asks_of settings t (behind events xs))
+    unsaid_all P t events [] none h = subst (λ z. AllByRecursion P (asks_of settings t z)) (sym (append-nil events)) h
+    unsaid_all P t events (x ∷ xs) none h = subst (λ z. AllByRecursion P (asks_of settings t z)) (append_assoc events (said x ∷ []) (map said xs)) (unsaid_all P t (events ++ said x ∷ []) xs none.1 (did_all settings P t events x none.0 h))
+
+    parted : (xs : List Out) → AllByRecursion Unsaid xs → outs_of settings before (FromEditor n body) ≡ xs ++ outs (leave_row settings before n) (behind heard_now xs) → (s : ℕ) → AllByRecursion (Away n) (asks_of settings s (later (FromEditor n body)))
+    parted xs none is s = subst (λ z. AllByRecursion (Away n) (asks_of settings s (behind heard_now z))) (sym is)
+        (subst (λ z. AllByRecursion (Away n) (asks_of settings s z)) (sym (behind_both heard_now xs (outs (leave_row settings before n) (behind heard_now xs))))
+        (leave_clean settings before (FromEditor n body) (facts.steady).asks n (behind heard_now xs)
+        (λ t. unsaid_all (MidSeat settings before (FromEditor n body) t) t heard_now xs none (took_all settings (MidSeat settings before (FromEditor n body) t) t before (FromEditor n body) (seats_in (FromEditor n body) fits t)))
+        (λ t. unsaid_all (Pending n (filter (is_with n) (asks_of settings t before))) t heard_now xs none (took_all settings (Pending n (filter (is_with n) (asks_of settings t before))) t before (FromEditor n body) (all_pending n (asks_of settings t before)))) s))
+
+    -- behind the refusals of what waits
+    abbrev lost : List Out
+    lost = outs (lose_waiting settings before n) heard_now
+
+    lost_unsaid : AllByRecursion Unsaid lost
+    lost_unsaid = lose_unsaid settings before n heard_now (held_heard settings before n body facts.quit (facts.steady).asked (facts.steady).held)
+
+    abbrev done : Out
+    done = ToEditor n (ok_text (id_bytes body) (codes "null"))
+
+    shutdown_is : outs (shutdown_row settings before n body) heard_now ≡ (lost ++ done ∷ []) ++ outs (leave_row settings before n) (behind heard_now (lost ++ done ∷ []))
+    shutdown_is = sym (append_assoc lost (done ∷ []) (outs (leave_row settings before n) (behind (behind heard_now lost) (done ∷ []))))
+        ∙ ap (λ z. (lost ++ done ∷ []) ++ outs (leave_row settings before n) z) (sym (behind_both heard_now lost (done ∷ [])))
 
     module _ (at : (desk_of n before).phase ≡ Running) where
       row_is : outs_of settings before (FromEditor n body) ≡ outs (from_editor settings before n body (message_of body) Running) (with_cause before (FromEditor n body))
       row_is = ap (λ p. outs (from_editor settings before n body (message_of body) p) (with_cause before (FromEditor n body))) at
 
       closed_away : outs (from_editor settings before n body (message_of body) Running) (with_cause before (FromEditor n body)) ≡ outs (closing_row settings before n) (with_cause before (FromEditor n body)) → (s : ℕ) → AllByRecursion (Away n) (asks_of settings s (later (FromEditor n body)))
-      closed_away is = parted (CloseEditor n) tt (row_is ∙ is)
+      closed_away is = parted (CloseEditor n ∷ []) (tt, tt) (row_is ∙ is)
 
       shut_away : (m : Message) → message_of body ≡ m → requests (codes "shutdown") m ≡ true → (s : ℕ) → AllByRecursion (Away n) (asks_of settings s (later (FromEditor n body)))
       shut_away (request id method params) says h = go (is_open id (open_of n before)) refl
         where
           go : (b : Bool) → is_open id (open_of n before) ≡ b → (s : ℕ) → AllByRecursion (Away n) (asks_of settings s (later (FromEditor n body)))
           go true twice = closed_away (doubled_outs settings before n body (message_of body) (ap (is_doubled before n) says ∙ twice))
-          go false fresh = parted (ToEditor n (ok_text (id_bytes body) (codes "null"))) (ap is_question (null_said body id method params says))
-              (row_is ∙ ap (λ m. outs (from_editor settings before n body m Running) (with_cause before (FromEditor n body))) says ∙ shut_outs settings before n body id method params h fresh)
+          go false fresh = parted (lost ++ done ∷ []) (all_join Unsaid lost (done ∷ []) lost_unsaid (ap is_question (null_said body id method params says), tt))
+              (row_is ∙ (ap (λ m. outs (from_editor settings before n body m Running) (with_cause before (FromEditor n body))) says ∙ (shut_outs settings before n body id method params h fresh ∙ shutdown_is)))
       shut_away (notification method params) says h = never (sym h)
       shut_away (result id r) says h = never (sym h)
       shut_away (error id x) says h = never (sym h)

@@ -73,7 +73,7 @@ module _ (settings : Settings) (before : List Event) (cause : Cause) where
 
     module _ (g t : ℕ) where
       abbrev ns : List ℕ
-      ns = uncancelled_of e (forwarding_of t before).open_requests
+      ns = uncancelled_of e (forwarding_of settings t before).open_requests
 
       abbrev asked : List Ask
       asked = filter (is_with e) (asks_of settings t before)
@@ -115,13 +115,13 @@ module _ (settings : Settings) (before : List Event) (cause : Cause) where
           never (sym (ap (λ n. is_ready (life_of n before).stage) (sym is) ∙ ap is_ready k.ready) ∙ off)))
 
     by_group : (g : ℕ) → home_of settings e before ≡ Some g → (o : Option ℕ) → start_of g before ≡ o
-        → AllByRecursion (Away e) (asks_of settings s (behind place (outs (on o nothing (λ t. cancels before t e ⨾ (refusals settings before t e ⨾ closings settings before g t e))) place)))
+        → AllByRecursion (Away e) (asks_of settings s (behind place (outs (on o nothing (λ t. cancels settings before t e ⨾ (refusals settings before t e ⨾ closings settings before g t e))) place)))
     by_group g home (Some t) start = by_ready g t home start (is_ready (life_of t before).stage) refl
     by_group g home None none = at_place (none_with e s (asks_of settings s place) (seated s) (λ a k same.
         let in_group : k.group ≡ g = the (sym (seat_home s a k e same) ∙ home) in none_some (sym none ∙ (ap (λ i. start_of i before) (sym in_group) ∙ k.last))))
 
     by_home : (o : Option ℕ) → home_of settings e before ≡ o
-        → AllByRecursion (Away e) (asks_of settings s (behind place (outs (on o nothing (λ g. on (start_of g before) nothing (λ t. cancels before t e ⨾ (refusals settings before t e ⨾ closings settings before g t e)))) place)))
+        → AllByRecursion (Away e) (asks_of settings s (behind place (outs (on o nothing (λ g. on (start_of g before) nothing (λ t. cancels settings before t e ⨾ (refusals settings before t e ⨾ closings settings before g t e)))) place)))
     by_home (Some g) home = by_group g home (start_of g before) refl
     by_home None none = at_place (none_with e s (asks_of settings s place) (seated s) (λ a k same. none_some (sym none ∙ seat_home s a k e same)))
 

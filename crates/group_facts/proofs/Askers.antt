@@ -26,13 +26,14 @@ use Rattle.mux_facts.proofs.Waits.{late_not}
 use Rattle.mux_facts.proofs.Why.{is_early}
 use Rattle.mux_facts.proofs.Words.{id_same, number_same, still_open}
 use Rattle.group_rows.specs.Asks.{next_ask}
-use Rattle.group_rows.specs.Forwarded.{Forwarded, Forwarding, Sender, answered_by, forwarding_behind, forwarding_of, forwards, no_forwarding, numbered}
+use Rattle.group_rows.specs.Forwarded.{Forwarded, Forwarding, Sender, answered_by, first_sender, forwarding_next, forwarding_of, forwards, no_forwarding, numbered}
 use Rattle.group_rows.specs.StopRows.{stopped}
 use Rattle.group_facts.specs.Facts.{AllForwarded, IsAlone, IsAsker, IsForwarded}
-use Rattle.group_facts.proofs.Forwards.{forwarding_more, more_requests, notified_all, zip_all}
+use Rattle.group_rows.proofs.Frames.{forwarding_more}
+use Rattle.group_facts.proofs.Forwards.{more_requests, notified_all, zip_all}
 use Rattle.group_facts.proofs.Levels.{each_start}
 use Rattle.group_facts.proofs.Numbers.{forwarding_other, forwarding_sent, response_forwards}
-use Rattle.group_facts.specs.Why.{IsForward, WhyToEditor, WhyToServer, begins, greets, conveys, forwarded, notes, tells, shuts, cancels, calls, rejects, resumes, refuses, answers, turns_away, welcomes, passes, responds, exits, asks, loses, winds_up, recalls, resolves, spreads, cancels_work, progresses, shows}
+use Rattle.group_facts.specs.Why.{IsForward, WhyToEditor, WhyToServer, begins, greets, conveys, forwarded, notes, tells, shuts, cancels, calls, rejects, resumes, refuses, answers, turns_away, welcomes, passes, responds, exits, asks, loses, winds_up, recalls, resolves, spreads, cancels_work, progresses, shows, asker_at}
 
 -- An editor that got its result stays one that did
 
@@ -62,7 +63,7 @@ asker_more events event e bytes k late waits = record {
   waits = ap (is_open k.id) (opens_more e events event) ∙ waits;
 }
 
-open_heard : (events : List Event) (e : ℕ) (id : Id) → is_open id (open_of e events) ≡ true → (cause : Cause) → is_open id (open_behind e (open_of e events) (heard cause)) ≡ true
+pub open_heard : (events : List Event) (e : ℕ) (id : Id) → is_open id (open_of e events) ≡ true → (cause : Cause) → is_open id (open_behind e (open_of e events) (heard cause)) ≡ true
 open_heard events e id h (FromEditor n body) = hears_open (nat_eq n e) (message_of body) (open_of e events) id h
 open_heard events e id h cause = h
 
@@ -75,19 +76,19 @@ asker_said events out same f k = asker_more events (said out) f.editor f.id k (l
 
 -- One event more
 
-asked_list : (events : List Event) (event : Event) (s : ℕ) (fs : List Forwarded) → (forwarding_behind s (forwarding_of s events) event).open_requests ≡ fs → AllByRecursion (IsForwarded (events ++ event ∷ [])) fs → AllByRecursion (IsForwarded (events ++ event ∷ [])) (forwarding_of s (events ++ event ∷ [])).open_requests
-asked_list events event s fs same h = subst (AllByRecursion (IsForwarded (events ++ event ∷ []))) (sym (ap (λ (x : Forwarding). x.open_requests) (forwarding_more s events event) ∙ same)) h
+asked_list : (settings : Settings) (events : List Event) (event : Event) (s : ℕ) (fs : List Forwarded) → (forwarding_next settings s events (forwarding_of settings s events) event).open_requests ≡ fs → AllByRecursion (IsForwarded (events ++ event ∷ [])) fs → AllByRecursion (IsForwarded (events ++ event ∷ [])) (forwarding_of settings s (events ++ event ∷ [])).open_requests
+asked_list settings events event s fs same h = subst (AllByRecursion (IsForwarded (events ++ event ∷ []))) (sym (ap (λ (x : Forwarding). x.open_requests) (forwarding_more settings s events event) ∙ same)) h
 
-module _ (events : List Event) (event : Event) (asker : (f : Forwarded) → IsForwarded events f → IsForwarded (events ++ event ∷ []) f) where
+module _ (settings : Settings) (events : List Event) (event : Event) (asker : (f : Forwarded) → IsForwarded events f → IsForwarded (events ++ event ∷ []) f) where
   all_later : (fs : List Forwarded) → AllByRecursion (IsForwarded events) fs → AllByRecursion (IsForwarded (events ++ event ∷ [])) fs
   all_later fs h = all_of (IsForwarded events) (IsForwarded (events ++ event ∷ [])) asker fs h
 
-  pub asked_by_list : (s : ℕ) (fs : List Forwarded) → (forwarding_behind s (forwarding_of s events) event).open_requests ≡ fs → AllByRecursion (IsForwarded (events ++ event ∷ [])) fs → AllByRecursion (IsForwarded (events ++ event ∷ [])) (forwarding_of s (events ++ event ∷ [])).open_requests
-  asked_by_list s fs same h = subst (AllByRecursion (IsForwarded (events ++ event ∷ []))) (sym (ap (λ (x : Forwarding). x.open_requests) (forwarding_more s events event) ∙ same)) h
+  pub asked_by_list : (s : ℕ) (fs : List Forwarded) → (forwarding_next settings s events (forwarding_of settings s events) event).open_requests ≡ fs → AllByRecursion (IsForwarded (events ++ event ∷ [])) fs → AllByRecursion (IsForwarded (events ++ event ∷ [])) (forwarding_of settings s (events ++ event ∷ [])).open_requests
+  asked_by_list s fs same h = subst (AllByRecursion (IsForwarded (events ++ event ∷ []))) (sym (ap (λ (x : Forwarding). x.open_requests) (forwarding_more settings s events event) ∙ same)) h
 
   -- one that leaves the requests alone
-  pub asked_still : ((s : ℕ) → (forwarding_behind s (forwarding_of s events) event).open_requests ≡ (forwarding_of s events).open_requests) → AllForwarded events → AllForwarded (events ++ event ∷ [])
-  asked_still same h s = asked_by_list s (forwarding_of s events).open_requests (same s) (all_later (forwarding_of s events).open_requests (h s))
+  pub asked_still : ((s : ℕ) → (forwarding_next settings s events (forwarding_of settings s events) event).open_requests ≡ (forwarding_of settings s events).open_requests) → AllForwarded settings events → AllForwarded settings (events ++ event ∷ [])
+  asked_still same h s = asked_by_list s (forwarding_of settings s events).open_requests (same s) (all_later (forwarding_of settings s events).open_requests (h s))
 
 answered_less : (events later : List Event) (asker : (f : Forwarded) → IsForwarded events f → IsForwarded later f) (b : Bool) (test : Forwarded → Bool) (fs : List Forwarded) → AllByRecursion (IsForwarded events) fs → AllByRecursion (IsForwarded later) (if b then filter test fs else fs)
 answered_less events later asker true test fs h = all_filtered (IsForwarded events) (IsForwarded later) test (λ f t k. asker f k) fs h
@@ -99,19 +100,19 @@ ended_less : (later : List Event) (b : Bool) (x : Forwarding) → AllByRecursion
 ended_less later true x h = tt
 ended_less later false x h = h
 
-pub asked_took : (settings : Settings) (events : List Event) (cause : Cause) → fits_behind events cause ≡ true → Editors events → AllForwarded events → AllForwarded (with_cause events cause)
-asked_took settings events (Joined e) fits none h = asked_still events (heard (Joined e)) (asker_heard events (Joined e) fits none) (λ s. refl) h
-asked_took settings events (FromEditor e body) fits none h = asked_still events (heard (FromEditor e body)) (asker_heard events (FromEditor e body) fits none) (λ s. refl) h
-asked_took settings events (Started n) fits none h = asked_still events (heard (Started n)) (asker_heard events (Started n) fits none) (λ s. refl) h
-asked_took settings events (FromServer n body) fits none h = λ s. asked_by_list events (heard (FromServer n body)) (asker_heard events (FromServer n body) fits none) s _ refl
-    (answered_less events (with_cause events (FromServer n body)) (asker_heard events (FromServer n body) fits none) (nat_eq n s) (λ f. not (answered_by (answered_id (message_of body)) f)) (forwarding_of s events).open_requests (h s))
-asked_took settings events (Drained e k) fits none h = asked_still events (heard (Drained e k)) (asker_heard events (Drained e k) fits none) (λ s. refl) h
-asked_took settings events (Tick t) fits none h = asked_still events (heard (Tick t)) (asker_heard events (Tick t) fits none) (λ s. refl) h
-asked_took settings events (EditorGone e why) fits none h = asked_still events (heard (EditorGone e why)) (asker_heard events (EditorGone e why) fits none) (λ s. refl) h
-asked_took settings events (StartFailed n) fits none h = λ s. asked_by_list events (heard (StartFailed n)) (asker_heard events (StartFailed n) fits none) s _ refl
-    (ended_less (with_cause events (StartFailed n)) (nat_eq n s) (forwarding_of s events) (all_of (IsForwarded events) (IsForwarded (with_cause events (StartFailed n))) (asker_heard events (StartFailed n) fits none) (forwarding_of s events).open_requests (h s)))
-asked_took settings events (ServerGone n) fits none h = λ s. asked_by_list events (heard (ServerGone n)) (asker_heard events (ServerGone n) fits none) s _ refl
-    (ended_less (with_cause events (ServerGone n)) (nat_eq n s) (forwarding_of s events) (all_of (IsForwarded events) (IsForwarded (with_cause events (ServerGone n))) (asker_heard events (ServerGone n) fits none) (forwarding_of s events).open_requests (h s)))
+pub asked_took : (settings : Settings) (events : List Event) (cause : Cause) → fits_behind events cause ≡ true → Editors events → AllForwarded settings events → AllForwarded settings (with_cause events cause)
+asked_took settings events (Joined e) fits none h = asked_still settings events (heard (Joined e)) (asker_heard events (Joined e) fits none) (λ s. refl) h
+asked_took settings events (FromEditor e body) fits none h = asked_still settings events (heard (FromEditor e body)) (asker_heard events (FromEditor e body) fits none) (λ s. refl) h
+asked_took settings events (Started n) fits none h = asked_still settings events (heard (Started n)) (asker_heard events (Started n) fits none) (λ s. refl) h
+asked_took settings events (FromServer n body) fits none h = λ s. asked_by_list settings events (heard (FromServer n body)) (asker_heard events (FromServer n body) fits none) s _ refl
+    (answered_less events (with_cause events (FromServer n body)) (asker_heard events (FromServer n body) fits none) (nat_eq n s) (λ f. not (answered_by (answered_id (message_of body)) f)) (forwarding_of settings s events).open_requests (h s))
+asked_took settings events (Drained e k) fits none h = asked_still settings events (heard (Drained e k)) (asker_heard events (Drained e k) fits none) (λ s. refl) h
+asked_took settings events (Tick t) fits none h = asked_still settings events (heard (Tick t)) (asker_heard events (Tick t) fits none) (λ s. refl) h
+asked_took settings events (EditorGone e why) fits none h = asked_still settings events (heard (EditorGone e why)) (asker_heard events (EditorGone e why) fits none) (λ s. refl) h
+asked_took settings events (StartFailed n) fits none h = λ s. asked_by_list settings events (heard (StartFailed n)) (asker_heard events (StartFailed n) fits none) s _ refl
+    (ended_less (with_cause events (StartFailed n)) (nat_eq n s) (forwarding_of settings s events) (all_of (IsForwarded events) (IsForwarded (with_cause events (StartFailed n))) (asker_heard events (StartFailed n) fits none) (forwarding_of settings s events).open_requests (h s)))
+asked_took settings events (ServerGone n) fits none h = λ s. asked_by_list settings events (heard (ServerGone n)) (asker_heard events (ServerGone n) fits none) s _ refl
+    (ended_less (with_cause events (ServerGone n)) (nat_eq n s) (forwarding_of settings s events) (all_of (IsForwarded events) (IsForwarded (with_cause events (ServerGone n))) (asker_heard events (ServerGone n) fits none) (forwarding_of settings s events).open_requests (h s)))
 
 -- A body to a start
 
@@ -120,30 +121,30 @@ module _ (settings : Settings) (before : List Event) (cause : Cause) (events : L
   sent = events ++ said (ToServer n body) ∷ []
 
   abbrev Later : ℕ → Type 0
-  Later s = AllByRecursion (IsForwarded events) (forwarding_of s events).open_requests → AllByRecursion (IsForwarded sent) (forwarding_of s sent).open_requests
+  Later s = AllByRecursion (IsForwarded events) (forwarding_of settings s events).open_requests → AllByRecursion (IsForwarded sent) (forwarding_of settings s sent).open_requests
 
   still : (fs : List Forwarded) → AllByRecursion (IsForwarded events) fs → AllByRecursion (IsForwarded sent) fs
   still fs h = all_of (IsForwarded events) (IsForwarded sent) (asker_said events (ToServer n body) (λ e. refl)) fs h
 
   -- the list of the open requests by what the body says
-  by_message : (m : Message) → message_of body ≡ m → AllByRecursion (IsForwarded sent) (forwards (forwarding_of n events) m).open_requests → AllByRecursion (IsForwarded sent) (forwarding_of n sent).open_requests
-  by_message m says h = subst (λ (x : Forwarding). AllByRecursion (IsForwarded sent) x.open_requests) (sym (forwarding_sent events n body m says)) h
+  by_message : (m : Message) → message_of body ≡ m → AllByRecursion (IsForwarded sent) (forwards (first_sender settings n events) (forwarding_of settings n events) m).open_requests → AllByRecursion (IsForwarded sent) (forwarding_of settings n sent).open_requests
+  by_message m says h = subst (λ (x : Forwarding). AllByRecursion (IsForwarded sent) x.open_requests) (sym (forwarding_sent settings events n body m says)) h
 
   own_request : (id : Id) (method : List ℕ) (params : Option Json) → message_of body ≡ request id method params → is_own method ≡ true → Later n
   own_request id method params says own h = by_message (request id method params) says
-      (subst (λ c. AllByRecursion (IsForwarded sent) (if c then forwarding_of n events else more_requests (forwarding_of n events)).open_requests) (sym own) (still (forwarding_of n events).open_requests h))
+      (subst (λ c. AllByRecursion (IsForwarded sent) (if c then forwarding_of settings n events else more_requests (first_sender settings n events) (forwarding_of settings n events)).open_requests) (sym own) (still (forwarding_of settings n events).open_requests h))
 
   notified : (method : List ℕ) (params : Option Json) → message_of body ≡ notification method params → Later n
-  notified method params says h = by_message (notification method params) says (notified_all (forwarding_of n events) method params (λ k. IsAsker sent) (still (forwarding_of n events).open_requests h))
+  notified method params says h = by_message (notification method params) says (notified_all (first_sender settings n events) (forwarding_of settings n events) method params (λ k. IsAsker sent) (still (forwarding_of settings n events).open_requests h))
 
   numbered_known : (o : Option Sender) (a : Sender) (k : ℕ) → o ≡ Some a → IsAsker sent a.editor a.id → AllByRecursion (IsForwarded sent) (numbered o k)
   numbered_known o a k e known = subst (λ z. AllByRecursion (IsForwarded sent) (numbered z k)) (sym e) (known, tt)
 
   asked_on : IsForward settings before cause events n body → Later n
-  asked_on k h = by_message (request (integer (decimal (forwarding_of n events).next)) k.method k.params) k.says
-      (subst (λ c. AllByRecursion (IsForwarded sent) (if c then forwarding_of n events else more_requests (forwarding_of n events)).open_requests) (sym k.other)
-      (all_join (IsForwarded sent) (forwarding_of n events).open_requests (numbered (forwarding_of n events).sender (forwarding_of n events).next) (still (forwarding_of n events).open_requests h)
-      (numbered_known (forwarding_of n events).sender k.sender (forwarding_of n events).next k.at_work
+  asked_on k h = by_message (request (integer (decimal (forwarding_of settings n events).next)) k.method k.params) k.says
+      (subst (λ c. AllByRecursion (IsForwarded sent) (if c then forwarding_of settings n events else more_requests (first_sender settings n events) (forwarding_of settings n events)).open_requests) (sym k.other)
+      (all_join (IsForwarded sent) (forwarding_of settings n events).open_requests (numbered (asker_at settings n events) (forwarding_of settings n events).next) (still (forwarding_of settings n events).open_requests h)
+      (numbered_known (asker_at settings n events) k.sender (forwarding_of settings n events).next k.at_work
       (asker_more events (said (ToServer n body)) (k.sender).editor (k.sender).id (record { id = k.id; text = k.text; late = k.late; waits = k.waits }) (late_said events (k.sender).editor k.late (ToServer n body)) k.waits))))
 
   one_asked : WhyToServer settings before cause events n body → Later n
@@ -155,19 +156,19 @@ module _ (settings : Settings) (before : List Event) (cause : Cause) (events : L
   one_asked (tells k) h = let m : Spoken (message_of body) = spoken (message_of body) k.spoken in notified m.method m.params m.is h
   one_asked (cancels k) h = notified (codes "$/cancelRequest") (Some k.params) k.says h
   one_asked (cancels_work k) h = notified (codes "window/workDoneProgress/cancel") k.params k.says h
-  one_asked (responds k) h = by_message (message_of body) refl (subst (λ (x : Forwarding). AllByRecursion (IsForwarded sent) x.open_requests) (sym (response_forwards (forwarding_of n events) (message_of body) k.response)) (still (forwarding_of n events).open_requests h))
-  one_asked (resolves k) h = by_message (message_of body) refl (subst (λ (x : Forwarding). AllByRecursion (IsForwarded sent) x.open_requests) (sym (response_forwards (forwarding_of n events) (message_of body) k.response)) (still (forwarding_of n events).open_requests h))
+  one_asked (responds k) h = by_message (message_of body) refl (subst (λ (x : Forwarding). AllByRecursion (IsForwarded sent) x.open_requests) (sym (response_forwards (first_sender settings n events) (forwarding_of settings n events) (message_of body) k.response)) (still (forwarding_of settings n events).open_requests h))
+  one_asked (resolves k) h = by_message (message_of body) refl (subst (λ (x : Forwarding). AllByRecursion (IsForwarded sent) x.open_requests) (sym (response_forwards (first_sender settings n events) (forwarding_of settings n events) (message_of body) k.response)) (still (forwarding_of settings n events).open_requests h))
   one_asked (exits k) h = notified (codes "exit") None k.says h
   one_asked (shuts k) h = own_request (integer (decimal (next_number n events))) (codes "shutdown") None k.says refl h
 
-  pub asked_sent : WhyToServer settings before cause events n body → AllForwarded events → AllForwarded sent
+  pub asked_sent : WhyToServer settings before cause events n body → AllForwarded settings events → AllForwarded settings sent
   asked_sent why h s = each_start Later n (one_asked why)
-      (λ s other k. subst (λ (x : Forwarding). AllByRecursion (IsForwarded sent) x.open_requests) (sym (forwarding_other events n body s other)) (still (forwarding_of s events).open_requests k)) s (h s)
+      (λ s other k. subst (λ (x : Forwarding). AllByRecursion (IsForwarded sent) x.open_requests) (sym (forwarding_other settings events n body s other)) (still (forwarding_of settings s events).open_requests k)) s (h s)
 
 -- any other out, but a body to an editor
-pub asked_said : (events : List Event) (out : Out) → ((s : ℕ) → (forwarding_behind s (forwarding_of s events) (said out)).open_requests ≡ (forwarding_of s events).open_requests) → ((e : ℕ) → open_behind e (open_of e events) (said out) ≡ open_of e events)
-    → AllForwarded events → AllForwarded (events ++ said out ∷ [])
-asked_said events out same opens h = asked_still events (said out) (asker_said events out opens) same h
+pub asked_said : (settings : Settings) (events : List Event) (out : Out) → ((s : ℕ) → (forwarding_next settings s events (forwarding_of settings s events) (said out)).open_requests ≡ (forwarding_of settings s events).open_requests) → ((e : ℕ) → open_behind e (open_of e events) (said out) ≡ open_of e events)
+    → AllForwarded settings events → AllForwarded settings (events ++ said out ∷ [])
+asked_said settings events out same opens h = asked_still settings events (said out) (asker_said events out opens) same h
 
 -- A body to an editor
 
@@ -196,19 +197,19 @@ module _ (settings : Settings) (before : List Event) (cause : Cause) (events : L
   by_waiting at f k = by_open f k (λ same. absurd (late_not (desk_of f.editor events).phase k.late (ap (λ z. (desk_of z events).phase) (sym same) ∙ at)))
 
   -- no response
-  unanswered : (m : Message) → message_of body ≡ m → answered_id m ≡ None → AllForwarded events → AllForwarded told
-  unanswered m says none h = asked_still events (said (ToEditor n body)) (λ f a. by_open f a (λ same. ap (λ o. is_open a.id (without o (open_of f.editor events))) (ap answered_id says ∙ none) ∙ a.waits)) (λ s. refl) h
+  unanswered : (m : Message) → message_of body ≡ m → answered_id m ≡ None → AllForwarded settings events → AllForwarded settings told
+  unanswered m says none h = asked_still settings events (said (ToEditor n body)) (λ f a. by_open f a (λ same. ap (λ o. is_open a.id (without o (open_of f.editor events))) (ap answered_id says ∙ none) ∙ a.waits)) (λ s. refl) h
 
-  all_alone : (id : Id) → answered_id (message_of body) ≡ Some id → IsAlone events n id → AllForwarded events → AllForwarded told
-  all_alone id replies alone h s = asked_list events (said (ToEditor n body)) s (forwarding_of s events).open_requests refl
-      (zip_all (IsForwarded events) (λ (f : Forwarded). f.editor ≡ n → IsIdText id f.id → ⊥) (IsForwarded told) (λ f k a. by_alone id replies f a k) (forwarding_of s events).open_requests (h s) (alone s))
+  all_alone : (id : Id) → answered_id (message_of body) ≡ Some id → IsAlone settings events n id → AllForwarded settings events → AllForwarded settings told
+  all_alone id replies alone h s = asked_list settings events (said (ToEditor n body)) s (forwarding_of settings s events).open_requests refl
+      (zip_all (IsForwarded events) (λ (f : Forwarded). f.editor ≡ n → IsIdText id f.id → ⊥) (IsForwarded told) (λ f k a. by_alone id replies f a k) (forwarding_of settings s events).open_requests (h s) (alone s))
 
-  pub asked_told : WhyToEditor settings before cause events n body → stopped events ≡ false → AllForwarded events → AllForwarded told
-  asked_told (rejects k) on h = asked_still events (said (ToEditor n body)) (λ f a. by_open f a (λ same. ap (λ m. is_open a.id (without (answered_id m) (open_of f.editor events))) k.says ∙ a.waits)) (λ s. refl) h
+  pub asked_told : WhyToEditor settings before cause events n body → stopped events ≡ false → AllForwarded settings events → AllForwarded settings told
+  asked_told (rejects k) on h = asked_still settings events (said (ToEditor n body)) (λ f a. by_open f a (λ same. ap (λ m. is_open a.id (without (answered_id m) (open_of f.editor events))) k.says ∙ a.waits)) (λ s. refl) h
   asked_told (refuses k) on h = all_alone k.id (ap answered_id k.says) k.alone h
   asked_told (answers k) on h = all_alone k.id (ap answered_id k.says) k.alone h
-  asked_told (turns_away k) on h = asked_still events (said (ToEditor n body)) (by_waiting (k.waiting).phase) (λ s. refl) h
-  asked_told (welcomes k) on h = asked_still events (said (ToEditor n body)) (by_waiting (k.waiting).phase) (λ s. refl) h
+  asked_told (turns_away k) on h = asked_still settings events (said (ToEditor n body)) (by_waiting (k.waiting).phase) (λ s. refl) h
+  asked_told (welcomes k) on h = asked_still settings events (said (ToEditor n body)) (by_waiting (k.waiting).phase) (λ s. refl) h
   asked_told (passes k) on h = all_alone k.id k.answers k.alone h
   asked_told (asks k) on h = unanswered (request (integer (decimal (next_ask n events))) k.method k.params) k.says refl h
   asked_told (resumes k) on h = unanswered (request (integer (decimal (next_ask n events))) k.method k.params) k.says refl h

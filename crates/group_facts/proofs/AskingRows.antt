@@ -418,11 +418,11 @@ module _ (settings : Settings) (before : List Event) (s : ℕ) (body : List ℕ)
     notified : IsNotified before (FromServer s body) s body params
     notified = record { method = method; from = refl; ready = stage; asks = says; class = class }
 
-    requested : (f : Forwarded) → find (is_told before (named_of (codes "token") params)) (forwarding_of s before).open_requests ≡ Some f → (text : List ℕ) → own_token (named_of (codes "token") params) f ≡ Some text
+    requested : (f : Forwarded) → find (is_told before (named_of (codes "token") params)) (forwarding_of settings s before).open_requests ≡ Some f → (text : List ℕ) → own_token (named_of (codes "token") params) f ≡ Some text
         → IsProgress settings before (FromServer s body) now f.editor (marked_text text body)
     requested f found text own =
-        let tokens : HasTokens f = found_is HasTokens (is_told before (named_of (codes "token") params)) f (forwarding_of s before).open_requests (tokens_kept s before) found in
-        let test : is_told before (named_of (codes "token") params) f ≡ true = found_test (is_told before (named_of (codes "token") params)) f (forwarding_of s before).open_requests found in
+        let tokens : HasTokens f = found_is HasTokens (is_told before (named_of (codes "token") params)) f (forwarding_of settings s before).open_requests (tokens_kept settings s before) found in
+        let test : is_told before (named_of (codes "token") params) f ≡ true = found_test (is_told before (named_of (codes "token") params)) f (forwarding_of settings s before).open_requests found in
         let made : (new : Option Json) × (message_of (marked_text text body) ≡ notification method new) = marked_says text body method params (own_written (named_of (codes "token") params) f tokens text own) says in
         record {
           told = of_request s body params f text notified found own refl refl;
@@ -747,7 +747,7 @@ module _ (settings : Settings) (before : List Event) (s : ℕ) (body : List ℕ)
     asking_why Focused class = by_on
         (λ none. let is = refusal_says body id method params request_failed says in
         by_send (resolves (record { id = id; resolution = denied body method params refl says class refl; ready = still_ready; stays = rests; response = ap is_response is; answers = ap answered_id is; waits = waits_now })))
-        (λ e found. let k : Here e = focus_is Here (running_in settings g before) (forwarding_of s before).open_requests e all_here found in by_choose (λ edit. edit_why class e edit k) (λ plain. asked_why (uncreating Focused class refl) plain (λ patient. never (sym patient ∙ unhurried Focused class refl)) e now k.1 work_now (λ single. refl) k.0))
+        (λ e found. let k : Here e = focus_is Here (running_in settings g before) (forwarding_of settings s before).open_requests e all_here found in by_choose (λ edit. edit_why class e edit k) (λ plain. asked_why (uncreating Focused class refl) plain (λ patient. never (sym patient ∙ unhurried Focused class refl)) e now k.1 work_now (λ single. refl) k.0))
     asking_why Lowest class = by_on (λ none. by_nothing) (λ e found. let k : Here e = first_is Here (running_in settings g before) e all_here found in asked_why (uncreating Lowest class refl) (other_method Lowest class refl) (λ patient. ap (λ o. option_map_or (λ h. is_some (first_in (running_in settings h before))) o false) at_home ∙ ap is_some found) e now k.1 work_now (λ single. refl) k.0)
     asking_why Folders class = folders_why class
     asking_why Register class = register_why class

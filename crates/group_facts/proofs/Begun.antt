@@ -66,7 +66,9 @@ use Rattle.group_rows.specs.CreatedRows.{create_text, created_row, created_work,
 use Rattle.group_rows.specs.Tokens.{marked_text, tell_progress}
 use Rattle.group_rows.specs.Earlier.{shown_in}
 use Rattle.group_rows.specs.ExitRows.{begins_again, lose_sent, lose_start, lost_row}
-use Rattle.group_rows.specs.Rows.{answer_error, begin_in, begun_row, closing_row, document_at, document_bodies, document_row, down_row, early_row, exit_row, first_result, from_server, gone_row, lspmux_row, message_row, named_row, notice_at, notice_row, open_row, outs_of, ready_row, request_at, request_row, result_in, row_of, served_request, served_row, started, sync_bodies, taken_row, waiting_in, welcome, hasty_row, close_all, refusal, refused_row}
+use Rattle.group_rows.specs.Waiting.{part}
+use Rattle.group_facts.proofs.HeldOuts.{lose_waiting_by, parts_by, send_held_by}
+use Rattle.group_rows.specs.Rows.{answer_error, begin_in, begun_row, cancel_row, closing_row, document_at, document_bodies, document_row, down_row, early_row, exit_row, first_result, from_server, gone_row, lspmux_row, message_row, named_row, notice_at, notice_row, open_row, outs_of, ready_row, request_at, request_row, result_in, row_of, served_request, served_row, started, sync_bodies, taken_row, waiting_in, welcome, hasty_row, refusal, refused_row}
 use Rattle.group_rows.specs.Texts.{encoding_of, texts_of}
 use Rattle.group_rows.specs.Ticks.{due_of, overdue_of, tick_row}
 use Rattle.group_facts.specs.Facts.{is_exit}
@@ -179,8 +181,8 @@ module _ (R : List Event → Out → Type 0) (sends : (events : List Event) (s :
     handed_by = by_on (λ none. by_nothing) (λ g home. handed_in g)
 
   module _ (settings : Settings) (before : List Event) (e : ℕ) where
-    cancelled_by : (s : ℕ) (events : List Event) → Because R events (cancels before s e)
-    cancelled_by s events = by_choose (λ ready. cancels_by s (uncancelled_of e (forwarding_of s before).open_requests) events) (λ off. by_nothing)
+    cancelled_by : (s : ℕ) (events : List Event) → Because R events (cancels settings before s e)
+    cancelled_by s events = by_choose (λ ready. cancels_by s (uncancelled_of e (forwarding_of settings s before).open_requests) events) (λ off. by_nothing)
 
     closings_by : (g s : ℕ) (events : List Event) → Because R events (closings settings before g s e)
     closings_by g s events = by_choose (λ ready. bodies_by s (leave_bodies settings.limits.versions (λ u. held_at s u before) e (texts_of settings g before).opens (texts_of settings g before).opens) events) (λ off. by_nothing)
@@ -188,11 +190,11 @@ module _ (R : List Event → Out → Type 0) (sends : (events : List Event) (s :
     refusals_by : (s : ℕ) (events : List Event) → Because R events (refusals settings before s e)
     refusals_by s events = by_choose (λ ready. refused_by s (filter (is_with e) (asks_of settings s before)) events) (λ off. by_nothing)
 
-    leaves_by : (g s : ℕ) (events : List Event) → Because R events (cancels before s e ⨾ (refusals settings before s e ⨾ closings settings before g s e))
-    leaves_by g s events = by_then (cancelled_by s events) (by_then (refusals_by s (behind events (outs (cancels before s e) events)))
-        (closings_by g s (behind (behind events (outs (cancels before s e) events)) (outs (refusals settings before s e) (behind events (outs (cancels before s e) events))))))
+    leaves_by : (g s : ℕ) (events : List Event) → Because R events (cancels settings before s e ⨾ (refusals settings before s e ⨾ closings settings before g s e))
+    leaves_by g s events = by_then (cancelled_by s events) (by_then (refusals_by s (behind events (outs (cancels settings before s e) events)))
+        (closings_by g s (behind (behind events (outs (cancels settings before s e) events)) (outs (refusals settings before s e) (behind events (outs (cancels settings before s e) events))))))
 
-    group_by : (g : ℕ) (events : List Event) → Because R events (on (start_of g before) nothing (λ s. cancels before s e ⨾ (refusals settings before s e ⨾ closings settings before g s e)))
+    group_by : (g : ℕ) (events : List Event) → Because R events (on (start_of g before) nothing (λ s. cancels settings before s e ⨾ (refusals settings before s e ⨾ closings settings before g s e)))
     group_by g events = by_on (λ none. by_nothing) (λ s start. leaves_by g s events)
 
     pub leave_by : (events : List Event) → Because R events (leave_row settings before e)
@@ -209,16 +211,15 @@ quiet_refusals : (body : List ℕ) (ns : List ℕ) (events : List Event) → Qui
 quiet_refusals body [] events = by_nothing
 quiet_refusals body (n ∷ ns) events = by_then (by_then (by_look (by_send tt)) (by_send tt)) (quiet_refusals body ns (behind events (outs (refusal body n) events)))
 
-quiet_closes : (ns : List ℕ) (events : List Event) → Quiet events (close_all ns)
-quiet_closes [] events = by_nothing
-quiet_closes (n ∷ ns) events = by_then (by_send tt) (quiet_closes ns (behind events (CloseEditor n ∷ [])))
+quiet_parts : (settings : Settings) (g : ℕ) (ns : List ℕ) (events : List Event) → Quiet events (each (part settings g) ns)
+quiet_parts settings g ns events = parts_by settings (λ places out. NoSpawn out) g (λ e places body. tt) (λ e places. tt) ns events
 
 quiet_malformed : (e : ℕ) (m : Message) (phase : Phase) (events : List Event) → Quiet events (malformed_row e m phase)
 quiet_malformed e m phase events = by_choose (λ there. by_send tt) (λ gone. by_nothing)
 
 module _ (settings : Settings) (before : List Event) where
   quiet_at : (e : ℕ) (body : List ℕ) (events : List Event) (g s : ℕ) → Quiet events (request_at settings before e body g s)
-  quiet_at e body events g s = by_choose (λ can. by_then (quiet_bodies s (sync_bodies settings.limits.versions (λ u. held_at s u before) e (texts_of settings g before).opens) events) (by_look (by_send tt))) (λ cannot. by_send tt)
+  quiet_at e body events g s = by_choose (λ can. by_then (quiet_bodies s (sync_bodies settings.limits.versions (λ u. held_at s u before) e (texts_of settings g before).opens) events) (by_look (by_send tt))) (λ cannot. by_choose (λ waits. by_nothing) (λ full. by_send tt))
 
   quiet_group : (e : ℕ) (body : List ℕ) (events : List Event) (g : ℕ) → Quiet events (on (start_of g before) (answer_error e body request_failed) (request_at settings before e body g))
   quiet_group e body events g = by_on (λ none. by_send tt) (λ s start. quiet_at e body events g s)
@@ -235,14 +236,17 @@ module _ (settings : Settings) (before : List Event) where
   quiet_notice : (e : ℕ) (body : List ℕ) (events : List Event) → Quiet events (notice_row settings before e body)
   quiet_notice e body events = by_on (λ none. by_nothing) (λ g home. quiet_notices e body events g)
 
-  quiet_cancel : (e : ℕ) (body : List ℕ) (params : Option Json) (events : List Event) (s : ℕ) → Quiet events (cancelling_at before e body params s)
+  quiet_cancel : (e : ℕ) (body : List ℕ) (params : Option Json) (events : List Event) (s : ℕ) → Quiet events (cancelling_at settings before e body params s)
   quiet_cancel e body params events s = by_choose (λ ready. by_on (λ none. by_nothing) (λ n is. by_send tt)) (λ off. by_nothing)
 
-  quiet_cancels : (e : ℕ) (body : List ℕ) (params : Option Json) (events : List Event) (g : ℕ) → Quiet events (on (start_of g before) nothing (cancelling_at before e body params))
+  quiet_cancels : (e : ℕ) (body : List ℕ) (params : Option Json) (events : List Event) (g : ℕ) → Quiet events (on (start_of g before) nothing (cancelling_at settings before e body params))
   quiet_cancels e body params events g = by_on (λ none. by_nothing) (λ s start. quiet_cancel e body params events s)
 
   quiet_cancelling : (e : ℕ) (body : List ℕ) (params : Option Json) (events : List Event) → Quiet events (cancelling_row settings before e body params)
   quiet_cancelling e body params events = by_on (λ none. by_nothing) (λ g home. quiet_cancels e body params events g)
+
+  quiet_cancelled : (e : ℕ) (body : List ℕ) (params : Option Json) (events : List Event) → Quiet events (cancel_row settings before e body params)
+  quiet_cancelled e body params events = by_on (λ none. quiet_cancelling e body params events) (λ r found. by_send tt)
 
   quiet_token : (e : ℕ) (body : List ℕ) (params : Option Json) (events : List Event) (s : ℕ) → Quiet events (created_work settings before e body params s)
   quiet_token e body params events s = by_on (λ none. by_nothing) (λ t found. by_choose (λ accepted. by_send tt) (λ no. by_nothing))
@@ -324,14 +328,14 @@ module _ (settings : Settings) (before : List Event) where
   quiet_down e body not_message events = by_nothing
 
   quiet_asked : (e : ℕ) (body method : List ℕ) (events : List Event) → Quiet events (served_request settings before e body method)
-  quiet_asked e body method events = by_choose (λ misplaced. by_send tt) (λ placed. by_choose (λ down. by_then (by_send tt) (quiet_leave e _)) (λ on. quiet_request e body events))
+  quiet_asked e body method events = by_choose (λ misplaced. by_send tt) (λ placed. by_choose (λ down. by_then (lose_waiting_by settings before (λ places out. NoSpawn out) e (λ places text. tt) events) (by_then (by_send tt) (quiet_leave e _))) (λ on. quiet_request e body events))
 
   quiet_handed : (e : ℕ) (body : List ℕ) (m : Message) (events : List Event) → Quiet events (response_row settings before e body m)
   quiet_handed e body m events = handed_by (λ places out. NoSpawn out) (λ places s b. tt) (λ places n b. tt) settings before e body m events
 
   quiet_served : (e : ℕ) (body : List ℕ) (m : Message) (events : List Event) → Quiet events (served_row settings before e body m)
   quiet_served e body (request id method params) events = quiet_asked e body method events
-  quiet_served e body (notification method params) events = by_choose (λ yes. quiet_closing e events) (λ no. by_choose (λ going. quiet_notice e body events) (λ off. by_choose (λ cancels. quiet_cancelling e body params events) (λ off. by_choose (λ works. quiet_work e body params events) (λ other. quiet_document e body (saying_by method params) events))))
+  quiet_served e body (notification method params) events = by_choose (λ yes. quiet_closing e events) (λ no. by_choose (λ going. quiet_notice e body events) (λ off. by_choose (λ cancels. quiet_cancelled e body params events) (λ off. by_choose (λ works. quiet_work e body params events) (λ other. quiet_document e body (saying_by method params) events))))
   quiet_served e body (result id r) events = quiet_handed e body (result id r) events
   quiet_served e body (error id x) events = quiet_handed e body (error id x) events
   quiet_served e body not_json events = quiet_handed e body not_json events
@@ -417,11 +421,11 @@ module _ (settings : Settings) (before : List Event) where
 
   quiet_open_refused : (es : List ℕ) (events : List Event) → Quiet events (each (refuse_open settings before) es)
   quiet_open_refused [] events = by_nothing
-  quiet_open_refused (e ∷ es) events = by_then (by_then (by_look (by_choose (λ waits. by_send tt) (λ late. by_nothing))) (losing (behind events (outs (refuse_initialize e) events))))
+  quiet_open_refused (e ∷ es) events = by_then (by_then (by_look (by_choose (λ waits. by_send tt) (λ late. by_nothing))) (by_then (losing (behind events (outs (refuse_initialize e) events))) (lose_waiting_by settings before (λ places out. NoSpawn out) e (λ places text. tt) _)))
       (quiet_open_refused es (behind events (outs (refuse_open settings before e) events)))
     where
-      at_group : (places : List Event) (g : ℕ) → Quiet places (on (start_of g before) nothing (λ s. each lose_request (filter (is_of e) (forwarding_of s before).open_requests)))
-      at_group places g = by_on (λ none. by_nothing) (λ s start. quiet_lost (filter (is_of e) (forwarding_of s before).open_requests) places)
+      at_group : (places : List Event) (g : ℕ) → Quiet places (on (start_of g before) nothing (λ s. each lose_request (filter (is_of e) (forwarding_of settings s before).open_requests)))
+      at_group places g = by_on (λ none. by_nothing) (λ s start. quiet_lost (filter (is_of e) (forwarding_of settings s before).open_requests) places)
 
       losing : (places : List Event) → Quiet places (lose_requests settings before e)
       losing places = by_on (λ none. by_nothing) (λ g home. at_group places g)
@@ -452,14 +456,14 @@ module _ (settings : Settings) (before : List Event) where
   quiet_waiting body g events = by_look (quiet_welcomes body (waiting_in settings g events) events)
 
   quiet_result : (s : ℕ) (body : List ℕ) (g : ℕ) (events : List Event) → Quiet events (result_in settings before s body g)
-  quiet_result s body g events = by_then (by_choose (λ other. quiet_links (shown_in settings g before) events) (λ same. by_nothing)) (by_then (by_send tt) (by_then (by_on (λ none. by_nothing) (λ kept found. by_send tt))
-      (by_then (by_look (quiet_bodies s _ _)) (quiet_waiting body g _))))
+  quiet_result s body g events = by_then (by_choose (λ other. quiet_parts settings g (shown_in settings g before) events) (λ same. by_nothing)) (by_then (by_send tt) (by_then (by_on (λ none. by_nothing) (λ kept found. by_send tt))
+      (by_then (by_look (quiet_bodies s _ _)) (by_then (quiet_waiting body g _) (send_held_by settings (λ places out. NoSpawn out) s (λ places text. tt) (λ places e text. tt) g _)))))
 
   quiet_first : (s : ℕ) (body : List ℕ) (events : List Event) → Quiet events (first_result settings before s body)
   quiet_first s body events = by_on (λ none. by_nothing) (λ g home. quiet_result s body g events)
 
   quiet_refused : (s : ℕ) (body : List ℕ) (events : List Event) → Quiet events (refused_row settings before s body)
-  quiet_refused s body events = by_on (λ none. by_nothing) (λ g home. by_then (by_look (quiet_refusals body (waiting_in settings g events) events)) (by_then (by_look (quiet_closes _ _)) (by_send tt)))
+  quiet_refused s body events = by_on (λ none. by_nothing) (λ g home. by_then (by_look (quiet_refusals body (waiting_in settings g events) events)) (by_then (by_look (quiet_parts settings g _ _)) (by_send tt)))
 
   quiet_passed : (s : ℕ) (body : List ℕ) (f : Forwarded) (events : List Event) → Quiet events (hand_on settings before s body f)
   quiet_passed s body f events = by_choose (λ there. by_send tt) (λ gone. by_nothing)
@@ -551,12 +555,12 @@ module _ (settings : Settings) (before : List Event) where
 
 -- X1 to X3, of a group that gets no new start
 pub quiet_loss : (settings : Settings) (before : List Event) (s : ℕ) → not (begins_again settings before s) ≡ true → (events : List Event) → Quiet events (lost_row settings before s)
-quiet_loss settings before s ends events = lost_by (λ places out. NoSpawn out) (λ e places body. tt) (λ places e. tt) settings before s ends events
+quiet_loss settings before s ends events = lost_by settings (λ places out. NoSpawn out) (λ e places body. tt) (λ places e. tt) before s ends events
 
 -- X1 and X2
-told_lost : (settings : Settings) (before : List Event) (s g : ℕ) (events : List Event) → Because (λ places out. IsTold out) events (each (lose_sent before s) (members_in settings g before)
+told_lost : (settings : Settings) (before : List Event) (s g : ℕ) (events : List Event) → Because (λ places out. IsTold out) events (each (lose_sent settings before s) (members_in settings g before)
     ⨾ choose (is_ready (life_of s before).stage) (each (lose_start settings before s) (running_in settings g before)) nothing)
-told_lost settings before s g events = told_by (λ places out. IsTold out) (λ e places body. tt) settings before s g events
+told_lost settings before s g events = told_by settings (λ places out. IsTold out) (λ e places body. tt) before s g events
 
 -- a group that lives is kept
 lives_inside : (g : ℕ) (xs : List Kept) → lives_at g xs ≡ true → g < length xs
@@ -662,7 +666,7 @@ module _ (settings : Settings) where
     renewed_outs k = (first ++ second, (told_both, row ∙ (goes_on ∙ (ap (λ n. first ++ (second ++ Spawn n k.group ∷ [])) number ∙ sym (append_assoc first second (Spawn (starts_of before) k.group ∷ []))))))
       where
         first : List Out
-        first = outs (each (lose_sent before s) (members_in settings k.group before)) exit_now
+        first = outs (each (lose_sent settings before s) (members_in settings k.group before)) exit_now
 
         second : List Out
         second = outs (choose (is_ready (life_of s before).stage) (each (lose_start settings before s) (running_in settings k.group before)) nothing) (behind exit_now first)

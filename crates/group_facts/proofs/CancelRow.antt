@@ -5,7 +5,7 @@ use Rattle.std.specs.Option.{option_and_then}
 use Rattle.json_text.specs.Bare.{nowhere}
 use Rattle.json_text.specs.Json.{Json, number}
 use Rattle.mux_history.specs.declared.cause.Cause.TheVariants.{FromEditor}
-use Rattle.rpc_message.specs.Message.{Id, integer_if, message_of, notification}
+use Rattle.rpc_message.specs.Message.{Id, integer_if, message_of, notification, error}
 use Rattle.rpc_message.proofs.Decimals.{decimal_integer}
 use Rattle.event_model.specs.Event.{Event, heard, with_cause}
 use Rattle.event_model.specs.Phases.{desk_of, is_served}
@@ -17,14 +17,20 @@ use Rattle.mux_facts.specs.Ranges.{InRange}
 use Rattle.mux_facts.proofs.DocumentRow.{ready_is}
 use Rattle.mux_facts.proofs.Reasons.{Because, by_choose, by_nothing, by_on, by_send}
 use Rattle.mux_facts.proofs.Words.{same_number}
-use Rattle.group_rows.specs.Cancelling.{cancelling_at, cancelling_row, is_called, named_id, number_called, number_named, numbered_text, uncancelled_number}
+use Rattle.group_rows.specs.Cancelling.{cancelling_at, cancelling_row, is_called, number_called, number_named, numbered_text, uncancelled_number}
+use Rattle.group_rows.specs.held_requests.specs.declared.request.Request.{Request}
+use Rattle.group_rows.specs.Rows.{cancel_row}
+use Rattle.group_rows.specs.Waiting.{cancelled_text, named_id, waiting_named, waiting_of}
 use Rattle.group_rows.specs.Forwarded.{Forwarded, Forwarding, forwarding_of}
 use Rattle.group_rows.proofs.Cancelling.{Renumbered, renumbered}
-use Rattle.group_facts.specs.Facts.{Bounded}
-use Rattle.group_facts.specs.Why.{IsCancel, Why, cancels, is_uncancelled, of_editor}
+use Rattle.group_facts.specs.Facts.{AllHeld, Bounded, IsHeld}
+use Rattle.group_facts.specs.Why.{IsCancel, IsRefusal, Why, cancels, is_uncancelled, of_editor, refuses}
+use Rattle.group_facts.proofs.Held.{refusing, cancelled_says, named_held}
+use Rattle.group_facts.proofs.HeldOn.{held_asked}
 use Rattle.group_facts.proofs.DocumentRow.{calm_now}
-use Rattle.group_facts.proofs.Forwards.{forwarding_more}
+use Rattle.group_rows.proofs.Frames.{forwarding_more}
 use Rattle.group_facts.proofs.LeaveRows.{IsSmall, numbers_small}
+use Rattle.group_words.specs.Houses.{home_of}
 
 -- A request that is found
 
@@ -82,9 +88,9 @@ module _ (settings : Settings) (range : InRange settings) (before : List Event) 
   Right row = Because (Why settings before (FromEditor e body)) now row
 
   module _ (params : Option Json) (says : message_of body ≡ notification (codes "$/cancelRequest") params) where
-    reason : (s n : ℕ) → is_ready (life_of s before).stage ≡ true → number_named e params (forwarding_of s before).open_requests ≡ Some n → IsCancel before (FromEditor e body) now s (numbered_text n body)
+    reason : (s n : ℕ) → is_ready (life_of s before).stage ≡ true → number_named e params (forwarding_of settings s before).open_requests ≡ Some n → IsCancel settings before (FromEditor e body) now s (numbered_text n body)
     reason s n ready is =
-        let fs : List Forwarded = (forwarding_of s before).open_requests in
+        let fs : List Forwarded = (forwarding_of settings s before).open_requests in
         let m : Meant e params fs n = meant e params fs n is in
         let small : n < 2 ^ 64 = small_by (is_called e m.id) n fs (numbers_small settings range before bounded s (ready_is (life_of s before).stage ready)) m.called in
         let new : Renumbered n body (codes "$/cancelRequest") = renumbered n body (codes "$/cancelRequest") params (omega (arith, small)) says m.id m.named in
@@ -94,18 +100,29 @@ module _ (settings : Settings) (range : InRange settings) (before : List Event) 
           value = number nowhere (decimal n);
           named = new.names;
           id = ap (λ b. integer_if b (decimal n)) (decimal_integer n (omega (arith, small)));
-          waits = ap (λ (x : Forwarding). list_any (is_uncancelled n) x.open_requests) (forwarding_more s before (heard (FromEditor e body))) ∙ waits_by (is_called e m.id) n fs m.called;
+          waits = ap (λ (x : Forwarding). list_any (is_uncancelled n) x.open_requests) (forwarding_more settings s before (heard (FromEditor e body))) ∙ waits_by (is_called e m.id) n fs m.called;
           ready = (calm_now settings range before e body s ready).still.ready;
           stays = refl;
           text = of_editor (record { editor = e; asked = body; params = params; from = refl; served = served; notified = says; meant = is; bytes = refl });
           says = new.says;
         }
 
-    at_start : (s : ℕ) → Right (cancelling_at before e body params s)
+    at_start : (s : ℕ) → Right (cancelling_at settings before e body params s)
     at_start s = by_choose (λ ready. by_on (λ none. by_nothing) (λ n is. by_send (cancels (reason s n ready is)))) (λ off. by_nothing)
 
-    at_group : (g : ℕ) → Right (on (start_of g before) nothing (cancelling_at before e body params))
+    at_group : (g : ℕ) → Right (on (start_of g before) nothing (cancelling_at settings before e body params))
     at_group g = by_on (λ none. by_nothing) (λ s start. at_start s)
 
-    pub cancelling_why : Right (cancelling_row settings before e body params)
+    cancelling_why : Right (cancelling_row settings before e body params)
     cancelling_why = by_on (λ none. by_nothing) (λ g home. at_group g)
+
+    -- one that waits is answered
+    pub cancel_why : AllHeld settings before → Right (cancel_row settings before e body params)
+    cancel_why held = by_on (λ none. cancelling_why) (λ r found. by_send (refuses (answering r found)))
+      where
+        answering : (r : Request) → option_and_then (λ g. waiting_named e params (waiting_of settings g before)) (home_of settings e before) ≡ Some r → IsRefusal settings now r.editor (cancelled_text r.id)
+        answering r found =
+            let is : (g : ℕ) × IsHeld settings g before r = named_held settings e params before r (home_of settings e before) held found in
+            let k : IsHeld settings is.0 now r = held_asked settings is.0 before e body r is.1 in
+            let says : (x : Json) × (message_of (cancelled_text r.id) ≡ error (Some (k.asker).id) x) = cancelled_says (k.asker).id r.id (k.asker).text in
+            refusing settings before (FromEditor e body) is.0 now r k (cancelled_text r.id) says.0 says.1

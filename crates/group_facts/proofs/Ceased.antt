@@ -7,6 +7,7 @@ use Rattle.mux_history.specs.declared.out.Out.{Out}
 use Rattle.mux_history.specs.declared.out.Out.TheVariants.{ToEditor, ToServer, Spawn, CloseEditor, EndServer}
 use Rattle.rpc_message.specs.Message.{Message, message_of}
 use Rattle.rpc_message.specs.Texts.{request_text}
+use Rattle.event_model.specs.Settings.{Settings}
 use Rattle.event_model.specs.declared.stage.Stage.{Stage}
 use Rattle.event_model.specs.declared.stage.Stage.TheVariants.{Unspawned, Spawning, Initializing, Ready, Stopping, Ending, Ended}
 use Rattle.event_model.specs.Event.{Event, behind, did, heard, requests, said, took, with_cause}
@@ -270,8 +271,8 @@ Low events = (g s : ℕ) → start_of g events ≡ Some s → (life_of s events)
 low_did : (events : List Event) (out : Out) → NoSpawn out → ((s : ℕ) → (life_of s (events ++ said out ∷ [])).stage ≡ Ready → ((life_of s events).stage ≡ Ready) × (next_number s (events ++ said out ∷ []) ≡ next_number s events)) → Low events → Low (events ++ said out ∷ [])
 low_did events out quiet back low g s at ready = let k = back s ready in subst (λ n. n < 2 ^ 128) (sym k.1) (low g s (sym (start_did g events out quiet) ∙ at) k.0)
 
-low_sent : (n : ℕ) (text : List ℕ) (events : List Event) → requests (codes "shutdown") (message_of text) ≡ true → Low events → Low (events ++ said (ToServer n text) ∷ [])
-low_sent n text events asks low = low_did events (ToServer n text) tt (λ s. go s (nat_eq n s) refl) low
+low_sent : (settings : Settings) (n : ℕ) (text : List ℕ) (events : List Event) → requests (codes "shutdown") (message_of text) ≡ true → Low events → Low (events ++ said (ToServer n text) ∷ [])
+low_sent settings n text events asks low = low_did events (ToServer n text) tt (λ s. go s (nat_eq n s) refl) low
   where
     stage_by : (s : ℕ) (b : Bool) → nat_eq n s ≡ b → (life_of s (events ++ said (ToServer n text) ∷ [])).stage ≡ (if b then record { stage = stage_told (life_of s events).stage (message_of text); started = (life_of s events).started } else life_of s events).stage
     stage_by s b same = ap (λ (l : Life). l.stage) (life_more s events (said (ToServer n text)))
@@ -279,7 +280,7 @@ low_sent n text events asks low = low_did events (ToServer n text) tt (λ s. go 
 
     go : (s : ℕ) (b : Bool) → nat_eq n s ≡ b → (life_of s (events ++ said (ToServer n text) ∷ [])).stage ≡ Ready → ((life_of s events).stage ≡ Ready) × (next_number s (events ++ said (ToServer n text) ∷ []) ≡ next_number s events)
     go s true same ready = absurd (told_not (life_of s events).stage (message_of text) asks (sym (stage_by s true same) ∙ ready))
-    go s false other ready = (sym (stage_by s false other) ∙ ready, number_other events n text s other)
+    go s false other ready = (sym (stage_by s false other) ∙ ready, number_other settings events n text s other)
 
 low_ended : (n : ℕ) (events : List Event) → Low events → Low (events ++ said (EndServer n) ∷ [])
 low_ended n events low = low_did events (EndServer n) tt (λ s. go s (nat_eq n s) refl) low
@@ -297,18 +298,18 @@ low_ended n events low = low_did events (EndServer n) tt (λ s. go s (nat_eq n s
 shutdown_asks : (n : ℕ) → n < 2 ^ 128 → requests (codes "shutdown") (message_of (request_text n (codes "shutdown") None)) ≡ true
 shutdown_asks n low = ap (requests (codes "shutdown")) (shutdown_says n low)
 
-start_low : (s : ℕ) (stage : Stage) (events : List Event) → (stage ≡ Ready → next_number s events < 2 ^ 128) → Low events → Low (behind events (outs (end_start s stage) events))
-start_low s Ready events number low = low_sent s (request_text (next_number s events) (codes "shutdown") None) events (shutdown_asks (next_number s events) (number refl)) low
-start_low s Spawning events number low = low_ended s events low
-start_low s Initializing events number low = low_ended s events low
-start_low s other events number low = subst Low (sym (append-nil events)) low
+start_low : (settings : Settings) (s : ℕ) (stage : Stage) (events : List Event) → (stage ≡ Ready → next_number s events < 2 ^ 128) → Low events → Low (behind events (outs (end_start s stage) events))
+start_low settings s Ready events number low = low_sent settings s (request_text (next_number s events) (codes "shutdown") None) events (shutdown_asks (next_number s events) (number refl)) low
+start_low settings s Spawning events number low = low_ended s events low
+start_low settings s Initializing events number low = low_ended s events low
+start_low settings s other events number low = subst Low (sym (append-nil events)) low
 
-group_low : (g : ℕ) (events : List Event) → Low events → Low (behind events (outs (end_group g) events))
-group_low g events low = go (start_of g events) refl
+group_low : (settings : Settings) (g : ℕ) (events : List Event) → Low events → Low (behind events (outs (end_group g) events))
+group_low settings g events low = go (start_of g events) refl
   where
     go : (o : Option ℕ) → start_of g events ≡ o → Low (behind events (outs (on o nothing (λ s. end_start s (life_of s events).stage)) events))
     go None at = subst Low (sym (append-nil events)) low
-    go (Some s) at = start_low s (life_of s events).stage events (λ ready. low g s at ready) low
+    go (Some s) at = start_low settings s (life_of s events).stage events (λ ready. low g s at ready) low
 
 start_off : (s : ℕ) (stage : Stage) (events : List Event) → (life_of s events).stage ≡ stage → is_spawned stage ≡ true → (stage ≡ Ready → next_number s events < 2 ^ 128) → IsOff s (behind events (outs (end_start s stage) events))
 start_off s Unspawned events at spawned number = never (sym spawned)
@@ -347,10 +348,10 @@ pub groups_quiet : (gs : List ℕ) (events : List Event) → AllByRecursion NoSp
 groups_quiet gs events = all_outs NoSpawn events (outs (each end_group gs) events) (no_spawns gs events).why
 
 -- behind the ends of these groups the last start of each isn't up
-pub groups_off : (gs : List ℕ) (events : List Event) → Low events
+pub groups_off : (settings : Settings) (gs : List ℕ) (events : List Event) → Low events
     → AllByRecursion (λ g. (s : ℕ) → start_of g events ≡ Some s → is_spawned (life_of s events).stage ≡ true → IsOff s (behind events (outs (each end_group gs) events))) gs
-groups_off [] events low = tt
-groups_off (g ∷ gs) events low = (λ s at spawned. later s (off_outs s next rest (groups_quiet gs next) (group_off g events low s at spawned)), all_of Then Now step gs (groups_off gs next (group_low g events low)))
+groups_off settings [] events low = tt
+groups_off settings (g ∷ gs) events low = (λ s at spawned. later s (off_outs s next rest (groups_quiet gs next) (group_off g events low s at spawned)), all_of Then Now step gs (groups_off settings gs next (group_low settings g events low)))
   where
     ones : List Out
     ones = outs (end_group g) events

@@ -62,7 +62,7 @@ module _ (settings : Settings) (range : InRange settings) (before : List Event) 
   -- a ready start may be told
   pub calm_now : is_ready (life_of s before).stage ≡ true → Mine now
   calm_now ready = record {
-    still = still_now now s (ap (λ (l : Life). l.stage) (life_more s before (heard (FromEditor e body))) ∙ ready_is (life_of s before).stage ready);
+    still = still_now settings now s (ap (λ (l : Life). l.stage) (life_more s before (heard (FromEditor e body))) ∙ ready_is (life_of s before).stage ready);
     turn = stays refl;
   }
 

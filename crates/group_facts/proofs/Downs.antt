@@ -33,7 +33,8 @@ use Rattle.group_words.specs.Rows.{end_group, placed_row}
 use Rattle.group_words.proofs.Frames.{groups_more, groups_stay}
 use Rattle.group_rows.specs.Asks.{members_in}
 use Rattle.group_rows.specs.ExitRows.{begins_again}
-use Rattle.group_rows.specs.Rows.{close_all, outs_of, refusal, waiting_in}
+use Rattle.group_rows.specs.Waiting.{part}
+use Rattle.group_rows.specs.Rows.{outs_of, refusal, waiting_in}
 use Rattle.group_rows.specs.StopRows.{stopped, stopped_next}
 use Rattle.group_rows.specs.Ticks.{due_of, overdue_of}
 use Rattle.group_facts.specs.Facts.{Housed, IsHoused, Quit, is_exit, is_refusing, is_up}
@@ -110,7 +111,7 @@ module _ (settings : Settings) (before : List Event) (low : Low before) (spawned
     tick_ends : Ends (Tick t)
     tick_ends g s live over at = subst (IsOff s) (sym (behind_both tick_now group_ends programs)) (off_outs s (behind tick_now group_ends) programs (quiet_programs (overdue_of settings before t) (behind tick_now group_ends))
         (all_at (λ i. (n : ℕ) → start_of i tick_now ≡ Some n → is_spawned (life_of n tick_now).stage ≡ true → IsOff n (behind tick_now group_ends)) (is_due settings.limits.idle (max (time_of before) t)) groups 0 g g (omega arith)
-        (groups_off due tick_now (low_now (Tick t) (λ n. life_more n before (heard (Tick t))) (λ n. number_more n before (heard (Tick t))))) live (sym (ap (lives_at g) (groups_more settings before (heard (Tick t)))) ∙ over)
+        (groups_off settings due tick_now (low_now (Tick t) (λ n. life_more n before (heard (Tick t))) (λ n. number_more n before (heard (Tick t))))) live (sym (ap (lives_at g) (groups_more settings before (heard (Tick t)))) ∙ over)
         s (start_took g before (Tick t) ∙ at) (ap (λ (l : Life). is_spawned l.stage) (life_more s before (heard (Tick t))) ∙ spawned g s at)))
 
   -- E6 and E7
@@ -189,7 +190,7 @@ module _ (settings : Settings) (before : List Event) (low : Low before) (spawned
         mid = behind said_now errors
 
         closes : List Out
-        closes = outs (close_all (members_in settings g mid)) mid
+        closes = outs (each (part settings g) (members_in settings g mid)) mid
 
     refused_off : is_refusing before n (message_of body) ≡ true → (g s : ℕ) → group_of n before ≡ Some g → start_of g before ≡ Some s → IsOff s (behind (with_cause before (FromServer n body)) (outs_of settings before (FromServer n body)))
     refused_off refuses g s home at = subst (λ k. IsOff k (behind (with_cause before (FromServer n body)) (outs_of settings before (FromServer n body)))) (the_same (sym (lasts n g home (alive_initializing (life_of n before).stage (and_parts (is_first_error (message_of body)) (is_initializing (life_of n before).stage) refuses).1)) ∙ at)) (refused_last refuses g home)

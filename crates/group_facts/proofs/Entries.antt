@@ -47,7 +47,9 @@ use Rattle.group_facts.proofs.Exits.{RenewsGroup, ends_live, renews_parts}
 use Rattle.group_facts.proofs.LastStarts.{AllLast}
 use Rattle.group_facts.proofs.Lively.{begun_answered, lives_of, up_of}
 use Rattle.group_facts.proofs.OwnEntry.{Nobody, message_rests, placed_open, turned_rests}
-use Rattle.group_facts.proofs.Sent.{Found, IsOf, OneOf, Passed, Rising, SentAt, found_one, none_sent, rising_of, sent_answered, sent_drained, sent_gone, sent_heard, sent_joined, sent_started, sent_ticked}
+use Rattle.group_facts.proofs.Sent.{Found, IsOf, OneOf, Passed, Rising, SentAt, found_one, none_sent, rising_of, sent_answered}
+use Rattle.group_facts.proofs.Taken.{TakenAt, taken_drained, taken_gone, taken_heard, taken_joined, taken_started, taken_ticked, waits_took}
+use Rattle.group_words.proofs.Frames.{home_stays}
 use Rattle.group_facts.proofs.Lost.{NotOpen, closed_outs, sent_closed}
 use Rattle.group_facts.proofs.PutOut.{named_in, turned_ends, turned_placed}
 use Rattle.group_facts.proofs.Quits.{not_stopped}
@@ -70,8 +72,8 @@ module _ (settings : Settings) (range : InRange settings) (before : List Event) 
   other_heard : (n : ℕ) (body : List ℕ) (e : ℕ) → nat_eq n e ≡ false → OpenAt settings e Nobody (with_cause before (FromEditor n body))
   other_heard n body e other = open_at settings e Nobody before (heard (FromEditor n body)) (go (nat_eq n e) other)
     where
-      sent : (id : Id) → SentAt settings before e id ⊎ ⊥ → SentAt settings (with_cause before (FromEditor n body)) e id ⊎ ⊥
-      sent id (inl k) = inl (sent_heard settings e id before n body (ap (λ b. b && places (desk_of n before).phase (message_of body)) other) k)
+      sent : (id : Id) → TakenAt settings before e id ⊎ ⊥ → TakenAt settings (with_cause before (FromEditor n body)) e id ⊎ ⊥
+      sent id (inl k) = inl (taken_heard settings e id before n body (ap (λ b. b && places (desk_of n before).phase (message_of body)) other) k)
       sent id (inr k) = inr k
 
       go : (b : Bool) → b ≡ false → OpenDesk (S settings e Nobody (with_cause before (FromEditor n body))) (if b then desk_hears (desk_of e before).phase (desk_of e before).initialize body (message_of body) else desk_of e before) (if b then with_request (message_of body) (open_of e before) else open_of e before)
@@ -146,8 +148,8 @@ module _ (settings : Settings) (range : InRange settings) (before : List Event) 
   joined_now : (n e : ℕ) → fits_behind before (Joined n) ≡ true → OpenAt settings e Nobody (with_cause before (Joined n))
   joined_now n e fits = open_at settings e Nobody before (heard (Joined n)) (go (nat_eq n e) refl)
     where
-      sent : (id : Id) → SentAt settings before e id ⊎ ⊥ → SentAt settings (with_cause before (Joined n)) e id ⊎ ⊥
-      sent id (inl k) = inl (sent_joined settings e id before n k)
+      sent : (id : Id) → TakenAt settings before e id ⊎ ⊥ → TakenAt settings (with_cause before (Joined n)) e id ⊎ ⊥
+      sent id (inl k) = inl (taken_joined settings e id before n k)
       sent id (inr k) = inr k
 
       absent : nat_eq n e ≡ true → (desk_of e before).phase ≡ Absent
@@ -161,24 +163,24 @@ module _ (settings : Settings) (range : InRange settings) (before : List Event) 
   drained_now : (n k e : ℕ) → OpenAt settings e Nobody (with_cause before (Drained n k))
   drained_now n k e = open_at settings e Nobody before (heard (Drained n k)) (if_other (S settings e Nobody before) (S settings e Nobody (with_cause before (Drained n k))) (desk_of e before).phase (desk_of e before).initialize (open_of e before) (λ served id is. sent id) (h e))
     where
-      sent : (id : Id) → SentAt settings before e id ⊎ ⊥ → SentAt settings (with_cause before (Drained n k)) e id ⊎ ⊥
-      sent id (inl at) = inl (sent_drained settings e id before n k at)
+      sent : (id : Id) → TakenAt settings before e id ⊎ ⊥ → TakenAt settings (with_cause before (Drained n k)) e id ⊎ ⊥
+      sent id (inl at) = inl (taken_drained settings e id before n k at)
       sent id (inr at) = inr at
 
   -- the time
   ticked_now : (t e : ℕ) → OpenAt settings e Nobody (with_cause before (Tick t))
   ticked_now t e = open_at settings e Nobody before (heard (Tick t)) (if_other (S settings e Nobody before) (S settings e Nobody (with_cause before (Tick t))) (desk_of e before).phase (desk_of e before).initialize (open_of e before) (λ served id is. sent id) (h e))
     where
-      sent : (id : Id) → SentAt settings before e id ⊎ ⊥ → SentAt settings (with_cause before (Tick t)) e id ⊎ ⊥
-      sent id (inl at) = inl (sent_ticked settings e id before t at)
+      sent : (id : Id) → TakenAt settings before e id ⊎ ⊥ → TakenAt settings (with_cause before (Tick t)) e id ⊎ ⊥
+      sent id (inl at) = inl (taken_ticked settings e id before t at)
       sent id (inr at) = inr at
 
   -- an editor whose link is gone
   gone_now : (n : ℕ) (why : link.Why) (e : ℕ) → OpenAt settings e Nobody (with_cause before (EditorGone n why))
   gone_now n why e = open_at settings e Nobody before (heard (EditorGone n why)) (go (nat_eq n e) refl)
     where
-      sent : nat_eq n e ≡ false → (id : Id) → SentAt settings before e id ⊎ ⊥ → SentAt settings (with_cause before (EditorGone n why)) e id ⊎ ⊥
-      sent other id (inl k) = inl (sent_gone settings e id before n why other k)
+      sent : nat_eq n e ≡ false → (id : Id) → TakenAt settings before e id ⊎ ⊥ → TakenAt settings (with_cause before (EditorGone n why)) e id ⊎ ⊥
+      sent other id (inl k) = inl (taken_gone settings e id before n why other k)
       sent other id (inr k) = inr k
 
       go : (b : Bool) → nat_eq n e ≡ b → OpenDesk (S settings e Nobody (with_cause before (EditorGone n why))) (if b then record { phase = Gone; initialize = (desk_of e before).initialize } else desk_of e before) (open_of e before)
@@ -189,8 +191,8 @@ module _ (settings : Settings) (range : InRange settings) (before : List Event) 
   started_now : (s e : ℕ) → OpenAt settings e Nobody (with_cause before (Started s))
   started_now s e = open_at settings e Nobody before (heard (Started s)) (if_other (S settings e Nobody before) (S settings e Nobody (with_cause before (Started s))) (desk_of e before).phase (desk_of e before).initialize (open_of e before) (λ served id is. sent id) (h e))
     where
-      sent : (id : Id) → SentAt settings before e id ⊎ ⊥ → SentAt settings (with_cause before (Started s)) e id ⊎ ⊥
-      sent id (inl k) = inl (sent_started settings e id before s k)
+      sent : (id : Id) → TakenAt settings before e id ⊎ ⊥ → TakenAt settings (with_cause before (Started s)) e id ⊎ ⊥
+      sent id (inl k) = inl (taken_started settings e id before s k)
       sent id (inr k) = inr k
 
   -- X1 to X3: a program ends, or can't be run
@@ -226,16 +228,17 @@ module _ (settings : Settings) (range : InRange settings) (before : List Event) 
           start = k.start;
           home = exit.home e ∙ k.home;
           last = start_took k.group before cause ∙ k.last;
-          among = subst (OneOf (IsOf e id)) (sym (exit.forwards k.start ∙ ap (λ b. if b then [] else (forwarding_of k.start before).open_requests) other)) k.among;
+          among = subst (OneOf (IsOf e id)) (sym (exit.forwards k.start ∙ ap (λ b. if b then [] else (forwarding_of settings k.start before).open_requests) other)) k.among;
         }
 
-        moved : is_answered (desk_of e before).phase ≡ true → (id : Id) → SentAt settings before e id ⊎ ⊥ → SentAt settings exit_now e id ⊎ IsLost id
+        moved : is_answered (desk_of e before).phase ≡ true → (id : Id) → TakenAt settings before e id ⊎ ⊥ → TakenAt settings exit_now e id ⊎ IsLost id
         moved served id (inr k) = absurd k
-        moved served id (inl k) = go (nat_eq s k.start) refl
+        moved served id (inl (inr k)) = inl (inr (waits_took settings e id before cause (exit.unmet) (exit.home e) k))
+        moved served id (inl (inl k)) = go (nat_eq s k.start) refl
           where
-            go : (b : Bool) → nat_eq s k.start ≡ b → SentAt settings exit_now e id ⊎ IsLost id
+            go : (b : Bool) → nat_eq s k.start ≡ b → TakenAt settings exit_now e id ⊎ IsLost id
             go true same = inr (record { served = served; sent = k; here = same })
-            go false other = inl (stays id k other)
+            go false other = inl (inl (stays id k other))
 
     abbrev StaysIn : Type 0
     StaysIn = (ends_with settings before s e && is_begun (desk_of e before).phase) ≡ false
@@ -254,26 +257,26 @@ module _ (settings : Settings) (range : InRange settings) (before : List Event) 
       member : is_in settings before s e ≡ true
       member = ap (λ o. option_map_or (λ i. is_home i (home_of settings e before)) o false) home ∙ (ap (is_home k.group) k.home ∙ same_number k.group)
 
-      askers : AllForwarded before
+      askers : AllForwarded settings before
       askers = (facts.steady).asked (not_stopped before facts.quit e (begun_there (desk_of e before).phase begun_here))
 
       -- where its group ends it is put out
       not_out : StaysIn → not (begins_again settings before s) ≡ true → ⊥
       not_out rest ends = never (sym (ap₂ (λ a b. a && b) (ap₂ (λ a b. a && b) (ends_live settings before s ends k.group home (lives_of settings before lively e k.group lost.served k.home)) member) begun_here) ∙ rest)
 
-      refused_there : RenewsGroup settings before s → NotOpen e id (later cause)
-      refused_there r = subst (λ z. NotOpen e id (behind exit_now z)) (sym (exit.row ∙ goes_on)) (subst (NotOpen e id) (sym (behind_both exit_now first rest)) (closed_outs e id (behind exit_now first) rest
-          (sent_closed e id before askers s (members_in settings r.group before) named (subst (λ n. OneOf (IsOf e id) (forwarding_of n before).open_requests) (sym (number_same s k.start lost.here)) k.among) exit_now)))
+      refused_there : RenewsGroup settings before s → NotOpen settings e id (later cause)
+      refused_there r = subst (λ z. NotOpen settings e id (behind exit_now z)) (sym (exit.row ∙ goes_on)) (subst (NotOpen settings e id) (sym (behind_both exit_now first rest)) (closed_outs settings e id (behind exit_now first) rest
+          (sent_closed settings e id before askers s (members_in settings r.group before) named (subst (λ n. OneOf (IsOf e id) (forwarding_of settings n before).open_requests) (sym (number_same s k.start lost.here)) k.among) exit_now)))
         where
           same : k.group ≡ r.group
           same = let both : ◌≡◌ {A = Option ℕ} (Some k.group) (Some r.group) = sym home ∙ r.home in cc
 
           first : List Out
-          first = outs (each (lose_sent before s) (members_in settings r.group before)) exit_now
+          first = outs (each (lose_sent settings before s) (members_in settings r.group before)) exit_now
 
           rest : List Out
           rest = outs (choose (is_ready (life_of s before).stage) (each (lose_start settings before s) (running_in settings r.group before)) nothing
-              ⨾ choose (starts_again settings before r.group r.kept) (spawn r.group) (each turn_out (members_in settings r.group before))) (behind exit_now first)
+              ⨾ choose (starts_again settings before r.group r.kept) (spawn r.group) (each (turn_out settings r.group) (members_in settings r.group before))) (behind exit_now first)
 
           goes_on : outs (lost_row settings before s) exit_now ≡ first ++ rest
           goes_on = rw (r.home, r.found, r.live) refl
@@ -285,10 +288,10 @@ module _ (settings : Settings) (range : InRange settings) (before : List Event) 
           named = named_in (λ n. is_begun (desk_of n before).phase && is_home r.group (home_of settings n before)) 0 (editors_of before) e (omega arith) joined
               (ap (λ b. b && is_home r.group (home_of settings e before)) begun_here ∙ (ap (is_home r.group) (k.home ∙ ap (λ g. Some g) same) ∙ same_number r.group))
 
-      none_left : StaysIn → NotOpen e id (later cause)
+      none_left : StaysIn → NotOpen settings e id (later cause)
       none_left rest = go (begins_again settings before s) refl
         where
-          go : (b : Bool) → begins_again settings before s ≡ b → NotOpen e id (later cause)
+          go : (b : Bool) → begins_again settings before s ≡ b → NotOpen settings e id (later cause)
           go true again = refused_there (renews_parts settings before s again)
           go false last = absurd (not_out rest (ap not last))
 
@@ -307,7 +310,7 @@ module _ (settings : Settings) (range : InRange settings) (before : List Event) 
     stays_open rest = if_other (S settings e IsLost (later cause)) (S settings e Nobody (later cause)) (desk_of e (later cause)).phase (desk_of e (later cause)).initialize (open_of e (later cause))
         (λ served id still k. go id still k) (open_entry settings e IsLost before cause (exit.turned e ∙ stays_waiting rest) range facts begun fits lasts lost_now)
       where
-        go : (id : Id) → is_open id (open_of e (later cause)) ≡ true → SentAt settings (later cause) e id ⊎ IsLost id → SentAt settings (later cause) e id ⊎ ⊥
+        go : (id : Id) → is_open id (open_of e (later cause)) ≡ true → TakenAt settings (later cause) e id ⊎ IsLost id → TakenAt settings (later cause) e id ⊎ ⊥
         go id still (inl k) = inl k
         go id still (inr lost) = absurd (none_left id lost rest still)
 
@@ -328,7 +331,7 @@ module _ (settings : Settings) (range : InRange settings) (before : List Event) 
     now = with_cause before (FromServer s body)
 
     abbrev fs : List Forwarded
-    fs = (forwarding_of s before).open_requests
+    fs = (forwarding_of settings s before).open_requests
 
     module _ (e : ℕ) where
       -- those that the response answers are excused, of a start that isn't to end
@@ -338,19 +341,20 @@ module _ (settings : Settings) (range : InRange settings) (before : List Event) 
       response_now : OpenAt settings e Answers now
       response_now = open_at settings e Answers before (heard (FromServer s body)) (if_other (S settings e Nobody before) (S settings e Answers now) (desk_of e before).phase (desk_of e before).initialize (open_of e before) (λ served id is. sent served id) (h e))
         where
-          answered : is_answered (desk_of e before).phase ≡ true → (id : Id) (k : SentAt settings before e id) → SentAt settings now e id ⊎ ((s ≡ k.start) × Passed settings e id before s body) → SentAt settings now e id ⊎ Answers id
-          answered served id k (inl at) = inl at
+          answered : is_answered (desk_of e before).phase ≡ true → (id : Id) (k : SentAt settings before e id) → SentAt settings now e id ⊎ ((s ≡ k.start) × Passed settings e id before s body) → TakenAt settings now e id ⊎ Answers id
+          answered served id k (inl at) = inl (inl at)
           answered served id k (inr p) = inr (ap (λ n. is_up (life_of n before).stage) p.0 ∙ up_of settings before lively e k.group k.start served k.home k.last, p.1)
 
-          sent : is_answered (desk_of e before).phase ≡ true → (id : Id) → SentAt settings before e id ⊎ ⊥ → SentAt settings now e id ⊎ Answers id
-          sent served id (inl k) = answered served id k (sent_answered settings e id before s body k)
+          sent : is_answered (desk_of e before).phase ≡ true → (id : Id) → TakenAt settings before e id ⊎ ⊥ → TakenAt settings now e id ⊎ Answers id
+          sent served id (inl (inl k)) = answered served id k (sent_answered settings e id before s body k)
+          sent served id (inl (inr k)) = inl (inr (waits_took settings e id before (FromServer s body) refl (home_stays settings e before (heard (FromServer s body)) refl) k))
           sent served id (inr k) = absurd k
 
       -- and their editors get it
 
-      low : is_up (life_of s before).stage ≡ true → (forwarding_of s before).next < 2 ^ 64
+      low : is_up (life_of s before).stage ≡ true → (forwarding_of settings s before).next < 2 ^ 64
       low up = let b = (facts.steady).bounded s up in
-          let second : (forwarding_of s before).next ≤ settings.limits.requests + 2 = b.1 in
+          let second : (forwarding_of settings s before).next ≤ settings.limits.requests + 2 = b.1 in
           let wide : settings.limits.requests < 2 ^ 32 = range.requests in
           omega (arith, second, wide)
 
@@ -398,7 +402,7 @@ module _ (settings : Settings) (range : InRange settings) (before : List Event) 
       answered_response : (life_of s before).stage ≡ Ready → (id : Id) → Passed settings e id before s body → is_answered (desk_of e (behind now (outs (answer_row settings s before body (message_of body)) now))).phase ≡ true
           → is_open id (open_of e (behind now (outs (answer_row settings s before body (message_of body)) now))) ≡ true → ⊥
       answered_response at id k served still =
-          let p : Found (IsOf e id) (answered_id (message_of body)) (forwarding_of s before).next (low (ap is_up at)) fs = found_one (IsOf e id) (answered_id (message_of body)) (forwarding_of s before).next (low (ap is_up at)) 2 fs (rising_of s before) k in
+          let p : Found (IsOf e id) (answered_id (message_of body)) (forwarding_of settings s before).next (low (ap is_up at)) fs = found_one (IsOf e id) (answered_id (message_of body)) (forwarding_of settings s before).next (low (ap is_up at)) 2 fs (rising_of settings s before) k in
           answered_not id p.first p.found p.holds (is_there (desk_of (p.first).editor before).phase) refl served still
 
       ready_not : (life_of s before).stage ≡ Ready → (id : Id) → Passed settings e id before s body → Stays Ready id
@@ -420,11 +424,11 @@ module _ (settings : Settings) (range : InRange settings) (before : List Event) 
           go false other = none_answered id (none_of (message_of body) other) k
 
       -- none is open before the first result
-      early_not : (forwarding_of s before).next ≡ 2 → (id : Id) → Passed settings e id before s body → ⊥
-      early_not first id k = none_sent (λ (f : Forwarded). IsOf e id f × (answered_by (answered_id (message_of body)) f ≡ true)) fs (subst (λ n. Rising 2 n fs) first (rising_of s before)) k
+      early_not : (forwarding_of settings s before).next ≡ 2 → (id : Id) → Passed settings e id before s body → ⊥
+      early_not first id k = none_sent (λ (f : Forwarded). IsOf e id f × (answered_by (answered_id (message_of body)) f ≡ true)) fs (subst (λ n. Rising 2 n fs) first (rising_of settings s before)) k
 
       fine_not : (stage : Stage) → (life_of s before).stage ≡ stage → is_up stage ≡ true → (id : Id) → Passed settings e id before s body → Stays stage id
-      fine_not Initializing at up id k served still = early_not (subst (λ z. TiedAt z (next_number s before) (forwarding_of s before).next) at (facts.tied s)).1 id k
+      fine_not Initializing at up id k served still = early_not (subst (λ z. TiedAt z (next_number s before) (forwarding_of settings s before).next) at (facts.tied s)).1 id k
       fine_not Ready at up id k served still = ready_not at id k served still
       fine_not Stopping at up id k served still = never (sym up)
       fine_not Ending at up id k served still = never (sym up)
@@ -439,7 +443,7 @@ module _ (settings : Settings) (range : InRange settings) (before : List Event) 
       stays_at stays = if_other (S settings e Answers (later (FromServer s body))) (S settings e Nobody (later (FromServer s body))) (desk_of e (later (FromServer s body))).phase (desk_of e (later (FromServer s body))).initialize (open_of e (later (FromServer s body)))
           (λ served id still k. go id served still k) (open_entry settings e Answers before (FromServer s body) stays range facts begun fits lasts response_now)
         where
-          go : (id : Id) → is_answered (desk_of e (later (FromServer s body))).phase ≡ true → is_open id (open_of e (later (FromServer s body))) ≡ true → SentAt settings (later (FromServer s body)) e id ⊎ Answers id → SentAt settings (later (FromServer s body)) e id ⊎ ⊥
+          go : (id : Id) → is_answered (desk_of e (later (FromServer s body))).phase ≡ true → is_open id (open_of e (later (FromServer s body))) ≡ true → TakenAt settings (later (FromServer s body)) e id ⊎ Answers id → TakenAt settings (later (FromServer s body)) e id ⊎ ⊥
           go id served still (inl k) = inl k
           go id served still (inr k) = inr (passed_not id k served still)
 

@@ -52,7 +52,7 @@ module _ (settings : Settings) (range : InRange settings) where
           let rest : Turns (behind place []) (outs (each (close_slow settings) es) (behind place [])) = others (behind place []) (subst (Facts settings) (sym (behind_nothing place)) h) in
           record { slow = rest.slow; parts = rest.parts; leave = subst (λ z. AllSlow settings z rest.slow) (behind_nothing place) rest.leave }
 
-  entry_parts : (before : List Event) (cause : Cause) → fits_behind before cause ≡ true → Facts settings before → HasParts settings before cause (entry_outs settings before cause)
+  pub entry_parts : (before : List Event) (cause : Cause) → fits_behind before cause ≡ true → Facts settings before → HasParts settings before cause (entry_outs settings before cause)
   entry_parts before cause fits h =
       let later : List Event = behind (with_cause before cause) (outs_of settings before cause) in
       let slow : Turns later (outs (slow_row settings) later) = turns (range_with_len 0 (editors_of later)) later (entry_keeps settings range before cause fits h) in

@@ -27,13 +27,14 @@ use Rattle.group_words.proofs.Frames.{home_stays}
 use Rattle.group_rows.specs.Asks.{Asking, asking_of, asks_of, idle_asking, members_in, no_asking, running_in}
 use Rattle.group_rows.specs.ExitRows.{ends_group, lose_sent, lose_start, lost_row, turn_out}
 use Rattle.group_rows.specs.Forwarded.{Forwarding, forwarding_of, no_forwarding}
+use Rattle.group_rows.specs.Waiting.{part, refuse_held}
 use Rattle.group_rows.specs.Rows.{outs_of}
 use Rattle.group_rows.specs.StopRows.{refuse_initialize}
 use Rattle.group_facts.specs.Facts.{asked_of, ends_link, ends_with, is_exit, is_in, is_put_out, turned_away}
 use Rattle.group_facts.specs.Lively.{is_unplaced}
 use Rattle.group_facts.proofs.Asks.{asked_of_more, asking_more}
 use Rattle.group_facts.proofs.Exits.{EndsGroup, ends_parts, lost_outs}
-use Rattle.group_facts.proofs.Forwards.{forwarding_more}
+use Rattle.group_rows.proofs.Frames.{forwarding_more, touches_waiting}
 use Rattle.group_facts.proofs.PutOut.{begun_closed, begun_outs, named_in, unplaced_outs}
 
 -- The two causes
@@ -49,6 +50,7 @@ over_requests false x = refl
 -- the program of start s ends by this cause, and nothing else is changed by it
 pub record Exit (settings : Settings) (before : List Event) (cause : Cause) (s : ℕ) : Type 0 where
   pub is : is_exit cause s ≡ true
+  pub unmet : touches_waiting (heard cause) ≡ false
   pub row : outs_of settings before cause ≡ outs (lost_row settings before s) (with_cause before cause)
   pub desk : (e : ℕ) → desk_of e (with_cause before cause) ≡ desk_of e before
   pub opens : (e : ℕ) → open_of e (with_cause before cause) ≡ open_of e before
@@ -56,7 +58,7 @@ pub record Exit (settings : Settings) (before : List Event) (cause : Cause) (s :
   pub asked : (e : ℕ) → asked_of e (with_cause before cause) ≡ asked_of e before
   pub idle : (t : ℕ) → (asking_of settings t (with_cause before cause)).asker ≡ None
   pub unasked : asks_of settings s (with_cause before cause) ≡ []
-  pub forwards : (t : ℕ) → (forwarding_of t (with_cause before cause)).open_requests ≡ (if nat_eq s t then [] else (forwarding_of t before).open_requests)
+  pub forwards : (t : ℕ) → (forwarding_of settings t (with_cause before cause)).open_requests ≡ (if nat_eq s t then [] else (forwarding_of settings t before).open_requests)
   pub ends : (e : ℕ) → ends_link settings before cause e ≡ is_put_out settings before cause e
   pub turned : (e : ℕ) → turned_away settings before cause e ≡ (ends_with settings before s e && is_waiting (desk_of e before).phase)
   pub out : (e : ℕ) → is_put_out settings before cause e ≡ (ends_with settings before s e && is_begun (desk_of e before).phase)
@@ -64,6 +66,7 @@ pub record Exit (settings : Settings) (before : List Event) (cause : Cause) (s :
 pub gone_exit : (settings : Settings) (before : List Event) (s : ℕ) → Exit settings before (ServerGone s) s
 gone_exit settings before s = record {
   is = same_number s;
+  unmet = refl;
   row = refl;
   desk = λ e. desk_more e before (heard (ServerGone s));
   opens = λ e. opens_more e before (heard (ServerGone s));
@@ -71,7 +74,7 @@ gone_exit settings before s = record {
   asked = λ e. asked_of_more e before (heard (ServerGone s));
   idle = λ t. ap (λ (x : Asking). x.asker) (asking_more settings t before (heard (ServerGone s))) ∙ over_idle (nat_eq s t) (asking_of settings t before);
   unasked = ap (λ (x : Asking). x.asks) (asking_more settings s before (heard (ServerGone s))) ∙ ap (λ b. (if b then no_asking else idle_asking (asking_of settings s before)).asks) (same_number s);
-  forwards = λ t. ap (λ (x : Forwarding). x.open_requests) (forwarding_more t before (heard (ServerGone s))) ∙ over_requests (nat_eq s t) (forwarding_of t before);
+  forwards = λ t. ap (λ (x : Forwarding). x.open_requests) (forwarding_more settings t before (heard (ServerGone s))) ∙ over_requests (nat_eq s t) (forwarding_of settings t before);
   ends = λ e. refl;
   turned = λ e. refl;
   out = λ e. refl;
@@ -80,6 +83,7 @@ gone_exit settings before s = record {
 pub failed_exit : (settings : Settings) (before : List Event) (s : ℕ) → Exit settings before (StartFailed s) s
 failed_exit settings before s = record {
   is = same_number s;
+  unmet = refl;
   row = refl;
   desk = λ e. desk_more e before (heard (StartFailed s));
   opens = λ e. opens_more e before (heard (StartFailed s));
@@ -87,7 +91,7 @@ failed_exit settings before s = record {
   asked = λ e. asked_of_more e before (heard (StartFailed s));
   idle = λ t. ap (λ (x : Asking). x.asker) (asking_more settings t before (heard (StartFailed s))) ∙ over_idle (nat_eq s t) (asking_of settings t before);
   unasked = ap (λ (x : Asking). x.asks) (asking_more settings s before (heard (StartFailed s))) ∙ ap (λ b. (if b then no_asking else idle_asking (asking_of settings s before)).asks) (same_number s);
-  forwards = λ t. ap (λ (x : Forwarding). x.open_requests) (forwarding_more t before (heard (StartFailed s))) ∙ over_requests (nat_eq s t) (forwarding_of t before);
+  forwards = λ t. ap (λ (x : Forwarding). x.open_requests) (forwarding_more settings t before (heard (StartFailed s))) ∙ over_requests (nat_eq s t) (forwarding_of settings t before);
   ends = λ e. refl;
   turned = λ e. refl;
   out = λ e. refl;
@@ -110,25 +114,25 @@ closed_now : (events : List Event) (n e : ℕ) → nat_eq n e ≡ true → is_be
 closed_now events n e same = ap (λ (d : Desk). is_begun d.phase) (desk_more e events (said (CloseEditor n)))
     ∙ ap (λ b. is_begun (if b then record { phase = phase_closed (desk_of e events).phase; initialize = (desk_of e events).initialize } else desk_of e events).phase) same ∙ begun_closed (desk_of e events).phase
 
-module _ (events : List Event) (n : ℕ) where
-  abbrev refused : List Event
-  refused = behind events (outs (refuse_initialize n) events)
+turned_now : (settings : Settings) (g n e : ℕ) (events : List Event) → nat_eq n e ≡ true → is_begun (desk_of e (behind events (outs (turn_out settings g n) events))).phase ≡ false
+turned_now settings g n e events same = ap (λ z. is_begun (desk_of e z).phase) (behind_both events (outs (refuse_initialize n) events) (outs (part settings g n) refused)
+    ∙ behind_both refused (outs (refuse_held settings g n) refused) (CloseEditor n ∷ [])) ∙ closed_now (behind refused (outs (refuse_held settings g n) refused)) n e same
+  where
+    refused : List Event
+    refused = behind events (outs (refuse_initialize n) events)
 
-  turned_place : behind events (outs (turn_out n) events) ≡ refused ++ said (CloseEditor n) ∷ []
-  turned_place = behind_both events (outs (refuse_initialize n) events) (CloseEditor n ∷ [])
-
-all_turned : (es : List ℕ) (events : List Event) (e : ℕ) → list_any (λ n. nat_eq n e) es ≡ true → is_begun (desk_of e (behind events (outs (each turn_out es) events))).phase ≡ true → ⊥
-all_turned [] events e named h = absurd (cc)
-all_turned (n ∷ es) events e named h = go (nat_eq n e) refl (λ k. all_turned es next e k later) named
+all_turned : (settings : Settings) (g : ℕ) (es : List ℕ) (events : List Event) (e : ℕ) → list_any (λ n. nat_eq n e) es ≡ true → is_begun (desk_of e (behind events (outs (each (turn_out settings g) es) events))).phase ≡ true → ⊥
+all_turned settings g [] events e named h = absurd (cc)
+all_turned settings g (n ∷ es) events e named h = go (nat_eq n e) refl (λ k. all_turned settings g es next e k later) named
   where
     next : List Event
-    next = behind events (outs (turn_out n) events)
+    next = behind events (outs (turn_out settings g n) events)
 
-    later : is_begun (desk_of e (behind next (outs (each turn_out es) next))).phase ≡ true
-    later = subst (λ z. is_begun (desk_of e z).phase ≡ true) (behind_both events (outs (turn_out n) events) (outs (each turn_out es) next)) h
+    later : is_begun (desk_of e (behind next (outs (each (turn_out settings g) es) next))).phase ≡ true
+    later = subst (λ z. is_begun (desk_of e z).phase ≡ true) (behind_both events (outs (turn_out settings g n) events) (outs (each (turn_out settings g) es) next)) h
 
     go : (b : Bool) → nat_eq n e ≡ b → (list_any (λ k. nat_eq k e) es ≡ true → ⊥) → (b || list_any (λ k. nat_eq k e) es) ≡ true → ⊥
-    go true same rest k = never (sym (begun_outs e next (outs (each turn_out es) next) later) ∙ (ap (λ z. is_begun (desk_of e z).phase) (turned_place events n) ∙ closed_now (refused events n) n e same))
+    go true same rest k = never (sym (begun_outs e next (outs (each (turn_out settings g) es) next) later) ∙ turned_now settings g n e events same)
     go false other rest k = rest k
 
 -- A whole entry
@@ -145,7 +149,7 @@ module _ (settings : Settings) (before : List Event) (cause : Cause) (s : ℕ) (
 
   module _ (absent : Editors before) (k : EndsGroup settings before s) where
     abbrev errors : List Out
-    errors = outs (each (lose_sent before s) (members_in settings k.group before)) now
+    errors = outs (each (lose_sent settings before s) (members_in settings k.group before)) now
 
     abbrev told : List Event
     told = behind now errors
@@ -160,13 +164,13 @@ module _ (settings : Settings) (before : List Event) (cause : Cause) (s : ℕ) (
     lost = behind told losses
 
     abbrev ends : List Out
-    ends = outs (each turn_out (members_in settings k.group before)) lost
+    ends = outs (each (turn_out settings k.group) (members_in settings k.group before)) lost
 
     pub parts : later ≡ behind lost ends
     parts = ap (behind now) (exit.row ∙ lost_outs settings before s now k) ∙ (behind_both now errors (losses ++ ends) ∙ behind_both told losses ends)
 
     none_begun : (e : ℕ) → is_begun (desk_of e before).phase ≡ true → is_home k.group (home_of settings e before) ≡ true → is_begun (desk_of e later).phase ≡ true → ⊥
-    none_begun e begun home h = all_turned (members_in settings k.group before) lost e
+    none_begun e begun home h = all_turned settings k.group (members_in settings k.group before) lost e
         (named_in (λ n. is_begun (desk_of n before).phase && is_home k.group (home_of settings n before)) 0 (editors_of before) e (omega arith) below (ap₂ (λ a b. a && b) begun home))
         (subst (λ z. is_begun (desk_of e z).phase ≡ true) parts h)
       where

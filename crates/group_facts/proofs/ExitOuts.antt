@@ -25,12 +25,13 @@ use Rattle.group_rows.specs.Live.{live_of}
 use Rattle.group_rows.specs.LiveRows.{unregister_any}
 use Rattle.group_rows.specs.StopRows.{lose_request}
 use Rattle.group_facts.proofs.Exits.{none_again}
+use Rattle.group_facts.proofs.HeldOuts.{part_by}
 
 pub for_all : {A : Type 0} (P : A → Type 0) → ((x : A) → P x) → (xs : List A) → AllByRecursion P xs
 for_all P f [] = tt
 for_all P f (x ∷ xs) = (f x, for_all P f xs)
 
-module _ (R : List Event → Out → Type 0) where
+module _ (settings : Settings) (R : List Event → Out → Type 0) where
   -- what holds of each body to an editor
   abbrev pub Tells : ℕ → Type 0
   Tells e = (events : List Event) (body : List ℕ) → R events (ToEditor e body)
@@ -40,9 +41,9 @@ module _ (R : List Event → Out → Type 0) where
   requests_by [] tells events = by_nothing
   requests_by (f ∷ fs) tells events = by_then (by_send (tells.0 events _)) (requests_by fs tells.1 (behind events (outs (lose_request f) events)))
 
-  pub sent_by : (before : List Event) (s : ℕ) (es : List ℕ) → AllByRecursion (λ e. AllByRecursion (λ (f : Forwarded). Tells f.editor) (filter (is_of e) (forwarding_of s before).open_requests)) es → (events : List Event) → Because R events (each (lose_sent before s) es)
+  pub sent_by : (before : List Event) (s : ℕ) (es : List ℕ) → AllByRecursion (λ e. AllByRecursion (λ (f : Forwarded). Tells f.editor) (filter (is_of e) (forwarding_of settings s before).open_requests)) es → (events : List Event) → Because R events (each (lose_sent settings before s) es)
   sent_by before s [] tells events = by_nothing
-  sent_by before s (e ∷ es) tells events = by_then (requests_by (filter (is_of e) (forwarding_of s before).open_requests) tells.0 events) (sent_by before s es tells.1 (behind events (outs (lose_sent before s e) events)))
+  sent_by before s (e ∷ es) tells events = by_then (requests_by (filter (is_of e) (forwarding_of settings s before).open_requests) tells.0 events) (sent_by before s es tells.1 (behind events (outs (lose_sent settings before s e) events)))
 
   -- X2
   module _ (e : ℕ) (tells : Tells e) (s : ℕ) where
@@ -65,8 +66,8 @@ module _ (R : List Event → Out → Type 0) where
     empties_by before [] events = by_nothing
     empties_by before (l ∷ ls) events = by_then (by_choose (λ full. by_send (tells events _)) (λ none. by_nothing)) (empties_by before ls (behind events (outs (empty_list before e l) events)))
 
-    pub start_by : (settings : Settings) (before : List Event) (events : List Event) → Because R events (lose_start settings before s e)
-    start_by settings before events = by_then (tokens_by (created_of settings s before) (created_of settings s before).tokens events)
+    pub start_by : (before : List Event) (events : List Event) → Because R events (lose_start settings before s e)
+    start_by before events = by_then (tokens_by (created_of settings s before) (created_of settings s before).tokens events)
         (by_then (takes_by (filter (unanswered_at e) (created_of settings s before).takings) (behind events tokens))
         (by_then (asks_by (filter (is_with e) (asks_of settings s before)) (behind (behind events tokens) takes))
         (by_then (registered_by (live_of settings s before) (behind (behind (behind events tokens) takes) asks))
@@ -81,38 +82,38 @@ module _ (R : List Event → Out → Type 0) where
         asks : List Out
         asks = outs (each (cancel_ask e) (filter (is_with e) (asks_of settings s before))) (behind (behind events tokens) takes)
 
-  starts_by : (settings : Settings) (before : List Event) (s : ℕ) (es : List ℕ) → AllByRecursion Tells es → (events : List Event) → Because R events (each (lose_start settings before s) es)
-  starts_by settings before s [] tells events = by_nothing
-  starts_by settings before s (e ∷ es) tells events = by_then (start_by e tells.0 s settings before events) (starts_by settings before s es tells.1 (behind events (outs (lose_start settings before s e) events)))
+  starts_by : (before : List Event) (s : ℕ) (es : List ℕ) → AllByRecursion Tells es → (events : List Event) → Because R events (each (lose_start settings before s) es)
+  starts_by before s [] tells events = by_nothing
+  starts_by before s (e ∷ es) tells events = by_then (start_by e tells.0 s before events) (starts_by before s es tells.1 (behind events (outs (lose_start settings before s e) events)))
 
-  pub ready_by : (settings : Settings) (before : List Event) (s : ℕ) (es : List ℕ) → AllByRecursion Tells es → (events : List Event) → Because R events (choose (is_ready (life_of s before).stage) (each (lose_start settings before s) es) nothing)
-  ready_by settings before s es tells events = by_choose (λ ready. starts_by settings before s es tells events) (λ not_yet. by_nothing)
+  pub ready_by : (before : List Event) (s : ℕ) (es : List ℕ) → AllByRecursion Tells es → (events : List Event) → Because R events (choose (is_ready (life_of s before).stage) (each (lose_start settings before s) es) nothing)
+  ready_by before s es tells events = by_choose (λ ready. starts_by before s es tells events) (λ not_yet. by_nothing)
 
   -- X1 and X2
   module _ (tells : (e : ℕ) → Tells e) where
-    pub all_tell : (before : List Event) (s : ℕ) (es : List ℕ) → AllByRecursion (λ e. AllByRecursion (λ (f : Forwarded). Tells f.editor) (filter (is_of e) (forwarding_of s before).open_requests)) es
-    all_tell before s es = for_all (λ e. AllByRecursion (λ (f : Forwarded). Tells f.editor) (filter (is_of e) (forwarding_of s before).open_requests)) (λ e. for_all (λ (f : Forwarded). Tells f.editor) (λ f. tells f.editor) (filter (is_of e) (forwarding_of s before).open_requests)) es
+    pub all_tell : (before : List Event) (s : ℕ) (es : List ℕ) → AllByRecursion (λ e. AllByRecursion (λ (f : Forwarded). Tells f.editor) (filter (is_of e) (forwarding_of settings s before).open_requests)) es
+    all_tell before s es = for_all (λ e. AllByRecursion (λ (f : Forwarded). Tells f.editor) (filter (is_of e) (forwarding_of settings s before).open_requests)) (λ e. for_all (λ (f : Forwarded). Tells f.editor) (λ f. tells f.editor) (filter (is_of e) (forwarding_of settings s before).open_requests)) es
 
-    pub told_by : (settings : Settings) (before : List Event) (s g : ℕ) (events : List Event) → Because R events (each (lose_sent before s) (members_in settings g before)
+    pub told_by : (before : List Event) (s g : ℕ) (events : List Event) → Because R events (each (lose_sent settings before s) (members_in settings g before)
         ⨾ choose (is_ready (life_of s before).stage) (each (lose_start settings before s) (running_in settings g before)) nothing)
-    told_by settings before s g events = by_then (sent_by before s (members_in settings g before) (all_tell before s (members_in settings g before)) events)
-        (ready_by settings before s (running_in settings g before) (for_all Tells tells (running_in settings g before)) (behind events (outs (each (lose_sent before s) (members_in settings g before)) events)))
+    told_by before s g events = by_then (sent_by before s (members_in settings g before) (all_tell before s (members_in settings g before)) events)
+        (ready_by before s (running_in settings g before) (for_all Tells tells (running_in settings g before)) (behind events (outs (each (lose_sent settings before s) (members_in settings g before)) events)))
 
   -- X3
   module _ (tells : (e : ℕ) → Tells e) (closes : (events : List Event) (e : ℕ) → R events (CloseEditor e)) where
-    turned_by : (es : List ℕ) (events : List Event) → Because R events (each turn_out es)
-    turned_by [] events = by_nothing
-    turned_by (e ∷ es) events = by_then (by_then (by_look (by_choose (λ waits. by_send (tells e events _)) (λ late. by_nothing))) (by_send (closes _ e))) (turned_by es (behind events (outs (turn_out e) events)))
+    turned_by : (g : ℕ) (es : List ℕ) (events : List Event) → Because R events (each (turn_out settings g) es)
+    turned_by g [] events = by_nothing
+    turned_by g (e ∷ es) events = by_then (by_then (by_look (by_choose (λ waits. by_send (tells e events _)) (λ late. by_nothing))) (part_by settings R g e (tells e) (λ places. closes places e) _)) (turned_by g es (behind events (outs (turn_out settings g e) events)))
 
-    module _ (settings : Settings) (before : List Event) (s : ℕ) (ends : not (begins_again settings before s) ≡ true) where
-      alive_by : (g : ℕ) (x : Kept) → group_of s before ≡ Some g → slice_get (groups_of settings before) g ≡ Some x → x.live ≡ true → (events : List Event) → Because R events (each (lose_sent before s) (members_in settings g before)
+    module _ (before : List Event) (s : ℕ) (ends : not (begins_again settings before s) ≡ true) where
+      alive_by : (g : ℕ) (x : Kept) → group_of s before ≡ Some g → slice_get (groups_of settings before) g ≡ Some x → x.live ≡ true → (events : List Event) → Because R events (each (lose_sent settings before s) (members_in settings g before)
           ⨾ (choose (is_ready (life_of s before).stage) (each (lose_start settings before s) (running_in settings g before)) nothing
-          ⨾ choose (starts_again settings before g x) (spawn g) (each turn_out (members_in settings g before))))
-      alive_by g x home found live events = by_then (sent_by before s (members_in settings g before) (all_tell tells before s (members_in settings g before)) events) (by_then (ready_by settings before s (running_in settings g before) (for_all Tells tells (running_in settings g before)) (behind events errors))
-          (by_choose (λ again. never (sym (both x.live (starts_again settings before g x) live again) ∙ none_again settings before s ends g x home found)) (λ last. turned_by (members_in settings g before) (behind (behind events errors) losses))))
+          ⨾ choose (starts_again settings before g x) (spawn g) (each (turn_out settings g) (members_in settings g before))))
+      alive_by g x home found live events = by_then (sent_by before s (members_in settings g before) (all_tell tells before s (members_in settings g before)) events) (by_then (ready_by before s (running_in settings g before) (for_all Tells tells (running_in settings g before)) (behind events errors))
+          (by_choose (λ again. never (sym (both x.live (starts_again settings before g x) live again) ∙ none_again settings before s ends g x home found)) (λ last. turned_by g (members_in settings g before) (behind (behind events errors) losses))))
         where
           errors : List Out
-          errors = outs (each (lose_sent before s) (members_in settings g before)) events
+          errors = outs (each (lose_sent settings before s) (members_in settings g before)) events
 
           losses : List Out
           losses = outs (choose (is_ready (life_of s before).stage) (each (lose_start settings before s) (running_in settings g before)) nothing) (behind events errors)

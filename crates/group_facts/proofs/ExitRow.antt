@@ -52,21 +52,25 @@ use Rattle.group_rows.proofs.ExitTexts.{empty_says, end_says}
 use Rattle.group_rows.proofs.ListsKept.{IsList, lists_kept}
 use Rattle.group_rows.proofs.LiveTexts.{live_written, unregister_says}
 use Rattle.group_rows.proofs.Stops.{range_below}
-use Rattle.group_facts.specs.Facts.{AllForwarded, IsAlone, IsAsked, IsForwarded, IsTake, IsWaiting, OneRequest, asked_of, ends_with, is_early, is_put_out, turned_away}
+use Rattle.group_facts.specs.Facts.{AllForwarded, IsAlone, IsAsked, IsForwarded, IsTake, IsWaiting, OneRequest, asked_of, ends_with, is_early, is_put_out, turned_away, AllHeld}
 use Rattle.group_facts.specs.Why.{IsLost, Losing, Why, calls, empties, ends, forgets, frees, of_ask, of_taking, winds_up, refuses, turns_away}
 use Rattle.group_facts.proofs.Asks.{asked_of_more, asking_more}
 use Rattle.group_facts.proofs.AskingRows.{still_runs, unregisters_all, work_told}
 use Rattle.group_facts.proofs.ExitEntry.{Exit}
 use Rattle.group_facts.proofs.ExitOuts.{Tells, asks_by, for_all, ready_by, registered_by, sent_by, start_by, takes_by, tokens_by}
 use Rattle.group_facts.proofs.Facts.{Facts}
-use Rattle.group_facts.proofs.Forwards.{forwarding_more, zip_all}
+use Rattle.group_rows.proofs.Frames.{forwarding_more}
+use Rattle.group_facts.proofs.Forwards.{zip_all}
 use Rattle.group_facts.proofs.Housed.{longer_did, longer_took}
 use Rattle.group_facts.proofs.Losses.{Differ, Apart2, desk_refused, differ_of, lost_says, lost_text, next_asker}
 use Rattle.group_facts.proofs.PutOut.{outs_tested}
 use Rattle.group_facts.proofs.Quits.{asked_while}
 use Rattle.group_facts.proofs.Sent.{rising_filtered, rising_of}
 use Rattle.group_facts.proofs.StopEntry.{begun_there}
-use Rattle.group_facts.proofs.StopWhy.{IsBody, there_told}
+use Rattle.group_facts.proofs.Held.{held_closed_all, held_told_all, part_why, there_told}
+use Rattle.group_facts.proofs.HeldOn.{held_exit}
+use Rattle.group_facts.proofs.HeldOuts.{part_by}
+use Rattle.group_facts.proofs.StopWhy.{IsBody}
 
 -- Phases
 
@@ -107,12 +111,12 @@ module _ (settings : Settings) (before : List Event) (facts : Facts settings bef
   R events out = Why settings before cause events out
 
   abbrev fs : List Forwarded
-  fs = (forwarding_of s before).open_requests
+  fs = (forwarding_of settings s before).open_requests
 
   -- What stands at each place, as long as editors are told alone
 
   record Place (events : List Event) : Type 0 where
-    forwards : (t : ℕ) → (forwarding_of t events).open_requests ≡ (forwarding_of t now).open_requests
+    forwards : (t : ℕ) → (forwarding_of settings t events).open_requests ≡ (forwarding_of settings t now).open_requests
     idle : (t : ℕ) → (asking_of settings t events).asker ≡ None
     asked : (e n : ℕ) → is_open (integer (decimal n)) (asked_of e before) ≡ true → is_open (integer (decimal n)) (asked_of e events) ≡ true
     there : (e : ℕ) → is_there (desk_of e before).phase ≡ true → is_there (desk_of e events).phase ≡ true
@@ -129,7 +133,7 @@ module _ (settings : Settings) (before : List Event) (facts : Facts settings bef
 
   place_told : (events : List Event) (k : ℕ) (text : List ℕ) → Place events → Place (events ++ said (ToEditor k text) ∷ [])
   place_told events k text p = record {
-    forwards = λ t. ap (λ (x : Forwarding). x.open_requests) (forwarding_more t events (said (ToEditor k text))) ∙ p.forwards t;
+    forwards = λ t. ap (λ (x : Forwarding). x.open_requests) (forwarding_more settings t events (said (ToEditor k text))) ∙ p.forwards t;
     idle = λ t. ap (λ (x : Asking). x.asker) (asking_more settings t events (said (ToEditor k text))) ∙ ((work_told settings t events (asking_of settings t events) k text (message_of text)).0 ∙ p.idle t);
     asked = λ e n waits. ap (is_open (integer (decimal n))) (asked_of_more e events (said (ToEditor k text))) ∙ hears_open (nat_eq k e) (message_of text) (asked_of e events) (integer (decimal n)) (p.asked e n waits);
     there = λ e there. there_told e k events text (p.there e there);
@@ -165,24 +169,24 @@ module _ (settings : Settings) (before : List Event) (facts : Facts settings bef
           by false is rest = rest
 
   abbrev Alone : Forwarded → Type 0
-  Alone f = (t : ℕ) → AllByRecursion (OneRequest s f t) (forwarding_of t before).open_requests
+  Alone f = (t : ℕ) → AllByRecursion (OneRequest s f t) (forwarding_of settings t before).open_requests
 
   alones : (e : ℕ) → AllByRecursion Alone (filter (is_of e) fs)
   alones e = all_filtered Alone Alone (is_of e) (λ f is k. k) fs ((facts.steady).apart s)
 
   differ : (e : ℕ) → Differ (filter (is_of e) fs)
-  differ e = differ_of s e 2 (forwarding_of s before).next (filter (is_of e) fs) (rising_filtered 2 (forwarding_of s before).next (is_of e) fs (rising_of s before)) (own e)
+  differ e = differ_of s e 2 (forwarding_of settings s before).next (filter (is_of e) fs) (rising_filtered 2 (forwarding_of settings s before).next (is_of e) fs (rising_of settings s before)) (own e)
       (all_filtered Alone (λ (f : Forwarded). AllByRecursion (OneRequest s f s) (filter (is_of e) fs)) (is_of e) (λ f is k. all_filtered (OneRequest s f s) (OneRequest s f s) (is_of e) (λ g other o. o) fs (k s)) fs ((facts.steady).apart s))
 
   -- behind the end none of its requests is open at a start
-  alone_now : (f : Forwarded) (id : Id) → IsIdText id f.id → Alone f → IsAlone now f.editor id
+  alone_now : (f : Forwarded) (id : Id) → IsIdText id f.id → Alone f → IsAlone settings now f.editor id
   alone_now f id text alone t = subst (AllByRecursion (λ (g : Forwarded). g.editor ≡ f.editor → IsIdText id g.id → ⊥)) (sym (exit.forwards t)) (go (nat_eq s t) refl)
     where
-      go : (b : Bool) → nat_eq s t ≡ b → AllByRecursion (λ (g : Forwarded). g.editor ≡ f.editor → IsIdText id g.id → ⊥) (if b then [] else (forwarding_of t before).open_requests)
+      go : (b : Bool) → nat_eq s t ≡ b → AllByRecursion (λ (g : Forwarded). g.editor ≡ f.editor → IsIdText id g.id → ⊥) (if b then [] else (forwarding_of settings t before).open_requests)
       go true same = tt
-      go false other = all_of (OneRequest s f t) (λ (g : Forwarded). g.editor ≡ f.editor → IsIdText id g.id → ⊥) (λ g one editor mine. never (sym (ap (λ z. nat_eq s z) (one id editor text mine).0 ∙ same_number s) ∙ other)) (forwarding_of t before).open_requests (alone t)
+      go false other = all_of (OneRequest s f t) (λ (g : Forwarded). g.editor ≡ f.editor → IsIdText id g.id → ⊥) (λ g one editor mine. never (sym (ap (λ z. nat_eq s z) (one id editor text mine).0 ∙ same_number s) ∙ other)) (forwarding_of settings t before).open_requests (alone t)
 
-  alone_at : (events : List Event) → Place events → (f : Forwarded) (id : Id) → IsIdText id f.id → Alone f → IsAlone events f.editor id
+  alone_at : (events : List Event) → Place events → (f : Forwarded) (id : Id) → IsIdText id f.id → Alone f → IsAlone settings events f.editor id
   alone_at events p f id text alone t = subst (AllByRecursion (λ (g : Forwarded). g.editor ≡ f.editor → IsIdText id g.id → ⊥)) (sym (p.forwards t)) (alone_now f id text alone t)
 
   one_why : (e : ℕ) (events : List Event) (f : Forwarded) → Place events → is_there (desk_of e before).phase ≡ true → f.editor ≡ e → Alone f → IsForwarded events f → Because R events (lose_request f)
@@ -203,7 +207,7 @@ module _ (settings : Settings) (before : List Event) (facts : Facts settings bef
       (zip_all (λ (g : Forwarded). g.editor ≡ e) (λ (g : Forwarded). Apart2 f g × IsForwarded events g) (IsForwarded (events ++ said (ToEditor f.editor (lost_text f)) ∷ [])) (λ g its both. next_asker e events f askers.0 editors.0 g its both.0 both.1) gs editors.1
       (zip_all (Apart2 f) (IsForwarded events) (λ (g : Forwarded). Apart2 f g × IsForwarded events g) (λ g a b. (a, b)) gs apart.0 askers.1)))
 
-  sent_why : (e : ℕ) (events : List Event) → Asks_of e events → Because R events (lose_sent before s e)
+  sent_why : (e : ℕ) (events : List Event) → Asks_of e events → Because R events (lose_sent settings before s e)
   sent_why e events h = all_lost e (filter (is_of e) fs) events h.place h.member (own e) (alones e) (differ e) h.askers
 
   only_requests : (e : ℕ) (gs : List Forwarded) (events : List Event) → AllByRecursion (λ (f : Forwarded). f.editor ≡ e) gs → Because (λ places out. IsBody out × IsOnly e out) events (each lose_request gs)
@@ -228,8 +232,8 @@ module _ (settings : Settings) (before : List Event) (facts : Facts settings bef
     }) (filter (is_of e) fs) (own e) h.askers;
   }
 
-  sent_still : (k e : ℕ) (events : List Event) → nat_eq k e ≡ false → Asks_of e events → Asks_of e (behind events (outs (lose_sent before s k) events))
-  sent_still k e events other h = reasons_keep (λ places out. IsBody out × IsOnly k out) (Asks_of e) step events (outs (lose_sent before s k) events) (only_requests k (filter (is_of k) fs) events (own k)).why h
+  sent_still : (k e : ℕ) (events : List Event) → nat_eq k e ≡ false → Asks_of e events → Asks_of e (behind events (outs (lose_sent settings before s k) events))
+  sent_still k e events other h = reasons_keep (λ places out. IsBody out × IsOnly k out) (Asks_of e) step events (outs (lose_sent settings before s k) events) (only_requests k (filter (is_of k) fs) events (own k)).why h
     where
       step : (places : List Event) (out : Out) → IsBody out × IsOnly k out → Asks_of e places → Asks_of e (places ++ said out ∷ [])
       step places (ToEditor i text) is j = asks_told e i places text (ap (λ z. nat_eq z e) is.1 ∙ other) j
@@ -239,8 +243,8 @@ module _ (settings : Settings) (before : List Event) (facts : Facts settings bef
       step places (EndServer i) is j = absurd is.0
 
   -- while an editor is there what its starts have to answer is open at the editors
-  asked_here : (e : ℕ) → is_there (desk_of e before).phase ≡ true → AllForwarded before
-  asked_here e there = asked_while before (facts.steady).asked facts.quit e there
+  asked_here : (e : ℕ) → is_there (desk_of e before).phase ≡ true → AllForwarded settings before
+  asked_here e there = asked_while settings before (facts.steady).asked facts.quit e there
 
   asker_now : (f : Forwarded) → IsForwarded before f → IsForwarded now f
   asker_now f k = record {
@@ -273,9 +277,9 @@ module _ (settings : Settings) (before : List Event) (facts : Facts settings bef
   requests_calm e [] askers events = by_nothing
   requests_calm e (f ∷ gs) askers events = by_then (by_send (λ n. ap (λ m. asked_behind e n (did (ToEditor f.editor (lost_text f)) m)) (lost_says before f askers.0))) (requests_calm e gs askers.1 (events ++ said (ToEditor f.editor (lost_text f)) ∷ []))
 
-  sent_calm : AllForwarded before → (e : ℕ) (es : List ℕ) (events : List Event) → Because (λ places out. Calm e out) events (each (lose_sent before s) es)
+  sent_calm : AllForwarded settings before → (e : ℕ) (es : List ℕ) (events : List Event) → Because (λ places out. Calm e out) events (each (lose_sent settings before s) es)
   sent_calm askers e [] events = by_nothing
-  sent_calm askers e (k ∷ es) events = by_then (requests_calm e (filter (is_of k) fs) (all_filtered (IsForwarded before) (IsForwarded before) (is_of k) (λ f is j. j) fs (askers s)) events) (sent_calm askers e es (behind events (outs (lose_sent before s k) events)))
+  sent_calm askers e (k ∷ es) events = by_then (requests_calm e (filter (is_of k) fs) (all_filtered (IsForwarded before) (IsForwarded before) (is_of k) (λ f is j. j) fs (askers s)) events) (sent_calm askers e es (behind events (outs (lose_sent settings before s k) events)))
 
   unasked_now : (e : ℕ) → Unasked e now
   unasked_now e = fold-append (asked_behind e) 1 before (heard cause ∷ []) ∙ heard_asks cause (next_ask e before)
@@ -294,12 +298,12 @@ module _ (settings : Settings) (before : List Event) (facts : Facts settings bef
     asks_now : (e : ℕ) → is_member e ≡ true → Asks_of e now
     asks_now e t = let there = member_there e t in record { place = place_now; member = there; askers = all_filtered (IsForwarded before) (IsForwarded now) (is_of e) (λ f is k. asker_now f k) fs (asked_here e there s) }
 
-    errors_why : Because R now (each (lose_sent before s) (members_in settings g before))
-    errors_why = subst (λ ns. Because R now (each (lose_sent before s) (filter is_member ns))) (sym (range_below (editors_of before)))
-        (by_rising (lose_sent before s) Asks_of sent_why sent_still now is_member asks_now (editors_of before))
+    errors_why : Because R now (each (lose_sent settings before s) (members_in settings g before))
+    errors_why = subst (λ ns. Because R now (each (lose_sent settings before s) (filter is_member ns))) (sym (range_below (editors_of before)))
+        (by_rising (lose_sent settings before s) Asks_of sent_why sent_still now is_member asks_now (editors_of before))
 
     abbrev errors : List Out
-    errors = outs (each (lose_sent before s) (members_in settings g before)) now
+    errors = outs (each (lose_sent settings before s) (members_in settings g before)) now
 
     abbrev told : List Event
     told = behind now errors
@@ -404,14 +408,14 @@ module _ (settings : Settings) (before : List Event) (facts : Facts settings bef
           let calm : Unasked e (behind (behind (behind events tokens) takes) asks) = unasked_behind e (behind (behind events tokens) takes) (each (cancel_ask e) (filter (is_with e) (asks_of settings s before))) (asks_calm (filter (is_with e) (asks_of settings s before)) all_asks (behind (behind events tokens) takes))
           (unasked_behind e (behind events tokens) (each (cancel_take e) (filter (unanswered_at e) (created_of settings s before).takings)) (takes_calm (filter (unanswered_at e) (created_of settings s before).takings) all_takes (behind events tokens))
           (unasked_behind e events (each (end_token s e (created_of settings s before)) (created_of settings s before).tokens) (tokens_calm (created_of settings s before).tokens events) unasked)) in
-          let first : Place (behind events tokens) = reasons_keep (λ places out. IsBody out) Place place_body events tokens (tokens_by (λ places out. IsBody out) e (λ places body. tt) s (created_of settings s before) (created_of settings s before).tokens events).why p in
-          let second : Place (behind (behind events tokens) takes) = reasons_keep (λ places out. IsBody out) Place place_body (behind events tokens) takes (takes_by (λ places out. IsBody out) e (λ places body. tt) s (filter (unanswered_at e) (created_of settings s before).takings) (behind events tokens)).why first in
-          let third : Place (behind (behind (behind events tokens) takes) asks) = reasons_keep (λ places out. IsBody out) Place place_body (behind (behind events tokens) takes) asks (asks_by (λ places out. IsBody out) e (λ places body. tt) s (filter (is_with e) (asks_of settings s before)) (behind (behind events tokens) takes)).why second in
+          let first : Place (behind events tokens) = reasons_keep (λ places out. IsBody out) Place place_body events tokens (tokens_by settings (λ places out. IsBody out) e (λ places body. tt) s (created_of settings s before) (created_of settings s before).tokens events).why p in
+          let second : Place (behind (behind events tokens) takes) = reasons_keep (λ places out. IsBody out) Place place_body (behind events tokens) takes (takes_by settings (λ places out. IsBody out) e (λ places body. tt) s (filter (unanswered_at e) (created_of settings s before).takings) (behind events tokens)).why first in
+          let third : Place (behind (behind (behind events tokens) takes) asks) = reasons_keep (λ places out. IsBody out) Place place_body (behind (behind events tokens) takes) asks (asks_by settings (λ places out. IsBody out) e (λ places body. tt) s (filter (is_with e) (asks_of settings s before)) (behind (behind events tokens) takes)).why second in
           by_then (tokens_why [] (created_of settings s before).tokens refl events p)
           (by_then (takes_why [] (filter (unanswered_at e) (created_of settings s before).takings) refl all_takes (behind events tokens) first)
           (by_then (asks_why [] (filter (is_with e) (asks_of settings s before)) refl all_asks (behind (behind events tokens) takes) second)
           (by_then (registered_why (behind (behind (behind events tokens) takes) asks) third calm)
-          (empties_why [] (lists_of s before) refl (lists_kept s before (facts.base).meant) _ (place_behind (behind (behind (behind events tokens) takes) asks) (unregister_any (live_of settings s before) e) (registered_by (λ places out. IsBody out) e (λ places body. tt) s (live_of settings s before) (behind (behind (behind events tokens) takes) asks)) third)))))
+          (empties_why [] (lists_of s before) refl (lists_kept s before (facts.base).meant) _ (place_behind (behind (behind (behind events tokens) takes) asks) (unregister_any (live_of settings s before) e) (registered_by settings (λ places out. IsBody out) e (λ places body. tt) s (live_of settings s before) (behind (behind (behind events tokens) takes) asks)) third)))))
         where
           tokens : List Out
           tokens = outs (each (end_token s e (created_of settings s before)) (created_of settings s before).tokens) events
@@ -439,22 +443,25 @@ module _ (settings : Settings) (before : List Event) (facts : Facts settings bef
     runs_by e t events p unasked = let q = and_parts (is_running (desk_of e before).phase) (is_home g (home_of settings e before)) t in record { place = p; unasked = unasked; ran = running_is (desk_of e before).phase q.0; at_home = home_is (home_of settings e before) q.1 }
 
     runs_still : (k e : ℕ) (events : List Event) → nat_eq k e ≡ false → Runs_at e events → Runs_at e (behind events (outs (lose_start settings before s k) events))
-    runs_still k e events other h = record { place = place_behind events (lose_start settings before s k) (start_by (λ places out. IsBody out) k (λ places body. tt) s settings before events) h.place; unasked = unasked_behind e events (lose_start settings before s k) (start_by (λ places out. Calm e out) k (λ places body n. asked_off e k body (message_of body) n other) s settings before events) h.unasked; ran = h.ran; at_home = h.at_home }
+    runs_still k e events other h = record { place = place_behind events (lose_start settings before s k) (start_by settings (λ places out. IsBody out) k (λ places body. tt) s before events) h.place; unasked = unasked_behind e events (lose_start settings before s k) (start_by settings (λ places out. Calm e out) k (λ places body n. asked_off e k body (message_of body) n other) s before events) h.unasked; ran = h.ran; at_home = h.at_home }
 
     abbrev losing_row : Row
     losing_row = choose (is_ready (life_of s before).stage) (each (lose_start settings before s) (running_in settings g before)) nothing
 
-    bodies_sent : (es : List ℕ) → AllByRecursion (λ e. AllByRecursion (λ (f : Forwarded). Tells (λ places out. IsBody out) f.editor) (filter (is_of e) fs)) es
-    bodies_sent es = for_all (λ e. AllByRecursion (λ (f : Forwarded). Tells (λ places out. IsBody out) f.editor) (filter (is_of e) fs)) (λ e. for_all (λ (f : Forwarded). Tells (λ places out. IsBody out) f.editor) (λ f places body. tt) (filter (is_of e) fs)) es
+    bodies_sent : (es : List ℕ) → AllByRecursion (λ e. AllByRecursion (λ (f : Forwarded). Tells settings (λ places out. IsBody out) f.editor) (filter (is_of e) fs)) es
+    bodies_sent es = for_all (λ e. AllByRecursion (λ (f : Forwarded). Tells settings (λ places out. IsBody out) f.editor) (filter (is_of e) fs)) (λ e. for_all (λ (f : Forwarded). Tells settings (λ places out. IsBody out) f.editor) (λ f places body. tt) (filter (is_of e) fs)) es
+
+    errors_bodies : Because (λ places out. IsBody out) now (each (lose_sent settings before s) (members_in settings g before))
+    errors_bodies = sent_by settings (λ places out. IsBody out) before s (members_in settings g before) (bodies_sent (members_in settings g before)) now
 
     place_errors : Place told
-    place_errors = place_behind now (each (lose_sent before s) (members_in settings g before)) (sent_by (λ places out. IsBody out) before s (members_in settings g before) (bodies_sent (members_in settings g before)) now) place_now
+    place_errors = place_behind now (each (lose_sent settings before s) (members_in settings g before)) errors_bodies place_now
 
     ran_there : (e : ℕ) → runs_here e ≡ true → is_there (desk_of e before).phase ≡ true
     ran_there e t = ap is_there (running_is (desk_of e before).phase (and_parts (is_running (desk_of e before).phase) (is_home g (home_of settings e before)) t).0)
 
     unasked_errors : (e : ℕ) → is_there (desk_of e before).phase ≡ true → Unasked e told
-    unasked_errors e there = unasked_behind e now (each (lose_sent before s) (members_in settings g before)) (sent_calm (asked_here e there) e (members_in settings g before) now) (unasked_now e)
+    unasked_errors e there = unasked_behind e now (each (lose_sent settings before s) (members_in settings g before)) (sent_calm (asked_here e there) e (members_in settings g before) now) (unasked_now e)
 
     losses_why : Because R told losing_row
     losses_why = by_choose (λ is. all_told (ready_is (life_of s before).stage is)) (λ off. by_nothing)
@@ -469,8 +476,11 @@ module _ (settings : Settings) (before : List Event) (facts : Facts settings bef
     abbrev lost : List Event
     lost = behind told losses
 
+    losses_bodies : Because (λ places out. IsBody out) told losing_row
+    losses_bodies = ready_by settings (λ places out. IsBody out) before s (running_in settings g before) (for_all (Tells settings (λ places out. IsBody out)) (λ e places body. tt) (running_in settings g before)) told
+
     place_lost : Place lost
-    place_lost = place_behind told losing_row (ready_by (λ places out. IsBody out) settings before s (running_in settings g before) (for_all (Tells (λ places out. IsBody out)) (λ e places body. tt) (running_in settings g before)) told) place_errors
+    place_lost = place_behind told losing_row losses_bodies place_errors
 
     -- An editor that waits is told nothing before X3
 
@@ -479,9 +489,9 @@ module _ (settings : Settings) (before : List Event) (facts : Facts settings bef
       away f k true same = absurd (late_not (desk_of f.editor before).phase k.late (ap (λ z. (desk_of z before).phase) (number_same f.editor e same) ∙ waits))
       away f k false other = refl
 
-      others_sent : AllForwarded before → (es : List ℕ) → AllByRecursion (λ k. AllByRecursion (λ (f : Forwarded). Tells (λ places out. IsOther e out) f.editor) (filter (is_of k) fs)) es
-      others_sent askers es = for_all (λ k. AllByRecursion (λ (f : Forwarded). Tells (λ places out. IsOther e out) f.editor) (filter (is_of k) fs))
-          (λ k. all_filtered (IsForwarded before) (λ (f : Forwarded). Tells (λ places out. IsOther e out) f.editor) (is_of k) (λ f is j places body. away f j (nat_eq f.editor e) refl) fs (askers s)) es
+      others_sent : AllForwarded settings before → (es : List ℕ) → AllByRecursion (λ k. AllByRecursion (λ (f : Forwarded). Tells settings (λ places out. IsOther e out) f.editor) (filter (is_of k) fs)) es
+      others_sent askers es = for_all (λ k. AllByRecursion (λ (f : Forwarded). Tells settings (λ places out. IsOther e out) f.editor) (filter (is_of k) fs))
+          (λ k. all_filtered (IsForwarded before) (λ (f : Forwarded). Tells settings (λ places out. IsOther e out) f.editor) (is_of k) (λ f is j places body. away f j (nat_eq f.editor e) refl) fs (askers s)) es
 
       record Stood (events : List Event) : Type 0 where
         desk : desk_of e events ≡ desk_of e before
@@ -494,8 +504,8 @@ module _ (settings : Settings) (before : List Event) (facts : Facts settings bef
       stood_told events (CloseEditor k) other h = absurd other
       stood_told events (EndServer n) other h = absurd other
 
-      stood_errors : AllForwarded before → Stood told
-      stood_errors askers = reasons_keep (λ places out. IsOther e out) Stood stood_told now errors (sent_by (λ places out. IsOther e out) before s (members_in settings g before) (others_sent askers (members_in settings g before)) now).why
+      stood_errors : AllForwarded settings before → Stood told
+      stood_errors askers = reasons_keep (λ places out. IsOther e out) Stood stood_told now errors (sent_by settings (λ places out. IsOther e out) before s (members_in settings g before) (others_sent askers (members_in settings g before)) now).why
           (record { desk = exit.desk e; opens = exit.opens e })
 
       -- nor does it run
@@ -503,11 +513,11 @@ module _ (settings : Settings) (before : List Event) (facts : Facts settings bef
       not_run k t true same = never (sym (and_parts (is_running (desk_of k before).phase) (is_home g (home_of settings k before)) t).0 ∙ (ap (λ z. is_running (desk_of z before).phase) (number_same k e same) ∙ ap is_running waits))
       not_run k t false other = refl
 
-      others_run : AllByRecursion (Tells (λ places out. IsOther e out)) (running_in settings g before)
-      others_run = all_filtered (λ k. Unit {0}) (Tells (λ places out. IsOther e out)) runs_here (λ k t u places body. not_run k t (nat_eq k e) refl) (range_with_len 0 (editors_of before)) (for_all (λ k. Unit {0}) (λ k. tt) (range_with_len 0 (editors_of before)))
+      others_run : AllByRecursion (Tells settings (λ places out. IsOther e out)) (running_in settings g before)
+      others_run = all_filtered (λ k. Unit {0}) (Tells settings (λ places out. IsOther e out)) runs_here (λ k t u places body. not_run k t (nat_eq k e) refl) (range_with_len 0 (editors_of before)) (for_all (λ k. Unit {0}) (λ k. tt) (range_with_len 0 (editors_of before)))
 
-      stood_lost : AllForwarded before → Stood lost
-      stood_lost askers = reasons_keep (λ places out. IsOther e out) Stood stood_told told losses (ready_by (λ places out. IsOther e out) settings before s (running_in settings g before) others_run told).why (stood_errors askers)
+      stood_lost : AllForwarded settings before → Stood lost
+      stood_lost askers = reasons_keep (λ places out. IsOther e out) Stood stood_told told losses (ready_by settings (λ places out. IsOther e out) before s (running_in settings g before) others_run told).why (stood_errors askers)
 
     -- X3
 
@@ -519,6 +529,7 @@ module _ (settings : Settings) (before : List Event) (facts : Facts settings bef
     record IsLeaving (e : ℕ) (events : List Event) : Type 0 where
       out : is_put_out settings before cause e ≡ true
       there : is_there (desk_of e events).phase ≡ true
+      held : AllHeld settings events
       turned : is_waiting (desk_of e events).phase ≡ true → IsTurned e events
 
     abbrev first_text : ℕ → List Event → List ℕ
@@ -527,12 +538,16 @@ module _ (settings : Settings) (before : List Event) (facts : Facts settings bef
     first_says : (e : ℕ) (events : List Event) (w : IsTurned e events) → message_of (first_text e events) ≡ error (Some w.id) (error_tree request_failed)
     first_says e events w = refusal_says (desk_of e events).initialize w.id (codes "initialize") (w.waiting).params request_failed (w.waiting).asks
 
-    leaving_why : (e : ℕ) (events : List Event) → IsLeaving e events → Because R events (turn_out e)
+    leaving_why : (e : ℕ) (events : List Event) → IsLeaving e events → Because R events (turn_out settings g e)
     leaving_why e events h = by_then (by_look (by_choose (λ waits. let w : IsTurned e events = h.turned waits in by_send (turns_away (record { id = w.id; x = error_tree request_failed; waiting = w.waiting; turned = w.turned; says = first_says e events w }))) (λ late. by_nothing)))
-        (by_send (exit.ends e ∙ h.out, there_still (is_waiting (desk_of e events).phase) refl))
+        (part_why settings before cause g e (behind events (either (is_waiting (desk_of e events).phase))) (record { ends = exit.ends e ∙ h.out; there = there_still (is_waiting (desk_of e events).phase) refl; held = held_still (is_waiting (desk_of e events).phase) }))
       where
         either : Bool → List Out
         either b = outs (choose b (send (ToEditor e (first_text e events))) nothing) events
+
+        held_still : (b : Bool) → AllHeld settings (behind events (either b))
+        held_still true = held_told_all settings events e (first_text e events) h.held
+        held_still false = subst (AllHeld settings) (sym (append-nil events)) h.held
 
         there_still : (b : Bool) → is_waiting (desk_of e events).phase ≡ b → is_there (desk_of e (behind events (either b))).phase ≡ true
         there_still true waits = let w : IsTurned e events = h.turned waits in ap (λ (d : Desk). is_there d.phase) (desk_refused e events (first_text e events) (Some w.id) (error_tree request_failed) (first_says e events w)) ∙ h.there
@@ -540,11 +555,12 @@ module _ (settings : Settings) (before : List Event) (facts : Facts settings bef
 
     -- another one's leave changes nothing of it
     leaving_did : (k e : ℕ) → nat_eq k e ≡ false → (events : List Event) (out : Out) → IsOnly k out → IsLeaving e events → IsLeaving e (events ++ said out ∷ [])
-    leaving_did k e other events (ToEditor i text) is h = leaving_same e events (events ++ said (ToEditor i text) ∷ []) (desk_other e i events text (ap (λ z. nat_eq z e) is ∙ other)) (opens_other e i events text (ap (λ z. nat_eq z e) is ∙ other)) h
+    leaving_did k e other events (ToEditor i text) is h = leaving_same e events (events ++ said (ToEditor i text) ∷ []) (desk_other e i events text (ap (λ z. nat_eq z e) is ∙ other)) (opens_other e i events text (ap (λ z. nat_eq z e) is ∙ other)) (held_told_all settings events i text h.held) h
       where
-        leaving_same : (e : ℕ) (x y : List Event) → desk_of e y ≡ desk_of e x → open_of e y ≡ open_of e x → IsLeaving e x → IsLeaving e y
-        leaving_same e x y desk opens h = record {
+        leaving_same : (e : ℕ) (x y : List Event) → desk_of e y ≡ desk_of e x → open_of e y ≡ open_of e x → AllHeld settings y → IsLeaving e x → IsLeaving e y
+        leaving_same e x y desk opens held h = record {
           out = h.out;
+          held = held;
           there = ap (λ (d : Desk). is_there d.phase) desk ∙ h.there;
           turned = λ waits. let w : IsTurned e x = h.turned (sym (ap (λ (d : Desk). is_waiting d.phase) desk) ∙ waits) in record {
             id = w.id;
@@ -563,6 +579,7 @@ module _ (settings : Settings) (before : List Event) (facts : Facts settings bef
             let opens : open_of e later ≡ open_of e events = opens_more e events (said (CloseEditor i)) in
             record {
               out = h.out;
+              held = held_closed_all settings events i h.held;
               there = ap (λ (d : Desk). is_there d.phase) desk ∙ h.there;
               turned = λ waits. let w : IsTurned e events = h.turned (sym (ap (λ (d : Desk). is_waiting d.phase) desk) ∙ waits) in record {
                 id = w.id;
@@ -574,11 +591,11 @@ module _ (settings : Settings) (before : List Event) (facts : Facts settings bef
     leaving_did k e other events (Spawn n i) is h = absurd is
     leaving_did k e other events (EndServer n) is h = absurd is
 
-    leaving_still : (k e : ℕ) (events : List Event) → nat_eq k e ≡ false → IsLeaving e events → IsLeaving e (behind events (outs (turn_out k) events))
-    leaving_still k e events other h = reasons_keep (λ places out. IsOnly k out) (IsLeaving e) (leaving_did k e other) events (outs (turn_out k) events) only.why h
+    leaving_still : (k e : ℕ) (events : List Event) → nat_eq k e ≡ false → IsLeaving e events → IsLeaving e (behind events (outs (turn_out settings g k) events))
+    leaving_still k e events other h = reasons_keep (λ places out. IsOnly k out) (IsLeaving e) (leaving_did k e other) events (outs (turn_out settings g k) events) only.why h
       where
-        only : Because (λ places out. IsOnly k out) events (turn_out k)
-        only = by_then (by_look (by_choose (λ waits. by_send refl) (λ late. by_nothing))) (by_send refl)
+        only : Because (λ places out. IsOnly k out) events (turn_out settings g k)
+        only = by_then (by_look (by_choose (λ waits. by_send refl) (λ late. by_nothing))) (part_by settings (λ places out. IsOnly k out) g k (λ places body. refl) (λ places. refl) _)
 
     -- the editors of a group that ends
     module _ (over : ends_group settings before s ≡ true) where
@@ -591,10 +608,22 @@ module _ (settings : Settings) (before : List Event) (facts : Facts settings bef
       was_waiting : (e : ℕ) → is_waiting (desk_of e lost).phase ≡ true → (desk_of e before).phase ≡ Waiting
       was_waiting e h = waiting_is (desk_of e before).phase (sym (ap (λ (d : Desk). is_waiting d.phase) (exit.desk e)) ∙ outs_tested is_waiting waiting_told waiting_closed e now errors (outs_tested is_waiting waiting_told waiting_closed e told losses h))
 
+      -- what waits is held by then
+      body_held : (places : List Event) (out : Out) → IsBody out → AllHeld settings places → AllHeld settings (places ++ said out ∷ [])
+      body_held places (ToEditor n body) is h = held_told_all settings places n body h
+      body_held places (ToServer n body) is h = absurd is
+      body_held places (Spawn n i) is h = absurd is
+      body_held places (CloseEditor n) is h = absurd is
+      body_held places (EndServer n) is h = absurd is
+
+      held_lost : AllHeld settings lost
+      held_lost = reasons_keep (λ places out. IsBody out) (AllHeld settings) body_held told losses losses_bodies.why (reasons_keep (λ places out. IsBody out) (AllHeld settings) body_held now errors errors_bodies.why (held_exit settings before cause s exit.is (facts.steady).held))
+
       to_leave : (e : ℕ) → is_member e ≡ true → IsLeaving e lost
       to_leave e t = record {
         out = exit.out e ∙ put_out e t;
         there = place_lost.there e (member_there e t);
+        held = held_lost;
         turned = λ waits.
             let was : (desk_of e before).phase ≡ Waiting = was_waiting e waits in
             let w : Waits (desk_of e before).initialize (open_of e before) = waits_at before e was facts.waiting in
@@ -606,9 +635,9 @@ module _ (settings : Settings) (before : List Event) (facts : Facts settings bef
             };
       }
 
-      leaves_why : Because R lost (each turn_out (members_in settings g before))
-      leaves_why = subst (λ ns. Because R lost (each turn_out (filter is_member ns))) (sym (range_below (editors_of before)))
-          (by_rising turn_out IsLeaving leaving_why leaving_still lost is_member to_leave (editors_of before))
+      leaves_why : Because R lost (each (turn_out settings g) (members_in settings g before))
+      leaves_why = subst (λ ns. Because R lost (each (turn_out settings g) (filter is_member ns))) (sym (range_below (editors_of before)))
+          (by_rising (turn_out settings g) IsLeaving leaving_why leaving_still lost is_member to_leave (editors_of before))
 
     -- The row
 
@@ -631,7 +660,7 @@ module _ (settings : Settings) (before : List Event) (facts : Facts settings bef
       over_here live last = ap (λ o. option_map_or (λ i. option_map_or (comes_to_end settings before i) (slice_get (groups_of settings before) i) false) o false) home
           ∙ (ap (λ o. option_map_or (comes_to_end settings before g) o false) found ∙ ap₂ (λ a b. a && not b) live last)
 
-      alive_why : x.live ≡ true → Because R now (each (lose_sent before s) (members_in settings g before) ⨾ (losing_row ⨾ choose (starts_again settings before g x) (spawn g) (each turn_out (members_in settings g before))))
+      alive_why : x.live ≡ true → Because R now (each (lose_sent settings before s) (members_in settings g before) ⨾ (losing_row ⨾ choose (starts_again settings before g x) (spawn g) (each (turn_out settings g) (members_in settings g before))))
       alive_why live = by_then errors_why (by_then losses_why (by_choose (λ again. by_look (by_send (refl, inside))) (λ last. leaves_why (over_here live last))))
 
       kept_why : Because R now (exit_in settings before s g x)

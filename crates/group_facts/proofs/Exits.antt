@@ -207,16 +207,16 @@ module _ (settings : Settings) (before : List Event) (s : ℕ) (ends : not (begi
 module _ (settings : Settings) (before : List Event) (s : ℕ) (now : List Event) where
   -- of a group that ends
   pub lost_outs : (k : EndsGroup settings before s) → outs (lost_row settings before s) now
-      ≡ outs (each (lose_sent before s) (members_in settings k.group before)
-      ⨾ (choose (is_ready (life_of s before).stage) (each (lose_start settings before s) (running_in settings k.group before)) nothing ⨾ each turn_out (members_in settings k.group before))) now
+      ≡ outs (each (lose_sent settings before s) (members_in settings k.group before)
+      ⨾ (choose (is_ready (life_of s before).stage) (each (lose_start settings before s) (running_in settings k.group before)) nothing ⨾ each (turn_out settings k.group) (members_in settings k.group before))) now
   lost_outs k = ap (λ o. outs (on o nothing (λ g. on (slice_get (groups_of settings before) g) nothing (exit_in settings before s g))) now) k.home
       ∙ ap (λ o. outs (on o nothing (exit_in settings before s k.group)) now) k.found
-      ∙ ap (λ b. outs (choose b (each (lose_sent before s) (members_in settings k.group before)
+      ∙ ap (λ b. outs (choose b (each (lose_sent settings before s) (members_in settings k.group before)
       ⨾ (choose (is_ready (life_of s before).stage) (each (lose_start settings before s) (running_in settings k.group before)) nothing
-      ⨾ choose (starts_again settings before k.group k.kept) (spawn k.group) (each turn_out (members_in settings k.group before)))) nothing) now) k.live
-      ∙ ap (λ b. outs (each (lose_sent before s) (members_in settings k.group before)
+      ⨾ choose (starts_again settings before k.group k.kept) (spawn k.group) (each (turn_out settings k.group) (members_in settings k.group before)))) nothing) now) k.live
+      ∙ ap (λ b. outs (each (lose_sent settings before s) (members_in settings k.group before)
       ⨾ (choose (is_ready (life_of s before).stage) (each (lose_start settings before s) (running_in settings k.group before)) nothing
-      ⨾ choose b (spawn k.group) (each turn_out (members_in settings k.group before)))) now) k.last
+      ⨾ choose b (spawn k.group) (each (turn_out settings k.group) (members_in settings k.group before)))) now) k.last
 
 -- none lives that didn't
 pub lose_lived : (settings : Settings) (before : List Event) (s g : ℕ) → lives_at g (groups_lose settings before s (house_of settings before)) ≡ true → lives_at g (groups_of settings before) ≡ true

@@ -15,7 +15,7 @@ use Rattle.mux_facts.proofs.Waits.{AllWaiting, Waits, WaitsAt, waits_at}
 use Rattle.group_rows.specs.Forwarded.{forwarding_of}
 use Rattle.group_rows.specs.StopRows.{stopped}
 use Rattle.group_rows.proofs.Versions.{AllMeant}
-use Rattle.group_facts.specs.Facts.{AllForwarded, Apart, Asks, Bounded, Housed, Known, Numbered, Opened, Quit, Results, Stopped, Takes, Unbegun, Untold, Written, turned_away}
+use Rattle.group_facts.specs.Facts.{AllForwarded, AllHeld, Apart, Asks, Bounded, Housed, Known, Numbered, Opened, Quit, Results, Stopped, Takes, Unbegun, Untold, Written, turned_away}
 
 pub record Base (settings : Settings) (events : List Event) : Type 0 where
   pub opened : Opened settings events
@@ -25,12 +25,13 @@ pub record Base (settings : Settings) (events : List Event) : Type 0 where
 
 pub record Steady (settings : Settings) (events : List Event) : Type 0 where
   pub starts : Starts events
-  pub unbegun : Unbegun events
+  pub unbegun : Unbegun settings events
   pub untold : Untold events
   pub bounded : Bounded settings events
   pub editors : Editors events
-  pub asked : stopped events ≡ false → AllForwarded events
-  pub apart : Apart events
+  pub asked : stopped events ≡ false → AllForwarded settings events
+  pub apart : Apart settings events
+  pub held : AllHeld settings events
   pub asks : Asks settings events
   pub takes : Takes settings events
   pub housed : Housed settings events
@@ -42,24 +43,24 @@ TiedAt Ready a f = a ≡ f
 TiedAt Stopping a f = a ≡ f + 1
 TiedAt other a f = Unit {0}
 
-abbrev pub Tied : List Event → ℕ → Type 0
-Tied events s = TiedAt (life_of s events).stage (next_number s events) (forwarding_of s events).next
+abbrev pub Tied : Settings → List Event → ℕ → Type 0
+Tied settings events s = TiedAt (life_of s events).stage (next_number s events) (forwarding_of settings s events).next
 
-abbrev pub AllTied : List Event → Type 0
-AllTied events = (s : ℕ) → Tied events s
+abbrev pub AllTied : Settings → List Event → Type 0
+AllTied settings events = (s : ℕ) → Tied settings events s
 
 -- so while a start is ready, and while it is to stop
-pub numbered_of : (events : List Event) → AllTied events → Numbered events
-numbered_of events h s at = subst (λ z. TiedAt z (next_number s events) (forwarding_of s events).next) at (h s)
+pub numbered_of : (settings : Settings) (events : List Event) → AllTied settings events → Numbered settings events
+numbered_of settings events h s at = subst (λ z. TiedAt z (next_number s events) (forwarding_of settings s events).next) at (h s)
 
-pub stopped_of : (events : List Event) → AllTied events → Stopped events
-stopped_of events h s at = subst (λ z. TiedAt z (next_number s events) (forwarding_of s events).next) at (h s)
+pub stopped_of : (settings : Settings) (events : List Event) → AllTied settings events → Stopped settings events
+stopped_of settings events h s at = subst (λ z. TiedAt z (next_number s events) (forwarding_of settings s events).next) at (h s)
 
 -- between entries also the two numbers are tied, each editor that waits has its `initialize` open, and behind a stop none is there
 pub record Facts (settings : Settings) (events : List Event) : Type 0 where
   pub base : Base settings events
   pub steady : Steady settings events
-  pub tied : AllTied events
+  pub tied : AllTied settings events
   pub waiting : AllWaiting events
   pub quit : Quit events
 
@@ -68,8 +69,8 @@ abbrev pub begins_now : Cause → ℕ → Bool
 begins_now (Started n) s = nat_eq n s
 begins_now other s = false
 
-abbrev pub OthersTied : Cause → List Event → Type 0
-OthersTied cause events = (s : ℕ) → begins_now cause s ≡ false → Tied events s
+abbrev pub OthersTied : Settings → Cause → List Event → Type 0
+OthersTied settings cause events = (s : ℕ) → begins_now cause s ≡ false → Tied settings events s
 
 -- and an editor that is turned away
 abbrev pub OthersWait : Settings → List Event → Cause → List Event → Type 0
@@ -78,7 +79,7 @@ OthersWait settings before cause events = (e : ℕ) → turned_away settings bef
 -- at a place inside of an entry
 pub record Mid (settings : Settings) (before : List Event) (cause : Cause) (events : List Event) : Type 0 where
   pub steady : Steady settings events
-  pub tied : OthersTied cause events
+  pub tied : OthersTied settings cause events
   pub waiting : OthersWait settings before cause events
 
 pub known_of : (settings : Settings) (events : List Event) → Facts settings events → Known settings events
@@ -91,11 +92,12 @@ known_of settings events h = record {
   asked = (h.steady).asked;
   quit = h.quit;
   apart = (h.steady).apart;
+  held = (h.steady).held;
   asks = (h.steady).asks;
   takes = (h.steady).takes;
   housed = (h.steady).housed;
-  numbered = numbered_of events h.tied;
-  stopped = stopped_of events h.tied;
+  numbered = numbered_of settings events h.tied;
+  stopped = stopped_of settings events h.tied;
   waiting = λ e at. let w : Waits (desk_of e events).initialize (open_of e events) = waits_at events e at h.waiting in (w.id, record { params = w.params; phase = at; asks = w.asks; waits = w.waits });
   opened = (h.base).opened;
   results = (h.base).results;

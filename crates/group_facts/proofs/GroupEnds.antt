@@ -34,8 +34,8 @@ module _ (settings : Settings) (range : settings.limits.requests < 2 ^ 32) (befo
   pub low : (events : List Event) (s : ℕ) → Untouched events s → next_number s events < 2 ^ 128
   low events s k = let b = bounded s (ap is_up k.stood) in
       let same : next_number s events ≡ next_number s before = k.number in
-      let first : next_number s before ≤ (forwarding_of s before).next = b.0 in
-      let second : (forwarding_of s before).next ≤ settings.limits.requests + 2 = b.1 in
+      let first : next_number s before ≤ (forwarding_of settings s before).next = b.0 in
+      let second : (forwarding_of settings s before).next ≤ settings.limits.requests + 2 = b.1 in
       omega (arith, same, first, second, range)
 
   pub start_ends : (events : List Event) (s : ℕ) (stage : Stage) → IsDying settings events s → (life_of s events).stage ≡ stage → ((life_of s events).stage ≡ Ready → Untouched events s)

@@ -36,9 +36,11 @@ use Rattle.group_facts.specs.Legal.{Legal, LegalFrom}
 use Rattle.group_facts.proofs.Apart.{apart_fewer, apart_said, apart_sent, fewer_took}
 use Rattle.group_facts.proofs.Asks.{asks_closed, asks_ended, asks_sent, asks_spawned, asks_told, asks_took, no_asks}
 use Rattle.group_facts.proofs.Askers.{asked_said, asked_sent, asked_told, asked_took}
-use Rattle.group_facts.specs.Facts.{is_unready, is_up}
+use Rattle.group_facts.specs.Facts.{Quit, is_unready, is_up}
 use Rattle.group_facts.proofs.Facts.{Base, Facts, Mid, OthersTied, Steady}
-use Rattle.group_facts.proofs.Forwards.{forwarding_more}
+use Rattle.group_rows.proofs.Frames.{forwarding_more}
+use Rattle.group_facts.proofs.Held.{held_closed_all, held_ended_all, held_spawned_all, held_told_all}
+use Rattle.group_facts.proofs.HeldOn.{held_sent_all, held_took}
 use Rattle.group_facts.proofs.Housed.{housed_did, housed_spawn, housed_took}
 use Rattle.group_facts.proofs.Levels.{Fresh, unbegun_falls, unready_falls, up_falls}
 use Rattle.group_facts.proofs.Numbers.{bounded_said, bounded_sent, bounded_took, spawn_fresh, unbegun_said, unbegun_sent, unbegun_took, untold_said, untold_sent, untold_took}
@@ -71,15 +73,16 @@ module _ (settings : Settings) where
 
   -- At a cause
 
-  steady_took : (events : List Event) (cause : Cause) → fits_behind events cause ≡ true → Steady settings events → Steady settings (with_cause events cause)
-  steady_took events cause fits h = record {
+  steady_took : (events : List Event) (cause : Cause) → fits_behind events cause ≡ true → Quit events → Steady settings events → Steady settings (with_cause events cause)
+  steady_took events cause fits quit h = record {
     starts = starts_took events cause fits h.starts;
     unbegun = unbegun_took settings events cause (unbegun_fresh cause) h.unbegun;
     untold = untold_took settings events cause (untold_fresh cause) h.untold;
     bounded = bounded_took settings events cause (up_fresh cause) h.bounded;
     editors = editors_took events cause fits h.editors;
     asked = λ on. asked_took settings events cause fits h.editors (h.asked (stopped_back events (heard cause) on));
-    apart = apart_fewer events (with_cause events cause) (fewer_took settings events cause) h.apart;
+    apart = apart_fewer settings events (with_cause events cause) (fewer_took settings events cause) h.apart;
+    held = held_took settings events cause fits h.editors quit h.asked h.held;
     asks = asks_took settings events cause h.asks;
     takes = takes_took settings events h.takes cause;
     housed = housed_took settings events cause h.housed;
@@ -108,7 +111,8 @@ module _ (settings : Settings) where
       bounded = bounded_said settings events (ToEditor n body) a f d (λ s. tt) h.bounded;
       editors = editors.to_editor events n body h.editors;
       asked = λ on. let off : is_stopped events ≡ false = stopped_back events (said (ToEditor n body)) on in asked_told settings before cause events n body why off (h.asked off);
-      apart = apart_said events (ToEditor n body) (λ s. refl) h.apart;
+      apart = apart_said settings events (ToEditor n body) (λ s. refl) h.apart;
+      held = held_told_all settings events n body h.held;
       asks = asks_told settings events n body before cause why h.asks;
       takes = takes_told settings events h.takes n body before cause why;
       housed = housed_did settings events (ToEditor n body) refl (λ s. refl) h.housed;
@@ -117,8 +121,8 @@ module _ (settings : Settings) where
         a : (s : ℕ) → next_number s (events ++ said (ToEditor n body) ∷ []) ≡ next_number s events
         a s = (number_more s events (said (ToEditor n body)))
 
-        f : (s : ℕ) → (forwarding_of s (events ++ said (ToEditor n body) ∷ [])).next ≡ (forwarding_of s events).next
-        f s = ap (λ (x : Forwarding). x.next) (forwarding_more s events (said (ToEditor n body)))
+        f : (s : ℕ) → (forwarding_of settings s (events ++ said (ToEditor n body) ∷ [])).next ≡ (forwarding_of settings s events).next
+        f s = ap (λ (x : Forwarding). x.next) (forwarding_more settings s events (said (ToEditor n body)))
 
         d : (s : ℕ) (u : List ℕ) → held_at s u (events ++ said (ToEditor n body) ∷ []) ≡ held_at s u events
         d s u = ap (λ (x : Sent). x.held) (sent_more s u events (said (ToEditor n body)))
@@ -130,8 +134,9 @@ module _ (settings : Settings) where
       untold = untold_said settings events (Spawn (starts_of events) g) a f d (λ s. spawn_fresh is_unready refl events h.starts s) h.untold;
       bounded = bounded_said settings events (Spawn (starts_of events) g) a f d (λ s. spawn_fresh is_up refl events h.starts s) h.bounded;
       editors = editors.more events (said (Spawn (starts_of events) g)) h.editors refl (λ e absent. absent);
-      asked = λ on. asked_said events (Spawn (starts_of events) g) (λ s. refl) (λ e. refl) (h.asked (stopped_back events (said (Spawn (starts_of events) g)) on));
-      apart = apart_said events (Spawn (starts_of events) g) (λ s. refl) h.apart;
+      asked = λ on. asked_said settings events (Spawn (starts_of events) g) (λ s. refl) (λ e. refl) (h.asked (stopped_back events (said (Spawn (starts_of events) g)) on));
+      apart = apart_said settings events (Spawn (starts_of events) g) (λ s. refl) h.apart;
+      held = held_spawned_all settings events (starts_of events) g h.held;
       asks = asks_spawned settings events (starts_of events) g h.asks;
       takes = takes_spawned settings events h.takes (starts_of events) g;
       housed = housed_spawn settings events g inside h.housed;
@@ -140,8 +145,8 @@ module _ (settings : Settings) where
         a : (s : ℕ) → next_number s (events ++ said (Spawn (starts_of events) g) ∷ []) ≡ next_number s events
         a s = (number_more s events (said (Spawn (starts_of events) g)))
 
-        f : (s : ℕ) → (forwarding_of s (events ++ said (Spawn (starts_of events) g) ∷ [])).next ≡ (forwarding_of s events).next
-        f s = ap (λ (x : Forwarding). x.next) (forwarding_more s events (said (Spawn (starts_of events) g)))
+        f : (s : ℕ) → (forwarding_of settings s (events ++ said (Spawn (starts_of events) g) ∷ [])).next ≡ (forwarding_of settings s events).next
+        f s = ap (λ (x : Forwarding). x.next) (forwarding_more settings s events (said (Spawn (starts_of events) g)))
 
         d : (s : ℕ) (u : List ℕ) → held_at s u (events ++ said (Spawn (starts_of events) g) ∷ []) ≡ held_at s u events
         d s u = ap (λ (x : Sent). x.held) (sent_more s u events (said (Spawn (starts_of events) g)))
@@ -154,8 +159,9 @@ module _ (settings : Settings) where
       bounded = bounded_said settings events (CloseEditor n) a f d (λ s. tt) h.bounded;
       editors = editors.more events (said (CloseEditor n)) h.editors refl (λ e absent. ap (λ (x : Desk). x.phase) (unless (nat_eq n e) (record { phase = phase_closed (desk_of e events).phase; initialize = (desk_of e events).initialize }) (desk_of e events)
           (λ same. there_not events n e absent same there)) ∙ absent);
-      asked = λ on. asked_said events (CloseEditor n) (λ s. refl) (λ e. refl) (h.asked (stopped_back events (said (CloseEditor n)) on));
-      apart = apart_said events (CloseEditor n) (λ s. refl) h.apart;
+      asked = λ on. asked_said settings events (CloseEditor n) (λ s. refl) (λ e. refl) (h.asked (stopped_back events (said (CloseEditor n)) on));
+      apart = apart_said settings events (CloseEditor n) (λ s. refl) h.apart;
+      held = held_closed_all settings events n h.held;
       asks = asks_closed settings events n h.asks;
       takes = takes_closed settings events h.takes n;
       housed = housed_did settings events (CloseEditor n) refl (λ s. refl) h.housed;
@@ -164,8 +170,8 @@ module _ (settings : Settings) where
         a : (s : ℕ) → next_number s (events ++ said (CloseEditor n) ∷ []) ≡ next_number s events
         a s = (number_more s events (said (CloseEditor n)))
 
-        f : (s : ℕ) → (forwarding_of s (events ++ said (CloseEditor n) ∷ [])).next ≡ (forwarding_of s events).next
-        f s = ap (λ (x : Forwarding). x.next) (forwarding_more s events (said (CloseEditor n)))
+        f : (s : ℕ) → (forwarding_of settings s (events ++ said (CloseEditor n) ∷ [])).next ≡ (forwarding_of settings s events).next
+        f s = ap (λ (x : Forwarding). x.next) (forwarding_more settings s events (said (CloseEditor n)))
 
         d : (s : ℕ) (u : List ℕ) → held_at s u (events ++ said (CloseEditor n) ∷ []) ≡ held_at s u events
         d s u = ap (λ (x : Sent). x.held) (sent_more s u events (said (CloseEditor n)))
@@ -178,8 +184,9 @@ module _ (settings : Settings) where
       untold = untold_said settings events (EndServer n) a f d (λ s. tt) h.untold;
       bounded = bounded_said settings events (EndServer n) a f d (λ s. tt) h.bounded;
       editors = editors.more events (said (EndServer n)) h.editors refl (λ e absent. absent);
-      asked = λ on. asked_said events (EndServer n) (λ s. refl) (λ e. refl) (h.asked (stopped_back events (said (EndServer n)) on));
-      apart = apart_said events (EndServer n) (λ s. refl) h.apart;
+      asked = λ on. asked_said settings events (EndServer n) (λ s. refl) (λ e. refl) (h.asked (stopped_back events (said (EndServer n)) on));
+      apart = apart_said settings events (EndServer n) (λ s. refl) h.apart;
+      held = held_ended_all settings events n h.held;
       asks = asks_ended settings events n h.asks;
       takes = takes_ended settings events h.takes n;
       housed = housed_did settings events (EndServer n) refl (λ s. refl) h.housed;
@@ -188,23 +195,23 @@ module _ (settings : Settings) where
         a : (s : ℕ) → next_number s (events ++ said (EndServer n) ∷ []) ≡ next_number s events
         a s = (number_more s events (said (EndServer n)))
 
-        f : (s : ℕ) → (forwarding_of s (events ++ said (EndServer n) ∷ [])).next ≡ (forwarding_of s events).next
-        f s = ap (λ (x : Forwarding). x.next) (forwarding_more s events (said (EndServer n)))
+        f : (s : ℕ) → (forwarding_of settings s (events ++ said (EndServer n) ∷ [])).next ≡ (forwarding_of settings s events).next
+        f s = ap (λ (x : Forwarding). x.next) (forwarding_more settings s events (said (EndServer n)))
 
         d : (s : ℕ) (u : List ℕ) → held_at s u (events ++ said (EndServer n) ∷ []) ≡ held_at s u events
         d s u = ap (λ (x : Sent). x.held) (sent_more s u events (said (EndServer n)))
 
-    tied_told : (n : ℕ) (body : List ℕ) → OthersTied cause events → OthersTied cause (events ++ said (ToEditor n body) ∷ [])
-    tied_told n body h = tied_said cause events (ToEditor n body) (λ s. (number_more s events (said (ToEditor n body)))) (λ s. ap (λ (x : Forwarding). x.next) (forwarding_more s events (said (ToEditor n body)))) (λ s a f k. k) h
+    tied_told : (n : ℕ) (body : List ℕ) → OthersTied settings cause events → OthersTied settings cause (events ++ said (ToEditor n body) ∷ [])
+    tied_told n body h = tied_said settings cause events (ToEditor n body) (λ s. (number_more s events (said (ToEditor n body)))) (λ s. ap (λ (x : Forwarding). x.next) (forwarding_more settings s events (said (ToEditor n body)))) (λ s a f k. k) h
 
-    tied_closed : (n : ℕ) → OthersTied cause events → OthersTied cause (events ++ said (CloseEditor n) ∷ [])
-    tied_closed n h = tied_said cause events (CloseEditor n) (λ s. (number_more s events (said (CloseEditor n)))) (λ s. ap (λ (x : Forwarding). x.next) (forwarding_more s events (said (CloseEditor n)))) (λ s a f k. k) h
+    tied_closed : (n : ℕ) → OthersTied settings cause events → OthersTied settings cause (events ++ said (CloseEditor n) ∷ [])
+    tied_closed n h = tied_said settings cause events (CloseEditor n) (λ s. (number_more s events (said (CloseEditor n)))) (λ s. ap (λ (x : Forwarding). x.next) (forwarding_more settings s events (said (CloseEditor n)))) (λ s a f k. k) h
 
-    tied_spawned : (g : ℕ) → OthersTied cause events → OthersTied cause (events ++ said (Spawn (starts_of events) g) ∷ [])
-    tied_spawned g h = tied_said cause events (Spawn (starts_of events) g) (λ s. (number_more s events (said (Spawn (starts_of events) g)))) (λ s. ap (λ (x : Forwarding). x.next) (forwarding_more s events (said (Spawn (starts_of events) g)))) (λ s a f k. tied_life (nat_eq (starts_of events) s) (record { stage = Spawning; started = false }) (life_of s events) a f (λ b c. tt) k) h
+    tied_spawned : (g : ℕ) → OthersTied settings cause events → OthersTied settings cause (events ++ said (Spawn (starts_of events) g) ∷ [])
+    tied_spawned g h = tied_said settings cause events (Spawn (starts_of events) g) (λ s. (number_more s events (said (Spawn (starts_of events) g)))) (λ s. ap (λ (x : Forwarding). x.next) (forwarding_more settings s events (said (Spawn (starts_of events) g)))) (λ s a f k. tied_life (nat_eq (starts_of events) s) (record { stage = Spawning; started = false }) (life_of s events) a f (λ b c. tt) k) h
 
-    tied_ended : (n : ℕ) → OthersTied cause events → OthersTied cause (events ++ said (EndServer n) ∷ [])
-    tied_ended n h = tied_said cause events (EndServer n) (λ s. (number_more s events (said (EndServer n)))) (λ s. ap (λ (x : Forwarding). x.next) (forwarding_more s events (said (EndServer n)))) (λ s a f k. tied_life (nat_eq n s) (record { stage = stage_ending (life_of s events).stage; started = (life_of s events).started }) (life_of s events) a f (ending_tied (life_of s events).stage) k) h
+    tied_ended : (n : ℕ) → OthersTied settings cause events → OthersTied settings cause (events ++ said (EndServer n) ∷ [])
+    tied_ended n h = tied_said settings cause events (EndServer n) (λ s. (number_more s events (said (EndServer n)))) (λ s. ap (λ (x : Forwarding). x.next) (forwarding_more settings s events (said (EndServer n)))) (λ s a f k. tied_life (nat_eq n s) (record { stage = stage_ending (life_of s events).stage; started = (life_of s events).started }) (life_of s events) a f (ending_tied (life_of s events).stage) k) h
 
     pub mid_did : (out : Out) → Why settings before cause events out → Mid settings before cause events → Mid settings before cause (events ++ said out ∷ [])
     mid_did (ToEditor n body) why h = record { steady = to_editor n body why h.steady; tied = tied_told n body h.tied; waiting = waiting_told settings before cause events n body why h.waiting }
@@ -217,6 +224,7 @@ module _ (settings : Settings) where
         editors = editors.to_server events n body (h.steady).editors;
         asked = λ on. asked_sent settings before cause events n body why ((h.steady).asked (stopped_back events (said (ToServer n body)) on));
         apart = apart_sent settings before cause events n body why (h.steady).apart;
+        held = held_sent_all settings before cause events n body why (h.steady).held;
         asks = asks_sent settings events n body (h.steady).asks;
         takes = takes_sent settings events (h.steady).takes n body;
         housed = housed_did settings events (ToServer n body) refl (λ s. refl) (h.steady).housed;
@@ -240,7 +248,7 @@ module _ (settings : Settings) where
     pub here_took : (before : List Event) (cause : Cause) → fits_behind before cause ≡ true → Facts settings before → Here before cause (with_cause before cause)
     here_took before cause fits h = record {
       base = base_took before cause h.base;
-      mid = record { steady = steady_took before cause fits h.steady; tied = tied_took settings before cause h.tied; waiting = waiting_took settings before cause h.waiting };
+      mid = record { steady = steady_took before cause fits h.quit h.steady; tied = tied_took settings before cause h.tied; waiting = waiting_took settings before cause h.waiting };
     }
 
     pub here_did : (before : List Event) (cause : Cause) → Facts settings before → (events : List Event) (out : Out) → Why settings before cause events out → Here before cause events → Here before cause (events ++ said out ∷ [])
@@ -269,7 +277,7 @@ module _ (settings : Settings) where
     pub no_facts : Facts settings []
     no_facts = record {
       base = record { opened = opened_none settings; results = results_none; written = tt; meant = tt };
-      steady = record { starts = λ s le. refl; unbegun = λ s un. (refl, refl); untold = λ s un u. refl; bounded = λ s up. (omega arith, omega arith); editors = λ e le. refl; asked = λ on s. tt; apart = λ s. tt; asks = no_asks settings; takes = no_takes settings; housed = λ s below. absurd (omega (arith, below)) };
+      steady = record { starts = λ s le. refl; unbegun = λ s un. (refl, refl); untold = λ s un u. refl; bounded = λ s up. (omega arith, omega arith); editors = λ e le. refl; asked = λ on s. tt; apart = λ s. tt; held = λ g. record { each = tt; apart = tt }; asks = no_asks settings; takes = no_takes settings; housed = λ s below. absurd (omega (arith, below)) };
       tied = λ s. tt;
       waiting = λ e. tt;
       quit = λ over. absurd (cc);

@@ -28,7 +28,7 @@ use Rattle.rpc_message.specs.Texts.{error_text, request_failed}
 use Rattle.rpc_message.specs.ValueTexts.{IsIdText}
 use Rattle.rpc_message.proofs.Fixed.{error_law, id_as_response}
 use Rattle.event_model.specs.Requests.{answered_id, is_open, without}
-use Rattle.group_rows.specs.Forwarded.{Forwarded, Forwarding, cancelled_by, forwarding_of, forwards, is_of}
+use Rattle.group_rows.specs.Forwarded.{Forwarded, Forwarding, cancelled_by, first_sender, forwarding_of, forwards, is_of}
 use Rattle.group_rows.specs.Asks.{Ask, asks_of, is_under, is_with}
 use Rattle.group_rows.specs.Leaves.{cancel, cancel_text, cancels, closings, leave_bodies, leave_row, refusals, refuse, uncancelled_of}
 use Rattle.group_rows.specs.Texts.{texts_of}
@@ -36,7 +36,8 @@ use Rattle.group_rows.proofs.Cancels.{cancel_says}
 use Rattle.group_facts.specs.Facts.{AllDiffer, Asks, Bounded, IsAsked, Opened, asked_by, is_up}
 use Rattle.group_facts.proofs.Asks.{asked_by_more, differ_filtered}
 use Rattle.group_facts.specs.Why.{Why, is_uncancelled, moves, stays}
-use Rattle.group_facts.proofs.Forwards.{forwarding_more, still_now, zip_all}
+use Rattle.group_rows.proofs.Frames.{forwarding_more}
+use Rattle.group_facts.proofs.Forwards.{still_now, zip_all}
 use Rattle.group_facts.proofs.Sent.{Rising, below_next, rising_filtered, rising_of}
 use Rattle.group_facts.proofs.SharedRows.{AllTold, Held, leave_told}
 use Rattle.group_facts.proofs.Tellings.{Calm, Tells, cancel_names, cancel_told, refuse_told, tells_both, tells_none, tells_row, to}
@@ -51,12 +52,12 @@ all_small low next [] bound h = tt
 all_small low next (f ∷ fs) bound h = (let le : f.number + 1 ≤ next = below_next (f.number + 1) next fs h.1 in omega (arith, le, bound), all_small (f.number + 1) next fs bound h.1)
 
 -- those of a start that is ready
-pub numbers_small : (settings : Settings) → InRange settings → (before : List Event) → Bounded settings before → (s : ℕ) → (life_of s before).stage ≡ Ready → AllByRecursion (λ (f : Forwarded). IsSmall f.number) (forwarding_of s before).open_requests
-numbers_small settings range before bounded s was = all_small 2 (forwarding_of s before).next (forwarding_of s before).open_requests bound (rising_of s before)
+pub numbers_small : (settings : Settings) → InRange settings → (before : List Event) → Bounded settings before → (s : ℕ) → (life_of s before).stage ≡ Ready → AllByRecursion (λ (f : Forwarded). IsSmall f.number) (forwarding_of settings s before).open_requests
+numbers_small settings range before bounded s was = all_small 2 (forwarding_of settings s before).next (forwarding_of settings s before).open_requests bound (rising_of settings s before)
   where
-    bound : (forwarding_of s before).next < 2 ^ 64
+    bound : (forwarding_of settings s before).next < 2 ^ 64
     bound = let b = bounded s (ap is_up was) in
-        let second : (forwarding_of s before).next ≤ settings.limits.requests + 2 = b.1 in
+        let second : (forwarding_of settings s before).next ≤ settings.limits.requests + 2 = b.1 in
         let wide : settings.limits.requests < 2 ^ 32 = range.requests in
         omega (arith, second, wide)
 
@@ -159,7 +160,7 @@ each_listed (a ∷ xs) = (
 
 module _ (settings : Settings) (range : InRange settings) (before : List Event) (cause : Cause) (opened : Opened settings before) (bounded : Bounded settings before) (place : List Event)
     (rests : (s : ℕ) → moves before cause s ≡ false) (stage_still : (s : ℕ) → (life_of s place).stage ≡ (life_of s before).stage) (held_still : (s : ℕ) (u : List ℕ) → held_at s u place ≡ held_at s u before)
-    (open_still : (s : ℕ) → (forwarding_of s place).open_requests ≡ (forwarding_of s before).open_requests) (asks : Asks settings before) (asked_still : (s : ℕ) → asked_by s place ≡ asked_by s before) (e : ℕ) where
+    (open_still : (s : ℕ) → (forwarding_of settings s place).open_requests ≡ (forwarding_of settings s before).open_requests) (asks : Asks settings before) (asked_still : (s : ℕ) → asked_by s place ≡ asked_by s before) (e : ℕ) where
   abbrev R : List Event → Out → Type 0
   R events out = Why settings before cause events out
 
@@ -168,7 +169,7 @@ module _ (settings : Settings) (range : InRange settings) (before : List Event) 
 
   module _ (g s : ℕ) where
     abbrev ns : List ℕ
-    ns = uncancelled_of e (forwarding_of s before).open_requests
+    ns = uncancelled_of e (forwarding_of settings s before).open_requests
 
     abbrev opens : List Open
     opens = (texts_of settings g before).opens
@@ -186,17 +187,17 @@ module _ (settings : Settings) (range : InRange settings) (before : List Event) 
     sends xs = to settings range before cause place s xs
 
     -- behind the cancel of another request
-    still_waits : (events : List Event) (n k : ℕ) → n < 2 ^ 64 → k < 2 ^ 64 → n < k → Waits (forwarding_of s events).open_requests k → Waits (forwarding_of s (behind events (sends (cancel_text n ∷ [])))).open_requests k
+    still_waits : (events : List Event) (n k : ℕ) → n < 2 ^ 64 → k < 2 ^ 64 → n < k → Waits (forwarding_of settings s events).open_requests k → Waits (forwarding_of settings s (behind events (sends (cancel_text n ∷ [])))).open_requests k
     still_waits events n k low high less h = subst (λ (x : Forwarding). Waits x.open_requests k)
-        (sym (forwarding_more s events (said (ToServer s (cancel_text n))) ∙ ap₂ (λ b m. if b then forwards (forwarding_of s events) m else forwarding_of s events) (same_number s) (cancel_says n low)))
-        (subst (λ i. Waits (map (cancelled_by i) (forwarding_of s events).open_requests) k) (sym (cancel_names n)) (other_waits n k low high less (forwarding_of s events).open_requests h))
+        (sym (forwarding_more settings s events (said (ToServer s (cancel_text n))) ∙ ap₂ (λ b m. if b then forwards (first_sender settings s events) (forwarding_of settings s events) m else forwarding_of settings s events) (same_number s) (cancel_says n low)))
+        (subst (λ i. Waits (map (cancelled_by i) (forwarding_of settings s events).open_requests) k) (sym (cancel_names n)) (other_waits n k low high less (forwarding_of settings s events).open_requests h))
 
-    later_wait : (events : List Event) (n : ℕ) → n < 2 ^ 64 → (ns : List ℕ) → AllByRecursion IsSmall ns → AllByRecursion (λ k. n < k) ns → AllByRecursion (Waits (forwarding_of s events).open_requests) ns
-        → AllByRecursion (Waits (forwarding_of s (behind events (sends (cancel_text n ∷ [])))).open_requests) ns
+    later_wait : (events : List Event) (n : ℕ) → n < 2 ^ 64 → (ns : List ℕ) → AllByRecursion IsSmall ns → AllByRecursion (λ k. n < k) ns → AllByRecursion (Waits (forwarding_of settings s events).open_requests) ns
+        → AllByRecursion (Waits (forwarding_of settings s (behind events (sends (cancel_text n ∷ [])))).open_requests) ns
     later_wait events n low [] small above h = tt
     later_wait events n low (k ∷ ns) small above h = (still_waits events n k low small.0 above.0 h.0, later_wait events n low ns small.1 above.1 h.1)
 
-    cancels_told : (ns : List ℕ) → AllByRecursion IsSmall ns → Ascends ns → (events : List Event) → AllByRecursion (Waits (forwarding_of s events).open_requests) ns → Mine events → AllAlone events (map cancel_text ns)
+    cancels_told : (ns : List ℕ) → AllByRecursion IsSmall ns → Ascends ns → (events : List Event) → AllByRecursion (Waits (forwarding_of settings s events).open_requests) ns → Mine events → AllAlone events (map cancel_text ns)
     unfolding Ascends
     cancels_told [] small rises events waits calm = tells_none settings range before cause place s events calm
     cancels_told (n ∷ ns) small rises events waits calm =
@@ -234,16 +235,16 @@ module _ (settings : Settings) (range : InRange settings) (before : List Event) 
       was = ready_is (life_of s before).stage ready
 
       calm : Mine place
-      calm = record { still = still_now place s (stage_still s ∙ was); turn = stays (rests s) }
+      calm = record { still = still_now settings place s (stage_still s ∙ was); turn = stays (rests s) }
 
       small : AllByRecursion IsSmall ns
-      small = uncancelled_small e (forwarding_of s before).open_requests (numbers_small settings range before bounded s was)
+      small = uncancelled_small e (forwarding_of settings s before).open_requests (numbers_small settings range before bounded s was)
 
-      waiting : AllByRecursion (Waits (forwarding_of s place).open_requests) ns
-      waiting = subst (λ fs. AllByRecursion (Waits fs) ns) (sym (open_still s)) (uncancelled_all (Waits (forwarding_of s before).open_requests) e (forwarding_of s before).open_requests (itself (forwarding_of s before).open_requests))
+      waiting : AllByRecursion (Waits (forwarding_of settings s place).open_requests) ns
+      waiting = subst (λ fs. AllByRecursion (Waits fs) ns) (sym (open_still s)) (uncancelled_all (Waits (forwarding_of settings s before).open_requests) e (forwarding_of settings s before).open_requests (itself (forwarding_of settings s before).open_requests))
 
       told : AllAlone place (map cancel_text ns)
-      told = cancels_told ns small (uncancelled_ascends e 2 (forwarding_of s before).next (forwarding_of s before).open_requests (rising_of s before)) place waiting calm
+      told = cancels_told ns small (uncancelled_ascends e 2 (forwarding_of settings s before).next (forwarding_of settings s before).open_requests (rising_of settings s before)) place waiting calm
 
       abbrev cancelled : List Event
       cancelled = behind place (sends (map cancel_text ns))
@@ -281,7 +282,7 @@ module _ (settings : Settings) (range : InRange settings) (before : List Event) 
     by_ready true ready = record { why = (all_why ready).why }
     by_ready false not_ready = record { why = tt }
 
-  by_group : (g : ℕ) → Right (on (start_of g before) nothing (λ s. cancels before s e ⨾ (refusals settings before s e ⨾ closings settings before g s e)))
+  by_group : (g : ℕ) → Right (on (start_of g before) nothing (λ s. cancels settings before s e ⨾ (refusals settings before s e ⨾ closings settings before g s e)))
   by_group g = by_on (λ none. by_nothing) (λ s start. by_ready g s (is_ready (life_of s before).stage) refl)
 
   pub leave_why : Right (leave_row settings before e)

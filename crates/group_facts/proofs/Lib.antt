@@ -17,6 +17,9 @@ pub mod Facts
 pub mod Forwards
 pub mod GroupEnds
 pub mod Housed
+pub mod Held
+pub mod HeldOn
+pub mod HeldOuts
 pub mod Keeping
 pub mod Known
 pub mod LeaveRows
@@ -41,6 +44,7 @@ pub mod PutOut
 pub mod Reached
 pub mod RefusedRow
 pub mod RequestRow
+pub mod SendRow
 pub mod RestLaws
 pub mod Results
 pub mod Seated
@@ -54,6 +58,7 @@ pub mod SlowRow
 pub mod Switching
 pub mod SyncRow
 pub mod Table
+pub mod Taken
 pub mod Tellings
 pub mod TickRow
 pub mod VersionsIn

@@ -8,6 +8,7 @@ use Rattle.event_model.specs.Event.{Event, behind, said}
 use Rattle.event_model.specs.Requests.{answered_id, is_open, open_of, without}
 use Rattle.event_model.specs.Row.{each, outs}
 use Rattle.event_model.proofs.Frames.{never}
+use Rattle.event_model.specs.Settings.{Settings}
 use Rattle.mux_facts.proofs.Folds.{opens_more}
 use Rattle.mux_facts.proofs.Keeps.{behind_both}
 use Rattle.mux_facts.proofs.Lists.{all_filtered}
@@ -21,7 +22,7 @@ use Rattle.group_facts.proofs.Losses.{lost_says, lost_text}
 use Rattle.group_facts.proofs.OpenByPhase.{answered_closed, fewer_open}
 use Rattle.group_facts.proofs.Sent.{IsOf, OneOf}
 
-module _ (e : ℕ) (id : Id) where
+module _ (settings : Settings) (e : ℕ) (id : Id) where
   abbrev pub NotOpen : List Event → Type 0
   NotOpen events = is_open id (open_of e events) ≡ true → ⊥
 
@@ -41,7 +42,7 @@ module _ (e : ℕ) (id : Id) where
   closed_outs events [] h = subst NotOpen (sym (append-nil events)) h
   closed_outs events (x ∷ xs) h = subst NotOpen (append_assoc events (said x ∷ []) (map said xs)) (closed_outs (events ++ said x ∷ []) xs (closed_did events x h))
 
-  module _ (before : List Event) (known : AllForwarded before) where
+  module _ (before : List Event) (known : AllForwarded settings before) where
     -- its refusal closes it
     refused : (f : Forwarded) → IsOf e id f → IsForwarded before f → (events : List Event) → NotOpen (events ++ said (ToEditor f.editor (lost_text f)) ∷ [])
     refused f mine k events still = never (sym still ∙ (ap (is_open id) opens ∙ (ap (λ i. is_open id (without (Some i) (open_of e events))) (sym same) ∙ answered_closed id (open_of e events))))
@@ -71,18 +72,18 @@ module _ (e : ℕ) (id : Id) where
         go false k = k
 
     -- X1
-    pub sent_closed : (s : ℕ) (es : List ℕ) → list_any (λ n. nat_eq n e) es ≡ true → OneOf (IsOf e id) (forwarding_of s before).open_requests → (events : List Event) → NotOpen (behind events (outs (each (lose_sent before s) es) events))
+    pub sent_closed : (s : ℕ) (es : List ℕ) → list_any (λ n. nat_eq n e) es ≡ true → OneOf (IsOf e id) (forwarding_of settings s before).open_requests → (events : List Event) → NotOpen (behind events (outs (each (lose_sent settings before s) es) events))
     sent_closed s [] named one events = never (sym named)
-    sent_closed s (n ∷ es) named one events = subst NotOpen (sym (behind_both events here later)) (go (nat_eq n e) refl named (λ k. sent_closed s es k one (behind events (outs (lose_sent before s n) events))))
+    sent_closed s (n ∷ es) named one events = subst NotOpen (sym (behind_both events here later)) (go (nat_eq n e) refl named (λ k. sent_closed s es k one (behind events (outs (lose_sent settings before s n) events))))
       where
         here : List Out
-        here = outs (lose_sent before s n) events
+        here = outs (lose_sent settings before s n) events
 
         later : List Out
-        later = outs (each (lose_sent before s) es) (behind events here)
+        later = outs (each (lose_sent settings before s) es) (behind events here)
 
         go : (b : Bool) → nat_eq n e ≡ b → (b || list_any (λ k. nat_eq k e) es) ≡ true → (list_any (λ k. nat_eq k e) es ≡ true → NotOpen (behind (behind events here) later)) → NotOpen (behind (behind events here) later)
-        go true same k rest = closed_outs (behind events here) later (subst (λ i. NotOpen (behind events (outs (lose_sent before s i) events))) (sym (number_same n e same))
-            (requests_closed (filter (is_of e) (forwarding_of s before).open_requests) (all_filtered (IsForwarded before) (IsForwarded before) (is_of e) (λ f t k. k) (forwarding_of s before).open_requests (known s))
-            (own_one (forwarding_of s before).open_requests one) events))
+        go true same k rest = closed_outs (behind events here) later (subst (λ i. NotOpen (behind events (outs (lose_sent settings before s i) events))) (sym (number_same n e same))
+            (requests_closed (filter (is_of e) (forwarding_of settings s before).open_requests) (all_filtered (IsForwarded before) (IsForwarded before) (is_of e) (λ f t k. k) (forwarding_of settings s before).open_requests (known s))
+            (own_one (forwarding_of settings s before).open_requests one) events))
         go false other k rest = rest k

@@ -1,7 +1,7 @@
 -- The reasons of what an editor's message gives hold behind what the editor is asked and told, as it begins to run.
-use Rattle.std.proofs.Common.{◌≡◌, ℕ, true, false, not, ◌&&◌, List, [], ◌∷◌, ◌++◌, find, map, codes, decimal, nat_lt, is_some, Option, None, refl, sym, ◌∙◌, ap, subst, append-nil, append_assoc}
+use Rattle.std.proofs.Common.{◌≡◌, ℕ, true, false, not, ◌&&◌, List, [], ◌∷◌, ◌++◌, find, map, codes, decimal, nat_lt, is_some, Option, None, refl, sym, ◌∙◌, ap, subst, append-nil, append_assoc, ap₂}
 use Rattle.std.specs.List.{AllByRecursion, list_any}
-use Rattle.std.specs.Option.{option_map}
+use Rattle.std.specs.Option.{option_map, option_and_then}
 use Rattle.std.proofs.lemmas.List.{append_cancel_left}
 use Rattle.json_text.specs.Json.{Json}
 use Rattle.document_model.specs.Helds.{HeldText}
@@ -28,14 +28,15 @@ use Rattle.group_words.specs.Houses.{is_doubled, stops}
 use Rattle.group_rows.specs.Asks.{next_ask}
 use Rattle.group_rows.specs.diagnostics_route.specs.Rows.{is_of}
 use Rattle.group_rows.specs.diagnostics_route.specs.Shown.{fits, shown_text}
-use Rattle.group_rows.specs.Forwarded.{Forwarded, Forwarding}
+use Rattle.group_rows.specs.Forwarded.{Forwarded, Forwarding, sender_or, sender_waiting}
 use Rattle.group_facts.specs.Facts.{IsAlone, IsWaiting, is_early}
 use Rattle.group_facts.specs.Lively.{lives_at}
 use Rattle.group_rows.specs.Tokens.{forwarded_text}
 use Rattle.group_facts.proofs.Quits.{running_stops}
-use Rattle.group_facts.specs.Why.{IsBehindSync, IsBeside, IsQuestion, Showing, Telling, Turn, Why, WhyToEditor, WhyToServer, answers, asks, asks_something, begins, cancels, exits, forwarded, greeted, greets, conveys, is_uncancelled, notes, of_held, of_request, of_token, passes, recalls, refuses, calls, rejects, resolves, responds, resumes, shuts, spreads, stays, tells, turns_away, versions_at, welcomes, cancels_work, progresses, begins_by, comes, opened_by, shows, loses, winds_up}
+use Rattle.group_facts.specs.Why.{IsBehindSync, IsBeside, IsQuestion, Showing, Telling, Turn, Why, WhyToEditor, WhyToServer, answers, asks, asks_something, begins, cancels, exits, forwarded, greeted, greets, conveys, is_uncancelled, notes, of_held, of_request, of_token, passes, recalls, refuses, calls, rejects, resolves, responds, resumes, shuts, spreads, stays, tells, turns_away, versions_at, welcomes, cancels_work, progresses, begins_by, comes, opened_by, shows, loses, winds_up, at_once, had_waited, Going, IsUnheld}
+use Rattle.group_rows.specs.held_requests.specs.declared.request.Request.{Request}
 use Rattle.group_rows.proofs.Versions.{AllMeant, meant_heard, meant_more}
-use Rattle.group_facts.proofs.Same.{IsBody, Same, same_agreement, same_behind, same_held, same_questions, same_version}
+use Rattle.group_facts.proofs.Same.{IsBody, Same, same_agreement, same_behind, same_held, same_questions, same_version, same_more, same_first}
 use Rattle.group_facts.proofs.Shown.{meant_behind}
 use Rattle.group_facts.proofs.Still.{Goes, Still, goes_body}
 
@@ -92,7 +93,15 @@ module _ (settings : Settings) (before : List Event) (e : ℕ) (body : List ℕ)
       place = same_place (with_cause before (FromEditor n text)) (ap (with_cause before) from) (k.questions ++ _) k.place ∙ ap (behind (with_cause before (FromEditor n text))) (sym (append_assoc questions k.questions _));
     }
 
-    alone_moved : (n : ℕ) (id : Id) → IsAlone x n id → IsAlone y n id
+    unheld_moved : (s : ℕ) (b : List ℕ) (n : ℕ) (id : Id) → IsUnheld settings (x ++ said (ToServer s b) ∷ []) n id → IsUnheld settings (y ++ said (ToServer s b) ∷ []) n id
+    unheld_moved s b n id h g = subst (AllByRecursion (λ (r : Request). r.editor ≡ n → IsIdText id r.id → ⊥)) (sym ((same_more settings y x (ToServer s b) tt S).waiting g)) (h g)
+
+    -- no result is at work
+    going_moved : (s n : ℕ) (text : List ℕ) → Going settings before cause x s n text → Going settings before cause y s n text
+    going_moved s n text (at_once from k) = at_once from (sync_moved s n text from k)
+    going_moved s n text (had_waited w) = absurd (let clash : FromEditor e body ≡ FromServer s w.answer = w.from in cc)
+
+    alone_moved : (n : ℕ) (id : Id) → IsAlone settings x n id → IsAlone settings y n id
     alone_moved n id h t = subst (λ (f : Forwarding). AllByRecursion (λ (g : Forwarded). g.editor ≡ n → IsIdText id g.id → ⊥) f.open_requests) (sym (S.forwarding t)) (h t)
 
     waiting_moved : (n : ℕ) (id : Id) → IsWaiting x n id → IsWaiting y n id
@@ -115,14 +124,14 @@ module _ (settings : Settings) (before : List Event) (e : ℕ) (body : List ℕ)
     server_moved s b (forwarded k) = forwarded (record {
       sender = k.sender;
       asked = k.asked;
-      from = k.from;
+      own = k.own;
       free = k.free;
-      synced = sync_moved s (k.sender).editor k.asked k.from k.synced;
+      going = going_moved s (k.sender).editor k.asked k.going;
       bytes = k.bytes ∙ ap (λ (f : Forwarding). forwarded_text f.next k.asked) (sym (S.forwarding s));
       id = k.id;
       method = k.method;
       params = k.params;
-      at_work = ap (λ (f : Forwarding). f.sender) (S.forwarding s) ∙ k.at_work;
+      at_work = ap₂ (λ (f : Forwarding) (r : Option Request). sender_or f.sender (option_and_then sender_waiting r)) (S.forwarding s) (same_first settings S s) ∙ k.at_work;
       says = k.says ∙ ap (λ (f : Forwarding). request (integer (decimal f.next)) k.method k.params) (sym (S.forwarding s));
       other = k.other;
       room = ap (λ (f : Forwarding). nat_lt f.next settings.limits.requests) (S.forwarding s) ∙ k.room;
@@ -131,6 +140,7 @@ module _ (settings : Settings) (before : List Event) (e : ℕ) (body : List ℕ)
       waits = ap (is_open k.id) (S.opens (k.sender).editor) ∙ k.waits;
       late = ap is_early (phase_of (k.sender).editor) ∙ k.late;
       alone = alone_moved (k.sender).editor k.id k.alone;
+      unheld = unheld_moved s b (k.sender).editor k.id k.unheld;
     })
     server_moved s b (notes k) = notes (record {
       editor = k.editor;

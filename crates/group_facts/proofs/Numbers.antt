@@ -23,12 +23,13 @@ use Rattle.mux_facts.proofs.Known.{is_unbegun}
 use Rattle.mux_facts.proofs.Starts.{Starts}
 use Rattle.mux_facts.proofs.Tellings.{sent_more}
 use Rattle.mux_facts.proofs.Words.{number_same, same_number}
-use Rattle.group_rows.specs.Forwarded.{Forwarding, forwarding_of, forwards, no_forwarding, numbered}
+use Rattle.group_rows.specs.Forwarded.{Forwarding, first_sender, forwarding_of, forwards, no_forwarding, numbered, Sender}
 use Rattle.group_facts.specs.Facts.{Bounded, Unbegun, Untold, is_unready, is_up}
 use Rattle.group_facts.proofs.Facts.{Facts}
-use Rattle.group_facts.proofs.Forwards.{forwarding_more, notified_next}
+use Rattle.group_rows.proofs.Frames.{forwarding_more}
+use Rattle.group_facts.proofs.Forwards.{notified_next}
 use Rattle.group_facts.proofs.Levels.{Fresh, Step, each_start, level_more, unbegun_falls, unready_falls, up_falls}
-use Rattle.group_facts.specs.Why.{IsBeginning, IsForward, WhyToServer, begins, greets, conveys, forwarded, notes, tells, shuts, cancels, IsReply, responds, exits, resolves, cancels_work}
+use Rattle.group_facts.specs.Why.{IsBeginning, IsForward, WhyToServer, begins, greets, conveys, forwarded, notes, tells, shuts, cancels, IsReply, responds, exits, resolves, cancels_work, asker_at}
 use Rattle.mux_facts.specs.Allowed.{is_response}
 
 -- A cause leaves the numbers and the documents alone
@@ -65,20 +66,20 @@ next_left : (b : Bool) (x : Forwarding) → b ≡ false → (if b then no_forwar
 next_left true x h = never h
 next_left false x h = refl
 
-pub forwarding_heard : (settings : Settings) (s : ℕ) (events : List Event) (cause : Cause) → ends_now cause s ≡ false → (forwarding_of s (with_cause events cause)).next ≡ (forwarding_of s events).next
-forwarding_heard settings s events (Joined e) on = ap (λ (x : Forwarding). x.next) (forwarding_more s events (heard (Joined e)))
-forwarding_heard settings s events (FromEditor e body) on = ap (λ (x : Forwarding). x.next) (forwarding_more s events (heard (FromEditor e body)))
-forwarding_heard settings s events (Started n) on = ap (λ (x : Forwarding). x.next) (forwarding_more s events (heard (Started n)))
-forwarding_heard settings s events (FromServer n body) on = ap (λ (x : Forwarding). x.next) (forwarding_more s events (heard (FromServer n body)))
-forwarding_heard settings s events (Drained e k) on = ap (λ (x : Forwarding). x.next) (forwarding_more s events (heard (Drained e k)))
-forwarding_heard settings s events (Tick t) on = ap (λ (x : Forwarding). x.next) (forwarding_more s events (heard (Tick t)))
-forwarding_heard settings s events (EditorGone e why) on = ap (λ (x : Forwarding). x.next) (forwarding_more s events (heard (EditorGone e why)))
-forwarding_heard settings s events (StartFailed n) on = ap (λ (x : Forwarding). x.next) (forwarding_more s events (heard (StartFailed n))) ∙ next_left (nat_eq n s) (forwarding_of s events) on
-forwarding_heard settings s events (ServerGone n) on = ap (λ (x : Forwarding). x.next) (forwarding_more s events (heard (ServerGone n))) ∙ next_left (nat_eq n s) (forwarding_of s events) on
+pub forwarding_heard : (settings : Settings) (s : ℕ) (events : List Event) (cause : Cause) → ends_now cause s ≡ false → (forwarding_of settings s (with_cause events cause)).next ≡ (forwarding_of settings s events).next
+forwarding_heard settings s events (Joined e) on = ap (λ (x : Forwarding). x.next) (forwarding_more settings s events (heard (Joined e)))
+forwarding_heard settings s events (FromEditor e body) on = ap (λ (x : Forwarding). x.next) (forwarding_more settings s events (heard (FromEditor e body)))
+forwarding_heard settings s events (Started n) on = ap (λ (x : Forwarding). x.next) (forwarding_more settings s events (heard (Started n)))
+forwarding_heard settings s events (FromServer n body) on = ap (λ (x : Forwarding). x.next) (forwarding_more settings s events (heard (FromServer n body)))
+forwarding_heard settings s events (Drained e k) on = ap (λ (x : Forwarding). x.next) (forwarding_more settings s events (heard (Drained e k)))
+forwarding_heard settings s events (Tick t) on = ap (λ (x : Forwarding). x.next) (forwarding_more settings s events (heard (Tick t)))
+forwarding_heard settings s events (EditorGone e why) on = ap (λ (x : Forwarding). x.next) (forwarding_more settings s events (heard (EditorGone e why)))
+forwarding_heard settings s events (StartFailed n) on = ap (λ (x : Forwarding). x.next) (forwarding_more settings s events (heard (StartFailed n))) ∙ next_left (nat_eq n s) (forwarding_of settings s events) on
+forwarding_heard settings s events (ServerGone n) on = ap (λ (x : Forwarding). x.next) (forwarding_more settings s events (heard (ServerGone n))) ∙ next_left (nat_eq n s) (forwarding_of settings s events) on
 
 -- Bodies to a start
 
-module _ (events : List Event) (n : ℕ) (body : List ℕ) where
+module _ (settings : Settings) (events : List Event) (n : ℕ) (body : List ℕ) where
   abbrev later : List Event
   later = events ++ said (ToServer n body) ∷ []
 
@@ -86,8 +87,8 @@ module _ (events : List Event) (n : ℕ) (body : List ℕ) where
     pub number_sent : next_number n later ≡ number_told (next_number n events) m
     number_sent = number_more n events (said (ToServer n body)) ∙ ap₂ (λ b k. if b then number_told (next_number n events) k else next_number n events) (same_number n) says
 
-    pub forwarding_sent : forwarding_of n later ≡ forwards (forwarding_of n events) m
-    forwarding_sent = forwarding_more n events (said (ToServer n body)) ∙ ap₂ (λ b k. if b then forwards (forwarding_of n events) k else forwarding_of n events) (same_number n) says
+    pub forwarding_sent : forwarding_of settings n later ≡ forwards (first_sender settings n events) (forwarding_of settings n events) m
+    forwarding_sent = forwarding_more settings n events (said (ToServer n body)) ∙ ap₂ (λ b k. if b then forwards (first_sender settings n events) (forwarding_of settings n events) k else forwarding_of settings n events) (same_number n) says
 
     held_sent : (u : List ℕ) → held_at n u later ≡ told (sent_of n u events).encoding u (held_at n u events) (saying_of m)
     held_sent u = ap (λ (x : Sent). x.held) (sent_more n u events (said (ToServer n body)))
@@ -101,21 +102,21 @@ module _ (events : List Event) (n : ℕ) (body : List ℕ) where
     pub number_other : next_number s later ≡ next_number s events
     number_other = number_more s events (said (ToServer n body)) ∙ ap (λ b. if b then number_told (next_number s events) (message_of body) else next_number s events) other
 
-    pub forwarding_other : forwarding_of s later ≡ forwarding_of s events
-    forwarding_other = forwarding_more s events (said (ToServer n body)) ∙ ap (λ b. if b then forwards (forwarding_of s events) (message_of body) else forwarding_of s events) other
+    pub forwarding_other : forwarding_of settings s later ≡ forwarding_of settings s events
+    forwarding_other = forwarding_more settings s events (said (ToServer n body)) ∙ ap (λ b. if b then forwards (first_sender settings s events) (forwarding_of settings s events) (message_of body) else forwarding_of settings s events) other
 
     held_other : (u : List ℕ) → held_at s u later ≡ held_at s u events
     held_other u = ap (λ (x : Sent). x.held) (sent_more s u events (said (ToServer n body)))
         ∙ ap (λ b. if b then told (sent_of s u events).encoding u (held_at s u events) (saying_of (message_of body)) else held_at s u events) other
 
 -- a response is no request, moves no number, and speaks of no document
-pub response_forwards : (x : Forwarding) (m : Message) → is_response m ≡ true → forwards x m ≡ x
-response_forwards x (result id r) h = refl
-response_forwards x (error id e) h = refl
-response_forwards x (request id method params) h = absurd (cc)
-response_forwards x (notification method params) h = absurd (cc)
-response_forwards x not_json h = absurd (cc)
-response_forwards x not_message h = absurd (cc)
+pub response_forwards : (first : Option Sender) (x : Forwarding) (m : Message) → is_response m ≡ true → forwards first x m ≡ x
+response_forwards first x (result id r) h = refl
+response_forwards first x (error id e) h = refl
+response_forwards first x (request id method params) h = absurd (cc)
+response_forwards first x (notification method params) h = absurd (cc)
+response_forwards first x not_json h = absurd (cc)
+response_forwards first x not_message h = absurd (cc)
 
 pub response_number : (n : ℕ) (m : Message) → is_response m ≡ true → number_told n m ≡ n
 response_number n (result id r) h = refl
@@ -171,23 +172,23 @@ spawn_fresh test f events starts s same = ap (λ (l : Life). test l.stage) (star
 
 -- A start whose program never ran was sent no request
 
-abbrev NoRequest : ℕ → List Event → Type 0
-NoRequest s events = (next_number s events ≡ 1) × ((forwarding_of s events).next ≡ 2)
+abbrev NoRequest : Settings → ℕ → List Event → Type 0
+NoRequest settings s events = (next_number s events ≡ 1) × ((forwarding_of settings s events).next ≡ 2)
 
 abbrev HasNone : ℕ → List Event → Type 0
 HasNone s events = (u : List ℕ) → held_at s u events ≡ None
 
 module _ (settings : Settings) where
   abbrev InBounds : ℕ → List Event → Type 0
-  InBounds s events = (next_number s events ≤ (forwarding_of s events).next) × ((forwarding_of s events).next ≤ settings.limits.requests + 2)
+  InBounds s events = (next_number s events ≤ (forwarding_of settings s events).next) × ((forwarding_of settings s events).next ≤ settings.limits.requests + 2)
 
-  bounds_by : (s : ℕ) (events later : List Event) → next_number s later ≡ (next_number s events) → (forwarding_of s later).next ≡ (forwarding_of s events).next → InBounds s events → InBounds s later
-  bounds_by s events later a f k = (subst (λ z. z ≤ (forwarding_of s later).next) (sym a) (subst (λ z. next_number s events ≤ z) (sym f) k.0), subst (λ z. z ≤ settings.limits.requests + 2) (sym f) k.1)
+  bounds_by : (s : ℕ) (events later : List Event) → next_number s later ≡ (next_number s events) → (forwarding_of settings s later).next ≡ (forwarding_of settings s events).next → InBounds s events → InBounds s later
+  bounds_by s events later a f k = (subst (λ z. z ≤ (forwarding_of settings s later).next) (sym a) (subst (λ z. next_number s events ≤ z) (sym f) k.0), subst (λ z. z ≤ settings.limits.requests + 2) (sym f) k.1)
 
   -- at a cause
   module _ (events : List Event) (cause : Cause) where
-    pub unbegun_took : ((s : ℕ) → Fresh is_unbegun unbegun_falls s (life_of s events) (heard cause)) → Unbegun events → Unbegun (with_cause events cause)
-    unbegun_took fresh h = level_more is_unbegun unbegun_falls NoRequest events (heard cause) fresh (λ s was after k. (number_heard s events cause ∙ k.0, forwarding_heard settings s events cause (goes_on is_unbegun refl s (life_of s events) cause after) ∙ k.1)) h
+    pub unbegun_took : ((s : ℕ) → Fresh is_unbegun unbegun_falls s (life_of s events) (heard cause)) → Unbegun settings events → Unbegun settings (with_cause events cause)
+    unbegun_took fresh h = level_more is_unbegun unbegun_falls (NoRequest settings) events (heard cause) fresh (λ s was after k. (number_heard s events cause ∙ k.0, forwarding_heard settings s events cause (goes_on is_unbegun refl s (life_of s events) cause after) ∙ k.1)) h
 
     pub untold_took : ((s : ℕ) → Fresh is_unready unready_falls s (life_of s events) (heard cause)) → Untold events → Untold (with_cause events cause)
     untold_took fresh h = level_more is_unready unready_falls HasNone events (heard cause) fresh (λ s was after k u. held_heard s u events cause ∙ k u) h
@@ -200,49 +201,49 @@ module _ (settings : Settings) where
     abbrev sent : List Event
     sent = events ++ said (ToServer n body) ∷ []
 
-    pub unbegun_sent : Unbegun events → Unbegun sent
-    unbegun_sent h = level_more is_unbegun unbegun_falls NoRequest events (said (ToServer n body)) (λ s. tt)
-        (each_start (Step is_unbegun unbegun_falls NoRequest events (said (ToServer n body))) n
-        (λ was after k. ready_or settings before cause events n body (NoRequest n sent) why
+    pub unbegun_sent : Unbegun settings events → Unbegun settings sent
+    unbegun_sent h = level_more is_unbegun unbegun_falls (NoRequest settings) events (said (ToServer n body)) (λ s. tt)
+        (each_start (Step is_unbegun unbegun_falls (NoRequest settings) events (said (ToServer n body))) n
+        (λ was after k. ready_or settings before cause events n body (NoRequest settings n sent) why
         (λ b. clash is_unbegun (life_of n events).stage Initializing (begun_stage before cause events n body b) refl was) (λ b. clash is_unbegun (life_of n events).stage Initializing b.waiting refl was)
         (λ ready. clash is_unbegun (life_of n events).stage Ready ready refl was) (λ stopping. clash is_unbegun (life_of n events).stage Stopping stopping refl was))
-        (λ s other was after k. ((number_other events n body s other) ∙ k.0, ap (λ (x : Forwarding). x.next) (forwarding_other events n body s other) ∙ k.1))) h
+        (λ s other was after k. ((number_other settings events n body s other) ∙ k.0, ap (λ (x : Forwarding). x.next) (forwarding_other settings events n body s other) ∙ k.1))) h
 
     pub untold_sent : Untold events → Untold sent
     untold_sent h = level_more is_unready unready_falls HasNone events (said (ToServer n body)) (λ s. tt)
         (each_start (Step is_unready unready_falls HasNone events (said (ToServer n body))) n
         (λ was after k. ready_or settings before cause events n body (HasNone n sent) why
-        (λ b u. held_sent events n body (request (integer (codes "1")) (codes "initialize") b.params) b.says u ∙ k u)
-        (λ b u. held_sent events n body (message_of body) refl u ∙ (ap (told (sent_of n u events).encoding u (held_at n u events)) (response_silent (message_of body) b.response) ∙ k u))
+        (λ b u. held_sent settings events n body (request (integer (codes "1")) (codes "initialize") b.params) b.says u ∙ k u)
+        (λ b u. held_sent settings events n body (message_of body) refl u ∙ (ap (told (sent_of n u events).encoding u (held_at n u events)) (response_silent (message_of body) b.response) ∙ k u))
         (λ ready. clash is_unready (life_of n events).stage Ready ready refl was) (λ stopping. clash is_unready (life_of n events).stage Stopping stopping refl was))
-        (λ s other was after k u. held_other events n body s other u ∙ k u)) h
+        (λ s other was after k u. held_other settings events n body s other u ∙ k u)) h
 
     -- a notification
     notified : (method : List ℕ) (params : Option Json) → message_of body ≡ notification method params → InBounds n events → InBounds n sent
-    notified method params says k = bounds_by n events sent ((number_sent events n body (notification method params) says))
-        (ap (λ (x : Forwarding). x.next) (forwarding_sent events n body (notification method params) says) ∙ notified_next (forwarding_of n events) method params) k
+    notified method params says k = bounds_by n events sent ((number_sent settings events n body (notification method params) says))
+        (ap (λ (x : Forwarding). x.next) (forwarding_sent settings events n body (notification method params) says) ∙ notified_next (first_sender settings n events) (forwarding_of settings n events) method params) k
 
     -- the daemon's own `initialize`
     opened : IsBeginning before cause events n body → InBounds n sent
     opened b =
         let m : Message = request (integer (codes "1")) (codes "initialize") b.params in
         let here : events ≡ with_cause before (Started n) = b.place ∙ ap (with_cause before) b.from in
-        let none : NoRequest n before = (facts.steady).unbegun n (rw b.stage refl) in
+        let none : NoRequest settings n before = (facts.steady).unbegun n (rw b.stage refl) in
         let asked : next_number n events ≡ 1 = ap (λ z. next_number n z) here ∙ number_heard n before (Started n) ∙ none.0 in
-        let sent_on : (forwarding_of n events).next ≡ 2 = ap (λ z. (forwarding_of n z).next) here ∙ forwarding_heard settings n before (Started n) refl ∙ none.1 in
-        let a : next_number n sent ≡ next_number n events + 1 = (number_sent events n body m b.says) in
-        let f : (forwarding_of n sent).next ≡ (forwarding_of n events).next = ap (λ (x : Forwarding). x.next) (forwarding_sent events n body m b.says) in
+        let sent_on : (forwarding_of settings n events).next ≡ 2 = ap (λ z. (forwarding_of settings n z).next) here ∙ forwarding_heard settings n before (Started n) refl ∙ none.1 in
+        let a : next_number n sent ≡ next_number n events + 1 = (number_sent settings events n body m b.says) in
+        let f : (forwarding_of settings n sent).next ≡ (forwarding_of settings n events).next = ap (λ (x : Forwarding). x.next) (forwarding_sent settings events n body m b.says) in
         (omega (arith, a, f, asked, sent_on), omega (arith, f, sent_on))
 
     -- an editor's request
     asked_on : IsForward settings before cause events n body → InBounds n events → InBounds n sent
     asked_on k b =
-        let m : Message = request (integer (decimal (forwarding_of n events).next)) k.method k.params in
-        let a : next_number n sent ≡ next_number n events + 1 = (number_sent events n body m k.says) in
-        let f : (forwarding_of n sent).next ≡ (forwarding_of n events).next + 1 = ap (λ (x : Forwarding). x.next) (forwarding_sent events n body m k.says)
-        ∙ ap (λ c. (if c then forwarding_of n events else record { sender = (forwarding_of n events).sender; next = (forwarding_of n events).next + 1; open_requests = (forwarding_of n events).open_requests ++ numbered (forwarding_of n events).sender (forwarding_of n events).next }).next) k.other in
-        let room : (forwarding_of n events).next < settings.limits.requests = ltb-true (forwarding_of n events).next settings.limits.requests k.room in
-        let first : next_number n events ≤ (forwarding_of n events).next = b.0 in
+        let m : Message = request (integer (decimal (forwarding_of settings n events).next)) k.method k.params in
+        let a : next_number n sent ≡ next_number n events + 1 = (number_sent settings events n body m k.says) in
+        let f : (forwarding_of settings n sent).next ≡ (forwarding_of settings n events).next + 1 = ap (λ (x : Forwarding). x.next) (forwarding_sent settings events n body m k.says)
+        ∙ ap (λ c. (if c then forwarding_of settings n events else record { sender = (forwarding_of settings n events).sender; next = (forwarding_of settings n events).next + 1; open_requests = (forwarding_of settings n events).open_requests ++ numbered (asker_at settings n events) (forwarding_of settings n events).next }).next) k.other in
+        let room : (forwarding_of settings n events).next < settings.limits.requests = ltb-true (forwarding_of settings n events).next settings.limits.requests k.room in
+        let first : next_number n events ≤ (forwarding_of settings n events).next = b.0 in
         (omega (arith, a, f, first), omega (arith, f, room))
 
     -- it is to end behind the daemon's own `shutdown`
@@ -255,24 +256,24 @@ module _ (settings : Settings) where
     one_bounded (tells b) was after k = let m : Spoken (message_of body) = spoken (message_of body) b.spoken in notified m.method m.params m.is k
     one_bounded (cancels b) was after k = notified (codes "$/cancelRequest") (Some b.params) b.says k
     one_bounded (cancels_work b) was after k = notified (codes "window/workDoneProgress/cancel") b.params b.says k
-    one_bounded (responds b) was after k = bounds_by n events sent (number_sent events n body (message_of body) refl ∙ response_number (next_number n events) (message_of body) b.response)
-        (ap (λ (x : Forwarding). x.next) (forwarding_sent events n body (message_of body) refl ∙ response_forwards (forwarding_of n events) (message_of body) b.response)) k
-    one_bounded (resolves b) was after k = bounds_by n events sent (number_sent events n body (message_of body) refl ∙ response_number (next_number n events) (message_of body) b.response)
-        (ap (λ (x : Forwarding). x.next) (forwarding_sent events n body (message_of body) refl ∙ response_forwards (forwarding_of n events) (message_of body) b.response)) k
+    one_bounded (responds b) was after k = bounds_by n events sent (number_sent settings events n body (message_of body) refl ∙ response_number (next_number n events) (message_of body) b.response)
+        (ap (λ (x : Forwarding). x.next) (forwarding_sent settings events n body (message_of body) refl ∙ response_forwards (first_sender settings n events) (forwarding_of settings n events) (message_of body) b.response)) k
+    one_bounded (resolves b) was after k = bounds_by n events sent (number_sent settings events n body (message_of body) refl ∙ response_number (next_number n events) (message_of body) b.response)
+        (ap (λ (x : Forwarding). x.next) (forwarding_sent settings events n body (message_of body) refl ∙ response_forwards (first_sender settings n events) (forwarding_of settings n events) (message_of body) b.response)) k
     one_bounded (exits b) was after k = notified (codes "exit") None b.says k
     one_bounded (shuts b) was after k = clash is_up (life_behind n (life_of n events) (said (ToServer n body))).stage Stopping
-        (stage_sent events n body (request (integer (decimal (next_number n events))) (codes "shutdown") None) b.says ∙ ap (λ z. stage_told z (request (integer (decimal (next_number n events))) (codes "shutdown") None)) b.ready) refl after
+        (stage_sent settings events n body (request (integer (decimal (next_number n events))) (codes "shutdown") None) b.says ∙ ap (λ z. stage_told z (request (integer (decimal (next_number n events))) (codes "shutdown") None)) b.ready) refl after
 
     pub bounded_sent : Bounded settings events → Bounded settings sent
     bounded_sent h = level_more is_up up_falls InBounds events (said (ToServer n body)) (λ s. tt)
         (each_start (Step is_up up_falls InBounds events (said (ToServer n body))) n (one_bounded why)
-        (λ s other was after k. bounds_by s events sent ((number_other events n body s other)) (ap (λ (x : Forwarding). x.next) (forwarding_other events n body s other)) k)) h
+        (λ s other was after k. bounds_by s events sent ((number_other settings events n body s other)) (ap (λ (x : Forwarding). x.next) (forwarding_other settings events n body s other)) k)) h
 
   -- at any other out: these words stay
-  module _ (events : List Event) (out : Out) (a : (s : ℕ) → next_number s (events ++ said out ∷ []) ≡ next_number s events) (f : (s : ℕ) → (forwarding_of s (events ++ said out ∷ [])).next ≡ (forwarding_of s events).next)
+  module _ (events : List Event) (out : Out) (a : (s : ℕ) → next_number s (events ++ said out ∷ []) ≡ next_number s events) (f : (s : ℕ) → (forwarding_of settings s (events ++ said out ∷ [])).next ≡ (forwarding_of settings s events).next)
       (d : (s : ℕ) (u : List ℕ) → held_at s u (events ++ said out ∷ []) ≡ held_at s u events) where
-    pub unbegun_said : ((s : ℕ) → Fresh is_unbegun unbegun_falls s (life_of s events) (said out)) → Unbegun events → Unbegun (events ++ said out ∷ [])
-    unbegun_said fresh h = level_more is_unbegun unbegun_falls NoRequest events (said out) fresh (λ s was after k. (a s ∙ k.0, f s ∙ k.1)) h
+    pub unbegun_said : ((s : ℕ) → Fresh is_unbegun unbegun_falls s (life_of s events) (said out)) → Unbegun settings events → Unbegun settings (events ++ said out ∷ [])
+    unbegun_said fresh h = level_more is_unbegun unbegun_falls (NoRequest settings) events (said out) fresh (λ s was after k. (a s ∙ k.0, f s ∙ k.1)) h
 
     pub untold_said : ((s : ℕ) → Fresh is_unready unready_falls s (life_of s events) (said out)) → Untold events → Untold (events ++ said out ∷ [])
     untold_said fresh h = level_more is_unready unready_falls HasNone events (said out) fresh (λ s was after k u. d s u ∙ k u) h

@@ -22,7 +22,7 @@ use Rattle.std.specs.Prelude.{◌&&◌, codes}
 use Rattle.mux_model.specs.Documents.{without_editor}
 use Rattle.mux_facts.proofs.Lists.{all_filtered}
 use Rattle.group_words.specs.Houses.{home_of, is_home}
-use Rattle.group_rows.specs.Texts.{encoding_of, is_synced, texts_heard, texts_next, texts_of, touch_all, touched_at, worker_of}
+use Rattle.group_rows.specs.Texts.{encoding_of, is_synced, texts_heard, texts_next, texts_of, touch_all, touched_at, toucher_of}
 use Rattle.group_rows.proofs.Frames.{texts_more}
 use Rattle.group_facts.specs.Facts.{IsOpened, Opened}
 
@@ -103,7 +103,7 @@ module _ (settings : Settings) where
 
   next_said : (g : ℕ) (before : List Event) (x : Texts) (out : Out) → IsOpened x → IsOpened (texts_next settings g before x (said out))
   next_said g before x (CloseEditor e) h = without_fine e x h
-  next_said g before x (ToServer s body) h = either_way IsOpened (is_home g (group_of s before) && is_synced (message_of body)) (touch_all (worker_of before) x) x (touched_fine (worker_of before) x h) h
+  next_said g before x (ToServer s body) h = either_way IsOpened (is_home g (group_of s before) && is_synced (message_of body)) (touch_all (toucher_of settings s before (message_of body)) x) x (touched_fine (toucher_of settings s before (message_of body)) x h) h
   next_said g before x out h = h
 
   pub opened_took : (events : List Event) (cause : Cause) → Opened settings events → Opened settings (with_cause events cause)

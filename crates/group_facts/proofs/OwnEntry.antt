@@ -19,8 +19,8 @@ use Rattle.event_model.specs.declared.phase.Phase.{Phase}
 use Rattle.event_model.specs.declared.phase.Phase.TheVariants.{Absent, New, Waiting, Answered, Running, Down, Closed, Gone}
 use Rattle.event_model.specs.Event.{Event, behind, heard, requests, said, with_cause}
 use Rattle.event_model.specs.Members.{params_of}
-use Rattle.event_model.specs.Phases.{is_running, is_served, Desk, desk_hears, desk_of, has_id, is_begun, is_linked, is_new, is_there, makes_running, phase_told}
-use Rattle.event_model.specs.Requests.{answered_id, with_request, is_open, is_own, open_of, without}
+use Rattle.event_model.specs.Phases.{is_running, is_served, Desk, desk_hears, desk_of, has_id, is_begun, is_linked, is_new, is_there, makes_running, phase_told, desk_behind}
+use Rattle.event_model.specs.Requests.{answered_id, with_request, is_open, is_own, open_of, without, open_behind}
 use Rattle.event_model.specs.Row.{each, Row, choose, nothing, on, outs, send, ◌⨾◌}
 use Rattle.event_model.specs.Settings.{Settings}
 use Rattle.event_model.specs.Spawns.{start_of}
@@ -33,18 +33,18 @@ use Rattle.mux_facts.proofs.Bodies.{malformed_says, refusal_says}
 use Rattle.mux_facts.proofs.Folds.{desk_more, opens_more}
 use Rattle.mux_facts.proofs.Keeps.{behind_both}
 use Rattle.mux_facts.proofs.Lists.{all_of}
-use Rattle.mux_facts.proofs.Late.{error_told, told_late}
+use Rattle.mux_facts.proofs.Late.{error_told}
 use Rattle.mux_facts.proofs.Reasons.{Because, by_nothing, by_send, by_then, by_choose, by_on}
 use Rattle.mux_facts.proofs.Table.{late_taken}
 use Rattle.mux_facts.proofs.Why.{is_early}
 use Rattle.mux_facts.proofs.Words.{same_id_itself, same_number}
-use Rattle.group_words.specs.Houses.{home_of, house_of, is_doubled, is_first_open, placed_for, places, server_asked, stops}
+use Rattle.group_words.specs.Houses.{home_of, house_of, is_doubled, is_first_open, placed_for, places, server_asked, stops, is_home}
 use Rattle.group_words.specs.Placing.{home_by}
 use Rattle.group_words.specs.Rows.{initialize_row}
 use Rattle.group_words.proofs.Frames.{home_more}
 use Rattle.group_rows.specs.AskRows.{hand_back, response_at, response_row, run_row}
 use Rattle.group_rows.specs.Cancelling.{cancelling_at, cancelling_row}
-use Rattle.group_rows.specs.Forwarded.{Forwarding, forwarding_of, numbered, token_in}
+use Rattle.group_rows.specs.Forwarded.{Forwarding, first_sender, forwarding_of, numbered, token_in, sender_or}
 use Rattle.group_rows.specs.diagnostics_route.specs.declared.last_list.LastList.{LastList}
 use Rattle.group_rows.specs.diagnostics_route.specs.Rows.{is_of}
 use Rattle.group_rows.specs.diagnostics_route.specs.Shown.{shown_text}
@@ -54,8 +54,10 @@ use Rattle.group_rows.proofs.Versions.{AllMeant, meant_heard, meant_more}
 use Rattle.group_rows.specs.Leaves.{leave_row}
 use Rattle.group_rows.specs.Created.{Taking, accepts, created_of, created_text, is_answered as is_settled}
 use Rattle.group_rows.specs.CreatedRows.{created_work, hand_out, taking_row, tell, work_at, work_row}
-use Rattle.group_rows.specs.Tokens.{forwarded_text, marked_text, reserves}
-use Rattle.group_rows.specs.Rows.{answer_error, asks_lspmux, begun_row, can_ask, closing_row, document_at, document_bodies, document_row, early_code, early_row, exit_row, forward, from_editor, is_misplaced, lspmux_row, message_row, named_row, names_lspmux, notice_at, notice_row, open_row, outs_of, request_at, request_row, served_request, served_row, shutdown_row, status_row, sync_bodies, sync_row, taken_row, told_row, wrong_code}
+use Rattle.group_rows.specs.Tokens.{forwarded_text, marked_text}
+use Rattle.group_rows.specs.Reserved.{reserves}
+use Rattle.group_rows.specs.Rows.{answer_error, asks_lspmux, begun_row, can_ask, closing_row, document_at, document_bodies, document_row, early_code, early_row, exit_row, forward, from_editor, lspmux_row, message_row, named_row, names_lspmux, notice_at, notice_row, open_row, outs_of, request_at, request_row, served_request, served_row, shutdown_row, status_row, sync_bodies, sync_row, taken_row, told_row, wrong_code, may_wait, cancel_row}
+use Rattle.group_rows.specs.Waiting.{is_misplaced, worker_of, waits, waiting_of, waiting_named, is_for_start, refuse_held, cancel_waiting, cancelled_text}
 use Rattle.group_rows.specs.Status.{items_of, status_text}
 use Rattle.group_rows.proofs.Statuses.{told_tree}
 use Rattle.group_rows.specs.Texts.{encoding_of, texts_of}
@@ -64,7 +66,7 @@ use Rattle.event_model.specs.Stages.{is_ready, life_of}
 use Rattle.std.specs.Prelude.{find}
 use Rattle.group_facts.proofs.AskingRows.{running_is, still_runs}
 use Rattle.group_facts.specs.Facts.{is_crowded}
-use Rattle.group_facts.specs.Why.{IsForward, IsQuestion}
+use Rattle.group_facts.specs.Why.{IsForward, IsQuestion, IsUnheld}
 use Rattle.group_facts.specs.Settled.{is_answered}
 use Rattle.group_facts.proofs.Apart.{alone_by}
 use Rattle.group_facts.proofs.Begun.{NoSpawn, all_outs, bodies_by, leave_by, quiet_bodies, start_did, start_took, starts_stay}
@@ -78,14 +80,25 @@ use Rattle.group_facts.proofs.Resuming.{run_questions, stays_there}
 use Rattle.group_facts.proofs.Shown.{behind_full}
 use Rattle.group_facts.proofs.Same.{IsBody, same_behind, same_questions, sym_same}
 use Rattle.group_facts.proofs.Still.{Goes, Still, goes_body, still_served}
-use Rattle.group_facts.proofs.Sent.{IsOf, OneOf, SentAt, one_last, sent_did, sent_heard}
+use Rattle.group_facts.proofs.Sent.{IsOf, OneOf, SentAt, one_last}
 use Rattle.group_facts.proofs.PutOut.{home_did, homes_stay}
-use Rattle.group_facts.proofs.OpenByPhase.{if_passed, OpenDesk, OpenIf, if_asked, if_hears, if_null, if_other, reply_told, without_last}
+use Rattle.group_facts.proofs.OpenByPhase.{if_passed, OpenDesk, OpenIf, if_asked, if_hears, if_null, if_other, reply_told, without_last, answered_closed}
 use Rattle.group_facts.proofs.SharedRows.{off_first}
 use Rattle.group_facts.proofs.Waiting.{new_is, turned_outs}
-use Rattle.group_facts.proofs.OpenByOut.{OpenAt, S, open_at, open_closed, open_moved, open_sent, open_still, or_later, told}
-use Rattle.group_rows.specs.StopRows.{stop_row}
+use Rattle.group_facts.proofs.OpenByOut.{OpenAt, S, open_at, open_closed, open_moved, open_sent, open_still, or_later, told, away}
+use Rattle.group_rows.specs.StopRows.{stop_row, lose_waiting}
 use Rattle.group_facts.proofs.Quits.{asked_while}
+use Rattle.group_facts.proofs.Taken.{IsBy, TakenAt, WaitsAt, taken_heard, taken_told}
+use Rattle.group_facts.proofs.SentOn.{worker_more, worker_still}
+use Rattle.group_facts.proofs.SendRow.{worker_said}
+use Rattle.group_facts.proofs.Held.{unheld_by}
+use Rattle.group_facts.proofs.HeldOn.{served_late}
+use Rattle.group_facts.proofs.HeldOuts.{kept_refused}
+use Rattle.group_rows.proofs.Frames.{waiting_more}
+use Rattle.group_rows.specs.held_requests.specs.declared.request.Request.{Request}
+use Rattle.group_rows.specs.held_requests.specs.Tables.{asked}
+use Rattle.group_facts.proofs.Askers.{late_said}
+use Rattle.std.specs.Option.{option_map_or, option_and_then}
 
 -- no request is excused
 abbrev pub Nobody : Id → Type 0
@@ -100,13 +113,23 @@ ToStart other = ⊥
 starts_bodies : (s : ℕ) (bodies : List (List ℕ)) (events : List Event) → Because (λ places out. ToStart out) events (to_start s bodies)
 starts_bodies s bodies events = bodies_by (λ places out. ToStart out) (λ places s b. tt) s bodies events
 
-open_bodies : (settings : Settings) (e : ℕ) (E : Id → Type 0) (events : List Event) (xs : List Out) → AllByRecursion ToStart xs → OpenAt settings e E events → OpenAt settings e E (behind events xs)
-open_bodies settings e E events [] all h = subst (OpenAt settings e E) (sym (append-nil events)) h
-open_bodies settings e E events (ToServer s body ∷ xs) all h = subst (OpenAt settings e E) (append_assoc events (said (ToServer s body) ∷ []) (map said xs)) (open_bodies settings e E (events ++ said (ToServer s body) ∷ []) xs all.1 (open_sent settings e E events s body h))
-open_bodies settings e E events (ToEditor n body ∷ xs) all h = absurd (all.0)
-open_bodies settings e E events (Spawn s g ∷ xs) all h = absurd (all.0)
-open_bodies settings e E events (CloseEditor n ∷ xs) all h = absurd (all.0)
-open_bodies settings e E events (EndServer s ∷ xs) all h = absurd (all.0)
+open_bodies : (settings : Settings) (e : ℕ) (E : Id → Type 0) (w : ℕ) (events : List Event) (xs : List Out) → AllByRecursion ToStart xs → worker_of events ≡ Some w → OpenAt settings e E events → OpenAt settings e E (behind events xs)
+open_bodies settings e E w events [] all works h = subst (OpenAt settings e E) (sym (append-nil events)) h
+open_bodies settings e E w events (ToServer s body ∷ xs) all works h = subst (OpenAt settings e E) (append_assoc events (said (ToServer s body) ∷ []) (map said xs))
+    (open_bodies settings e E w (events ++ said (ToServer s body) ∷ []) xs all.1 (worker_said events (ToServer s body) ∙ works) (open_sent settings e E events s body w works h))
+open_bodies settings e E w events (ToEditor n body ∷ xs) all works h = absurd (all.0)
+open_bodies settings e E w events (Spawn s g ∷ xs) all works h = absurd (all.0)
+open_bodies settings e E w events (CloseEditor n ∷ xs) all works h = absurd (all.0)
+open_bodies settings e E w events (EndServer s ∷ xs) all works h = absurd (all.0)
+
+-- where all of these don't hold, none does
+none_of : (a b c d f : Bool) → a ≡ false → b ≡ false → c ≡ false → d ≡ false → f ≡ false → (not a && (not b && (not c && (not d && not f)))) ≡ true
+none_of false false false false false h i j k l = refl
+none_of true b c d f h i j k l = never h
+none_of false true c d f h i j k l = never i
+none_of false false true d f h i j k l = never j
+none_of false false false true f h i j k l = never k
+none_of false false false false true h i j k l = never l
 
 answered_old : (phase : Phase) → is_answered phase ≡ true → is_new phase ≡ false
 answered_old New h = absurd (cc)
@@ -141,6 +164,10 @@ module _ (settings : Settings) (before : List Event) (n : ℕ) (body : List ℕ)
   open_now : open_of n now ≡ with_request (message_of body) ids
   open_now = opens_more n before (heard (FromEditor n body)) ∙ ap (λ b. if b then with_request (message_of body) ids else ids) (same_number n)
 
+  -- its message is at work
+  works_now : worker_of now ≡ Some n
+  works_now = worker_more before (heard (FromEditor n body))
+
   -- a request of the multiplexer's own, or what this row gives
   abbrev or_lspmux : Id → List ℕ → Option Json → Row → Row
   or_lspmux id method params row = choose (names_lspmux method) (lspmux_row settings before n body (request id method params)) row
@@ -154,13 +181,23 @@ module _ (settings : Settings) (before : List Event) (n : ℕ) (body : List ℕ)
       go true same = subst (λ k. OpenIf (S settings n E (events ++ said (ToEditor n text) ∷ [])) (phase_told (desk_of n events).phase (desk_of n events).initialize k) (desk_of n events).initialize (without (answered_id k) (open_of n events))) (sym says) h
       go false same = never (sym same)
 
+  -- any body to an editor, where it got its result
+  told_any : (E : Id → Type 0) (events : List Event) (k : ℕ) (text : List ℕ) → is_early (desk_of n events).phase ≡ false → OpenAt settings n E events → OpenAt settings n E (events ++ said (ToEditor k text) ∷ [])
+  told_any E events k text late h = open_at settings n E events (said (ToEditor k text)) (if_other (S settings n E events) (S settings n E (events ++ said (ToEditor k text) ∷ []))
+      (desk_behind n (desk_of n events) (said (ToEditor k text))).phase (desk_behind n (desk_of n events) (said (ToEditor k text))).initialize (open_behind n (open_of n events) (said (ToEditor k text)))
+      (λ served i is. or_later settings n E events (events ++ said (ToEditor k text) ∷ []) i (taken_told settings n i events k text (away settings n E events k text i is))) (pick (nat_eq k n)))
+    where
+      pick : (b : Bool) → OpenDesk (S settings n E events) (if b then told settings n E events text else desk_of n events) (if b then without (answered_id (message_of text)) (open_of n events) else open_of n events)
+      pick true = if_passed (S settings n E events) (desk_of n events).phase (desk_of n events).initialize (open_of n events) (message_of text) late h
+      pick false = h
+
   module _ (h : OpenAt settings n Nobody before) where
     -- what it sent before is still sent
     still_sent : (E : Id → Type 0) → OpenIf (S settings n E now) (desk_of n before).phase (desk_of n before).initialize ids
     still_sent E = if_other (S settings n Nobody before) (S settings n E now) (desk_of n before).phase (desk_of n before).initialize ids (λ served id is k. go id served k) h
       where
-        go : (id : Id) → is_answered (desk_of n before).phase ≡ true → SentAt settings before n id ⊎ ⊥ → SentAt settings now n id ⊎ E id
-        go id served (inl k) = inl (sent_heard settings n id before n body (and_no (nat_eq n n) (is_new (desk_of n before).phase) (requests (codes "initialize") (message_of body)) (answered_old (desk_of n before).phase served)) k)
+        go : (id : Id) → is_answered (desk_of n before).phase ≡ true → TakenAt settings before n id ⊎ ⊥ → TakenAt settings now n id ⊎ E id
+        go id served (inl k) = inl (taken_heard settings n id before n body (and_no (nat_eq n n) (is_new (desk_of n before).phase) (requests (codes "initialize") (message_of body)) (answered_old (desk_of n before).phase served)) k)
         go id served (inr k) = absurd k
 
     heard_if : (E : Id → Type 0) → ((desk_of n before).phase ≡ New → requests (codes "initialize") (message_of body) ≡ false) → OpenIf (S settings n E now) here.phase here.initialize ids
@@ -172,10 +209,13 @@ module _ (settings : Settings) (before : List Event) (n : ℕ) (body : List ℕ)
     no_request m says same none = subst (λ z. OpenIf (S settings n Nobody now) here.phase here.initialize z) (sym (open_now ∙ ap (λ k. with_request k ids) says ∙ same)) (heard_if Nobody (λ new. ap (requests (codes "initialize")) says ∙ none))
 
     -- behind an out of its own it leaves (L1)
+    left_there : (events : List Event) (out : Out) → worker_of events ≡ Some n → OpenAt settings n Nobody (events ++ said out ∷ []) → OpenAt settings n Nobody (behind events (out ∷ outs (leave_row settings before n) (events ++ said out ∷ [])))
+    left_there events out works h = subst (OpenAt settings n Nobody) (sym (behind_both events (out ∷ []) (outs (leave_row settings before n) (events ++ said out ∷ []))))
+        (open_bodies settings n Nobody n (events ++ said out ∷ []) (outs (leave_row settings before n) (events ++ said out ∷ []))
+        (all_outs ToStart (events ++ said out ∷ []) (outs (leave_row settings before n) (events ++ said out ∷ [])) (leave_by (λ places out. ToStart out) (λ places s b. tt) settings before n (events ++ said out ∷ [])).why) (worker_said events out ∙ works) h)
+
     left_rests : (out : Out) → OpenAt settings n Nobody (now ++ said out ∷ []) → Rests (out ∷ outs (leave_row settings before n) (now ++ said out ∷ []))
-    left_rests out h = subst (OpenAt settings n Nobody) (sym (behind_both now (out ∷ []) (outs (leave_row settings before n) (now ++ said out ∷ []))))
-        (open_bodies settings n Nobody (now ++ said out ∷ []) (outs (leave_row settings before n) (now ++ said out ∷ []))
-        (all_outs ToStart (now ++ said out ∷ []) (outs (leave_row settings before n) (now ++ said out ∷ [])) (leave_by (λ places out. ToStart out) (λ places s b. tt) settings before n (now ++ said out ∷ [])).why) h)
+    left_rests out h = left_there now out works_now h
 
     rests_here : OpenAt settings n Nobody now → Rests []
     rests_here k = subst (OpenAt settings n Nobody) (sym (append-nil now)) k
@@ -187,9 +227,12 @@ module _ (settings : Settings) (before : List Event) (n : ℕ) (body : List ℕ)
         heard : OpenAt settings n Nobody now
         heard = no_request m says same none
 
+        no_id : (id : Id) → ◌≡◌ {A = Option Id} None (Some id) → ⊥
+        no_id id clash = absurd (cc)
+
         go : (b : Bool) → Rests (outs (choose b (send (ToEditor n (malformed_text m))) nothing) now)
         go true = open_told Nobody now (malformed_text m) (error None (error_tree (malformed_code m))) (malformed_says m)
-            (if_null (S settings n Nobody (told_now (malformed_text m))) here.phase here.initialize (open_of n now) (error_tree (malformed_code m)) (open_still settings n Nobody now (told_now (malformed_text m)) (λ id. sent_did settings n id now (ToEditor n (malformed_text m)) tt) heard))
+            (if_null (S settings n Nobody (told_now (malformed_text m))) here.phase here.initialize (open_of n now) (error_tree (malformed_code m)) (open_still settings n Nobody now (told_now (malformed_text m)) (λ id. taken_told settings n id now n (malformed_text m) (λ same its. no_id id (sym (ap answered_id (malformed_says m)) ∙ its))) heard))
         go false = rests_here heard
 
     -- Requests
@@ -198,16 +241,39 @@ module _ (settings : Settings) (before : List Event) (n : ℕ) (body : List ℕ)
       asked_now : open_of n now ≡ ids ++ id ∷ []
       asked_now = open_now ∙ ap (λ m. with_request m ids) says
 
+      -- an answer to it answers no other one
+      apart : (m : Message) → answered_id m ≡ Some id → (i : Id) → is_open i ids ≡ true → answered_id m ≡ Some i → ⊥
+      apart m mine i is its = let same : ◌≡◌ {A = Option Id} (Some i) (Some id) = sym its ∙ mine in never (sym is ∙ (ap (λ o. option_map_or (λ k. is_open k ids) o false) same ∙ fresh))
+
       -- refused in its own entry
       refused : ((desk_of n before).phase ≡ New → requests (codes "initialize") (message_of body) ≡ false) → (code : Code) → Rests (ToEditor n (error_text (id_bytes body) code) ∷ [])
       refused other code = open_told Nobody now (error_text (id_bytes body) code) (error (Some id) (error_tree code)) (refusal_says body id method params code says)
           (subst₂ (λ p z. OpenIf (S settings n Nobody (told_now (error_text (id_bytes body) code))) p here.initialize z) (sym (error_told here.phase here.initialize (Some id) (error_tree code))) (sym (ap (without (Some id)) asked_now ∙ without_last id ids fresh))
-          (if_other (S settings n Nobody now) (S settings n Nobody (told_now (error_text (id_bytes body) code))) here.phase here.initialize ids (λ served i is. or_later settings n Nobody now (told_now (error_text (id_bytes body) code)) i (sent_did settings n i now (ToEditor n (error_text (id_bytes body) code)) tt)) (heard_if Nobody other)))
+          (if_other (S settings n Nobody now) (S settings n Nobody (told_now (error_text (id_bytes body) code))) here.phase here.initialize ids (λ served i is. or_later settings n Nobody now (told_now (error_text (id_bytes body) code)) i (taken_told settings n i now n (error_text (id_bytes body) code) (λ same. apart (message_of (error_text (id_bytes body) code)) (ap answered_id (refusal_says body id method params code says)) i is))) (heard_if Nobody other)))
 
       -- or sent on
-      module _ (range : InRange settings) (facts : Facts settings before) (there : is_there (desk_of n before).phase ≡ true) (late : is_early (desk_of n before).phase ≡ false) (other : is_own method ≡ false) where
+      module _ (range : InRange settings) (facts : Facts settings before) (there : is_there (desk_of n before).phase ≡ true) (late : is_early (desk_of n before).phase ≡ false) (other : is_own method ≡ false)
+          (served : is_served (desk_of n before).phase ≡ true) (foreign : names_lspmux method ≡ false) (placed : is_misplaced method ≡ false) (going : bytes_eq (codes "shutdown") method ≡ false) where
         no_first : (desk_of n before).phase ≡ New → requests (codes "initialize") (message_of body) ≡ false
         no_first new = never (sym (ap is_early new) ∙ late)
+
+        home_heard : home_of settings n now ≡ home_of settings n before
+        home_heard = home_more settings n before (heard (FromEditor n body))
+            ∙ ap (λ b. if b then home_by (placed_for settings before n body (house_of settings before).groups) (home_of settings n before) else home_of settings n before)
+            (and_no (nat_eq n n) (is_new (desk_of n before).phase) (requests (codes "initialize") (message_of body)) (old (desk_of n before).phase late))
+          where
+            old : (phase : Phase) → is_early phase ≡ false → is_new phase ≡ false
+            old New e = absurd (cc)
+            old Absent e = refl
+            old Waiting e = refl
+            old Answered e = refl
+            old Running e = refl
+            old Down e = refl
+            old Closed e = refl
+            old Gone e = refl
+
+        unheld : IsUnheld settings before n id
+        unheld = unheld_by settings before (facts.steady).held n id fresh
 
         module _ (g s : ℕ) (home : home_of settings n before ≡ Some g) (start : start_of g before ≡ Some s) (can : can_ask settings s before ≡ true) (free : reserves (params_of body) ≡ false) where
           abbrev sync : List Out
@@ -217,7 +283,7 @@ module _ (settings : Settings) (before : List Event) (n : ℕ) (body : List ℕ)
           synced = behind now sync
 
           abbrev text : List ℕ
-          text = forwarded_text (forwarding_of s synced).next body
+          text = forwarded_text (forwarding_of settings s synced).next body
 
           abbrev gone : List Event
           gone = synced ++ said (ToServer s text) ∷ []
@@ -235,12 +301,12 @@ module _ (settings : Settings) (before : List Event) (n : ℕ) (body : List ℕ)
           quiet_sync = all_outs NoSpawn now sync (quiet_bodies s _ now).why
 
           forward_is : IsForward settings before (FromEditor n body) synced s text
-          forward_is = is_forward settings before n body id method params says there (alone_by before (asked_while before (facts.steady).asked facts.quit n there) n id fresh) range (facts.base).opened late other g s start can free
+          forward_is = is_forward settings before n body id method params says there (alone_by settings before (asked_while settings before (facts.steady).asked facts.quit n there) n id fresh) range (facts.base).opened late other unheld g s home start can free
 
-          list_now : (forwarding_of s gone).open_requests ≡ (forwarding_of s synced).open_requests ++ numbered (Some (record { editor = n; id = id_bytes body; work = token_in (codes "workDoneToken") body; partial = token_in (codes "partialResultToken") body })) (forwarding_of s synced).next
-          list_now = ap (λ (x : Forwarding). x.open_requests) (forwarding_sent synced s text (request (integer (decimal (forwarding_of s synced).next)) forward_is.method forward_is.params) forward_is.says
-              ∙ ap (λ c. if c then forwarding_of s synced else more_requests (forwarding_of s synced)) forward_is.other)
-              ∙ ap (λ o. (forwarding_of s synced).open_requests ++ numbered o (forwarding_of s synced).next) (synced_sender settings before n body id method params says there (alone_by before (asked_while before (facts.steady).asked facts.quit n there) n id fresh) range (facts.base).opened late other g s start can free)
+          list_now : (forwarding_of settings s gone).open_requests ≡ (forwarding_of settings s synced).open_requests ++ numbered (Some (record { editor = n; id = id_bytes body; work = token_in (codes "workDoneToken") body; partial = token_in (codes "partialResultToken") body })) (forwarding_of settings s synced).next
+          list_now = ap (λ (x : Forwarding). x.open_requests) (forwarding_sent settings synced s text (request (integer (decimal (forwarding_of settings s synced).next)) forward_is.method forward_is.params) forward_is.says
+              ∙ ap (λ c. if c then forwarding_of settings s synced else more_requests (first_sender settings s synced) (forwarding_of settings s synced)) forward_is.other)
+              ∙ ap (λ o. (forwarding_of settings s synced).open_requests ++ numbered (sender_or o (first_sender settings s synced)) (forwarding_of settings s synced).next) (synced_sender settings before n body id method params says there (alone_by settings before (asked_while settings before (facts.steady).asked facts.quit n there) n id fresh) range (facts.base).opened late other unheld g s home start can free)
 
           sent_now : SentAt settings gone n id
           sent_now = record {
@@ -248,38 +314,46 @@ module _ (settings : Settings) (before : List Event) (n : ℕ) (body : List ℕ)
             start = s;
             home = home_did settings n synced (ToServer s text) ∙ homes_stay settings n now sync ∙ home_heard ∙ home;
             last = start_did g synced (ToServer s text) tt ∙ starts_stay g now sync quiet_sync ∙ start_took g before (FromEditor n body) ∙ start;
-            among = subst (OneOf (IsOf n id)) (sym list_now) (one_last (IsOf n id) (forwarding_of s synced).open_requests (record { number = (forwarding_of s synced).next; editor = n; id = id_bytes body; work = token_in (codes "workDoneToken") body; partial = token_in (codes "partialResultToken") body; cancelled = false }) (refl, request_id_bytes body id method params says));
+            among = subst (OneOf (IsOf n id)) (sym list_now) (one_last (IsOf n id) (forwarding_of settings s synced).open_requests (record { number = (forwarding_of settings s synced).next; editor = n; id = id_bytes body; work = token_in (codes "workDoneToken") body; partial = token_in (codes "partialResultToken") body; cancelled = false }) (refl, request_id_bytes body id method params says));
           }
-            where
-              home_heard : home_of settings n now ≡ home_of settings n before
-              home_heard = home_more settings n before (heard (FromEditor n body))
-                  ∙ ap (λ b. if b then home_by (placed_for settings before n body (house_of settings before).groups) (home_of settings n before) else home_of settings n before)
-                  (and_no (nat_eq n n) (is_new (desk_of n before).phase) (requests (codes "initialize") (message_of body)) (old (desk_of n before).phase late))
-                where
-                  old : (phase : Phase) → is_early phase ≡ false → is_new phase ≡ false
-                  old New e = absurd (cc)
-                  old Absent e = refl
-                  old Waiting e = refl
-                  old Answered e = refl
-                  old Running e = refl
-                  old Down e = refl
-                  old Closed e = refl
-                  old Gone e = refl
 
           forwarded_rests : Rests (sync ++ ToServer s text ∷ [])
           unfolding Itself
           forwarded_rests = subst (OpenAt settings n Nobody) (sym (behind_both now sync (ToServer s text ∷ [])))
               (if_other (S settings n Itself gone) (S settings n Nobody gone) (desk_of n gone).phase (desk_of n gone).initialize (open_of n gone) (λ served i is k. go i k)
-              (open_sent settings n Itself synced s text (open_bodies settings n Itself now sync (all_outs ToStart now sync (starts_bodies s _ now).why) asked_open)))
+              (open_sent settings n Itself synced s text n (worker_still before n body sync) (open_bodies settings n Itself n now sync (all_outs ToStart now sync (starts_bodies s _ now).why) works_now asked_open)))
             where
-              go : (i : Id) → SentAt settings gone n i ⊎ (i ≡ id) → SentAt settings gone n i ⊎ ⊥
+              go : (i : Id) → TakenAt settings gone n i ⊎ (i ≡ id) → TakenAt settings gone n i ⊎ ⊥
               go i (inl k) = inl k
-              go i (inr same) = inl (subst (SentAt settings gone n) (sym same) sent_now)
+              go i (inr same) = inl (inl (subst (SentAt settings gone n) (sym same) sent_now))
+
+        -- it waits
+        module _ (g : ℕ) (home : home_of settings n before ≡ Some g) (free : reserves (params_of body) ≡ false) (may : may_wait settings before n body g ≡ true) where
+          takes_it : waits settings g before n body (message_of body) (waiting_of settings g before) ≡ true
+          takes_it = ap₂ (λ a b. a && b) (ap₂ (λ a b. a && b) (ap (is_home g) home ∙ same_number g) served)
+              (ap₂ (λ a b. a && b) (ap (is_for_start before n body) says ∙ none_of (is_open id ids) (names_lspmux method) (is_misplaced method) (bytes_eq (codes "shutdown") method) (reserves (params_of body)) fresh foreign placed going free) may)
+
+          kept_now : WaitsAt settings now n id
+          kept_now = record {
+            group = g;
+            home = home_heard ∙ home;
+            among = subst (OneOf (IsBy n id)) (sym (waiting_more settings g before (heard (FromEditor n body)) ∙ ap (λ b. if b then waiting_of settings g before ++ asked n (id_bytes body) body ∷ [] else waiting_of settings g before) takes_it))
+                (one_last (IsBy n id) (waiting_of settings g before) (asked n (id_bytes body) body) (refl, request_id_bytes body id method params says));
+          }
+
+          waits_rests : Rests []
+          waits_rests = rests_here (subst (OpenIf (S settings n Nobody now) here.phase here.initialize) (sym asked_now)
+              (if_asked (S settings n Nobody now) here.phase here.initialize ids id (late_taken before n body late) (inl (inr kept_now)) (heard_if Nobody no_first)))
 
         -- E10
-        by_can : (g s : ℕ) → reserves (params_of body) ≡ false → home_of settings n before ≡ Some g → start_of g before ≡ Some s → (b : Bool) → can_ask settings s before ≡ b → Rests (outs (choose b (sync_row settings before g s n ⨾ forward s body) (answer_error n body request_failed)) now)
+        by_can : (g s : ℕ) → reserves (params_of body) ≡ false → home_of settings n before ≡ Some g → start_of g before ≡ Some s → (b : Bool) → can_ask settings s before ≡ b
+            → Rests (outs (choose b (sync_row settings before g s n ⨾ forward settings s body) (choose (may_wait settings before n body g) nothing (answer_error n body request_failed))) now)
         by_can g s free home start true can = forwarded_rests g s home start can free
-        by_can g s free home start false can = refused no_first request_failed
+        by_can g s free home start false can = go (may_wait settings before n body g) refl
+          where
+            go : (c : Bool) → may_wait settings before n body g ≡ c → Rests (outs (choose c nothing (answer_error n body request_failed)) now)
+            go true may = waits_rests g home free may
+            go false full = refused no_first request_failed
 
         by_start : (g : ℕ) → reserves (params_of body) ≡ false → home_of settings n before ≡ Some g → (o : Option ℕ) → start_of g before ≡ o → Rests (outs (on o (answer_error n body request_failed) (request_at settings before n body g)) now)
         by_start g free home None start = refused no_first request_failed
@@ -303,13 +377,53 @@ module _ (settings : Settings) (before : List Event) (n : ℕ) (body : List ℕ)
       abbrev null_tree : Json
       null_tree = word (record { from = 0; to = 0 }) Null
 
-      done_rests : is_early (desk_of n before).phase ≡ false → OpenAt settings n Nobody (told_now done)
-      done_rests late = open_told Nobody now done (result (Some id) null_tree) (null_said body id method params says)
-          (subst₂ (λ p z. OpenIf (S settings n Nobody (told_now done)) p here.initialize z) (sym (told_late here.phase here.initialize (result (Some id) null_tree) (late_taken before n body late))) (sym (ap (without (Some id)) asked_now ∙ without_last id ids fresh))
-          (if_other (S settings n Nobody now) (S settings n Nobody (told_now done)) here.phase here.initialize ids (λ sent i is. or_later settings n Nobody now (told_now done) i (sent_did settings n i now (ToEditor n done) tt)) (heard_if Nobody (λ new. never (sym (ap is_early new) ∙ late)))))
+      -- where it alone is excused it is answered
+      answered_alone : (events : List Event) (text : List ℕ) (m : Message) → message_of text ≡ m → answered_id m ≡ Some id → is_early (desk_of n events).phase ≡ false → OpenAt settings n (λ i. i ≡ id) events → OpenAt settings n Nobody (events ++ said (ToEditor n text) ∷ [])
+      answered_alone events text m says_it mine late rests = open_told Nobody events text m says_it
+          (if_other (S settings n (λ i. i ≡ id) events) (S settings n Nobody (events ++ said (ToEditor n text) ∷ [])) (phase_told (desk_of n events).phase (desk_of n events).initialize m) (desk_of n events).initialize (without (answered_id m) (open_of n events)) (λ served i is k. go i is k)
+          (if_passed (S settings n (λ i. i ≡ id) events) (desk_of n events).phase (desk_of n events).initialize (open_of n events) m late rests))
+        where
+          closed : (i : Id) → is_open i (without (answered_id m) (open_of n events)) ≡ true → answered_id m ≡ Some i → ⊥
+          closed i is its = never (sym is ∙ (ap (λ o. is_open i (without o (open_of n events))) its ∙ answered_closed i (open_of n events)))
+
+          go : (i : Id) → is_open i (without (answered_id m) (open_of n events)) ≡ true → TakenAt settings events n i ⊎ (i ≡ id) → TakenAt settings (events ++ said (ToEditor n text) ∷ []) n i ⊎ ⊥
+          go i is (inl k) = inl (taken_told settings n i events n text (λ same its. closed i is (sym (ap answered_id says_it) ∙ its)) k)
+          go i is (inr same) = absurd (closed i is (mine ∙ ap (λ z. Some z) (sym same)))
+
+      -- behind the refusals of what waits
+      record Shutting (events : List Event) : Type 0 where
+        late : is_early (desk_of n events).phase ≡ false
+        rests : OpenAt settings n (λ i. i ≡ id) events
+        works : worker_of events ≡ Some n
+
+      shutting_told : (events : List Event) (text : List ℕ) → Shutting events → Shutting (events ++ said (ToEditor n text) ∷ [])
+      shutting_told events text k = record {
+        late = ap (λ (d : Desk). is_early d.phase) (desk_more n events (said (ToEditor n text))) ∙ late_said events n k.late (ToEditor n text);
+        rests = told_any (λ i. i ≡ id) events n text k.late k.rests;
+        works = worker_said events (ToEditor n text) ∙ k.works;
+      }
 
       shutdown_rests : is_early (desk_of n before).phase ≡ false → Rests (outs (shutdown_row settings before n body) now)
-      shutdown_rests late = left_rests (ToEditor n done) (done_rests late)
+      shutdown_rests late = subst (OpenAt settings n Nobody) (sym (behind_both now refusals (ToEditor n done ∷ outs (leave_row settings before n) (behind now refusals ++ said (ToEditor n done) ∷ []))))
+          (left_there (behind now refusals) (ToEditor n done) mid.works (answered_alone (behind now refusals) done (result (Some id) null_tree) (null_said body id method params says) refl mid.late mid.rests))
+        where
+          refusals : List Out
+          refusals = outs (lose_waiting settings before n) now
+
+          shutting_now : Shutting now
+          shutting_now = record {
+            late = late_taken before n body late;
+            rests = subst (OpenIf (S settings n (λ i. i ≡ id) now) here.phase here.initialize) (sym asked_now)
+                (if_asked (S settings n (λ i. i ≡ id) now) here.phase here.initialize ids id (late_taken before n body late) (inr refl) (heard_if (λ i. i ≡ id) (λ new. never (sym (ap is_early new) ∙ late))));
+            works = works_now;
+          }
+
+          go : (o : Option ℕ) → Shutting (behind now (outs (on o nothing (λ g. refuse_held settings g n)) now))
+          go None = subst Shutting (sym (append-nil now)) shutting_now
+          go (Some g) = kept_refused settings n Shutting shutting_told g now shutting_now
+
+          mid : Shutting (behind now refusals)
+          mid = go (home_of settings n before)
 
       -- E4 and E5: a request of the multiplexer's own is answered
       module _ (other : requests (codes "initialize") (message_of body) ≡ false) (others : here.phase ≡ Waiting → has_id id (message_of here.initialize) ≡ false) where
@@ -317,9 +431,9 @@ module _ (settings : Settings) (before : List Event) (n : ℕ) (body : List ℕ)
         said_text text = ok_text (id_bytes body) text
 
         replied : (text : List ℕ) (r : Json) → message_of (ok_text (id_bytes body) text) ≡ result (Some id) r → Rests (ToEditor n (ok_text (id_bytes body) text) ∷ [])
-        replied text r is = open_told Nobody now (said_text text) (result (Some id) r) is
+        replied text r is_it = open_told Nobody now (said_text text) (result (Some id) r) is_it
             (subst₂ (λ p z. OpenIf (S settings n Nobody (told_now (said_text text))) p here.initialize z) (sym (reply_told here.phase here.initialize id r others)) (sym (ap (without (Some id)) asked_now ∙ without_last id ids fresh))
-            (if_other (S settings n Nobody now) (S settings n Nobody (told_now (said_text text))) here.phase here.initialize ids (λ sent i is. or_later settings n Nobody now (told_now (said_text text)) i (sent_did settings n i now (ToEditor n (said_text text)) tt)) (heard_if Nobody (λ new. other))))
+            (if_other (S settings n Nobody now) (S settings n Nobody (told_now (said_text text))) here.phase here.initialize ids (λ sent i is. or_later settings n Nobody now (told_now (said_text text)) i (taken_told settings n i now n (said_text text) (λ same. apart (message_of (said_text text)) (ap answered_id is_it) i is))) (heard_if Nobody (λ new. other))))
 
         named_rests : (o : Option ℕ) → Rests (outs (named_row n body o) now)
         named_rests None = refused (λ new. other) invalid_params
@@ -368,9 +482,7 @@ module _ (settings : Settings) (before : List Event) (n : ℕ) (body : List ℕ)
 
     -- it goes to a start, or gives the editor what was held for it
     tell_rests : (events : List Event) (text : List ℕ) → (desk_of n events).phase ≡ Running → OpenAt settings n Nobody events → OpenAt settings n Nobody (events ++ said (ToEditor n text) ∷ [])
-    tell_rests events text runs rest = open_told Nobody events text (message_of text) refl
-        (if_passed (S settings n Nobody (events ++ said (ToEditor n text) ∷ [])) (desk_of n events).phase (desk_of n events).initialize (open_of n events) (message_of text) (ap is_early runs)
-        (open_still settings n Nobody events (events ++ said (ToEditor n text) ∷ []) (λ id. sent_did settings n id events (ToEditor n text) tt) rest))
+    tell_rests events text runs rest = told_any Nobody events n text (ap is_early runs) rest
 
     tells_rest : (s k : ℕ) (bodies : List (List ℕ)) (events : List Event) → (desk_of n events).phase ≡ Running → OpenAt settings n Nobody events → OpenAt settings n Nobody (behind events (outs (each (tell s k n) bodies) events))
     tells_rest s k [] events runs rest = subst (OpenAt settings n Nobody) (sym (append-nil events)) rest
@@ -395,7 +507,7 @@ module _ (settings : Settings) (before : List Event) (n : ℕ) (body : List ℕ)
 
       answer_rests : (s : ℕ) (o : Option Ask) → Rests (outs (on o (taking_row settings before n m s) (hand_back s body)) now)
       answer_rests s None = taking_rests s (is_running (desk_of n before).phase) refl
-      answer_rests s (Some a) = open_sent settings n Nobody now s (with_id_text body a.bytes) rest
+      answer_rests s (Some a) = open_sent settings n Nobody now s (with_id_text body a.bytes) n works_now rest
 
       start_rests : (s : ℕ) (b : Bool) → Rests (outs (choose b (on (find (is_seated n (answered_id m)) (asks_of settings s before)) (taking_row settings before n m s) (hand_back s body)) nothing) now)
       start_rests s true = answer_rests s (find (is_seated n (answered_id m)) (asks_of settings s before))
@@ -438,6 +550,7 @@ module _ (settings : Settings) (before : List Event) (n : ℕ) (body : List ℕ)
     record Runs (events : List Event) : Type 0 where
       running : (desk_of n events).phase ≡ Running
       rests : OpenAt settings n Nobody events
+      works : worker_of events ≡ Some n
 
     -- behind bodies to a start it may be shown a list
     document_rests : (method : List ℕ) (params : Option Json) → message_of body ≡ notification method params → is_served (desk_of n before).phase ≡ true → bytes_eq (codes "exit") method ≡ false → Rests (outs (document_row settings before n body (saying_by method params)) now)
@@ -463,6 +576,7 @@ module _ (settings : Settings) (before : List Event) (n : ℕ) (body : List ℕ)
         runs_now = record {
           running = ap (λ (d : Desk). d.phase) (desk_taken settings before n body) ∙ ap (λ m. (desk_hears (desk_of n before).phase (desk_of n before).initialize body m).phase) says ∙ hears (desk_of n before).phase served;
           rests = rest;
+          works = works_now;
         }
 
         shown_rests : (s : ℕ) (x : Saying) (events : List Event) → Runs events → OpenAt settings n Nobody (behind events (outs (show_opened settings s n x) events))
@@ -479,7 +593,7 @@ module _ (settings : Settings) (before : List Event) (n : ℕ) (body : List ℕ)
         bodies_rest : (s : ℕ) (bodies : List (List ℕ)) (events : List Event) → Runs events → Runs (behind events (outs (to_start s bodies) events))
         bodies_rest s [] events k = subst Runs (sym (append-nil events)) k
         bodies_rest s (b ∷ bodies) events k = subst Runs (append_assoc events (said (ToServer s b) ∷ []) (map said (outs (to_start s bodies) (events ++ said (ToServer s b) ∷ []))))
-            (bodies_rest s bodies (events ++ said (ToServer s b) ∷ []) (record { running = ap (λ (d : Desk). d.phase) (desk_more n events (said (ToServer s b))) ∙ k.running; rests = open_sent settings n Nobody events s b k.rests }))
+            (bodies_rest s bodies (events ++ said (ToServer s b) ∷ []) (record { running = ap (λ (d : Desk). d.phase) (desk_more n events (said (ToServer s b))) ∙ k.running; rests = open_sent settings n Nobody events s b n k.works k.rests; works = worker_said events (ToServer s b) ∙ k.works }))
 
         start_rests : (s : ℕ) (bodies : List (List ℕ)) (b : Bool) → Rests (outs (choose b (to_start s bodies ⨾ show_opened settings s n said_now) nothing) now)
         start_rests s bodies true = let xs : List Out = outs (to_start s bodies) now in
@@ -495,7 +609,7 @@ module _ (settings : Settings) (before : List Event) (n : ℕ) (body : List ℕ)
         home_rests (Some g) = group_rests g (start_of g before)
 
     notice_rests : (method : List ℕ) (params : Option Json) → message_of body ≡ notification method params → Rests (outs (notice_row settings before n body) now)
-    notice_rests method params says = open_bodies settings n Nobody now (outs (notice_row settings before n body) now) (all_outs ToStart now _ bodies.why) (no_request (notification method params) says refl refl)
+    notice_rests method params says = open_bodies settings n Nobody n now (outs (notice_row settings before n body) now) (all_outs ToStart now _ bodies.why) works_now (no_request (notification method params) says refl refl)
       where
         told_at : (g s : ℕ) → Because (λ places out. ToStart out) now (notice_at settings before n body g s)
         told_at g s = by_choose (λ ready. by_then (starts_bodies s (sync_bodies settings.limits.versions (λ u. held_at s u before) n (texts_of settings g before).opens) now) (by_send tt)) (λ off. by_nothing)
@@ -507,19 +621,26 @@ module _ (settings : Settings) (before : List Event) (n : ℕ) (body : List ℕ)
         bodies = by_on (λ none. by_nothing) (λ g home. told_group g)
 
     cancelling_rests : (method : List ℕ) (params : Option Json) → message_of body ≡ notification method params → Rests (outs (cancelling_row settings before n body params) now)
-    cancelling_rests method params says = open_bodies settings n Nobody now (outs (cancelling_row settings before n body params) now) (all_outs ToStart now _ bodies.why) (no_request (notification method params) says refl refl)
+    cancelling_rests method params says = open_bodies settings n Nobody n now (outs (cancelling_row settings before n body params) now) (all_outs ToStart now _ bodies.why) works_now (no_request (notification method params) says refl refl)
       where
-        told_at : (s : ℕ) → Because (λ places out. ToStart out) now (cancelling_at before n body params s)
+        told_at : (s : ℕ) → Because (λ places out. ToStart out) now (cancelling_at settings before n body params s)
         told_at s = by_choose (λ ready. by_on (λ none. by_nothing) (λ k is. by_send tt)) (λ off. by_nothing)
 
-        told_group : (g : ℕ) → Because (λ places out. ToStart out) now (on (start_of g before) nothing (cancelling_at before n body params))
+        told_group : (g : ℕ) → Because (λ places out. ToStart out) now (on (start_of g before) nothing (cancelling_at settings before n body params))
         told_group g = by_on (λ none. by_nothing) (λ s start. told_at s)
 
         bodies : Because (λ places out. ToStart out) now (cancelling_row settings before n body params)
         bodies = by_on (λ none. by_nothing) (λ g home. told_group g)
 
+    cancel_rests : (method : List ℕ) (params : Option Json) → message_of body ≡ notification method params → is_early (desk_of n before).phase ≡ false → Rests (outs (cancel_row settings before n body params) now)
+    cancel_rests method params says late = go (option_and_then (λ g. waiting_named n params (waiting_of settings g before)) (home_of settings n before))
+      where
+        go : (o : Option Request) → Rests (outs (on o (cancelling_row settings before n body params) cancel_waiting) now)
+        go None = cancelling_rests method params says
+        go (Some r) = told_any Nobody now r.editor (cancelled_text r.id) (late_taken before n body late) (no_request (notification method params) says refl refl)
+
     work_rests : (method : List ℕ) (params : Option Json) → message_of body ≡ notification method params → Rests (outs (work_row settings before n body params) now)
-    work_rests method params says = open_bodies settings n Nobody now (outs (work_row settings before n body params) now) (all_outs ToStart now _ bodies.why) (no_request (notification method params) says refl refl)
+    work_rests method params says = open_bodies settings n Nobody n now (outs (work_row settings before n body params) now) (all_outs ToStart now _ bodies.why) works_now (no_request (notification method params) says refl refl)
       where
         told_token : (s : ℕ) → Because (λ places out. ToStart out) now (created_work settings before n body params s)
         told_token s = by_on (λ none. by_nothing) (λ t found. by_choose (λ accepted. by_send tt) (λ no. by_nothing))
@@ -544,10 +665,10 @@ module _ (settings : Settings) (before : List Event) (n : ℕ) (body : List ℕ)
     served_rests method params says served = go (bytes_eq (codes "exit") method) refl (goes_on (class_of method Editor true)) (bytes_eq (codes "$/cancelRequest") method) (bytes_eq (codes "window/workDoneProgress/cancel") method)
       where
         go : (a : Bool) → bytes_eq (codes "exit") method ≡ a → (b c d : Bool) → Rests (outs (choose a (closing_row settings before n) (choose b (notice_row settings before n body)
-            (choose c (cancelling_row settings before n body params) (choose d (work_row settings before n body params) (document_row settings before n body (saying_by method params)))))) now)
+            (choose c (cancel_row settings before n body params) (choose d (work_row settings before n body params) (document_row settings before n body (saying_by method params)))))) now)
         go true is b c d = closing_rests
         go false is true c d = notice_rests method params says
-        go false is false true d = cancelling_rests method params says
+        go false is false true d = cancel_rests method params says (served_late (desk_of n before).phase served)
         go false is false false true = work_rests method params says
         go false is false false false = document_rests method params says served is
 
@@ -593,20 +714,20 @@ module _ (settings : Settings) (before : List Event) (n : ℕ) (body : List ℕ)
               meant_now = meant_more before (heard (FromEditor n body)) (facts.base).meant (meant_heard (FromEditor n body))
 
               still : Still settings served
-              still = still_served settings before n body (ap is_running at) m says runs
+              still = still_served settings before n body (facts.steady).held (ap is_running at) m says runs
 
       asked_rests : (id : Id) (method : List ℕ) (params : Option Json) → message_of body ≡ request id method params → (phase : Phase) → (desk_of n before).phase ≡ phase → places phase (request id method params) ≡ false
           → Rests (outs (message_row settings before n body (request id method params) phase) now)
       asked_rests id method params says phase at off = go phase at off
         where
-          late_request : is_open id ids ≡ false → is_there (desk_of n before).phase ≡ true → is_early (desk_of n before).phase ≡ false → Rests (outs (served_request settings before n body method) now)
-          late_request fresh there late = by_place (is_misplaced method) refl (bytes_eq (codes "shutdown") method) refl
+          late_request : is_open id ids ≡ false → is_there (desk_of n before).phase ≡ true → is_early (desk_of n before).phase ≡ false → is_served (desk_of n before).phase ≡ true → names_lspmux method ≡ false → Rests (outs (served_request settings before n body method) now)
+          late_request fresh there late served foreign = by_place (is_misplaced method) refl (bytes_eq (codes "shutdown") method) refl
             where
               by_place : (a : Bool) → is_misplaced method ≡ a → (b : Bool) → bytes_eq (codes "shutdown") method ≡ b
                   → Rests (outs (choose a (answer_error n body (wrong_code method invalid_request)) (choose b (shutdown_row settings before n body) (request_row settings before n body))) now)
               by_place true misplaced b down = refused id method params says fresh (λ new. never (sym (ap is_early new) ∙ late)) (wrong_code method invalid_request)
               by_place false placed true down = shutdown_rests id method params says fresh late
-              by_place false placed false on = request_rests id method params says fresh range facts there late (not_own method (off_first (bytes_eq (codes "initialize") method) (is_wrong (class_of method Editor false)) placed) on)
+              by_place false placed false on = request_rests id method params says fresh range facts there late (not_own method (off_first (bytes_eq (codes "initialize") method) (is_wrong (class_of method Editor false)) placed) on) served foreign placed on
 
           -- under an id that is open, or not
           by_double : (b : Bool) → is_open id ids ≡ b → (row : Row) → (is_open id ids ≡ false → Rests (outs row now)) → Rests (outs (choose b (closing_row settings before n) row) now)
@@ -614,7 +735,7 @@ module _ (settings : Settings) (before : List Event) (n : ℕ) (body : List ℕ)
           by_double false fresh row f = f fresh
 
           -- a request of the multiplexer's own, or another one
-          by_lspmux : is_open id ids ≡ false → is_there (desk_of n before).phase ≡ true → (row : Row) → Rests (outs row now) → Rests (outs (or_lspmux id method params row) now)
+          by_lspmux : is_open id ids ≡ false → is_there (desk_of n before).phase ≡ true → (row : Row) → (names_lspmux method ≡ false → Rests (outs row now)) → Rests (outs (or_lspmux id method params row) now)
           by_lspmux fresh there row rest = go (names_lspmux method) refl
             where
               not_stop : (b : Bool) → bytes_eq (codes "lspmux/stop") method ≡ b → b ≡ false
@@ -625,23 +746,23 @@ module _ (settings : Settings) (before : List Event) (n : ℕ) (body : List ℕ)
               other is = ap (requests (codes "initialize")) says ∙ lspmux_apart (codes "initialize") method refl refl refl is
 
               go : (b : Bool) → names_lspmux method ≡ b → Rests (outs (choose b (lspmux_row settings before n body (request id method params)) row) now)
-              go true is = lspmux_rests id method params says fresh (other is) (λ at. beside_other now n id (beside settings before n body id method params says there (alone_by before (asked_while before (facts.steady).asked facts.quit n there) n id fresh) (other is) (λ waits. fresh) facts.waiting at)) (request id method params) (not_stop (bytes_eq (codes "lspmux/stop") method) refl)
-              go false is = rest
+              go true is = lspmux_rests id method params says fresh (other is) (λ at. beside_other now n id (beside settings before n body id method params says there (alone_by settings before (asked_while settings before (facts.steady).asked facts.quit n there) n id fresh) (other is) (λ waits. fresh) facts.waiting at)) (request id method params) (not_stop (bytes_eq (codes "lspmux/stop") method) refl)
+              go false is = rest is
 
           early_old : (phase : Phase) → (desk_of n before).phase ≡ phase → is_new phase ≡ false → (desk_of n before).phase ≡ New → requests (codes "initialize") (message_of body) ≡ false
           early_old phase at old new = never (sym (ap is_new (sym at ∙ new)) ∙ old)
 
           go : (phase : Phase) → (desk_of n before).phase ≡ phase → places phase (request id method params) ≡ false → Rests (outs (message_row settings before n body (request id method params) phase) now)
           go New at off = subst (λ b. Rests (outs (or_lspmux id method params (choose b (initialize_row settings before n body) (early_row settings before n body (request id method params)))) now)) (sym off)
-              (by_lspmux none (ap is_there at) (choose false (initialize_row settings before n body) (early_row settings before n body (request id method params))) (refused id method params says none (λ new. ap (requests (codes "initialize")) says ∙ off) (early_code method)))
+              (by_lspmux none (ap is_there at) (choose false (initialize_row settings before n body) (early_row settings before n body (request id method params))) (λ foreign. refused id method params says none (λ new. ap (requests (codes "initialize")) says ∙ off) (early_code method)))
             where
               none : is_open id ids ≡ false
               none = ap (is_open id) (subst (λ p. OpenIf (S settings n Nobody before) p (desk_of n before).initialize ids) at h)
-          go Waiting at off = by_double (is_open id ids) refl (or_lspmux id method params (answer_error n body (early_code method))) (λ fresh. by_lspmux fresh (ap is_there at) (answer_error n body (early_code method)) (refused id method params says fresh (early_old Waiting at refl) (early_code method)))
+          go Waiting at off = by_double (is_open id ids) refl (or_lspmux id method params (answer_error n body (early_code method))) (λ fresh. by_lspmux fresh (ap is_there at) (answer_error n body (early_code method)) (λ foreign. refused id method params says fresh (early_old Waiting at refl) (early_code method)))
           go Answered at off = by_double (is_open id ids) refl (or_lspmux id method params (begun_row settings before n body (request id method params)))
-              (λ fresh. by_lspmux fresh (ap is_there at) (begun_row settings before n body (request id method params)) (begun_rests (request id method params) says at fresh (late_request fresh (ap is_there at) (ap is_early at))))
-          go Running at off = by_double (is_open id ids) refl (or_lspmux id method params (served_request settings before n body method)) (λ fresh. by_lspmux fresh (ap is_there at) (served_request settings before n body method) (late_request fresh (ap is_there at) (ap is_early at)))
-          go Down at off = by_double (is_open id ids) refl (or_lspmux id method params (answer_error n body (wrong_code method invalid_request))) (λ fresh. by_lspmux fresh (ap is_there at) (answer_error n body (wrong_code method invalid_request)) (refused id method params says fresh (early_old Down at refl) (wrong_code method invalid_request)))
+              (λ fresh. by_lspmux fresh (ap is_there at) (begun_row settings before n body (request id method params)) (λ foreign. begun_rests (request id method params) says at fresh (late_request fresh (ap is_there at) (ap is_early at) (ap is_served at) foreign)))
+          go Running at off = by_double (is_open id ids) refl (or_lspmux id method params (served_request settings before n body method)) (λ fresh. by_lspmux fresh (ap is_there at) (served_request settings before n body method) (λ foreign. late_request fresh (ap is_there at) (ap is_early at) (ap is_served at) foreign))
+          go Down at off = by_double (is_open id ids) refl (or_lspmux id method params (answer_error n body (wrong_code method invalid_request))) (λ fresh. by_lspmux fresh (ap is_there at) (answer_error n body (wrong_code method invalid_request)) (λ foreign. refused id method params says fresh (early_old Down at refl) (wrong_code method invalid_request)))
           go Absent at off = never (sym linked ∙ ap is_linked at)
           go Closed at off = rests_here (asked_closed Closed at (λ i m. tt))
           go Gone at off = rests_here (asked_closed Gone at (λ i m. tt))

@@ -1,7 +1,7 @@
 -- Where a request was sent on, its start had the editor's own texts.
-use Rattle.std.proofs.Common.{◌≡◌, ℕ, not, List, [], ◌∷◌, ◌++◌, map, refl, sym, ◌∙◌, ap, subst, append_assoc, append-nil}
+use Rattle.std.proofs.Common.{◌≡◌, ℕ, not, List, [], ◌∷◌, ◌++◌, map, refl, sym, ◌∙◌, ap, subst, append_assoc, append-nil, ap₂}
 use Rattle.std.specs.Prelude.{Option, Some, None}
-use Rattle.std.specs.Option.{option_map_or}
+use Rattle.std.specs.Option.{option_map_or, option_map}
 use Rattle.mux_history.specs.declared.cause.Cause.{Cause}
 use Rattle.mux_history.specs.declared.cause.Cause.TheVariants.{Joined, FromEditor, EditorGone, Started, StartFailed, FromServer, ServerGone, Drained, Tick}
 use Rattle.mux_history.specs.declared.entry.Entry.{Entry}
@@ -10,15 +10,18 @@ use Rattle.mux_history.specs.declared.out.Out.TheVariants.{ToEditor, ToServer, S
 use Rattle.document_model.specs.Opens.{Open}
 use Rattle.document_model.specs.Rows.{Agrees}
 use Rattle.document_model.specs.Texts.{found, no_texts}
-use Rattle.event_model.specs.Event.{Event, did, events_of, heard, said, took, with_cause}
+use Rattle.event_model.specs.Event.{Event, did, events_of, heard, said, took, with_cause, behind}
 use Rattle.event_model.specs.Settings.{Settings}
 use Rattle.event_model.specs.Spawns.{group_of}
 use Rattle.mux_facts.proofs.Keeps.{events_more}
 use Rattle.mux_model.specs.Documents.{held_at}
-use Rattle.group_rows.specs.Texts.{is_synced, texts_of, worker_of}
+use Rattle.group_rows.specs.Texts.{is_synced, texts_of, toucher, toucher_of}
+use Rattle.group_rows.specs.held_requests.specs.declared.request.Request.{Request}
+use Rattle.group_rows.specs.Waiting.{worker_of, first_waiting}
 use Rattle.group_facts.specs.OwnTexts.{AllOnOwnTexts, HasOwn, OnOwnTexts, OwnTexts, OwnTextsFrom}
-use Rattle.group_facts.specs.OwnVersions.{HasOwnTexts, IsSentOn, IsUnder}
-use Rattle.group_facts.proofs.SentOn.{worker_still}
+use Rattle.group_facts.specs.OwnVersions.{HasOwnTexts, IsSentOn, IsUnder, SendingOn, by_result, by_message}
+use Rattle.group_facts.proofs.SentOn.{worker_still, worker_idle}
+use Rattle.rpc_message.specs.Message.{message_of}
 
 -- the events of these entries, behind others
 events_in : List Entry → List Event
@@ -95,14 +98,19 @@ module _ (settings : Settings) (s : ℕ) (body : List ℕ) where
   own_at : (history : List Entry) → OwnTexts settings history → (moment later : List Event) → events_of history ≡ moment ++ said (ToServer s body) ∷ later → OnOwnTexts settings moment (ToServer s body)
   own_at history own moment later e = own_in [] history own moment later (sym (events_both [] history) ∙ e)
 
-pub moment_own : (settings : Settings) (history : List Entry) → OwnTexts settings history → (s n e : ℕ) (id : List ℕ) (events later : List Event) → events_of history ≡ events ++ later → (k : IsSentOn s events n e id) → HasOwnTexts settings s e k.moment
+pub moment_own : (settings : Settings) (history : List Entry) → OwnTexts settings history → (s n e : ℕ) (id : List ℕ) (events later : List Event) → events_of history ≡ events ++ later → (k : IsSentOn settings s events n e id) → HasOwnTexts settings s e k.moment
 moment_own settings history own s n e id events later whole k = by_group (group_of s k.moment) refl
   where
     here : OnOwnTexts settings k.moment (ToServer s k.body)
     here = own_at settings s k.body history own k.moment (k.later ++ later) (whole ∙ ap (λ z. z ++ later) k.place ∙ append_assoc k.moment (said (ToServer s k.body) ∷ k.later) later)
 
+    touches : SendingOn settings s e k.asked k.moment → toucher_of settings s k.moment (message_of k.body) ≡ Some e
+    touches (by_message before outs at) = ap (λ w. toucher w (message_of k.body) (first_waiting settings s k.moment)) (ap worker_of at ∙ worker_still before e k.asked outs)
+    touches (by_result before answer outs r at first editor body) = ap₂ (λ w m. toucher w m (first_waiting settings s k.moment)) (ap worker_of at ∙ worker_idle before s answer outs) k.says
+        ∙ (ap (option_map (λ (q : Request). q.editor)) first ∙ ap (λ n. Some n) editor)
+
     by_group : (g : Option ℕ) → group_of s k.moment ≡ g → (u : List ℕ) (o : Open) → found e u (option_map_or (λ g. texts_of settings g k.moment) g no_texts) ≡ Some o → HasOwn o (held_at s u k.moment)
-    by_group (Some g) home u o opened = here (ap is_synced k.says ∙ ap not k.other) e g (ap worker_of k.entry ∙ worker_still k.before e k.asked k.outs) home u o opened
+    by_group (Some g) home u o opened = here (ap is_synced k.says ∙ ap not k.other) e g (touches k.sending) home u o opened
     by_group None home u o opened = absurd (cc)
 
 -- what an editor has open there, and its start has, is one text

@@ -70,7 +70,7 @@ unsaid : (settings : Settings) (before : List Event) (cause : Cause) → ((out :
 unsaid settings before cause h [] = tt
 unsaid settings before cause h (out ∷ xs) = (h out, unsaid settings before cause h xs)
 
-module _ (settings : Settings) (before : List Event) (facts : Facts settings before) (asked : AllSentOn before) (s : ℕ) (answer : List ℕ) where
+module _ (settings : Settings) (before : List Event) (facts : Facts settings before) (asked : AllSentOn settings before) (s : ℕ) (answer : List ℕ) where
   abbrev R : List Event → Out → Type 0
   R events out = OnOwnVersions settings before (FromServer s answer) out
 
@@ -78,7 +78,7 @@ module _ (settings : Settings) (before : List Event) (facts : Facts settings bef
   now = with_cause before (FromServer s answer)
 
   -- what V1 says of each version, by the moment of the request
-  own_means : (f : Forwarded) (moment : List Event) → moment_of s f.number before ≡ Some moment → (u digits : List ℕ) → OwnVersion settings s f.editor moment before u digits (own_version settings before s f u digits)
+  own_means : (f : Forwarded) (moment : List Event) → moment_of settings s f.number before ≡ Some moment → (u digits : List ℕ) → OwnVersion settings s f.editor moment before u digits (own_version settings before s f u digits)
   own_means f moment at u digits = subst (λ o. OwnVersion settings s f.editor moment before u digits (version_now digits (stamp_at agreed_version settings s f.editor before u) (option_and_then (λ m. stamp_at held_version settings s f.editor m u) o))) (sym at)
       (own_now settings s f.editor u digits moment before)
 
@@ -88,10 +88,10 @@ module _ (settings : Settings) (before : List Event) (facts : Facts settings bef
   answer_on : asks_edit (message_of answer) ≡ false → Because R now (answer_row settings s before answer (message_of answer))
   answer_on plain = by_on (λ none. by_nothing) (λ f found. by_choose (λ there. by_send (λ ready. (λ response. on f found there, λ edit. never (sym edit ∙ plain)))) (λ gone. by_nothing))
     where
-      on : (f : Forwarded) → find (answered_by (answered_id (message_of answer))) (forwarding_of s before).open_requests ≡ Some f → is_there (desk_of f.editor before).phase ≡ true → IsHandedOn settings before s answer f.editor (text_for f)
+      on : (f : Forwarded) → find (answered_by (answered_id (message_of answer))) (forwarding_of settings s before).open_requests ≡ Some f → is_there (desk_of f.editor before).phase ≡ true → IsHandedOn settings before s answer f.editor (text_for f)
       on f found there =
-          let k : IsAsker before f.editor f.id = found_is (IsForwarded before) (answered_by (answered_id (message_of answer))) f (forwarding_of s before).open_requests (asked_while before (facts.steady).asked facts.quit f.editor there s) found in
-          let w : WasSentOn s before f.number f.editor f.id = found_is (λ (g : Forwarded). WasSentOn s before g.number g.editor g.id) (answered_by (answered_id (message_of answer))) f (forwarding_of s before).open_requests (asked s) found in
+          let k : IsAsker before f.editor f.id = found_is (IsForwarded before) (answered_by (answered_id (message_of answer))) f (forwarding_of settings s before).open_requests (asked_while settings before (facts.steady).asked facts.quit f.editor there s) found in
+          let w : WasSentOn settings s before f.number f.editor f.id = found_is (λ (g : Forwarded). WasSentOn settings s before g.number g.editor g.id) (answered_by (answered_id (message_of answer))) f (forwarding_of settings s before).open_requests (asked s) found in
           record {
             request = f;
             listed = found;
@@ -100,7 +100,7 @@ module _ (settings : Settings) (before : List Event) (facts : Facts settings bef
             id = k.id;
             text = k.text;
             waits = k.waits;
-            answered = (response_is k.id (message_of (text_for f)) (answer_says (own_version settings before s f) (own_flat settings before s f (facts.base).meant) answer f.id k.id (answers_only (message_of answer) f (forwarding_of s before).open_requests found) k.text)).1;
+            answered = (response_is k.id (message_of (text_for f)) (answer_says (own_version settings before s f) (own_flat settings before s f (facts.base).meant) answer f.id k.id (answers_only (message_of answer) f (forwarding_of settings s before).open_requests found) k.text)).1;
             own = own_answer settings s f.editor (w.sent).moment before (own_version settings before s f) (own_means f (w.sent).moment w.at) answer f.id;
           }
 
@@ -154,7 +154,7 @@ module _ (settings : Settings) (before : List Event) (facts : Facts settings bef
   from_ready Ended at = tt
 
 module _ (settings : Settings) (range : InRange settings) where
-  on_entry : (before : List Event) → Facts settings before → AllSentOn before → (cause : Cause) → AllByRecursion (OnOwnVersions settings before cause) (outs_of settings before cause)
+  on_entry : (before : List Event) → Facts settings before → AllSentOn settings before → (cause : Cause) → AllByRecursion (OnOwnVersions settings before cause) (outs_of settings before cause)
   on_entry before facts asked (FromServer s answer) = from_ready settings before facts asked s answer (life_of s before).stage refl
   on_entry before facts asked (Joined e) = unsaid settings before (Joined e) (λ out. tt) (outs_of settings before (Joined e))
   on_entry before facts asked (FromEditor e body) = unsaid settings before (FromEditor e body) (λ out. tt) (outs_of settings before (FromEditor e body))
@@ -166,7 +166,7 @@ module _ (settings : Settings) (range : InRange settings) where
   on_entry before facts asked (Tick t) = unsaid settings before (Tick t) (λ out. tt) (outs_of settings before (Tick t))
 
   -- no editor is told by what one leaves that is slow
-  on_whole : (before : List Event) → Facts settings before → AllSentOn before → (cause : Cause) → AllByRecursion (OnOwnVersions settings before cause) (entry_outs settings before cause)
+  on_whole : (before : List Event) → Facts settings before → AllSentOn settings before → (cause : Cause) → AllByRecursion (OnOwnVersions settings before cause) (entry_outs settings before cause)
   on_whole before facts asked cause = all_join (OnOwnVersions settings before cause) (outs_of settings before cause) (outs (slow_row settings) (behind (with_cause before cause) (outs_of settings before cause))) (on_entry before facts asked cause)
       (slow_all settings (OnOwnVersions settings before cause) (closes cause) (sends cause) (behind (with_cause before cause) (outs_of settings before cause)))
     where

@@ -28,8 +28,8 @@ use Rattle.group_words.specs.Houses.{home_of, is_first_error, is_home}
 use Rattle.group_words.proofs.Frames.{home_stays}
 use Rattle.group_rows.specs.Asks.{members_in}
 use Rattle.group_rows.specs.Earlier.{configure, differs, given_of, part_row, shown_in, was_shown}
-use Rattle.group_rows.specs.Rows.{close_all, outs_of, refused_in, refusal, replay, result_in, waiting_in, welcome_all}
-use Rattle.group_rows.specs.StopRows.{close_each}
+use Rattle.group_rows.specs.Rows.{outs_of, refused_in, refusal, replay, result_in, send_held, waiting_in, welcome_all}
+use Rattle.group_rows.specs.Waiting.{part, refuse_held}
 use Rattle.group_facts.specs.Facts.{is_in, is_other, is_parted, is_put_out, is_refused, is_refusing, turned_away}
 use Rattle.group_facts.specs.Lively.{is_unplaced}
 
@@ -137,18 +137,22 @@ closed_now : (events : List Event) (n e : ℕ) → nat_eq n e ≡ true → is_be
 closed_now events n e same = ap (λ (d : Desk). is_begun d.phase) (desk_more e events (said (CloseEditor n)))
     ∙ ap (λ b. is_begun (if b then record { phase = phase_closed (desk_of e events).phase; initialize = (desk_of e events).initialize } else desk_of e events).phase) same ∙ begun_closed (desk_of e events).phase
 
-all_closed : (es : List ℕ) (events : List Event) (e : ℕ) → list_any (λ n. nat_eq n e) es ≡ true → is_begun (desk_of e (behind events (outs (close_all es) events))).phase ≡ true → ⊥
-all_closed [] events e named h = absurd (cc)
-all_closed (n ∷ es) events e named h = go (nat_eq n e) refl (λ k. all_closed es (events ++ said (CloseEditor n) ∷ []) e k (sooner h)) named
+-- each of these is parted with
+parted_now : (settings : Settings) (g n e : ℕ) (events : List Event) → nat_eq n e ≡ true → is_begun (desk_of e (behind events (outs (part settings g n) events))).phase ≡ false
+parted_now settings g n e events same = ap (λ z. is_begun (desk_of e z).phase) (behind_both events (outs (refuse_held settings g n) events) (CloseEditor n ∷ [])) ∙ closed_now (behind events (outs (refuse_held settings g n) events)) n e same
+
+all_closed : (settings : Settings) (g : ℕ) (es : List ℕ) (events : List Event) (e : ℕ) → list_any (λ n. nat_eq n e) es ≡ true → is_begun (desk_of e (behind events (outs (each (part settings g) es) events))).phase ≡ true → ⊥
+all_closed settings g [] events e named h = absurd (cc)
+all_closed settings g (n ∷ es) events e named h = go (nat_eq n e) refl (λ k. all_closed settings g es next e k later) named
   where
     next : List Event
-    next = events ++ said (CloseEditor n) ∷ []
+    next = behind events (outs (part settings g n) events)
 
-    sooner : is_begun (desk_of e (behind events (outs (close_all (n ∷ es)) events))).phase ≡ true → is_begun (desk_of e (behind next (outs (close_all es) next))).phase ≡ true
-    sooner h = subst (λ z. is_begun (desk_of e z).phase ≡ true) (sym (append_assoc events (said (CloseEditor n) ∷ []) (map said (outs (close_all es) next)))) h
+    later : is_begun (desk_of e (behind next (outs (each (part settings g) es) next))).phase ≡ true
+    later = subst (λ z. is_begun (desk_of e z).phase ≡ true) (behind_both events (outs (part settings g n) events) (outs (each (part settings g) es) next)) h
 
     go : (b : Bool) → nat_eq n e ≡ b → (list_any (λ k. nat_eq k e) es ≡ true → ⊥) → (b || list_any (λ k. nat_eq k e) es) ≡ true → ⊥
-    go true same rest k = never (sym (begun_outs e next (outs (close_all es) next) (sooner h)) ∙ closed_now events n e same)
+    go true same rest k = never (sym (begun_outs e next (outs (each (part settings g) es) next) later) ∙ parted_now settings g n e events same)
     go false other rest k = rest k
 
 pub named_in : (test : ℕ → Bool) (a n e : ℕ) → a ≤ e → e < a + n → test e ≡ true → list_any (λ k. nat_eq k e) (filter test (range_with_len a n)) ≡ true
@@ -200,7 +204,7 @@ module _ (settings : Settings) (before : List Event) (s : ℕ) (body : List ℕ)
     mid = behind now errors
 
     abbrev closes : List Out
-    closes = outs (close_all (members_in settings g mid)) mid
+    closes = outs (each (part settings g) (members_in settings g mid)) mid
 
     module _ (absent : Editors before) (e : ℕ) (at_home : home_of settings e before ≡ Some g) where
       begun_before : is_begun (desk_of e mid).phase ≡ true → is_begun (desk_of e before).phase ≡ true
@@ -216,7 +220,7 @@ module _ (settings : Settings) (before : List Event) (s : ℕ) (body : List ℕ)
       none_begun : is_begun (desk_of e (behind mid closes)).phase ≡ true → ⊥
       none_begun h =
           let here : is_begun (desk_of e mid).phase ≡ true = begun_outs e mid closes h in
-          all_closed (members_in settings g mid) mid e
+          all_closed settings g (members_in settings g mid) mid e
           (named_in (λ n. is_begun (desk_of n mid).phase && is_home g (home_of settings n mid)) 0 (editors_of mid) e (omega arith) (joined_below here)
           (ap (λ b. b && is_home g (home_of settings e mid)) here ∙ (ap (is_home g) home_mid ∙ same_number g))) h
 
@@ -270,17 +274,17 @@ module _ (settings : Settings) (before : List Event) (s : ℕ) (body : List ℕ)
     partings = outs (part_row settings before body g) now
 
     abbrev others : List Out
-    others = outs (send (ToServer s initialized_text) ⨾ (configure settings before s g ⨾ (replay settings s g ⨾ welcome_all settings body g))) (behind now partings)
+    others = outs (send (ToServer s initialized_text) ⨾ (configure settings before s g ⨾ (replay settings s g ⨾ (welcome_all settings body g ⨾ send_held settings s g)))) (behind now partings)
 
     module _ (other : differs (given_of g before) body ≡ true) (absent : Editors before) (e : ℕ) (at_home : home_of settings e before ≡ Some g) (shown : was_shown (desk_of e before).phase ≡ true) where
-      all_parted : partings ≡ outs (close_each (shown_in settings g before)) now
-      all_parted = ap (λ b. outs (choose b (close_each (shown_in settings g before)) nothing) now) other
+      all_parted : partings ≡ outs (each (part settings g) (shown_in settings g before)) now
+      all_parted = ap (λ b. outs (choose b (each (part settings g) (shown_in settings g before)) nothing) now) other
 
       joined : e < 0 + editors_of before
       joined = let known : editors_of before ≤ e → ⊥ = λ le. never (sym shown ∙ ap was_shown (absent e le)) in omega (arith, known)
 
       none_parted : is_begun (desk_of e (behind now partings)).phase ≡ true → ⊥
-      none_parted h = all_closed (shown_in settings g before) now e
+      none_parted h = all_closed settings g (shown_in settings g before) now e
           (named_in (λ n. was_shown (desk_of n before).phase && is_home g (home_of settings n before)) 0 (editors_of before) e (omega arith) joined
           (ap (λ b. b && is_home g (home_of settings e before)) shown ∙ (ap (is_home g) at_home ∙ same_number g)))
           (subst (λ xs. is_begun (desk_of e (behind now xs)).phase ≡ true) all_parted h)

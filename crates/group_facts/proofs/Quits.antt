@@ -6,6 +6,7 @@ use Rattle.mux_history.specs.declared.out.Out.TheVariants.{ToEditor, ToServer, S
 use Rattle.event_model.specs.Event.{Event, heard, requests, said, took, with_cause}
 use Rattle.event_model.specs.Phases.{desk_of, is_begun, is_there, makes_running}
 use Rattle.event_model.proofs.Frames.{never}
+use Rattle.event_model.specs.Settings.{Settings}
 use Rattle.rpc_message.specs.Message.{Message, request, notification, result, error, not_json, not_message, message_of}
 use Rattle.group_words.specs.Houses.{is_doubled, stops}
 use Rattle.group_words.proofs.Frames.{past_more}
@@ -63,8 +64,8 @@ not_stopped events quit e there = go (stopped events) refl
     go true over = never (sym there ∙ quit over e)
     go false on = refl
 
-pub asked_while : (events : List Event) → (stopped events ≡ false → AllForwarded events) → Quit events → (e : ℕ) → is_there (desk_of e events).phase ≡ true → AllForwarded events
-asked_while events asked quit e there = asked (not_stopped events quit e there)
+pub asked_while : (settings : Settings) (events : List Event) → (stopped events ≡ false → AllForwarded settings events) → Quit events → (e : ℕ) → is_there (desk_of e events).phase ≡ true → AllForwarded settings events
+asked_while settings events asked quit e there = asked (not_stopped events quit e there)
 
 -- what stops all makes none run
 pub running_stops : (m : Message) → makes_running m ≡ true → requests (codes "lspmux/stop") m ≡ false

@@ -16,7 +16,7 @@ use Rattle.event_model.specs.declared.stage.Stage.TheVariants.{Initializing, Rea
 use Rattle.event_model.specs.Event.{Event, behind, heard, said, with_cause}
 use Rattle.event_model.specs.Phases.{Desk, desk_of, editors_of, is_begun, is_there, is_waiting, phase_closed, phase_told}
 use Rattle.event_model.specs.Requests.{answered_id, is_open, open_of, without}
-use Rattle.event_model.specs.Row.{each, outs, send}
+use Rattle.event_model.specs.Row.{each, outs}
 use Rattle.event_model.specs.Settings.{Settings}
 use Rattle.event_model.specs.Spawns.{group_of}
 use Rattle.event_model.specs.Stages.{Life, is_initializing, life_of, stage_hears}
@@ -32,11 +32,14 @@ use Rattle.group_words.specs.Houses.{at_group, emptied, groups_of, home_of, is_f
 use Rattle.group_words.specs.Placing.{changed, ended}
 use Rattle.group_words.proofs.Frames.{groups_more, groups_stay, home_stays}
 use Rattle.group_rows.specs.Asks.{members_in}
-use Rattle.group_rows.specs.Rows.{close_all, refused_in, refused_row, refusal, waiting_in}
+use Rattle.group_rows.specs.Rows.{refused_in, refused_row, refusal, waiting_in}
+use Rattle.group_rows.specs.Waiting.{part}
 use Rattle.group_facts.specs.Built.{is_left}
-use Rattle.group_facts.specs.Facts.{IsWaiting, is_in, is_parted, is_put_out, is_refused, is_refusing, turned_away}
+use Rattle.group_facts.specs.Facts.{AllHeld, IsWaiting, is_in, is_parted, is_put_out, is_refused, is_refusing, turned_away}
 use Rattle.group_facts.specs.Lively.{lives_at}
 use Rattle.group_facts.specs.Why.{Why, refused, turns_away}
+use Rattle.group_facts.proofs.Held.{IsParting, held_closed_all, held_told_all, part_still, part_why}
+use Rattle.group_facts.proofs.HeldOuts.{parts_by}
 use Rattle.group_facts.proofs.Housed.{group_more}
 use Rattle.group_facts.proofs.LiveGroups.{lives_emptied}
 use Rattle.group_rows.proofs.Stops.{range_below}
@@ -90,9 +93,16 @@ refusals_link : (body : List ℕ) (ns : List ℕ) (events : List Event) → Beca
 refusals_link body [] events = by_nothing
 refusals_link body (n ∷ ns) events = by_then (by_then (by_look (by_send tt)) (by_send tt)) (refusals_link body ns (behind events (outs (refusal body n) events)))
 
-closes_link : (ns : List ℕ) (events : List Event) → Because OnLinks events (close_all ns)
-closes_link [] events = by_nothing
-closes_link (n ∷ ns) events = by_then (by_send tt) (closes_link ns (behind events (CloseEditor n ∷ [])))
+closes_link : (settings : Settings) (g : ℕ) (ns : List ℕ) (events : List Event) → Because OnLinks events (each (part settings g) ns)
+closes_link settings g ns events = parts_by settings OnLinks g (λ e places body. tt) (λ e places. tt) ns events
+
+-- and what waits is held
+held_link : (settings : Settings) (events : List Event) (out : Out) → IsOnLink out → AllHeld settings events → AllHeld settings (events ++ said out ∷ [])
+held_link settings events (ToEditor e body) on h = held_told_all settings events e body h
+held_link settings events (CloseEditor e) on h = held_closed_all settings events e h
+held_link settings events (ToServer n body) on h = absurd on
+held_link settings events (Spawn n i) on h = absurd on
+held_link settings events (EndServer n) on h = absurd on
 
 -- Phases
 
@@ -134,7 +144,7 @@ module _ (settings : Settings) (before : List Event) (s : ℕ) (body : List ℕ)
   home_now : (e : ℕ) → home_of settings e now ≡ home_of settings e before
   home_now e = home_stays settings e before (heard (FromServer s body)) refl
 
-  module _ (stage : (life_of s before).stage ≡ Initializing) (first : is_first_error (message_of body) ≡ true) (waiting : AllWaiting before) (g : ℕ) (home : group_of s before ≡ Some g) where
+  module _ (stage : (life_of s before).stage ≡ Initializing) (first : is_first_error (message_of body) ≡ true) (waiting : AllWaiting before) (held : AllHeld settings now) (g : ℕ) (home : group_of s before ≡ Some g) where
     refusing : is_refusing before s (message_of body) ≡ true
     refusing = ap₂ (λ a b. a && b) first (ap is_initializing stage)
 
@@ -227,33 +237,27 @@ module _ (settings : Settings) (before : List Event) (s : ℕ) (body : List ℕ)
     abbrev mid : List Event
     mid = behind now errors
 
-    record IsLeaving (e : ℕ) (events : List Event) : Type 0 where
-      out : is_put_out settings before (FromServer s body) e ≡ true
-      there : is_there (desk_of e events).phase ≡ true
+    held_mid : AllHeld settings mid
+    held_mid = reasons_keep OnLinks (AllHeld settings) (held_link settings) now errors (refusals_link body (waiting_in settings g now) now).why held
 
-    leaving_still : (n k : ℕ) (events : List Event) → nat_eq n k ≡ false → IsLeaving k events → IsLeaving k (events ++ said (CloseEditor n) ∷ [])
-    leaving_still n k events other w = record {
-      out = w.out;
-      there = ap (λ (d : Desk). is_there d.phase) (desk_more k events (said (CloseEditor n)))
-          ∙ ap (λ b. is_there (if b then record { phase = phase_closed (desk_of k events).phase; initialize = (desk_of k events).initialize } else desk_of k events).phase) other ∙ w.there;
-    }
-
-    to_close : (k : ℕ) → (is_begun (desk_of k mid).phase && is_home g (home_of settings k mid)) ≡ true → IsLeaving k mid
+    to_close : (k : ℕ) → (is_begun (desk_of k mid).phase && is_home g (home_of settings k mid)) ≡ true → IsParting settings before (FromServer s body) k mid
     to_close k t =
         let p = and_parts (is_begun (desk_of k mid).phase) (is_home g (home_of settings k mid)) t in
         record {
-          out = put_out k (sym (ap (λ (d : Desk). is_begun d.phase) (desk_now k)) ∙ begun_outs k now errors p.0) (sym (ap (is_home g) (homes_stay settings k now errors ∙ home_now k)) ∙ p.1);
+          ends = put_out k (sym (ap (λ (d : Desk). is_begun d.phase) (desk_now k)) ∙ begun_outs k now errors p.0) (sym (ap (is_home g) (homes_stay settings k now errors ∙ home_now k)) ∙ p.1);
           there = begun_there (desk_of k mid).phase p.0;
+          held = held_mid;
         }
 
-    all_closed : Because R mid (close_all (members_in settings g mid))
-    all_closed = subst (λ ns. Because R mid (close_all (filter (λ e. is_begun (desk_of e mid).phase && is_home g (home_of settings e mid)) ns))) (sym (range_below (editors_of mid)))
-        (by_rising (λ e. send (CloseEditor e)) IsLeaving (λ n events w. by_send (w.out, w.there)) leaving_still mid (λ e. is_begun (desk_of e mid).phase && is_home g (home_of settings e mid)) to_close (editors_of mid))
+    all_closed : Because R mid (each (part settings g) (members_in settings g mid))
+    all_closed = subst (λ ns. Because R mid (each (part settings g) (filter (λ e. is_begun (desk_of e mid).phase && is_home g (home_of settings e mid)) ns))) (sym (range_below (editors_of mid)))
+        (by_rising (part settings g) (IsParting settings before (FromServer s body)) (λ n events w. part_why settings before (FromServer s body) g n events w) (λ n k events other w. part_still settings before (FromServer s body) g n k events other w) mid
+        (λ e. is_begun (desk_of e mid).phase && is_home g (home_of settings e mid)) to_close (editors_of mid))
 
     -- The start
 
     abbrev closed : List Event
-    closed = behind mid (outs (close_all (members_in settings g mid)) mid)
+    closed = behind mid (outs (each (part settings g) (members_in settings g mid)) mid)
 
     orphan_now : IsOrphan settings s g now
     orphan_now = record {
@@ -266,7 +270,7 @@ module _ (settings : Settings) (before : List Event) (s : ℕ) (body : List ℕ)
     }
 
     orphan : IsOrphan settings s g closed
-    orphan = reasons_keep OnLinks (IsOrphan settings s g) (orphan_still settings s g) mid (outs (close_all (members_in settings g mid)) mid) (closes_link (members_in settings g mid) mid).why
+    orphan = reasons_keep OnLinks (IsOrphan settings s g) (orphan_still settings s g) mid (outs (each (part settings g) (members_in settings g mid)) mid) (closes_link settings g (members_in settings g mid) mid).why
         (reasons_keep OnLinks (IsOrphan settings s g) (orphan_still settings s g) now errors (refusals_link body (waiting_in settings g now) now).why orphan_now)
 
     left : is_left settings closed s ≡ true
@@ -275,5 +279,5 @@ module _ (settings : Settings) (before : List Event) (s : ℕ) (body : List ℕ)
     refused_here : Because R now (refused_in settings s body g)
     refused_here = by_then (by_look all_refused) (by_then (by_look all_closed) (by_send (refused (orphan.stage) left)))
 
-  pub refused_why : (life_of s before).stage ≡ Initializing → is_first_error (message_of body) ≡ true → AllWaiting before → Because R now (refused_row settings before s body)
-  refused_why at first waiting = by_on (λ none. by_nothing) (λ g home. refused_here at first waiting g home)
+  pub refused_why : (life_of s before).stage ≡ Initializing → is_first_error (message_of body) ≡ true → AllWaiting before → AllHeld settings now → Because R now (refused_row settings before s body)
+  refused_why at first waiting held = by_on (λ none. by_nothing) (λ g home. refused_here at first waiting held g home)

@@ -1,8 +1,9 @@
 -- Two places of an entry that differ in what editors were asked and told: nothing else that the reasons of an editor's message look at.
 use Rattle.std.proofs.Common.{◌≡◌, ℕ, ◌+◌, Bool, true, false, ◌&&◌, List, [], ◌∷◌, ◌++◌, cond, map, nat_eq, if◌then◌else◌, Option, None, Some, refl, sym, ◌∙◌, ap, ap₂, subst, append-nil, append_assoc}
 use Rattle.std.specs.List.{AllByRecursion}
-use Rattle.std.specs.Option.{option_map, option_map_or}
+use Rattle.std.specs.Option.{option_map, option_map_or, option_and_then}
 use Rattle.std.proofs.lemmas.List.Elements.{filter-append}
+use Rattle.std.specs.Prelude.{filter, not, slice_get}
 use Rattle.std.proofs.lemmas.List.Sums.{fold-append}
 use Rattle.mux_history.specs.declared.out.Out.{Out}
 use Rattle.mux_history.specs.declared.out.Out.TheVariants.{ToEditor, ToServer, Spawn, CloseEditor, EndServer}
@@ -29,16 +30,17 @@ use Rattle.mux_facts.proofs.Tellings.{sent_more}
 use Rattle.group_words.specs.Houses.{groups_of, home_of, is_home}
 use Rattle.group_words.proofs.Frames.{groups_stay, home_stays, names_home, past_more, touches_groups}
 use Rattle.group_rows.specs.Answers.{shared_texts}
-use Rattle.group_rows.specs.Forwarded.{forwarding_behind, forwarding_of}
+use Rattle.group_rows.specs.held_requests.specs.declared.request.Request.{Request}
+use Rattle.group_rows.specs.Forwarded.{forwarding_next, forwarding_of, forwards, sender_waiting}
 use Rattle.group_rows.specs.Lists.{agreement_at, agreement_by, changed_next, changed_of, is_about, lists_next, lists_of, sayings_behind, sayings_of, version_at}
 use Rattle.group_rows.specs.diagnostics_route.specs.declared.last_list.LastList.{LastList}
-use Rattle.group_rows.specs.Texts.{is_synced, texts_next, texts_of, touch_all, worker_behind, worker_of}
-use Rattle.group_rows.proofs.Frames.{texts_more}
+use Rattle.group_rows.specs.Texts.{is_synced, texts_next, texts_of, touch_all, toucher, toucher_of}
+use Rattle.group_rows.specs.Waiting.{first_waiting, is_answered, waiting_next, waiting_of, without_first, worker_behind, worker_of}
+use Rattle.group_rows.proofs.Frames.{forwarding_more, texts_more, waiting_more}
 use Rattle.group_facts.specs.Facts.{asked_by, server_behind}
 use Rattle.group_facts.specs.Why.{IsQuestion, has_method}
 use Rattle.group_facts.proofs.Asks.{asked_by_more}
 use Rattle.group_facts.proofs.Begun.{start_more}
-use Rattle.group_facts.proofs.Forwards.{forwarding_more}
 use Rattle.group_facts.proofs.Housed.{group_more}
 
 -- a body
@@ -71,7 +73,7 @@ pub record Same (settings : Settings) (x y : List Event) : Type 0 where
   pub life : (s : ℕ) → life_of s x ≡ life_of s y
   pub desk : (e : ℕ) → desk_of e x ≡ desk_of e y
   pub opens : (e : ℕ) → open_of e x ≡ open_of e y
-  pub forwarding : (s : ℕ) → forwarding_of s x ≡ forwarding_of s y
+  pub forwarding : (s : ℕ) → forwarding_of settings s x ≡ forwarding_of settings s y
   pub sent : (s : ℕ) (u : List ℕ) → sent_of s u x ≡ sent_of s u y
   pub asked : (s : ℕ) → asked_by s x ≡ asked_by s y
   pub part : (s : ℕ) → server_part s x ≡ server_part s y
@@ -85,6 +87,7 @@ pub record Same (settings : Settings) (x y : List Event) : Type 0 where
   pub sayings : (s : ℕ) → sayings_of s x ≡ sayings_of s y
   pub changed : (s : ℕ) (u : List ℕ) → changed_of s u x ≡ changed_of s u y
   pub lists : (s : ℕ) → lists_of s x ≡ lists_of s y
+  pub waiting : (g : ℕ) → waiting_of settings g x ≡ waiting_of settings g y
 
 pub same_held : {x y : List Event} (settings : Settings) → Same settings x y → (s : ℕ) (u : List ℕ) → held_at s u x ≡ held_at s u y
 same_held settings k s u = ap (λ (z : Sent). z.held) (k.sent s u)
@@ -104,6 +107,14 @@ same_agreement {x} {y} settings k s e u = ap (λ z. option_map_or (agreement_by 
 pub same_version : {x y : List Event} (settings : Settings) → Same settings x y → (s e : ℕ) (u : List ℕ) → version_at settings s e x u ≡ version_at settings s e y u
 same_version settings k s e u = ap (λ z. option_map (λ (o : Open). o.version) (found e u z)) (same_shared settings k s)
 
+-- of what waits the same is the first
+pub same_first : {x y : List Event} (settings : Settings) → Same settings x y → (s : ℕ) → first_waiting settings s x ≡ first_waiting settings s y
+same_first {x} {y} settings k s = go (group_of s x) ∙ ap (λ o. option_and_then (λ g. slice_get (waiting_of settings g y) 0) o) (k.group s)
+  where
+    go : (o : Option ℕ) → option_and_then (λ g. slice_get (waiting_of settings g x) 0) o ≡ option_and_then (λ g. slice_get (waiting_of settings g y) 0) o
+    go (Some g) = ap (λ rs. slice_get rs 0) (k.waiting g)
+    go None = refl
+
 at_place : {x y z : List Event} (settings : Settings) → x ≡ y → Same settings x z → Same settings y z
 at_place {x} {y} {z} settings e k = subst (λ w. Same settings w z) e k
 
@@ -112,7 +123,7 @@ before_place {x} {y} {z} settings e k = subst (λ w. Same settings x w) e k
 
 module _ (settings : Settings) where
   pub same_itself : (x : List Event) → Same settings x x
-  same_itself x = record { life = λ s. refl; desk = λ e. refl; opens = λ e. refl; forwarding = λ s. refl; sent = λ s u. refl; asked = λ s. refl; part = λ s. refl; next = λ s. refl; start = λ g. refl; groups = refl; home = λ e. refl; group = λ s. refl; worker = refl; texts = λ g. refl; sayings = λ s. refl; changed = λ s u. refl; lists = λ s. refl }
+  same_itself x = record { life = λ s. refl; desk = λ e. refl; opens = λ e. refl; forwarding = λ s. refl; sent = λ s u. refl; asked = λ s. refl; part = λ s. refl; next = λ s. refl; start = λ g. refl; groups = refl; home = λ e. refl; group = λ s. refl; worker = refl; texts = λ g. refl; sayings = λ s. refl; changed = λ s u. refl; lists = λ s. refl; waiting = λ g. refl }
 
   pub same_both : (x y z : List Event) → Same settings x y → Same settings y z → Same settings x z
   same_both x y z h k = record {
@@ -133,6 +144,7 @@ module _ (settings : Settings) where
     sayings = λ s. h.sayings s ∙ k.sayings s;
     changed = λ s u. h.changed s u ∙ k.changed s u;
     lists = λ s. h.lists s ∙ k.lists s;
+    waiting = λ g. h.waiting g ∙ k.waiting g;
   }
 
   touches_none : (out : Out) → IsBody out → touches_groups (said out) ≡ false
@@ -152,11 +164,27 @@ module _ (settings : Settings) where
   texts_then : (x y : List Event) (out : Out) → IsBody out → Same settings x y → (g : ℕ) → texts_next settings g x (texts_of settings g x) (said out) ≡ texts_next settings g y (texts_of settings g y) (said out)
   texts_then x y (ToEditor e body) is h g = h.texts g
   texts_then x y (ToServer s body) is h g =
-      ap (λ o. if is_home g o && is_synced (message_of body) then touch_all (worker_of x) (texts_of settings g x) else texts_of settings g x) (h.group s)
-      ∙ ap₂ (λ w z. if is_home g (group_of s y) && is_synced (message_of body) then touch_all w z else z) h.worker (h.texts g)
+      ap (λ o. if is_home g o && is_synced (message_of body) then touch_all (toucher_of settings s x (message_of body)) (texts_of settings g x) else texts_of settings g x) (h.group s)
+      ∙ ap₂ (λ w z. if is_home g (group_of s y) && is_synced (message_of body) then touch_all w z else z) (ap₂ (λ w r. toucher w (message_of body) r) h.worker (same_first settings h s)) (h.texts g)
   texts_then x y (Spawn s n) is h g = absurd is
   texts_then x y (CloseEditor e) is h g = absurd is
   texts_then x y (EndServer s) is h g = absurd is
+
+  forwarding_then : (x y : List Event) (out : Out) → IsBody out → Same settings x y → (s : ℕ) → forwarding_next settings s x (forwarding_of settings s x) (said out) ≡ forwarding_next settings s y (forwarding_of settings s y) (said out)
+  forwarding_then x y (ToEditor e body) is h s = h.forwarding s
+  forwarding_then x y (ToServer n body) is h s = ap₂ (λ r f. if nat_eq n s then forwards (option_and_then sender_waiting r) f (message_of body) else f) (same_first settings h s) (h.forwarding s)
+  forwarding_then x y (Spawn n g) is h s = absurd is
+  forwarding_then x y (CloseEditor e) is h s = absurd is
+  forwarding_then x y (EndServer n) is h s = absurd is
+
+  waiting_then : (x y : List Event) (out : Out) → IsBody out → Same settings x y → (g : ℕ) → waiting_next settings g x (waiting_of settings g x) (said out) ≡ waiting_next settings g y (waiting_of settings g y) (said out)
+  waiting_then x y (ToEditor e body) is h g = ap (λ rs. filter (λ r. not (is_answered e (answered_id (message_of body)) r)) rs) (h.waiting g)
+  waiting_then x y (ToServer s body) is h g =
+      ap (λ o. if is_home g o then without_first (worker_of x) (message_of body) (waiting_of settings g x) else waiting_of settings g x) (h.group s)
+      ∙ ap₂ (λ w rs. if is_home g (group_of s y) then without_first w (message_of body) rs else rs) h.worker (h.waiting g)
+  waiting_then x y (Spawn s n) is h g = absurd is
+  waiting_then x y (CloseEditor e) is h g = absurd is
+  waiting_then x y (EndServer s) is h g = absurd is
 
   changed_then : (x y : List Event) (out : Out) → IsBody out → Same settings x y → (s : ℕ) (u : List ℕ) → changed_next s u x (changed_of s u x) (said out) ≡ changed_next s u y (changed_of s u y) (said out)
   changed_then x y (ToEditor e body) is h s u = h.changed s u
@@ -171,7 +199,7 @@ module _ (settings : Settings) where
     life = λ s. life_more s x (said out) ∙ (ap (λ l. life_behind s l (said out)) (h.life s) ∙ sym (life_more s y (said out)));
     desk = λ e. desk_more e x (said out) ∙ (ap (λ d. desk_behind e d (said out)) (h.desk e) ∙ sym (desk_more e y (said out)));
     opens = λ e. opens_more e x (said out) ∙ (ap (λ ids. open_behind e ids (said out)) (h.opens e) ∙ sym (opens_more e y (said out)));
-    forwarding = λ s. forwarding_more s x (said out) ∙ (ap (λ f. forwarding_behind s f (said out)) (h.forwarding s) ∙ sym (forwarding_more s y (said out)));
+    forwarding = λ s. forwarding_more settings s x (said out) ∙ (forwarding_then x y out is h s ∙ sym (forwarding_more settings s y (said out)));
     sent = λ s u. sent_more s u x (said out) ∙ (ap (λ z. sent_behind s u z (said out)) (h.sent s u) ∙ sym (sent_more s u y (said out)));
     asked = λ s. asked_by_more s x (said out) ∙ (ap (λ ids. server_behind s ids (said out)) (h.asked s) ∙ sym (asked_by_more s y (said out)));
     part = λ s. filter-append (is_of_server s) x (said out ∷ []) ∙ (ap (λ z. z ++ cond (is_of_server s (said out)) (said out ∷ []) []) (h.part s) ∙ sym (filter-append (is_of_server s) y (said out ∷ [])));
@@ -185,6 +213,7 @@ module _ (settings : Settings) where
     sayings = λ s. sayings_more s x (said out) ∙ (ap (λ n. sayings_behind s n (said out)) (h.sayings s) ∙ sym (sayings_more s y (said out)));
     changed = λ s u. changed_more s u x (said out) ∙ (changed_then x y out is h s u ∙ sym (changed_more s u y (said out)));
     lists = λ s. lists_stay s x out ∙ (h.lists s ∙ sym (lists_stay s y out));
+    waiting = λ g. waiting_more settings g x (said out) ∙ (waiting_then x y out is h g ∙ sym (waiting_more settings g y (said out)));
   }
 
   pub same_behind : (x y : List Event) (xs : List Out) → AllByRecursion IsBody xs → Same settings x y → Same settings (behind x xs) (behind y xs)
@@ -209,6 +238,18 @@ module _ (settings : Settings) where
   told_phase Closed initialize m h = refl
   told_phase Gone initialize m h = refl
 
+  none_answered : (n : ℕ) (rs : List Request) → filter (λ r. not (is_answered n None r)) rs ≡ rs
+  none_answered n [] = refl
+  none_answered n (r ∷ rs) = ap (λ z. r ∷ z) (none_answered n rs)
+
+  unanswered : (n : ℕ) (m : Message) (rs : List Request) → has_method m ≡ true → filter (λ r. not (is_answered n (answered_id m) r)) rs ≡ rs
+  unanswered n (request id method params) rs h = none_answered n rs
+  unanswered n (notification method params) rs h = none_answered n rs
+  unanswered n (result id r) rs h = never (sym h)
+  unanswered n (error id r) rs h = never (sym h)
+  unanswered n not_json rs h = never (sym h)
+  unanswered n not_message rs h = never (sym h)
+
   told_none : (m : Message) (ids : List Id) → has_method m ≡ true → without (answered_id m) ids ≡ ids
   told_none (request id method params) ids h = refl
   told_none (notification method params) ids h = refl
@@ -226,7 +267,7 @@ module _ (settings : Settings) where
     life = λ s. life_more s x (said (ToEditor n body));
     desk = λ e. desk_more e x (said (ToEditor n body)) ∙ seated e (nat_eq n e);
     opens = λ e. opens_more e x (said (ToEditor n body)) ∙ ap (λ ids. if nat_eq n e then ids else open_of e x) (told_none (message_of body) (open_of e x) h) ∙ either (nat_eq n e) (open_of e x);
-    forwarding = λ s. forwarding_more s x (said (ToEditor n body));
+    forwarding = λ s. forwarding_more settings s x (said (ToEditor n body));
     sent = λ s u. sent_more s u x (said (ToEditor n body)) ∙ quiet_sent s u n body (sent_of s u x).encoding (sent_of s u x).held;
     asked = λ s. asked_by_more s x (said (ToEditor n body));
     part = λ s. filter-append (is_of_server s) x (said (ToEditor n body) ∷ []) ∙ append-nil (server_part s x);
@@ -240,6 +281,7 @@ module _ (settings : Settings) where
     sayings = λ s. sayings_more s x (said (ToEditor n body));
     changed = λ s u. changed_more s u x (said (ToEditor n body));
     lists = λ s. lists_stay s x (ToEditor n body);
+    waiting = λ g. waiting_more settings g x (said (ToEditor n body)) ∙ unanswered n (message_of body) (waiting_of settings g x) h;
   }
     where
       either : (b : Bool) (ids : List Id) → (if b then ids else ids) ≡ ids
@@ -279,4 +321,5 @@ module _ (settings : Settings) where
     sayings = λ s. sym (h.sayings s);
     changed = λ s u. sym (h.changed s u);
     lists = λ s. sym (h.lists s);
+    waiting = λ g. sym (h.waiting g);
   }

@@ -1,5 +1,5 @@
 -- A request that was sent on to the last start of its editor's group, until the start answers it; and the numbers of such requests.
-use Rattle.std.proofs.Common.{◌≡◌, ℕ, zero, suc, ◌+◌, ◌<◌, ◌≤◌, ◌^◌, Bool, true, false, not, ◌&&◌, cond, List, [], ◌∷◌, ◌++◌, map, filter, find, fold, nat_eq, codes, bytes_eq, decimal, if◌then◌else◌, Option, Some, None, ◌⊎◌, inl, inr, refl, sym, ◌∙◌, ap, subst, arith}
+use Rattle.std.proofs.Common.{◌≡◌, ℕ, zero, suc, ◌+◌, ◌<◌, ◌≤◌, ◌^◌, Bool, true, false, not, ◌&&◌, cond, List, [], ◌∷◌, ◌++◌, map, filter, find, nat_eq, codes, bytes_eq, decimal, if◌then◌else◌, Option, Some, None, ◌⊎◌, inl, inr, refl, sym, ◌∙◌, ap, subst, arith}
 use Rattle.std.specs.Prelude.{slice_get}
 use Rattle.std.specs.Fmt.{digits}
 use Rattle.std.proofs.lemmas.Fmt.{decimal_injective}
@@ -20,12 +20,14 @@ use Rattle.event_model.specs.Spawns.{start_behind, start_of}
 use Rattle.document_model.proofs.ScalarTrees.{either_way}
 use Rattle.mux_facts.proofs.Words.{number_same}
 use Rattle.group_words.specs.Houses.{home_of, house_of, placed_for, places}
+use Rattle.group_words.specs.Past.{past}
 use Rattle.group_words.specs.Placing.{home_by}
 use Rattle.group_words.proofs.Frames.{home_more, home_stays}
-use Rattle.group_rows.specs.Forwarded.{Forwarded, Forwarding, Sender, answered_by, cancelled_by, forwarding_behind, forwarding_of, forwards, is_written, names, no_forwarding, numbered}
+use Rattle.group_rows.specs.Forwarded.{Forwarded, Forwarding, Sender, answered_by, cancelled_by, first_sender, forwarding_next, forwarding_of, forwards, is_written, names, no_forwarding, numbered, sender_or}
 use Rattle.group_facts.specs.Settled.{IsSent}
 use Rattle.group_facts.proofs.Begun.{NoSpawn, start_more}
-use Rattle.group_facts.proofs.Forwards.{forwarding_more, more_requests}
+use Rattle.group_rows.proofs.Frames.{forwarding_more}
+use Rattle.group_facts.proofs.Forwards.{more_requests}
 
 -- One of a list
 
@@ -34,7 +36,7 @@ OneOf P [] = ⊥
 OneOf P (x ∷ xs) = P x ⊎ OneOf P xs
 
 module _ {X : Type 0} (P : X → Type 0) where
-  one_left : (xs ys : List X) → OneOf P xs → OneOf P (xs ++ ys)
+  pub one_left : (xs ys : List X) → OneOf P xs → OneOf P (xs ++ ys)
   one_left [] ys h = absurd h
   one_left (x ∷ xs) ys (inl p) = inl p
   one_left (x ∷ xs) ys (inr q) = inr (one_left xs ys q)
@@ -64,13 +66,13 @@ module _ {X : Type 0} (P : X → Type 0) where
       go false (inl k) = inl (inr k)
       go b (inr k) = inr (inr k)
 
-  record Placed (xs : List X) : Type 0 where
-    place : ℕ
-    item : X
-    at : slice_get xs place ≡ Some item
-    holds : P item
+  pub record Placed (xs : List X) : Type 0 where
+    pub place : ℕ
+    pub item : X
+    pub at : slice_get xs place ≡ Some item
+    pub holds : P item
 
-  one_place : (xs : List X) → OneOf P xs → Placed xs
+  pub one_place : (xs : List X) → OneOf P xs → Placed xs
   one_place [] h = absurd h
   one_place (x ∷ xs) (inl p) = record { place = zero; item = x; at = refl; holds = p }
   one_place (x ∷ xs) (inr q) = let k : Placed xs = one_place xs q in record { place = suc k.place; item = k.item; at = k.at; holds = k.holds }
@@ -86,11 +88,11 @@ pub record SentAt (settings : Settings) (events : List Event) (e : ℕ) (id : Id
   pub start : ℕ
   pub home : home_of settings e events ≡ Some group
   pub last : start_of group events ≡ Some start
-  pub among : OneOf (IsOf e id) (forwarding_of start events).open_requests
+  pub among : OneOf (IsOf e id) (forwarding_of settings start events).open_requests
 
 pub sent_is : (settings : Settings) (events : List Event) (e : ℕ) (id : Id) → SentAt settings events e id → IsSent settings events e id
 sent_is settings events e id k =
-    let p : Placed (IsOf e id) (forwarding_of k.start events).open_requests = one_place (IsOf e id) (forwarding_of k.start events).open_requests k.among in
+    let p : Placed (IsOf e id) (forwarding_of settings k.start events).open_requests = one_place (IsOf e id) (forwarding_of settings k.start events).open_requests k.among in
     record { group = k.group; start = k.start; home = k.home; last = k.last; place = p.place; request = p.item; at = p.at; editor = p.holds.0; text = p.holds.1 }
 
 -- a body to the start leaves it open
@@ -102,15 +104,15 @@ of_cancelled e id named f h = go (is_written named f.number)
     go true = (h.0, h.1)
     go false = h
 
-one_forwards : (e : ℕ) (id : Id) (x : Forwarding) (m : Message) → OneOf (IsOf e id) x.open_requests → OneOf (IsOf e id) (forwards x m).open_requests
-one_forwards e id x (request k method params) h = either_way (λ (y : Forwarding). OneOf (IsOf e id) y.open_requests) (is_own method) x (more_requests x) h (one_left (IsOf e id) x.open_requests (numbered x.sender x.next) h)
-one_forwards e id x (notification method params) h = either_way (λ (y : Forwarding). OneOf (IsOf e id) y.open_requests) (bytes_eq method (codes "$/cancelRequest"))
+one_forwards : (e : ℕ) (id : Id) (first : Option Sender) (x : Forwarding) (m : Message) → OneOf (IsOf e id) x.open_requests → OneOf (IsOf e id) (forwards first x m).open_requests
+one_forwards e id first x (request k method params) h = either_way (λ (y : Forwarding). OneOf (IsOf e id) y.open_requests) (is_own method) x (more_requests first x) h (one_left (IsOf e id) x.open_requests (numbered (sender_or x.sender first) x.next) h)
+one_forwards e id first x (notification method params) h = either_way (λ (y : Forwarding). OneOf (IsOf e id) y.open_requests) (bytes_eq method (codes "$/cancelRequest"))
     (record { sender = x.sender; next = x.next; open_requests = map (cancelled_by (named_of (codes "id") params)) x.open_requests }) x
     (one_mapped (IsOf e id) (cancelled_by (named_of (codes "id") params)) (of_cancelled e id (named_of (codes "id") params)) x.open_requests h) h
-one_forwards e id x (result k r) h = h
-one_forwards e id x (error k r) h = h
-one_forwards e id x not_json h = h
-one_forwards e id x not_message h = h
+one_forwards e id first x (result k r) h = h
+one_forwards e id first x (error k r) h = h
+one_forwards e id first x not_json h = h
+one_forwards e id first x not_message h = h
 
 module _ (settings : Settings) (e : ℕ) (id : Id) where
   abbrev Among : List Forwarded → Type 0
@@ -118,13 +120,13 @@ module _ (settings : Settings) (e : ℕ) (id : Id) where
 
   -- one event more
   sent_more : (events : List Event) (event : Event) → ((g : ℕ) → home_of settings e events ≡ Some g → home_of settings e (events ++ event ∷ []) ≡ Some g) → ((g s : ℕ) → start_of g events ≡ Some s → start_behind g (start_of g events) event ≡ Some s)
-      → ((s : ℕ) → Among (forwarding_of s events).open_requests → Among (forwarding_behind s (forwarding_of s events) event).open_requests) → SentAt settings events e id → SentAt settings (events ++ event ∷ []) e id
+      → ((s : ℕ) → Among (forwarding_of settings s events).open_requests → Among (forwarding_next settings s events (forwarding_of settings s events) event).open_requests) → SentAt settings events e id → SentAt settings (events ++ event ∷ []) e id
   sent_more events event homes starts open_still k = record {
     group = k.group;
     start = k.start;
     home = homes k.group k.home;
     last = start_more k.group events event ∙ starts k.group k.start k.last;
-    among = subst (λ (x : Forwarding). Among x.open_requests) (sym (forwarding_more k.start events event)) (open_still k.start k.among);
+    among = subst (λ (x : Forwarding). Among x.open_requests) (sym (forwarding_more settings k.start events event)) (open_still k.start k.among);
   }
 
   -- an out that spawns none
@@ -134,7 +136,7 @@ module _ (settings : Settings) (e : ℕ) (id : Id) where
   sent_did events (CloseEditor n) quiet k = sent_more events (said (CloseEditor n)) (λ g at. home_stays settings e events (said (CloseEditor n)) refl ∙ at) (λ g s at. at) (λ s h. h) k
   sent_did events (EndServer n) quiet k = sent_more events (said (EndServer n)) (λ g at. home_stays settings e events (said (EndServer n)) refl ∙ at) (λ g s at. at) (λ s h. h) k
   sent_did events (ToServer n body) quiet k = sent_more events (said (ToServer n body)) (λ g at. home_stays settings e events (said (ToServer n body)) refl ∙ at) (λ g s at. at)
-      (λ s h. either_way (λ (x : Forwarding). Among x.open_requests) (nat_eq n s) (forwards (forwarding_of s events) (message_of body)) (forwarding_of s events) (one_forwards e id (forwarding_of s events) (message_of body) h) h) k
+      (λ s h. either_way (λ (x : Forwarding). Among x.open_requests) (nat_eq n s) (forwards (first_sender settings s events) (forwarding_of settings s events) (message_of body)) (forwarding_of settings s events) (one_forwards e id (first_sender settings s events) (forwarding_of settings s events) (message_of body) h) h) k
 
   -- the first start of a group
   pub sent_spawn : (events : List Event) (n h : ℕ) → start_of h events ≡ None → SentAt settings events e id → SentAt settings (events ++ said (Spawn n h) ∷ []) e id
@@ -168,7 +170,7 @@ module _ (settings : Settings) (e : ℕ) (id : Id) where
     start = k.start;
     home = home_stays settings e events (heard (StartFailed n)) refl ∙ k.home;
     last = start_more k.group events (heard (StartFailed n)) ∙ k.last;
-    among = subst (λ (x : Forwarding). Among x.open_requests) (sym (forwarding_more k.start events (heard (StartFailed n)))) (forgets (nat_eq n k.start) (forwarding_of k.start events) other k.among);
+    among = subst (λ (x : Forwarding). Among x.open_requests) (sym (forwarding_more settings k.start events (heard (StartFailed n)))) (forgets (nat_eq n k.start) (forwarding_of settings k.start events) other k.among);
   }
 
   pub sent_ended : (events : List Event) (n : ℕ) (k : SentAt settings events e id) → nat_eq n k.start ≡ false → SentAt settings (with_cause events (ServerGone n)) e id
@@ -177,7 +179,7 @@ module _ (settings : Settings) (e : ℕ) (id : Id) where
     start = k.start;
     home = home_stays settings e events (heard (ServerGone n)) refl ∙ k.home;
     last = start_more k.group events (heard (ServerGone n)) ∙ k.last;
-    among = subst (λ (x : Forwarding). Among x.open_requests) (sym (forwarding_more k.start events (heard (ServerGone n)))) (forgets (nat_eq n k.start) (forwarding_of k.start events) other k.among);
+    among = subst (λ (x : Forwarding). Among x.open_requests) (sym (forwarding_more settings k.start events (heard (ServerGone n)))) (forgets (nat_eq n k.start) (forwarding_of settings k.start events) other k.among);
   }
 
   pub sent_gone : (events : List Event) (n : ℕ) (why : link.Why) → nat_eq n e ≡ false → SentAt settings events e id → SentAt settings (with_cause events (EditorGone n why)) e id
@@ -189,7 +191,7 @@ module _ (settings : Settings) (e : ℕ) (id : Id) where
 
   -- it is one that the start's response answers
   abbrev pub Passed : List Event → ℕ → List ℕ → Type 0
-  Passed events n body = OneOf (λ (f : Forwarded). IsOf e id f × (answered_by (answered_id (message_of body)) f ≡ true)) (forwarding_of n events).open_requests
+  Passed events n body = OneOf (λ (f : Forwarded). IsOf e id f × (answered_by (answered_id (message_of body)) f ≡ true)) (forwarding_of settings n events).open_requests
 
   abbrev unanswered : List ℕ → List Forwarded → List Forwarded
   unanswered body fs = filter (λ f. not (answered_by (answered_id (message_of body)) f)) fs
@@ -197,24 +199,24 @@ module _ (settings : Settings) (e : ℕ) (id : Id) where
   pub sent_answered : (events : List Event) (n : ℕ) (body : List ℕ) → (k : SentAt settings events e id) → SentAt settings (with_cause events (FromServer n body)) e id ⊎ ((n ≡ k.start) × Passed events n body)
   sent_answered events n body k = go (nat_eq n k.start) refl
     where
-      made : Among (forwarding_behind k.start (forwarding_of k.start events) (heard (FromServer n body))).open_requests → SentAt settings (with_cause events (FromServer n body)) e id
+      made : Among (forwarding_next settings k.start events (forwarding_of settings k.start events) (heard (FromServer n body))).open_requests → SentAt settings (with_cause events (FromServer n body)) e id
       made h = record {
         group = k.group;
         start = k.start;
         home = home_stays settings e events (heard (FromServer n body)) refl ∙ k.home;
         last = start_more k.group events (heard (FromServer n body)) ∙ k.last;
-        among = subst (λ (x : Forwarding). Among x.open_requests) (sym (forwarding_more k.start events (heard (FromServer n body)))) h;
+        among = subst (λ (x : Forwarding). Among x.open_requests) (sym (forwarding_more settings k.start events (heard (FromServer n body)))) h;
       }
 
-      with_rest : (b : Bool) → nat_eq n k.start ≡ b → Among (if b then unanswered body (forwarding_of k.start events).open_requests else (forwarding_of k.start events).open_requests) → SentAt settings (with_cause events (FromServer n body)) e id
-      with_rest b same h = made (subst (λ c. Among (if c then unanswered body (forwarding_of k.start events).open_requests else (forwarding_of k.start events).open_requests)) (sym same) h)
+      with_rest : (b : Bool) → nat_eq n k.start ≡ b → Among (if b then unanswered body (forwarding_of settings k.start events).open_requests else (forwarding_of settings k.start events).open_requests) → SentAt settings (with_cause events (FromServer n body)) e id
+      with_rest b same h = made (subst (λ c. Among (if c then unanswered body (forwarding_of settings k.start events).open_requests else (forwarding_of settings k.start events).open_requests)) (sym same) h)
 
-      split : nat_eq n k.start ≡ true → Among (unanswered body (forwarding_of k.start events).open_requests) ⊎ OneOf (λ (f : Forwarded). IsOf e id f × (answered_by (answered_id (message_of body)) f ≡ true)) (forwarding_of k.start events).open_requests → SentAt settings (with_cause events (FromServer n body)) e id ⊎ ((n ≡ k.start) × Passed events n body)
+      split : nat_eq n k.start ≡ true → Among (unanswered body (forwarding_of settings k.start events).open_requests) ⊎ OneOf (λ (f : Forwarded). IsOf e id f × (answered_by (answered_id (message_of body)) f ≡ true)) (forwarding_of settings k.start events).open_requests → SentAt settings (with_cause events (FromServer n body)) e id ⊎ ((n ≡ k.start) × Passed events n body)
       split same (inl h) = inl (with_rest true same h)
-      split same (inr h) = inr (number_same n k.start same, subst (λ s. OneOf (λ (f : Forwarded). IsOf e id f × (answered_by (answered_id (message_of body)) f ≡ true)) (forwarding_of s events).open_requests) (sym (number_same n k.start same)) h)
+      split same (inr h) = inr (number_same n k.start same, subst (λ s. OneOf (λ (f : Forwarded). IsOf e id f × (answered_by (answered_id (message_of body)) f ≡ true)) (forwarding_of settings s events).open_requests) (sym (number_same n k.start same)) h)
 
       go : (b : Bool) → nat_eq n k.start ≡ b → SentAt settings (with_cause events (FromServer n body)) e id ⊎ ((n ≡ k.start) × Passed events n body)
-      go true same = split same (one_without (IsOf e id) (answered_by (answered_id (message_of body))) (forwarding_of k.start events).open_requests k.among)
+      go true same = split same (one_without (IsOf e id) (answered_by (answered_id (message_of body))) (forwarding_of settings k.start events).open_requests k.among)
       go false other = inl (with_rest false other k.among)
 
 -- The numbers of open requests rise from 2, below the next
@@ -251,29 +253,29 @@ rising_filtered low next test (f ∷ fs) h = go (test f) (rising_filtered (f.num
 abbrev Rises : Forwarding → Type 0
 Rises x = Rising 2 x.next x.open_requests
 
-rises_forwards : (x : Forwarding) (m : Message) → Rises x → Rises (forwards x m)
-rises_forwards x (request id method params) h = either_way Rises (is_own method) x (more_requests x) h (rising_last 2 x.next x.open_requests x.sender h)
-rises_forwards x (notification method params) h = either_way Rises (bytes_eq method (codes "$/cancelRequest")) (record { sender = x.sender; next = x.next; open_requests = map (cancelled_by (named_of (codes "id") params)) x.open_requests }) x
+rises_forwards : (first : Option Sender) (x : Forwarding) (m : Message) → Rises x → Rises (forwards first x m)
+rises_forwards first x (request id method params) h = either_way Rises (is_own method) x (more_requests first x) h (rising_last 2 x.next x.open_requests (sender_or x.sender first) h)
+rises_forwards first x (notification method params) h = either_way Rises (bytes_eq method (codes "$/cancelRequest")) (record { sender = x.sender; next = x.next; open_requests = map (cancelled_by (named_of (codes "id") params)) x.open_requests }) x
     (rising_cancelled 2 x.next (named_of (codes "id") params) x.open_requests h) h
-rises_forwards x (result id r) h = h
-rises_forwards x (error id e) h = h
-rises_forwards x not_json h = h
-rises_forwards x not_message h = h
+rises_forwards first x (result id r) h = h
+rises_forwards first x (error id e) h = h
+rises_forwards first x not_json h = h
+rises_forwards first x not_message h = h
 
-rises_behind : (s : ℕ) (x : Forwarding) (event : Event) → Rises x → Rises (forwarding_behind s x event)
-rises_behind s x (took (FromServer n body) m) h = either_way (λ fs. Rising 2 x.next fs) (nat_eq n s) (filter (λ f. not (answered_by (answered_id m) f)) x.open_requests) x.open_requests (rising_filtered 2 x.next (λ f. not (answered_by (answered_id m) f)) x.open_requests h) h
-rises_behind s x (took (StartFailed n) m) h = either_way Rises (nat_eq n s) no_forwarding (record { sender = None; next = x.next; open_requests = x.open_requests }) (omega arith) h
-rises_behind s x (took (ServerGone n) m) h = either_way Rises (nat_eq n s) no_forwarding (record { sender = None; next = x.next; open_requests = x.open_requests }) (omega arith) h
-rises_behind s x (did (ToServer n body) m) h = either_way Rises (nat_eq n s) (forwards x m) x (rises_forwards x m h) h
-rises_behind s x (took cause m) h = h
-rises_behind s x (did out m) h = h
+rises_behind : (settings : Settings) (s : ℕ) (before : List Event) (x : Forwarding) (event : Event) → Rises x → Rises (forwarding_next settings s before x event)
+rises_behind settings s before x (took (FromServer n body) m) h = either_way (λ fs. Rising 2 x.next fs) (nat_eq n s) (filter (λ f. not (answered_by (answered_id m) f)) x.open_requests) x.open_requests (rising_filtered 2 x.next (λ f. not (answered_by (answered_id m) f)) x.open_requests h) h
+rises_behind settings s before x (took (StartFailed n) m) h = either_way Rises (nat_eq n s) no_forwarding (record { sender = None; next = x.next; open_requests = x.open_requests }) (omega arith) h
+rises_behind settings s before x (took (ServerGone n) m) h = either_way Rises (nat_eq n s) no_forwarding (record { sender = None; next = x.next; open_requests = x.open_requests }) (omega arith) h
+rises_behind settings s before x (did (ToServer n body) m) h = either_way Rises (nat_eq n s) (forwards (first_sender settings s before) x m) x (rises_forwards (first_sender settings s before) x m h) h
+rises_behind settings s before x (took cause m) h = h
+rises_behind settings s before x (did out m) h = h
 
-rises_all : (s : ℕ) (events : List Event) (x : Forwarding) → Rises x → Rises (fold (forwarding_behind s) x events)
-rises_all s [] x h = h
-rises_all s (event ∷ events) x h = rises_all s events (forwarding_behind s x event) (rises_behind s x event h)
+rises_all : (settings : Settings) (s : ℕ) (before events : List Event) (x : Forwarding) → Rises x → Rises (past (forwarding_next settings s) before x events)
+rises_all settings s before [] x h = h
+rises_all settings s before (event ∷ events) x h = rises_all settings s (before ++ event ∷ []) events (forwarding_next settings s before x event) (rises_behind settings s before x event h)
 
-pub rising_of : (s : ℕ) (events : List Event) → Rising 2 (forwarding_of s events).next (forwarding_of s events).open_requests
-rising_of s events = rises_all s events no_forwarding (omega arith)
+pub rising_of : (settings : Settings) (s : ℕ) (events : List Event) → Rising 2 (forwarding_of settings s events).next (forwarding_of settings s events).open_requests
+rising_of settings s events = rises_all settings s [] events no_forwarding (omega arith)
 
 -- A number that a response answers is one request's
 

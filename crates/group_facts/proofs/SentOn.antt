@@ -1,5 +1,5 @@
 -- Each open request of a start was sent on to it, at a moment that the events before tell.
-use Rattle.std.proofs.Common.{◌≡◌, ℕ, ◌+◌, ◌<◌, ◌≤◌, Bool, true, false, not, List, [], ◌∷◌, ◌++◌, map, fold, nat_eq, codes, decimal, if◌then◌else◌, refl, sym, ◌∙◌, ap, subst, arith, append_assoc}
+use Rattle.std.proofs.Common.{◌≡◌, ℕ, ◌+◌, ◌<◌, ◌≤◌, Bool, true, false, not, List, [], ◌∷◌, ◌++◌, map, fold, nat_eq, codes, decimal, refl, ◌∙◌, ap, subst, arith, append_assoc, sym}
 use Rattle.std.specs.Prelude.{Option, Some, None}
 use Rattle.std.specs.List.{AllByRecursion}
 use Rattle.std.proofs.lemmas.List.Sums.{fold-append}
@@ -19,38 +19,38 @@ use Rattle.mux_model.specs.Documents.{held_at}
 use Rattle.mux_facts.specs.Allowed.{is_response}
 use Rattle.mux_facts.specs.Ranges.{InRange}
 use Rattle.mux_facts.proofs.Lists.{all_of}
+use Rattle.mux_facts.proofs.Keeps.{behind_both}
 use Rattle.mux_facts.proofs.Words.{number_same, same_number}
 use Rattle.group_rows.specs.Answers.{moment_of}
-use Rattle.group_rows.specs.Forwarded.{Forwarded, Forwarding, Sender, forwarding_behind, forwarding_of, forwards, no_forwarding, numbered, sender_of, token_in}
+use Rattle.group_rows.specs.Forwarded.{Forwarded, Sender, forwarding_of, sender_of, token_in}
 use Rattle.group_rows.specs.Rows.{sync_bodies}
-use Rattle.group_rows.specs.Texts.{texts_of, worker_behind, worker_of}
+use Rattle.group_rows.specs.Texts.{texts_of}
+use Rattle.group_rows.specs.Waiting.{worker_behind, worker_of}
 use Rattle.group_rows.proofs.Moments.{asks, moment_other, moment_apart, moment_quiet, moment_sent}
 use Rattle.group_facts.specs.Legal.{Legal}
-use Rattle.group_facts.specs.OwnVersions.{IsSentOn}
-use Rattle.group_facts.specs.Why.{IsForward, WhyToServer, begins, cancels, exits, forwarded, greets, conveys, notes, responds, shuts, tells, resolves, cancels_work}
+use Rattle.group_facts.specs.OwnVersions.{IsSentOn, SendingOn, by_message, by_result}
+use Rattle.group_facts.specs.Why.{Going, IsForward, WhyToServer, at_once, had_waited, begins, cancels, exits, forwarded, greets, conveys, notes, responds, shuts, tells, resolves, cancels_work}
 use Rattle.group_facts.proofs.Apart.{fewer_said, fewer_took, new, grow, own_fewer, response_fewer}
-use Rattle.group_facts.proofs.Forwards.{Fewer, fewer_notified, forwarding_more, notified_sender, zip_all}
+use Rattle.group_facts.proofs.Forwards.{Fewer, fewer_notified, zip_all}
 use Rattle.group_facts.proofs.RestLaws.{Law, law_holds}
 use Rattle.group_facts.proofs.Sent.{Rising, rising_of}
 
 -- it is the moment of that number
-pub record WasSentOn (s : ℕ) (events : List Event) (n e : ℕ) (id : List ℕ) : Type 0 where
-  pub sent : IsSentOn s events n e id
-  pub at : moment_of s n events ≡ Some sent.moment
+pub record WasSentOn (settings : Settings) (s : ℕ) (events : List Event) (n e : ℕ) (id : List ℕ) : Type 0 where
+  pub sent : IsSentOn settings s events n e id
+  pub at : moment_of settings s n events ≡ Some sent.moment
 
-abbrev pub AllSentOn : List Event → Type 0
-AllSentOn events = (s : ℕ) → AllByRecursion (λ (f : Forwarded). WasSentOn s events f.number f.editor f.id) (forwarding_of s events).open_requests
+abbrev pub AllSentOn : Settings → List Event → Type 0
+AllSentOn settings events = (s : ℕ) → AllByRecursion (λ (f : Forwarded). WasSentOn settings s events f.number f.editor f.id) (forwarding_of settings s events).open_requests
 
 -- one event more
-one_more : (s : ℕ) (events : List Event) (n e : ℕ) (id : List ℕ) (ev : Event) → moment_of s n (events ++ ev ∷ []) ≡ moment_of s n events → WasSentOn s events n e id → WasSentOn s (events ++ ev ∷ []) n e id
-one_more s events n e id ev stays h = record {
+one_more : (settings : Settings) (s : ℕ) (events : List Event) (n e : ℕ) (id : List ℕ) (ev : Event) → moment_of settings s n (events ++ ev ∷ []) ≡ moment_of settings s n events → WasSentOn settings s events n e id → WasSentOn settings s (events ++ ev ∷ []) n e id
+one_more settings s events n e id ev stays h = record {
   sent = record {
     asked = (h.sent).asked;
     own_id = (h.sent).own_id;
-    before = (h.sent).before;
-    outs = (h.sent).outs;
     moment = (h.sent).moment;
-    entry = (h.sent).entry;
+    sending = (h.sent).sending;
     body = (h.sent).body;
     bytes = (h.sent).bytes;
     method = (h.sent).method;
@@ -64,10 +64,10 @@ one_more s events n e id ev stays h = record {
 }
 
 -- behind an event that sends no request on
-quiet : (events : List Event) (ev : Event) → asks ev ≡ false → Fewer events (events ++ ev ∷ []) → AllSentOn events → AllSentOn (events ++ ev ∷ [])
-quiet events ev none fewer h s = fewer s (λ n e i. WasSentOn s (events ++ ev ∷ []) n e i)
-    (all_of (λ (f : Forwarded). WasSentOn s events f.number f.editor f.id) (λ (f : Forwarded). WasSentOn s (events ++ ev ∷ []) f.number f.editor f.id)
-    (λ f k. one_more s events f.number f.editor f.id ev (moment_quiet s f.number events ev none) k) (forwarding_of s events).open_requests (h s))
+quiet : (settings : Settings) (events : List Event) (ev : Event) → asks ev ≡ false → Fewer settings events (events ++ ev ∷ []) → AllSentOn settings events → AllSentOn settings (events ++ ev ∷ [])
+quiet settings events ev none fewer h s = fewer s (λ n e i. WasSentOn settings s (events ++ ev ∷ []) n e i)
+    (all_of (λ (f : Forwarded). WasSentOn settings s events f.number f.editor f.id) (λ (f : Forwarded). WasSentOn settings s (events ++ ev ∷ []) f.number f.editor f.id)
+    (λ f k. one_more settings s events f.number f.editor f.id ev (moment_quiet settings s f.number events ev none) k) (forwarding_of settings s events).open_requests (h s))
 
 silent_cause : (cause : Cause) → asks (heard cause) ≡ false
 silent_cause (FromEditor e body) = refl
@@ -75,7 +75,7 @@ silent_cause (FromServer s body) = refl
 silent_cause other = refl
 
 -- the one whose message is at work stays it behind outs
-worker_more : (events : List Event) (ev : Event) → worker_of (events ++ ev ∷ []) ≡ worker_behind (worker_of events) ev
+pub worker_more : (events : List Event) (ev : Event) → worker_of (events ++ ev ∷ []) ≡ worker_behind (worker_of events) ev
 worker_more events ev = fold-append worker_behind None events (ev ∷ [])
 
 outs_leave : (worker : Option ℕ) (xs : List Out) → fold worker_behind worker (map said xs) ≡ worker
@@ -89,36 +89,10 @@ outs_leave worker (EndServer s ∷ xs) = outs_leave worker xs
 pub worker_still : (events : List Event) (e : ℕ) (asked : List ℕ) (xs : List Out) → worker_of (behind (with_cause events (FromEditor e asked)) xs) ≡ Some e
 worker_still events e asked xs = fold-append worker_behind None (with_cause events (FromEditor e asked)) (map said xs) ∙ outs_leave (worker_of (with_cause events (FromEditor e asked))) xs ∙ worker_more events (heard (FromEditor e asked))
 
--- and so does whose request is at work
-forwards_leave : (x : Forwarding) (m : Message) → (forwards x m).sender ≡ x.sender
-forwards_leave x (request id method params) = go (is_own method)
-  where
-    go : (b : Bool) → (if b then x else record { sender = x.sender; next = x.next + 1; open_requests = x.open_requests ++ numbered x.sender x.next }).sender ≡ x.sender
-    go true = refl
-    go false = refl
-forwards_leave x (notification method params) = notified_sender x method params
-forwards_leave x (result id r) = refl
-forwards_leave x (error id x') = refl
-forwards_leave x not_json = refl
-forwards_leave x not_message = refl
+pub worker_idle : (events : List Event) (s : ℕ) (answer : List ℕ) (xs : List Out) → worker_of (behind (with_cause events (FromServer s answer)) xs) ≡ None
+worker_idle events s answer xs = fold-append worker_behind None (with_cause events (FromServer s answer)) (map said xs) ∙ outs_leave (worker_of (with_cause events (FromServer s answer))) xs ∙ worker_more events (heard (FromServer s answer))
 
-outs_leave_sender : (s : ℕ) (x : Forwarding) (xs : List Out) → (fold (forwarding_behind s) x (map said xs)).sender ≡ x.sender
-outs_leave_sender s x [] = refl
-outs_leave_sender s x (ToServer n body ∷ xs) = outs_leave_sender s (if nat_eq n s then forwards x (message_of body) else x) xs ∙ go (nat_eq n s)
-  where
-    go : (b : Bool) → (if b then forwards x (message_of body) else x).sender ≡ x.sender
-    go true = forwards_leave x (message_of body)
-    go false = refl
-outs_leave_sender s x (ToEditor e body ∷ xs) = outs_leave_sender s x xs
-outs_leave_sender s x (Spawn n g ∷ xs) = outs_leave_sender s x xs
-outs_leave_sender s x (CloseEditor e ∷ xs) = outs_leave_sender s x xs
-outs_leave_sender s x (EndServer n ∷ xs) = outs_leave_sender s x xs
-
-sender_still : (s : ℕ) (events : List Event) (e : ℕ) (asked : List ℕ) (xs : List Out) → (forwarding_of s (behind (with_cause events (FromEditor e asked)) xs)).sender ≡ sender_of e asked (message_of asked)
-sender_still s events e asked xs = ap (λ (x : Forwarding). x.sender) (fold-append (forwarding_behind s) no_forwarding (with_cause events (FromEditor e asked)) (map said xs))
-    ∙ outs_leave_sender s (forwarding_of s (with_cause events (FromEditor e asked))) xs ∙ ap (λ (x : Forwarding). x.sender) (forwarding_more s events (heard (FromEditor e asked)))
-
-id_at_work : (e : ℕ) (asked : List ℕ) (m : Message) (a : Sender) → sender_of e asked m ≡ Some a → id_bytes asked ≡ a.id
+pub id_at_work : (e : ℕ) (asked : List ℕ) (m : Message) (a : Sender) → sender_of e asked m ≡ Some a → id_bytes asked ≡ a.id
 id_at_work e asked (request id method params) a h = ap (λ (z : Sender). z.id) (same h)
   where
     same : sender_of e asked (request id method params) ≡ Some a → (record { editor = e; id = id_bytes asked; work = token_in (codes "workDoneToken") asked; partial = token_in (codes "partialResultToken") asked }) ≡ a
@@ -152,14 +126,14 @@ module _ (settings : Settings) (before : List Event) (cause : Cause) (events : L
   sent = events ++ said (ToServer n body) ∷ []
 
   -- that is no editor's request
-  by_message : (m : Message) → message_of body ≡ m → asks (did (ToServer n body) m) ≡ false → Fewer events sent → AllSentOn events → AllSentOn sent
-  by_message m says none fewer h = quiet events (said (ToServer n body)) (ap (λ z. asks (did (ToServer n body) z)) says ∙ none) fewer h
+  silent_sent : (m : Message) → message_of body ≡ m → asks (did (ToServer n body) m) ≡ false → Fewer settings events sent → AllSentOn settings events → AllSentOn settings sent
+  silent_sent m says none fewer h = quiet settings events (said (ToServer n body)) (ap (λ z. asks (did (ToServer n body) z)) says ∙ none) fewer h
 
-  own : (id : Id) (method : List ℕ) (params : Option Json) → message_of body ≡ request id method params → is_own method ≡ true → AllSentOn events → AllSentOn sent
-  own id method params says is h = by_message (request id method params) says (ap not is) (own_fewer settings before cause events n body id method params says is) h
+  own : (id : Id) (method : List ℕ) (params : Option Json) → message_of body ≡ request id method params → is_own method ≡ true → AllSentOn settings events → AllSentOn settings sent
+  own id method params says is h = silent_sent (request id method params) says (ap not is) (own_fewer settings before cause events n body id method params says is) h
 
-  notified : (method : List ℕ) (params : Option Json) → message_of body ≡ notification method params → AllSentOn events → AllSentOn sent
-  notified method params says h = by_message (notification method params) says refl (fewer_notified n events body method params says) h
+  notified : (method : List ℕ) (params : Option Json) → message_of body ≡ notification method params → AllSentOn settings events → AllSentOn settings sent
+  notified method params says h = silent_sent (notification method params) says refl (fewer_notified settings n events body method params says) h
 
   answer_silent : (m : Message) → is_response m ≡ true → asks (did (ToServer n body) m) ≡ false
   answer_silent (result id r) h = refl
@@ -172,36 +146,39 @@ module _ (settings : Settings) (before : List Event) (cause : Cause) (events : L
   -- an editor's request has the next number, and is sent on now
   module _ (k : IsForward settings before cause events n body) where
     abbrev next : ℕ
-    next = (forwarding_of n events).next
+    next = (forwarding_of settings n events).next
 
     abbrev ev : Event
     ev = did (ToServer n body) (request (integer (decimal next)) k.method k.params)
 
-    abbrev bodies : List Out
-    bodies = (k.synced).questions ++ map (λ text. ToServer n text) (sync_bodies settings.limits.versions (λ u. held_at n u before) (k.sender).editor (texts_of settings (k.synced).group before).opens)
+    sending : Going settings before cause events n (k.sender).editor k.asked → SendingOn settings n (k.sender).editor k.asked events
+    sending (at_once from synced) = by_message before (synced.questions ++ map (λ text. ToServer n text) (sync_bodies settings.limits.versions (λ u. held_at n u before) (k.sender).editor (texts_of settings synced.group before).opens)) synced.place
+    sending (had_waited w) = by_result before w.answer (w.outs ++ map (λ text. ToServer n text) (sync_bodies settings.limits.versions (λ u. held_at n u w.earlier) (k.sender).editor (texts_of settings w.group w.earlier).opens)) w.request
+        (w.place ∙ (ap (λ z. behind z (map (λ text. ToServer n text) (sync_bodies settings.limits.versions (λ u. held_at n u w.earlier) (k.sender).editor (texts_of settings w.group w.earlier).opens))) w.entry
+        ∙ (sym (behind_both (with_cause before cause) w.outs (map (λ text. ToServer n text) (sync_bodies settings.limits.versions (λ u. held_at n u w.earlier) (k.sender).editor (texts_of settings w.group w.earlier).opens)))
+        ∙ ap (λ c. behind (with_cause before c) (w.outs ++ map (λ text. ToServer n text) (sync_bodies settings.limits.versions (λ u. held_at n u w.earlier) (k.sender).editor (texts_of settings w.group w.earlier).opens))) w.from)))
+        w.first w.editor w.body
 
     is_ev : said (ToServer n body) ≡ ev
     is_ev = ap (λ m. did (ToServer n body) m) k.says
 
-    moved : (s number : ℕ) → moment_of s number (events ++ ev ∷ []) ≡ moment_of s number events → moment_of s number sent ≡ moment_of s number events
-    moved s number stays = ap (λ z. moment_of s number (events ++ z ∷ [])) is_ev ∙ stays
+    moved : (s number : ℕ) → moment_of settings s number (events ++ ev ∷ []) ≡ moment_of settings s number events → moment_of settings s number sent ≡ moment_of settings s number events
+    moved s number stays = ap (λ z. moment_of settings s number (events ++ z ∷ [])) is_ev ∙ stays
 
     -- the others of this start keep their moments, and those of other starts
-    stays_here : (f : Forwarded) → f.number < next → WasSentOn n events f.number f.editor f.id → WasSentOn n sent f.number f.editor f.id
-    stays_here f less h = one_more n events f.number f.editor f.id (said (ToServer n body)) (moved n f.number (moment_other n f.number n events body (integer (decimal next)) k.method k.params (less_apart f.number next less))) h
+    stays_here : (f : Forwarded) → f.number < next → WasSentOn settings n events f.number f.editor f.id → WasSentOn settings n sent f.number f.editor f.id
+    stays_here f less h = one_more settings n events f.number f.editor f.id (said (ToServer n body)) (moved n f.number (moment_other settings n f.number n events body (integer (decimal next)) k.method k.params (less_apart f.number next less))) h
 
-    stays_there : (s : ℕ) → nat_eq n s ≡ false → (f : Forwarded) → WasSentOn s events f.number f.editor f.id → WasSentOn s sent f.number f.editor f.id
-    stays_there s other f h = one_more s events f.number f.editor f.id (said (ToServer n body)) (moved s f.number (moment_apart s f.number n events body (integer (decimal next)) k.method k.params other)) h
+    stays_there : (s : ℕ) → nat_eq n s ≡ false → (f : Forwarded) → WasSentOn settings s events f.number f.editor f.id → WasSentOn settings s sent f.number f.editor f.id
+    stays_there s other f h = one_more settings s events f.number f.editor f.id (said (ToServer n body)) (moved s f.number (moment_apart settings s f.number n events body (integer (decimal next)) k.method k.params other)) h
 
-    sent_now : WasSentOn n sent next (k.sender).editor (k.sender).id
+    sent_now : WasSentOn settings n sent next (k.sender).editor (k.sender).id
     sent_now = record {
       sent = record {
         asked = k.asked;
-        own_id = id_at_work (k.sender).editor k.asked (message_of k.asked) k.sender (sym (sender_still n before (k.sender).editor k.asked bodies) ∙ ap (λ z. (forwarding_of n z).sender) (sym (k.synced).place) ∙ k.at_work);
-        before = before;
-        outs = bodies;
+        own_id = id_at_work (k.sender).editor k.asked (message_of k.asked) k.sender k.own;
         moment = events;
-        entry = (k.synced).place;
+        sending = sending k.going;
         body = body;
         bytes = k.bytes;
         method = k.method;
@@ -211,26 +188,26 @@ module _ (settings : Settings) (before : List Event) (cause : Cause) (events : L
         later = [];
         place = refl;
       };
-      at = ap (λ z. moment_of n next (events ++ z ∷ [])) is_ev ∙ moment_sent n next n events body (integer (decimal next)) k.method k.params (same_number n) k.other (same_number next);
+      at = ap (λ z. moment_of settings n next (events ++ z ∷ [])) is_ev ∙ moment_sent settings n next n events body (integer (decimal next)) k.method k.params (same_number n) k.other (same_number next);
     }
 
-    asked_now : AllSentOn events → AllSentOn sent
+    asked_now : AllSentOn settings events → AllSentOn settings sent
     unfolding new
     asked_now h s = go (nat_eq n s) refl
       where
         Q : Forwarded → Type 0
-        Q f = WasSentOn s sent f.number f.editor f.id
+        Q f = WasSentOn settings s sent f.number f.editor f.id
 
-        old : (b : Bool) → nat_eq n s ≡ b → AllByRecursion Q (forwarding_of s events).open_requests
-        old true same = subst (λ z. AllByRecursion (λ (f : Forwarded). WasSentOn z sent f.number f.editor f.id) (forwarding_of z events).open_requests) (number_same n s same)
-            (zip_all (λ (f : Forwarded). f.number < next) (λ (f : Forwarded). WasSentOn n events f.number f.editor f.id) (λ (f : Forwarded). WasSentOn n sent f.number f.editor f.id) stays_here (forwarding_of n events).open_requests
-            (number_below 2 next (forwarding_of n events).open_requests (rising_of n events)) (h n))
-        old false other = all_of (λ (f : Forwarded). WasSentOn s events f.number f.editor f.id) Q (stays_there s other) (forwarding_of s events).open_requests (h s)
+        old : (b : Bool) → nat_eq n s ≡ b → AllByRecursion Q (forwarding_of settings s events).open_requests
+        old true same = subst (λ z. AllByRecursion (λ (f : Forwarded). WasSentOn settings z sent f.number f.editor f.id) (forwarding_of settings z events).open_requests) (number_same n s same)
+            (zip_all (λ (f : Forwarded). f.number < next) (λ (f : Forwarded). WasSentOn settings n events f.number f.editor f.id) (λ (f : Forwarded). WasSentOn settings n sent f.number f.editor f.id) stays_here (forwarding_of settings n events).open_requests
+            (number_below 2 next (forwarding_of settings n events).open_requests (rising_of settings n events)) (h n))
+        old false other = all_of (λ (f : Forwarded). WasSentOn settings s events f.number f.editor f.id) Q (stays_there s other) (forwarding_of settings s events).open_requests (h s)
 
-        go : (b : Bool) → nat_eq n s ≡ b → AllByRecursion Q (forwarding_of s sent).open_requests
-        go b is = grow settings before cause events n body k s Q (old b is) (λ same. subst (λ z. WasSentOn z sent next (k.sender).editor (k.sender).id) same sent_now)
+        go : (b : Bool) → nat_eq n s ≡ b → AllByRecursion Q (forwarding_of settings s sent).open_requests
+        go b is = grow settings before cause events n body k s Q (old b is) (λ same. subst (λ z. WasSentOn settings z sent next (k.sender).editor (k.sender).id) same sent_now)
 
-  one_sent : WhyToServer settings before cause events n body → AllSentOn events → AllSentOn sent
+  one_sent : WhyToServer settings before cause events n body → AllSentOn settings events → AllSentOn settings sent
   one_sent (begins k) h = own (integer (codes "1")) (codes "initialize") k.params k.says refl h
   one_sent (greets k) h = notified (codes "initialized") k.params k.says h
   one_sent (conveys k) h = notified (codes "workspace/didChangeConfiguration") k.params k.says h
@@ -239,23 +216,23 @@ module _ (settings : Settings) (before : List Event) (cause : Cause) (events : L
   one_sent (tells k) h = let m : Spoken (message_of body) = spoken (message_of body) k.spoken in notified m.method m.params m.is h
   one_sent (cancels k) h = notified (codes "$/cancelRequest") (Some k.params) k.says h
   one_sent (cancels_work k) h = notified (codes "window/workDoneProgress/cancel") k.params k.says h
-  one_sent (responds k) h = by_message (message_of body) refl (answer_silent (message_of body) k.response) (response_fewer settings before cause events n body k.response) h
-  one_sent (resolves k) h = by_message (message_of body) refl (answer_silent (message_of body) k.response) (response_fewer settings before cause events n body k.response) h
+  one_sent (responds k) h = silent_sent (message_of body) refl (answer_silent (message_of body) k.response) (response_fewer settings before cause events n body k.response) h
+  one_sent (resolves k) h = silent_sent (message_of body) refl (answer_silent (message_of body) k.response) (response_fewer settings before cause events n body k.response) h
   one_sent (exits k) h = notified (codes "exit") None k.says h
   one_sent (shuts k) h = own (integer (decimal (next_number n events))) (codes "shutdown") None k.says refl h
 
-sent_law : (settings : Settings) → Law settings AllSentOn
+sent_law : (settings : Settings) → Law settings (AllSentOn settings)
 sent_law settings = record {
-  took = λ before cause fits known h. quiet before (heard cause) (silent_cause cause) (fewer_took settings before cause) h;
-  to_editor = λ before cause events e body why known here i h. quiet events (said (ToEditor e body)) refl (fewer_said events (ToEditor e body) (λ s. refl)) h;
+  took = λ before cause fits known h. quiet settings before (heard cause) (silent_cause cause) (fewer_took settings before cause) h;
+  to_editor = λ before cause events e body why known here i h. quiet settings events (said (ToEditor e body)) refl (fewer_said settings events (ToEditor e body) (λ s. refl)) h;
   to_server = λ before cause events s body why known here i h. one_sent settings before cause events s body why h;
-  close = λ before cause events e ends there known here i h. quiet events (said (CloseEditor e)) refl (fewer_said events (CloseEditor e) (λ s. refl)) h;
-  end = λ before cause events s why known here i h. quiet events (said (EndServer s)) refl (fewer_said events (EndServer s) (λ s. refl)) h;
-  spawn = λ before cause events g below known here i h. quiet events (said (Spawn (starts_of events) g)) refl (fewer_said events (Spawn (starts_of events) g) (λ s. refl)) h;
+  close = λ before cause events e ends there known here i h. quiet settings events (said (CloseEditor e)) refl (fewer_said settings events (CloseEditor e) (λ s. refl)) h;
+  end = λ before cause events s why known here i h. quiet settings events (said (EndServer s)) refl (fewer_said settings events (EndServer s) (λ s. refl)) h;
+  spawn = λ before cause events g below known here i h. quiet settings events (said (Spawn (starts_of events) g)) refl (fewer_said settings events (Spawn (starts_of events) g) (λ s. refl)) h;
   rest = λ before cause fits known i h. h;
   turn = λ place e slow known h. h;
   left = λ place e slow known i h. h;
 }
 
-pub sent_holds : (settings : Settings) → InRange settings → (history : List Entry) → Legal settings history → AllSentOn (events_of history)
-sent_holds settings range history legal = law_holds settings range AllSentOn (sent_law settings) (λ s. tt) history legal
+pub sent_holds : (settings : Settings) → InRange settings → (history : List Entry) → Legal settings history → AllSentOn settings (events_of history)
+sent_holds settings range history legal = law_holds settings range (AllSentOn settings) (sent_law settings) (λ s. tt) history legal

@@ -21,7 +21,7 @@ use Rattle.group_rows.specs.Rows.{outs_of}
 use Rattle.group_facts.specs.SlowRows.{entry_outs, is_slow}
 use Rattle.group_facts.specs.Legal.{Legal, LegalFrom}
 use Rattle.group_facts.specs.Lively.{Lively}
-use Rattle.group_facts.specs.Settled.{AreUtf8, IsOnly, IsSent, Settled, is_answered}
+use Rattle.group_facts.specs.Settled.{AreUtf8, IsOnly, IsSent, Settled, is_answered, IsKeptBack}
 use Rattle.group_facts.proofs.Entries.{OpenAll, open_rests}
 use Rattle.group_facts.proofs.AskEntries.{AllSeats}
 use Rattle.group_facts.proofs.AskLeft.{no_seats, seats_rest}
@@ -35,7 +35,7 @@ use Rattle.group_facts.proofs.Known.{entry_keeps, no_facts, slow_keeps_facts}
 use Rattle.group_facts.proofs.Lively.{lively_rests, lively_slow, no_lively}
 use Rattle.group_facts.proofs.OwnEntry.{Nobody}
 use Rattle.group_facts.proofs.Seated.{AllPlaced, placed_rests, seat}
-use Rattle.group_facts.proofs.Sent.{SentAt, sent_is}
+use Rattle.group_facts.proofs.Sent.{sent_is}
 use Rattle.group_facts.proofs.Takings.{AllTaken, Uncreated, none_taken, none_uncreated, taken_rests, uncreated_did, uncreated_rests}
 use Rattle.group_facts.proofs.OpenByPhase.{IsOne, OpenIf, if_answered}
 use Rattle.group_facts.proofs.OpenByOut.{S}
@@ -44,6 +44,7 @@ use Rattle.group_facts.proofs.StopDown.{bounded_low}
 use Rattle.group_facts.proofs.SlowRest.{slow_begun, slow_down, slow_lasts, slow_opens, slow_over, slow_placed, slow_seats, slow_taken}
 use Rattle.group_facts.proofs.SlowRow.{parting, whole_entry}
 use Rattle.group_facts.proofs.StopEntry.{before_on, stopped_outs}
+use Rattle.group_facts.proofs.Taken.{TakenAt, kept_back}
 
 -- Folders
 
@@ -105,7 +106,7 @@ module _ (settings : Settings) (range : InRange settings) where
         spelt = entry_all (AllSpelt settings) (all_did Spelt spelt_keeps settings) place (parting settings place e) h.spelt;
         begun = slow_begun settings range place h.facts e slow h.begun;
         lively = lively;
-        opens = slow_opens settings range place h.facts e slow h.opens;
+        opens = slow_opens settings range place h.facts e slow h.lasts h.opens;
         placed = slow_placed settings range place h.facts e slow h.placed;
         lasts = slow_lasts settings range place h.facts e slow h.lasts;
         seats = λ on. slow_seats settings range place h.facts e slow lively h.lasts (h.seats (sym (stopped_outs place (parting settings place e)) ∙ on));
@@ -148,11 +149,12 @@ module _ (settings : Settings) (range : InRange settings) where
   only : (events : List Event) (e : ℕ) → OpenAll settings events → (desk_of e events).phase ≡ Waiting → IsOnly events e
   only events e h at = let k : IsOne (desk_of e events).initialize (open_of e events) = subst (λ p. OpenIf (S settings e Nobody events) p (desk_of e events).initialize (open_of e events)) at (h e) in record { id = k.id; asked = k.asked; ids = k.alone }
 
-  sent_on : (events : List Event) (e : ℕ) (id : Id) → OpenAll settings events → is_answered (desk_of e events).phase ≡ true → is_open id (open_of e events) ≡ true → IsSent settings events e id
-  sent_on events e id h served still = sent_is settings events e id (go (if_answered (S settings e Nobody events) (desk_of e events).phase (desk_of e events).initialize (open_of e events) served (h e) id still))
+  sent_on : (events : List Event) (e : ℕ) (id : Id) → OpenAll settings events → is_answered (desk_of e events).phase ≡ true → is_open id (open_of e events) ≡ true → IsSent settings events e id ⊎ IsKeptBack settings events e id
+  sent_on events e id h served still = go (if_answered (S settings e Nobody events) (desk_of e events).phase (desk_of e events).initialize (open_of e events) served (h e) id still)
     where
-      go : SentAt settings events e id ⊎ ⊥ → SentAt settings events e id
-      go (inl k) = k
+      go : TakenAt settings events e id ⊎ ⊥ → IsSent settings events e id ⊎ IsKeptBack settings events e id
+      go (inl (inl k)) = inl (sent_is settings events e id k)
+      go (inl (inr k)) = inr (kept_back settings events e id k)
       go (inr k) = absurd k
 
   pub settled_of : (events : List Event) → Rests events → Settled settings events

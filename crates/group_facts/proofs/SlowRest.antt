@@ -89,8 +89,8 @@ module _ (settings : Settings) (range : InRange settings) (place : List Event) (
   pub slow_placed : AllPlaced settings place → AllPlaced settings later
   slow_placed h n = placed_outs settings n place xs (h n)
 
-  pub slow_opens : OpenAll settings place → OpenAll settings later
-  slow_opens h n = open_outs settings n Nobody place (quitting e) (quit_turns_none settings place e n) place xs (parting_why settings range place facts e slow) calm (h n)
+  pub slow_opens : AllLast place → OpenAll settings place → OpenAll settings later
+  slow_opens lasts h n = open_outs settings n Nobody place (quitting e) (quit_turns_none settings place e n) lasts place xs (parting_why settings range place facts e slow) calm (h n)
 
   -- another one that runs still does
   still_runs_there : (n : ℕ) → nat_eq e n ≡ false → (desk_of n place).phase ≡ Running → (desk_of n later).phase ≡ Running

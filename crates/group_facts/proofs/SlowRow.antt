@@ -41,11 +41,11 @@ use Rattle.group_rows.proofs.Going.{no_exit}
 use Rattle.event_model.proofs.Frames.{never}
 use Rattle.group_facts.proofs.Asides.{answer_aside, spoken_aside, unsynced}
 use Rattle.group_facts.specs.Facts.{ends_link, is_parting, is_put_out, turned_away}
-use Rattle.group_facts.specs.Why.{IsWorkCancel, Why, WhyToServer, begins, cancels, cancels_work, exits, forwarded, greets, conveys, notes, quitting, resolves, responds, shuts, tells}
+use Rattle.group_facts.specs.Why.{IsWorkCancel, Why, WhyToServer, begins, cancels, cancels_work, exits, forwarded, greets, conveys, notes, quitting, resolves, responds, shuts, tells, at_once, had_waited, Going}
 use Rattle.group_facts.proofs.Asks.{asked_by_more}
 use Rattle.group_facts.proofs.Begun.{NoSpawn, all_outs, leave_by}
 use Rattle.group_facts.proofs.Facts.{Facts}
-use Rattle.group_facts.proofs.Forwards.{forwarding_more}
+use Rattle.group_rows.proofs.Frames.{forwarding_more}
 use Rattle.group_facts.proofs.LeaveRows.{leave_why}
 use Rattle.group_facts.proofs.PartingRows.{or_second}
 
@@ -82,9 +82,13 @@ pub quit_unsynced : (settings : Settings) (before : List Event) (e : ℕ) (event
 quit_unsynced settings before e events s body (begins k) goes = unsynced body _ k.says refl goes
 quit_unsynced settings before e events s body (greets k) goes = unsynced body _ k.says refl goes
 quit_unsynced settings before e events s body (conveys k) goes = absurd (let clash : quitting e ≡ FromServer s k.answer = k.from in cc)
-quit_unsynced settings before e events s body (forwarded k) goes =
-    let same : message_of body ≡ exit_message = ap message_of (k.bytes ∙ (ap (forwarded_text (forwarding_of s events).next) (the_body k.from) ∙ exit_forwarded (forwarding_of s events).next)) ∙ exit_says in
-    let clash : exit_message ≡ request (integer (decimal (forwarding_of s events).next)) k.method k.params = sym same ∙ k.says in cc
+quit_unsynced settings before e events s body (forwarded k) goes = went k.going
+  where
+    went : Going settings before (quitting e) events s (k.sender).editor k.asked → ⊥
+    went (at_once from synced) =
+        let same : message_of body ≡ exit_message = ap message_of (k.bytes ∙ (ap (forwarded_text (forwarding_of settings s events).next) (the_body from) ∙ exit_forwarded (forwarding_of settings s events).next)) ∙ exit_says in
+        let clash : exit_message ≡ request (integer (decimal (forwarding_of settings s events).next)) k.method k.params = sym same ∙ k.says in cc
+    went (had_waited w) = let clash : quitting e ≡ FromServer s w.answer = w.from in cc
 quit_unsynced settings before e events s body (notes k) goes =
     never (sym ((bytes_eq-Decides (codes "exit") k.method).1 (the_method (sym exit_says ∙ (ap message_of (sym (the_body k.from)) ∙ k.says)))) ∙ no_exit k.method k.going)
 quit_unsynced settings before e events s body (tells k) goes = never (sym goes ∙ spoken_aside (message_of body) k.spoken)
@@ -137,7 +141,7 @@ module _ (settings : Settings) where
     (quit_ends place e, slow_there e place slow),
     (leave_why settings range place (quitting e) (facts.base).opened (facts.steady).bounded (place ++ said (CloseEditor e) ∷ []) (λ s. refl)
         (λ s. ap (λ (l : Life). l.stage) (life_more s place (said (CloseEditor e)))) (λ s u. ap (λ (x : Sent). x.held) (sent_more s u place (said (CloseEditor e))))
-        (λ s. ap (λ (x : Forwarding). x.open_requests) (forwarding_more s place (said (CloseEditor e)))) (facts.steady).asks (λ s. asked_by_more s place (said (CloseEditor e))) e).why,
+        (λ s. ap (λ (x : Forwarding). x.open_requests) (forwarding_more settings s place (said (CloseEditor e)))) (facts.steady).asks (λ s. asked_by_more s place (said (CloseEditor e))) e).why,
   )
 
   -- they are the end of its link and bodies to a start

@@ -32,11 +32,14 @@ use Rattle.group_rows.proofs.CreatedKept.{found_one}
 use Rattle.group_rows.proofs.ListsKept.{IsList, lists_kept}
 use Rattle.group_rows.proofs.Versions.{AllMeant}
 use Rattle.group_rows.specs.Tokens.{forwarded_text}
-use Rattle.group_rows.specs.Rows.{answer_error, document_at, document_bodies, document_row, forward, notice_at, notice_row, request_at, request_row, served_row, sync_bodies, wrong_code}
+use Rattle.group_rows.specs.Rows.{answer_error, document_at, document_bodies, document_row, forward, notice_at, notice_row, request_at, request_row, served_row, sync_bodies, wrong_code, cancel_row}
 use Rattle.group_rows.specs.Texts.{encoding_of, texts_of}
 use Rattle.group_facts.specs.Why.{asks_something}
 use Rattle.group_facts.proofs.Same.{IsBody, Same, same_agreement, same_behind, same_version}
+use Rattle.group_facts.specs.Facts.{IsHeld, AllHeld}
 use Rattle.group_facts.proofs.Shown.{meant_behind, text_says}
+use Rattle.group_words.specs.Houses.{home_of}
+use Rattle.group_facts.proofs.Held.{cancelled_says, named_held}
 
 -- a body, and no request to an editor
 abbrev pub Goes : Out → Type 0
@@ -85,7 +88,7 @@ module _ (settings : Settings) (before : List Event) (e : ℕ) (body : List ℕ)
   still_start : (s : ℕ) (bodies : List (List ℕ)) → Still settings (to_start s bodies)
   still_start s bodies = record { same = λ x y k h. outs_to_start s bodies x ∙ sym (outs_to_start s bodies y); goes = λ x k. subst (AllByRecursion Goes) (sym (outs_to_start s bodies x)) (to_all s bodies) }
 
-  still_forward : (s : ℕ) → Still settings (forward s body)
+  still_forward : (s : ℕ) → Still settings (forward settings s body)
   still_forward s = record { same = λ x y k h. ap (λ (f : Forwarding). ToServer s (forwarded_text f.next body) ∷ []) (h.forwarding s); goes = λ x k. (tt, tt) }
 
   -- a refusal of a request
@@ -94,7 +97,7 @@ module _ (settings : Settings) (before : List Event) (e : ℕ) (body : List ℕ)
 
   module _ (id : Id) (method : List ℕ) (params : Option Json) (says : message_of body ≡ request id method params) where
     request_there : (g s : ℕ) → Still settings (request_at settings before e body g s)
-    request_there g s = still_choose (λ takes. still_then (still_start s (sync_bodies settings.limits.versions (λ u. held_at s u before) e (texts_of settings g before).opens)) (still_forward s)) (λ full. still_error id method params says request_failed)
+    request_there g s = still_choose (λ takes. still_then (still_start s (sync_bodies settings.limits.versions (λ u. held_at s u before) e (texts_of settings g before).opens)) (still_forward s)) (λ cannot. still_choose (λ waits. still_nothing) (λ full. still_error id method params says request_failed))
 
     request_in : (g : ℕ) → Still settings (on (start_of g before) (answer_error e body request_failed) (request_at settings before e body g))
     request_in g = still_on (λ none. still_error id method params says request_failed) (λ s at. request_there g s)
@@ -111,14 +114,19 @@ module _ (settings : Settings) (before : List Event) (e : ℕ) (body : List ℕ)
   still_notice : Still settings (notice_row settings before e body)
   still_notice = still_on (λ none. still_nothing) (λ g at. notice_in g)
 
-  cancel_there : (params : Option Json) (s : ℕ) → Still settings (cancelling_at before e body params s)
+  cancel_there : (params : Option Json) (s : ℕ) → Still settings (cancelling_at settings before e body params s)
   cancel_there params s = still_choose (λ ready. still_on (λ none. still_nothing) (λ n at. still_send tt)) (λ off. still_nothing)
 
-  cancel_in : (params : Option Json) (g : ℕ) → Still settings (on (start_of g before) nothing (cancelling_at before e body params))
+  cancel_in : (params : Option Json) (g : ℕ) → Still settings (on (start_of g before) nothing (cancelling_at settings before e body params))
   cancel_in params g = still_on (λ none. still_nothing) (λ s at. cancel_there params s)
 
   still_cancel : (params : Option Json) → Still settings (cancelling_row settings before e body params)
   still_cancel params = still_on (λ none. still_nothing) (λ g at. cancel_in params g)
+
+  still_cancelled : AllHeld settings before → (params : Option Json) → Still settings (cancel_row settings before e body params)
+  still_cancelled held params = still_on (λ none. still_cancel params) (λ r found.
+      let is : (g : ℕ) × IsHeld settings g before r = named_held settings e params before r (home_of settings e before) held found in
+      still_send (ap asks_something (cancelled_says ((is.1).asker).id r.id ((is.1).asker).text).1))
 
   token_there : (params : Option Json) (s : ℕ) → Still settings (created_work settings before e body params s)
   token_there params s = still_on (λ none. still_nothing) (λ t at. still_choose (λ accepted. still_send tt) (λ no. still_nothing))
@@ -203,12 +211,12 @@ module _ (settings : Settings) (before : List Event) (e : ℕ) (body : List ℕ)
       go false true k = never (sym k)
       go false false k = refl
 
-  pub still_served : is_running (desk_of e before).phase ≡ false → (m : Message) → message_of body ≡ m → makes_running m ≡ true → Still settings (served_row settings before e body m)
-  still_served idle (request id method params) says runs = still_choose (λ misplaced. still_error id method params says (wrong_code method invalid_request))
+  pub still_served : AllHeld settings before → is_running (desk_of e before).phase ≡ false → (m : Message) → message_of body ≡ m → makes_running m ≡ true → Still settings (served_row settings before e body m)
+  still_served held idle (request id method params) says runs = still_choose (λ misplaced. still_error id method params says (wrong_code method invalid_request))
       (λ placed. still_choose (λ shuts. never (sym shuts ∙ unshut (request id method params) runs)) (λ on. still_request id method params says))
-  still_served idle (notification method params) says runs = still_choose (λ ends. never (sym ends ∙ unended (notification method params) runs))
-      (λ on. still_choose (λ going. still_notice) (λ off. still_choose (λ cancels. still_cancel params) (λ off. still_choose (λ works. still_work params) (λ other. still_document (saying_by method params)))))
-  still_served idle (result id r) says runs = still_response idle (result id r)
-  still_served idle (error id x) says runs = still_response idle (error id x)
-  still_served idle not_json says runs = still_response idle not_json
-  still_served idle not_message says runs = still_response idle not_message
+  still_served held idle (notification method params) says runs = still_choose (λ ends. never (sym ends ∙ unended (notification method params) runs))
+      (λ on. still_choose (λ going. still_notice) (λ off. still_choose (λ cancels. still_cancelled held params) (λ off. still_choose (λ works. still_work params) (λ other. still_document (saying_by method params)))))
+  still_served held idle (result id r) says runs = still_response idle (result id r)
+  still_served held idle (error id x) says runs = still_response idle (error id x)
+  still_served held idle not_json says runs = still_response idle not_json
+  still_served held idle not_message says runs = still_response idle not_message

@@ -39,8 +39,8 @@ use Rattle.group_facts.proofs.TickRow.{ending_not}
 pub bounded_low : (settings : Settings) → InRange settings → (events : List Event) → Bounded settings events → Low events
 bounded_low settings range events bounded g s at ready =
     let b = bounded s (ap is_up ready) in
-    let first : next_number s events ≤ (forwarding_of s events).next = b.0 in
-    let second : (forwarding_of s events).next ≤ settings.limits.requests + 2 = b.1 in
+    let first : next_number s events ≤ (forwarding_of settings s events).next = b.0 in
+    let second : (forwarding_of settings s events).next ≤ settings.limits.requests + 2 = b.1 in
     let small : settings.limits.requests < 2 ^ 32 = range.requests in
     omega (arith, first, second, small)
 
@@ -164,7 +164,7 @@ module _ (settings : Settings) (before : List Event) (e : ℕ) (body : List ℕ)
   pub stop_off : Low before → (g s : ℕ) → lives_at g (groups_of settings before) ≡ true → start_of g before ≡ Some s → is_spawned (life_of s before).stage ≡ true → IsOff s stop_later
   stop_off low g s live at spawned = subst (IsOff s) (sym parts)
       (all_at (λ i. (n : ℕ) → start_of i closed ≡ Some n → is_spawned (life_of n closed).stage ≡ true → IsOff n (behind closed ends)) is_live (groups_of settings before) 0 g g (omega arith)
-      (groups_off living closed (low_closed low)) live (over_all g (groups_of settings before)) s (stood_closed.start g ∙ at) (ap is_spawned (stood_closed.stage s) ∙ spawned))
+      (groups_off settings living closed (low_closed low)) live (over_all g (groups_of settings before)) s (stood_closed.start g ∙ at) (ap is_spawned (stood_closed.stage s) ∙ spawned))
 
   -- so none is ready
   pub stop_unready : Known settings before → Settled settings before → Low before → stops before e (message_of body) ≡ true → (s : ℕ) → (life_of s stop_later).stage ≡ Ready → ⊥

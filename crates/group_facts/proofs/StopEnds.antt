@@ -96,7 +96,7 @@ module _ (settings : Settings) (range : settings.limits.requests < 2 ^ 32) (befo
 
       go : (s : ℕ) (b : Bool) → nat_eq n s ≡ b → (life_of s (events ++ said (ToServer n text) ∷ [])).stage ≡ Ready → Clean (events ++ said (ToServer n text) ∷ []) s
       go s true same ready = absurd (told_not (life_of s events).stage (message_of text) asks (sym (stage_by s true same) ∙ ready))
-      go s false other ready = clean_apart events (ToServer n text) s (stage_by s false other) (number_other events n text s other) other (k.untouched s) ready
+      go s false other ready = clean_apart events (ToServer n text) s (stage_by s false other) (number_other settings events n text s other) other (k.untouched s) ready
 
   over_ended : (n : ℕ) (events : List Event) → AllOver events → AllOver (events ++ said (EndServer n) ∷ [])
   over_ended n events k = record { over = λ g. ap (lives_at g) (groups_stay settings events (said (EndServer n)) refl) ∙ k.over g; untouched = λ s. go s (nat_eq n s) refl }

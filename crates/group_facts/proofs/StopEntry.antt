@@ -42,7 +42,7 @@ there_told Down initialize m h = h
 there_told Closed initialize m h = h
 there_told Gone initialize m h = h
 
-there_closed : (phase : Phase) → is_there (phase_closed phase) ≡ false
+pub there_closed : (phase : Phase) → is_there (phase_closed phase) ≡ false
 there_closed Gone = refl
 there_closed other = refl
 

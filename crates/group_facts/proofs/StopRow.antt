@@ -10,7 +10,7 @@ use Rattle.event_model.specs.declared.phase.Phase.TheVariants.{New, Waiting}
 use Rattle.event_model.specs.Event.{Event, behind, heard, said, with_cause}
 use Rattle.event_model.specs.Phases.{Desk, desk_of, editors_of, is_there, is_waiting, phase_closed}
 use Rattle.event_model.specs.Requests.{answered_id, is_open, open_of, without}
-use Rattle.event_model.specs.Row.{choose, each, nothing, on, outs, send}
+use Rattle.event_model.specs.Row.{choose, each, nothing, on, outs, send, Row}
 use Rattle.event_model.specs.Settings.{Settings}
 use Rattle.event_model.specs.Spawns.{start_of}
 use Rattle.mux_facts.proofs.Bodies.{refusal_says}
@@ -24,10 +24,12 @@ use Rattle.group_words.specs.Houses.{stops}
 use Rattle.group_rows.specs.Forwarded.{Forwarded, forwarding_of, is_of}
 use Rattle.group_rows.specs.StopRows.{close_each, joined_row, lose_request, lose_requests, refuse_initialize, refuse_open, stopped, there_in}
 use Rattle.group_rows.proofs.Stops.{range_below}
-use Rattle.group_facts.specs.Facts.{IsForwarded, IsWaiting, is_early, is_put_out, turned_away}
+use Rattle.group_facts.specs.Facts.{IsForwarded, IsWaiting, is_early, is_put_out, turned_away, AllHeld}
 use Rattle.group_facts.specs.Why.{Why, loses, turns_away}
 use Rattle.group_facts.proofs.Forwards.{zip_all}
 use Rattle.group_facts.proofs.Quits.{stopped_on}
+use Rattle.group_facts.proofs.Held.{held_told_all, refuse_held_why}
+use Rattle.group_facts.proofs.HeldOuts.{IsToEditor, keeps_told, lose_waiting_by}
 use Rattle.group_facts.proofs.Losses.{Apart2, Differ, desk_refused, lost_says, lost_text, next_asker}
 
 module _ (settings : Settings) (before : List Event) (n : ℕ) (body : List ℕ) (stop : stops before n (message_of body) ≡ true) where
@@ -80,8 +82,9 @@ module _ (settings : Settings) (before : List Event) (n : ℕ) (body : List ℕ)
   pub record IsRefusing (e : ℕ) (events : List Event) : Type 0 where
     pub over : stopped events ≡ true
     pub there : is_there (desk_of e events).phase ≡ true
+    pub held : AllHeld settings events
     pub turned : is_waiting (desk_of e events).phase ≡ true → IsTurned e events
-    pub askers : (s : ℕ) → AllByRecursion (IsForwarded events) (filter (is_of e) (forwarding_of s before).open_requests)
+    pub askers : (s : ℕ) → AllByRecursion (IsForwarded events) (filter (is_of e) (forwarding_of settings s before).open_requests)
 
   abbrev first_text : ℕ → List Event → List ℕ
   first_text e events = error_text (id_bytes (desk_of e events).initialize) request_failed
@@ -89,21 +92,45 @@ module _ (settings : Settings) (before : List Event) (n : ℕ) (body : List ℕ)
   first_says : (e : ℕ) (events : List Event) (w : IsTurned e events) → message_of (first_text e events) ≡ error (Some w.id) (error_tree request_failed)
   first_says e events w = refusal_says (desk_of e events).initialize w.id (codes "initialize") (w.waiting).params request_failed (w.waiting).asks
 
-  module _ (differ : (e s : ℕ) → Differ (filter (is_of e) (forwarding_of s before).open_requests)) (own : (e s : ℕ) → AllByRecursion (λ (f : Forwarded). f.editor ≡ e) (filter (is_of e) (forwarding_of s before).open_requests)) where
-    losing : (e : ℕ) (events : List Event) → stopped events ≡ true → is_there (desk_of e events).phase ≡ true → ((s : ℕ) → AllByRecursion (IsForwarded events) (filter (is_of e) (forwarding_of s before).open_requests)) → Because R events (lose_requests settings before e)
+  module _ (differ : (e s : ℕ) → Differ (filter (is_of e) (forwarding_of settings s before).open_requests)) (own : (e s : ℕ) → AllByRecursion (λ (f : Forwarded). f.editor ≡ e) (filter (is_of e) (forwarding_of settings s before).open_requests)) where
+    losing : (e : ℕ) (events : List Event) → stopped events ≡ true → is_there (desk_of e events).phase ≡ true → ((s : ℕ) → AllByRecursion (IsForwarded events) (filter (is_of e) (forwarding_of settings s before).open_requests)) → Because R events (lose_requests settings before e)
     losing e events over there askers = by_on (λ none. by_nothing) (λ g home. at_group g)
       where
-        at_group : (g : ℕ) → Because R events (on (start_of g before) nothing (λ s. each lose_request (filter (is_of e) (forwarding_of s before).open_requests)))
-        at_group g = by_on (λ none. by_nothing) (λ s start. lose_all e (filter (is_of e) (forwarding_of s before).open_requests) events (own e s) (differ e s) (record { over = over; there = there; askers = askers s }))
+        at_group : (g : ℕ) → Because R events (on (start_of g before) nothing (λ s. each lose_request (filter (is_of e) (forwarding_of settings s before).open_requests)))
+        at_group g = by_on (λ none. by_nothing) (λ s start. lose_all e (filter (is_of e) (forwarding_of settings s before).open_requests) events (own e s) (differ e s) (record { over = over; there = there; askers = askers s }))
 
     -- one that waits has sent on nothing
     none_waiting : (e : ℕ) (events later : List Event) (fs : List Forwarded) → (desk_of e events).phase ≡ Waiting → AllByRecursion (λ (f : Forwarded). f.editor ≡ e) fs → AllByRecursion (IsForwarded events) fs → AllByRecursion (IsForwarded later) fs
     none_waiting e events later [] at editors h = tt
     none_waiting e events later (f ∷ fs) at editors h = absurd (late_not (desk_of f.editor events).phase h.0.late (ap (λ z. (desk_of z events).phase) editors.0 ∙ at))
 
-    refused_one : (e : ℕ) (events : List Event) → IsRefusing e events → Because R events (refuse_open settings before e)
-    refused_one e events h = by_then first (subst (λ xs. Because R (behind events xs) (lose_requests settings before e)) (sym (first_outs (is_waiting (desk_of e events).phase))) (rest (is_waiting (desk_of e events).phase) refl))
+    only_lost : (e : ℕ) (fs : List Forwarded) (events : List Event) → AllByRecursion (λ (f : Forwarded). f.editor ≡ e) fs → Because (λ places out. IsToEditor e out) events (each lose_request fs)
+    only_lost e [] events editors = by_nothing
+    only_lost e (f ∷ fs) events editors = by_then (by_send editors.0) (only_lost e fs (events ++ said (ToEditor f.editor (lost_text f)) ∷ []) editors.1)
+
+    only_first : (e : ℕ) (events : List Event) → Because (λ places out. IsToEditor e out) events (refuse_initialize e)
+    only_first e events = by_look (by_choose (λ waits. by_send refl) (λ late. by_nothing))
+
+    only_losing : (e : ℕ) (places : List Event) → Because (λ places out. IsToEditor e out) places (lose_requests settings before e)
+    only_losing e places = by_on (λ none. by_nothing) (λ g home. at_group g)
       where
+        at_group : (g : ℕ) → Because (λ places out. IsToEditor e out) places (on (start_of g before) nothing (λ s. each lose_request (filter (is_of e) (forwarding_of settings s before).open_requests)))
+        at_group g = by_on (λ none. by_nothing) (λ s start. only_lost e (filter (is_of e) (forwarding_of settings s before).open_requests) places (own e s))
+
+    only_own : (e : ℕ) (events : List Event) → Because (λ places out. IsToEditor e out) events (refuse_open settings before e)
+    only_own e events = by_then (only_first e events) (by_then (only_losing e _) (lose_waiting_by settings before (λ places out. IsToEditor e out) e (λ places text. refl) _))
+
+    held_only : (e : ℕ) (row : Row) (events : List Event) → Because (λ places out. IsToEditor e out) events row → AllHeld settings events → AllHeld settings (behind events (outs row events))
+    held_only e row events only h = reasons_keep (λ places out. IsToEditor e out) (AllHeld settings) (keeps_told settings e (AllHeld settings) (λ places text k. held_told_all settings places e text k)) events (outs row events) only.why h
+
+    refused_one : (e : ℕ) (events : List Event) → IsRefusing e events → Because R events (refuse_open settings before e)
+    refused_one e events h = by_then first (by_then (subst (λ xs. Because R (behind events xs) (lose_requests settings before e)) (sym (first_outs (is_waiting (desk_of e events).phase))) (rest (is_waiting (desk_of e events).phase) refl))
+        (by_on (λ none. by_nothing) (λ g home. refuse_held_why settings before (FromEditor n body) g e (behind refused (outs (lose_requests settings before e) refused))
+        (held_only e (lose_requests settings before e) refused (only_losing e refused) (held_only e (refuse_initialize e) events (only_first e events) h.held)))))
+      where
+        refused : List Event
+        refused = behind events (outs (refuse_initialize e) events)
+
         first : Because R events (refuse_initialize e)
         first = by_look (by_choose (λ waits. let w : IsTurned e events = h.turned waits in by_send (turns_away (record { id = w.id; x = error_tree request_failed; waiting = w.waiting; turned = w.turned; says = first_says e events w }))) (λ late. by_nothing))
 
@@ -119,27 +146,10 @@ module _ (settings : Settings) (before : List Event) (n : ℕ) (body : List ℕ)
         rest : (b : Bool) → is_waiting (desk_of e events).phase ≡ b → Because R (behind events (either b)) (lose_requests settings before e)
         rest true waits = let w : IsTurned e events = h.turned waits in losing e told (stopped_on events (said (ToEditor e (first_text e events))) h.over)
             (ap (λ (d : Desk). is_there d.phase) (desk_refused e events (first_text e events) (Some w.id) (error_tree request_failed) (first_says e events w)) ∙ h.there)
-            (λ s. none_waiting e events told (filter (is_of e) (forwarding_of s before).open_requests) (w.waiting).phase (own e s) (h.askers s))
+            (λ s. none_waiting e events told (filter (is_of e) (forwarding_of settings s before).open_requests) (w.waiting).phase (own e s) (h.askers s))
         rest false late = subst (λ z. Because R z (lose_requests settings before e)) (sym (append-nil events)) (losing e events h.over h.there h.askers)
 
     -- An out to another editor leaves all of it
-
-    abbrev IsOnly : ℕ → Out → Type 0
-    IsOnly e (ToEditor k text) = k ≡ e
-    IsOnly e other = ⊥
-
-    only_lost : (e : ℕ) (fs : List Forwarded) (events : List Event) → AllByRecursion (λ (f : Forwarded). f.editor ≡ e) fs → Because (λ places out. IsOnly e out) events (each lose_request fs)
-    only_lost e [] events editors = by_nothing
-    only_lost e (f ∷ fs) events editors = by_then (by_send editors.0) (only_lost e fs (events ++ said (ToEditor f.editor (lost_text f)) ∷ []) editors.1)
-
-    only_own : (e : ℕ) (events : List Event) → Because (λ places out. IsOnly e out) events (refuse_open settings before e)
-    only_own e events = by_then (by_look (by_choose (λ waits. by_send refl) (λ late. by_nothing))) (only_losing (behind events (outs (refuse_initialize e) events)))
-      where
-        at_group : (places : List Event) (g : ℕ) → Because (λ places out. IsOnly e out) places (on (start_of g before) nothing (λ s. each lose_request (filter (is_of e) (forwarding_of s before).open_requests)))
-        at_group places g = by_on (λ none. by_nothing) (λ s start. only_lost e (filter (is_of e) (forwarding_of s before).open_requests) places (own e s))
-
-        only_losing : (places : List Event) → Because (λ places out. IsOnly e out) places (lose_requests settings before e)
-        only_losing places = by_on (λ none. by_nothing) (λ g home. at_group places g)
 
     desk_other : (e k : ℕ) (events : List Event) (text : List ℕ) → nat_eq k e ≡ false → desk_of e (events ++ said (ToEditor k text) ∷ []) ≡ desk_of e events
     desk_other e k events text other = desk_more e events (said (ToEditor k text)) ∙ desk_untold e k text (desk_of e events) other
@@ -151,6 +161,7 @@ module _ (settings : Settings) (before : List Event) (n : ℕ) (body : List ℕ)
     refusing_told e k events text other h = record {
       over = stopped_on events (said (ToEditor k text)) h.over;
       there = ap (λ (d : Desk). is_there d.phase) (desk_other e k events text other) ∙ h.there;
+      held = held_told_all settings events k text h.held;
       turned = λ waits. let w : IsTurned e events = h.turned (sym (ap (λ (d : Desk). is_waiting d.phase) (desk_other e k events text other)) ∙ waits) in record {
         id = w.id;
         waiting = record {
@@ -166,13 +177,13 @@ module _ (settings : Settings) (before : List Event) (n : ℕ) (body : List ℕ)
         text = j.text;
         late = ap (λ (d : Desk). is_early d.phase) (desk_other f.editor k events text (ap (nat_eq k) its ∙ other)) ∙ j.late;
         waits = ap (is_open j.id) (opens_other f.editor k events text (ap (nat_eq k) its ∙ other)) ∙ j.waits;
-      }) (filter (is_of e) (forwarding_of s before).open_requests) (own e s) (h.askers s);
+      }) (filter (is_of e) (forwarding_of settings s before).open_requests) (own e s) (h.askers s);
     }
 
     refusing_still : (k e : ℕ) (events : List Event) → nat_eq k e ≡ false → IsRefusing e events → IsRefusing e (behind events (outs (refuse_open settings before k) events))
-    refusing_still k e events other h = reasons_keep (λ places out. IsOnly k out) (IsRefusing e) step events (outs (refuse_open settings before k) events) (only_own k events).why h
+    refusing_still k e events other h = reasons_keep (λ places out. IsToEditor k out) (IsRefusing e) step events (outs (refuse_open settings before k) events) (only_own k events).why h
       where
-        step : (places : List Event) (out : Out) → IsOnly k out → IsRefusing e places → IsRefusing e (places ++ said out ∷ [])
+        step : (places : List Event) (out : Out) → IsToEditor k out → IsRefusing e places → IsRefusing e (places ++ said out ∷ [])
         step places (ToEditor i text) is i_refuses = refusing_told e i places text (ap (λ z. nat_eq z e) is ∙ other) i_refuses
         step places (ToServer i text) is h = absurd is
         step places (Spawn i g) is h = absurd is

@@ -1,5 +1,5 @@
 -- E6: why each out of a stop is sent, put together.
-use Rattle.std.proofs.Common.{◌≡◌, ℕ, Bool, true, false, cond, ◌&&◌, ◌||◌, List, [], ◌∷◌, ◌++◌, filter, nat_eq, bytes_eq, codes, if◌then◌else◌, Option, None, Some, refl, sym, ◌∙◌, ap, ap₂, subst, append-nil}
+use Rattle.std.proofs.Common.{◌≡◌, ℕ, Bool, true, false, cond, ◌&&◌, ◌||◌, List, [], ◌∷◌, ◌++◌, filter, nat_eq, bytes_eq, codes, if◌then◌else◌, Option, Some, refl, sym, ◌∙◌, ap, ap₂, subst, append-nil}
 use Rattle.std.specs.List.{AllByRecursion}
 use Rattle.std.proofs.lemmas.Bool.{and_parts}
 use Rattle.std.proofs.lemmas.List.Elements.{filter-append}
@@ -16,7 +16,7 @@ use Rattle.event_model.specs.declared.phase.Phase.{Phase}
 use Rattle.event_model.specs.declared.phase.Phase.TheVariants.{Absent, New, Waiting, Answered, Running, Down, Closed, Gone}
 use Rattle.event_model.specs.Event.{Event, behind, heard, requests, said, with_cause}
 use Rattle.event_model.specs.Parts.{is_of_server, server_part}
-use Rattle.event_model.specs.Phases.{Desk, desk_hears, desk_of, has_id, is_new, is_there, is_waiting, phase_told}
+use Rattle.event_model.specs.Phases.{Desk, desk_hears, desk_of, is_new, is_there, is_waiting, phase_told}
 use Rattle.event_model.specs.Requests.{answered_id, is_open, open_of, with_request, without}
 use Rattle.event_model.specs.Row.{each, nothing, on, outs}
 use Rattle.event_model.specs.Settings.{Settings}
@@ -37,9 +37,11 @@ use Rattle.group_words.specs.Placing.{all_from, end_where, is_live, with_editor}
 use Rattle.group_words.proofs.Frames.{groups_more}
 use Rattle.group_rows.specs.Forwarded.{Forwarded, forwarding_of, is_of}
 use Rattle.group_rows.specs.StopRows.{close_each, lose_request, lose_requests, refuse_initialize, refuse_open, stop_row, there_in}
-use Rattle.group_facts.specs.Facts.{AllForwarded, Apart, Bounded, IsAlone, IsForwarded, OneRequest, is_early, turned_away}
+use Rattle.group_facts.specs.Facts.{AllForwarded, Apart, Bounded, IsAlone, IsForwarded, OneRequest, is_early, turned_away, AllHeld}
 use Rattle.group_facts.specs.Lively.{lives_at}
 use Rattle.group_facts.specs.Why.{IsBeside, Why}
+use Rattle.group_facts.proofs.Held.{held_told_all, there_told}
+use Rattle.group_facts.proofs.HeldOuts.{lose_waiting_by}
 use Rattle.group_facts.proofs.Nulls.{null_said}
 use Rattle.group_facts.proofs.Forwards.{zip_all}
 use Rattle.group_facts.proofs.Quits.{stopped_now, stopped_on}
@@ -48,35 +50,6 @@ use Rattle.group_facts.proofs.Sent.{rising_filtered, rising_of}
 use Rattle.group_facts.proofs.StopEnds.{AllOver, IsOnLink, all_end, over_all, over_linked}
 use Rattle.group_facts.proofs.Losses.{Differ, differ_of}
 use Rattle.group_facts.proofs.StopRow.{IsClosing, IsRefusing, IsTurned, all_closed, all_refused}
-
--- Phases
-
-told_keeps : (phase : Phase) (initialize : List ℕ) (m : Message) → is_there phase ≡ true → is_there (phase_told phase initialize m) ≡ true
-told_keeps Waiting initialize (result (Some id) r) h = go (has_id id (message_of initialize))
-  where
-    go : (b : Bool) → is_there (if b then Answered else Waiting) ≡ true
-    go true = refl
-    go false = refl
-told_keeps Waiting initialize (result None r) h = refl
-told_keeps Waiting initialize (error id x) h = refl
-told_keeps Waiting initialize (request id method params) h = refl
-told_keeps Waiting initialize (notification method params) h = refl
-told_keeps Waiting initialize not_json h = refl
-told_keeps Waiting initialize not_message h = refl
-told_keeps New initialize m h = refl
-told_keeps Answered initialize m h = refl
-told_keeps Running initialize m h = refl
-told_keeps Down initialize m h = refl
-told_keeps Absent initialize m h = h
-told_keeps Closed initialize m h = h
-told_keeps Gone initialize m h = h
-
-pub there_told : (e k : ℕ) (events : List Event) (text : List ℕ) → is_there (desk_of e events).phase ≡ true → is_there (desk_of e (events ++ said (ToEditor k text) ∷ [])).phase ≡ true
-there_told e k events text h = ap (λ (d : Desk). is_there d.phase) (desk_more e events (said (ToEditor k text))) ∙ go (nat_eq k e)
-  where
-    go : (b : Bool) → is_there (if b then record { phase = phase_told (desk_of e events).phase (desk_of e events).initialize (message_of text); initialize = (desk_of e events).initialize } else desk_of e events).phase ≡ true
-    go true = told_keeps (desk_of e events).phase (desk_of e events).initialize (message_of text) h
-    go false = h
 
 -- Bodies to editors alone
 
@@ -97,11 +70,11 @@ bodies_lost (f ∷ fs) events = by_then (by_send tt) (bodies_lost fs _)
 
 pub bodies_refused : (settings : Settings) (before : List Event) (es : List ℕ) (events : List Event) → Because (λ places out. IsBody out) events (each (refuse_open settings before) es)
 bodies_refused settings before [] events = by_nothing
-bodies_refused settings before (e ∷ es) events = by_then (by_then (by_look (by_choose (λ waits. by_send tt) (λ late. by_nothing))) (losing (behind events (outs (refuse_initialize e) events))))
+bodies_refused settings before (e ∷ es) events = by_then (by_then (by_look (by_choose (λ waits. by_send tt) (λ late. by_nothing))) (by_then (losing (behind events (outs (refuse_initialize e) events))) (lose_waiting_by settings before (λ places out. IsBody out) e (λ places text. tt) _)))
     (bodies_refused settings before es (behind events (outs (refuse_open settings before e) events)))
   where
-    at_group : (places : List Event) (g : ℕ) → Because (λ places out. IsBody out) places (on (start_of g before) nothing (λ s. each lose_request (filter (is_of e) (forwarding_of s before).open_requests)))
-    at_group places g = by_on (λ none. by_nothing) (λ s start. bodies_lost (filter (is_of e) (forwarding_of s before).open_requests) places)
+    at_group : (places : List Event) (g : ℕ) → Because (λ places out. IsBody out) places (on (start_of g before) nothing (λ s. each lose_request (filter (is_of e) (forwarding_of settings s before).open_requests)))
+    at_group places g = by_on (λ none. by_nothing) (λ s start. bodies_lost (filter (is_of e) (forwarding_of settings s before).open_requests) places)
 
     losing : (places : List Event) → Because (λ places out. IsBody out) places (lose_requests settings before e)
     losing places = by_on (λ none. by_nothing) (λ g home. at_group places g)
@@ -122,8 +95,8 @@ stops_places phase (error id x) h = absurd (cc)
 stops_places phase not_json h = absurd (cc)
 stops_places phase not_message h = absurd (cc)
 
-module _ (settings : Settings) (range : InRange settings) (before : List Event) (bounded : Bounded settings before) (apart : Apart before) (waiting : AllWaiting before) (forwarded : AllForwarded before) (n : ℕ) (body : List ℕ)
-    (id : Id) (method : List ℕ) (params : Option Json) (says : message_of body ≡ request id method params) (there : is_there (desk_of n before).phase ≡ true) (lonely : IsAlone before n id)
+module _ (settings : Settings) (range : InRange settings) (before : List Event) (bounded : Bounded settings before) (apart : Apart settings before) (waiting : AllWaiting before) (forwarded : AllForwarded settings before) (n : ℕ) (body : List ℕ) (held : AllHeld settings (with_cause before (FromEditor n body)))
+    (id : Id) (method : List ℕ) (params : Option Json) (says : message_of body ≡ request id method params) (there : is_there (desk_of n before).phase ≡ true) (lonely : IsAlone settings before n id)
     (other : requests (codes "initialize") (message_of body) ≡ false) (fresh : (desk_of n before).phase ≡ Waiting → is_open id (open_of n before) ≡ false) (stop : stops before n (message_of body) ≡ true) where
   abbrev now : List Event
   now = with_cause before (FromEditor n body)
@@ -250,20 +223,20 @@ module _ (settings : Settings) (range : InRange settings) (before : List Event) 
       go true same = ap (λ m. is_open k.id (without (answered_id m) (open_of f.editor now))) text_says ∙ still_open id k.id (open_of f.editor now) open_now (apart_from (number_same n f.editor same) (same_id id k.id) refl)
       go false away = open_now
 
-  askers_told : (e s : ℕ) → AllByRecursion (IsForwarded told) (filter (is_of e) (forwarding_of s before).open_requests)
-  askers_told e s = all_filtered (IsForwarded told) (IsForwarded told) (is_of e) (λ f t k. k) (forwarding_of s before).open_requests
-      (zip_all (IsForwarded before) (λ (f : Forwarded). f.editor ≡ n → IsIdText id f.id → ⊥) (IsForwarded told) asker_told (forwarding_of s before).open_requests (forwarded s) (lonely s))
+  askers_told : (e s : ℕ) → AllByRecursion (IsForwarded told) (filter (is_of e) (forwarding_of settings s before).open_requests)
+  askers_told e s = all_filtered (IsForwarded told) (IsForwarded told) (is_of e) (λ f t k. k) (forwarding_of settings s before).open_requests
+      (zip_all (IsForwarded before) (λ (f : Forwarded). f.editor ≡ n → IsIdText id f.id → ⊥) (IsForwarded told) asker_told (forwarding_of settings s before).open_requests (forwarded s) (lonely s))
 
-  own : (e s : ℕ) → AllByRecursion (λ (f : Forwarded). f.editor ≡ e) (filter (is_of e) (forwarding_of s before).open_requests)
-  own e s = all_filtered (IsForwarded before) (λ (f : Forwarded). f.editor ≡ e) (is_of e) (λ f t k. number_same f.editor e t) (forwarding_of s before).open_requests (forwarded s)
+  own : (e s : ℕ) → AllByRecursion (λ (f : Forwarded). f.editor ≡ e) (filter (is_of e) (forwarding_of settings s before).open_requests)
+  own e s = all_filtered (IsForwarded before) (λ (f : Forwarded). f.editor ≡ e) (is_of e) (λ f t k. number_same f.editor e t) (forwarding_of settings s before).open_requests (forwarded s)
 
-  differ : (e s : ℕ) → Differ (filter (is_of e) (forwarding_of s before).open_requests)
-  differ e s = differ_of s e 2 (forwarding_of s before).next (filter (is_of e) (forwarding_of s before).open_requests) (rising_filtered 2 (forwarding_of s before).next (is_of e) (forwarding_of s before).open_requests (rising_of s before)) (own e s)
-      (all_filtered (λ (f : Forwarded). (t : ℕ) → AllByRecursion (OneRequest s f t) (forwarding_of t before).open_requests) (λ (f : Forwarded). AllByRecursion (OneRequest s f s) (filter (is_of e) (forwarding_of s before).open_requests)) (is_of e)
-      (λ f t k. all_filtered (OneRequest s f s) (OneRequest s f s) (is_of e) (λ g u o. o) (forwarding_of s before).open_requests (k s)) (forwarding_of s before).open_requests (apart s))
+  differ : (e s : ℕ) → Differ (filter (is_of e) (forwarding_of settings s before).open_requests)
+  differ e s = differ_of s e 2 (forwarding_of settings s before).next (filter (is_of e) (forwarding_of settings s before).open_requests) (rising_filtered 2 (forwarding_of settings s before).next (is_of e) (forwarding_of settings s before).open_requests (rising_of settings s before)) (own e s)
+      (all_filtered (λ (f : Forwarded). (t : ℕ) → AllByRecursion (OneRequest s f t) (forwarding_of settings t before).open_requests) (λ (f : Forwarded). AllByRecursion (OneRequest s f s) (filter (is_of e) (forwarding_of settings s before).open_requests)) (is_of e)
+      (λ f t k. all_filtered (OneRequest s f s) (OneRequest s f s) (is_of e) (λ g u o. o) (forwarding_of settings s before).open_requests (k s)) (forwarding_of settings s before).open_requests (apart s))
 
   refusing : (e : ℕ) → is_there (desk_of e before).phase ≡ true → Refusing e told
-  refusing e h = record { over = stopped_on now (said (ToEditor n text)) (stopped_now before n body stop); there = there_behind e h; turned = turned_told e; askers = askers_told e }
+  refusing e h = record { over = stopped_on now (said (ToEditor n text)) (stopped_now before n body stop); there = there_behind e h; held = held_told_all settings now n text held; turned = turned_told e; askers = askers_told e }
 
   -- Behind the refusals, and behind the links' ends
 

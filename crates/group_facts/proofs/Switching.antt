@@ -14,8 +14,8 @@ use Rattle.mux_model.specs.Documents.{held_at}
 use Rattle.group_rows.specs.Rows.{sync_bodies}
 use Rattle.group_rows.specs.Texts.{is_synced, texts_of}
 use Rattle.group_facts.specs.Legal.{Legal}
-use Rattle.group_facts.specs.Switches.{IsConfigured, AllOnSwitches, IsSwitched, OnSwitches, Switches, SwitchesFrom}
-use Rattle.group_facts.specs.Why.{AllSlow, AllWhy, HasParts, IsBehindSync, ReasonsFrom, SlowOuts, quitting, Why, WhyToServer, begins, cancels, exits, forwarded, greets, conveys, notes, responds, shuts, tells, resolves, cancels_work}
+use Rattle.group_facts.specs.Switches.{IsConfigured, AllOnSwitches, IsSwitched, OnSwitches, Switches, SwitchesFrom, IsReleased}
+use Rattle.group_facts.specs.Why.{AllSlow, AllWhy, HasParts, IsBehindSync, ReasonsFrom, SlowOuts, quitting, Why, WhyToServer, begins, cancels, exits, forwarded, greets, conveys, notes, responds, shuts, tells, resolves, cancels_work, at_once, had_waited, Going, IsAwaited}
 use Rattle.group_facts.proofs.Asides.{answer_aside, spoken_aside, unsynced}
 use Rattle.group_facts.proofs.Everywhere.{reasons_hold}
 use Rattle.group_facts.proofs.SlowRow.{quit_unsynced}
@@ -24,11 +24,27 @@ module _ (settings : Settings) (before : List Event) (cause : Cause) where
   switched : (events : List Event) (s e : ℕ) (asked : List ℕ) → cause ≡ FromEditor e asked → IsBehindSync settings before events s e asked → IsSwitched settings before cause events s
   switched events s e asked from k = record { editor = e; asked = asked; from = from; group = k.group; start = k.start; questions = k.questions; asks = k.asks; place = subst (λ c. events ≡ behind (with_cause before c) (k.questions ++ map (λ text. ToServer s text) (sync_bodies settings.limits.versions (λ u. held_at s u before) e (texts_of settings k.group before).opens))) (sym from) k.place }
 
-  by_reason : (events : List Event) (s : ℕ) (body : List ℕ) → WhyToServer settings before cause events s body → is_synced (message_of body) ≡ true → IsSwitched settings before cause events s ⊎ IsConfigured settings before cause s body
+  released : (events : List Event) (s e : ℕ) (asked : List ℕ) → IsAwaited settings before cause events s e asked → IsReleased settings before cause events s
+  released events s e asked w = record {
+    group = w.group;
+    answer = w.answer;
+    request = w.request;
+    from = w.from;
+    home = w.home;
+    first = w.first;
+    earlier = w.earlier;
+    place = subst (λ n. events ≡ behind w.earlier (map (λ text. ToServer s text) (sync_bodies settings.limits.versions (λ u. held_at s u w.earlier) n (texts_of settings w.group w.earlier).opens))) (sym w.editor) w.place;
+  }
+
+  went : {body : List ℕ} (events : List Event) (s e : ℕ) (asked : List ℕ) → Going settings before cause events s e asked → IsSwitched settings before cause events s ⊎ (IsReleased settings before cause events s ⊎ IsConfigured settings before cause s body)
+  went events s e asked (at_once from k) = inl (switched events s e asked from k)
+  went events s e asked (had_waited w) = inr (inl (released events s e asked w))
+
+  by_reason : (events : List Event) (s : ℕ) (body : List ℕ) → WhyToServer settings before cause events s body → is_synced (message_of body) ≡ true → IsSwitched settings before cause events s ⊎ (IsReleased settings before cause events s ⊎ IsConfigured settings before cause s body)
   by_reason events s body (begins k) goes = unsynced body _ k.says refl goes
   by_reason events s body (greets k) goes = unsynced body _ k.says refl goes
-  by_reason events s body (conveys k) goes = inr (record { group = k.group; answer = k.answer; from = k.from; home = k.home; kept = k.kept })
-  by_reason events s body (forwarded k) goes = inl (switched events s k.sender.editor k.asked k.from k.synced)
+  by_reason events s body (conveys k) goes = inr (inr (record { group = k.group; answer = k.answer; from = k.from; home = k.home; kept = k.kept }))
+  by_reason events s body (forwarded k) goes = went events s k.sender.editor k.asked k.going
   by_reason events s body (notes k) goes = inl (switched events s k.editor body k.from k.synced)
   by_reason events s body (tells k) goes = never (sym goes ∙ spoken_aside (message_of body) k.spoken)
   by_reason events s body (shuts k) goes = unsynced body _ k.says refl goes

@@ -51,7 +51,7 @@ unfolding named
 cancel_names n = refl
 
 -- a further event of s
-turn_more : (before : List Event) (cause : Cause) (events : List Event) (s : ℕ) (body : List ℕ) → Turn before cause events s → Turn before cause (events ++ said (ToServer s body) ∷ []) s
+pub turn_more : (before : List Event) (cause : Cause) (events : List Event) (s : ℕ) (body : List ℕ) → Turn before cause events s → Turn before cause (events ++ said (ToServer s body) ∷ []) s
 turn_more before cause events s body (stays h) = stays h
 turn_more before cause events s body (greeted xs h) = greeted (xs ++ said (ToServer s body) ∷ []) (filter-append (is_of_server s) events (said (ToServer s body) ∷ [])
     ∙ ap (λ b. server_part s events ++ cond b (said (ToServer s body) ∷ []) []) (same_number s)
@@ -64,7 +64,7 @@ module _ (settings : Settings) (range : InRange settings) (before : List Event) 
 
   -- the start may be told
   pub record Calm (events : List Event) : Type 0 where
-    pub still : Still now s events
+    pub still : Still settings now s events
     pub turn : Turn before cause events s
 
   abbrev pub to : List (List ℕ) → List Out
@@ -102,17 +102,17 @@ module _ (settings : Settings) (range : InRange settings) (before : List Event) 
       let m : Spoken (message_of body) = spoken (message_of body) speaking in
       record {
         why = (tells (record { ready = calm.still.ready; turn = calm.turn; spoken = speaking; allowed = subst (AllowsSaying (versions_at s events)) (sym x.says) x.allowed }), tt);
-        calm = record { still = still_notified now s events body m.method m.params m.is calm.still; turn = turn_more before cause events s body calm.turn };
+        calm = record { still = still_notified settings now s events body m.method m.params m.is calm.still; turn = turn_more before cause events s body calm.turn };
         others = λ w k. ap (λ (z : Sent). z.held) (sent_more s w events (said (ToServer s body)))
             ∙ ap₂ (λ b y. if b then told (sent_of s w events).encoding w (held_at s w events) y else held_at s w events) (same_number s) x.says
             ∙ silent w k (sent_of s w events).encoding (held_at s w events);
       }
 
   -- that a request is cancelled leaves every document alone
-  pub cancel_told : {K : List ℕ → Type 0} (events : List Event) (n : ℕ) → n < 2 ^ 64 → moves before cause s ≡ false → list_any (is_uncancelled n) (forwarding_of s events).open_requests ≡ true → Calm events → Tells K events (cancel_text n ∷ [])
+  pub cancel_told : {K : List ℕ → Type 0} (events : List Event) (n : ℕ) → n < 2 ^ 64 → moves before cause s ≡ false → list_any (is_uncancelled n) (forwarding_of settings s events).open_requests ≡ true → Calm events → Tells K events (cancel_text n ∷ [])
   cancel_told events n low rests waits calm = record {
     why = (cancels (record { number = n; params = params_tree n; value = number nowhere (decimal n); named = cancel_names n; id = ap (λ b. integer_if b (decimal n)) (decimal_integer n (omega arith)); waits = waits; ready = calm.still.ready; stays = rests; text = of_daemon refl; says = cancel_says n low }), tt);
-    calm = record { still = still_notified now s events (cancel_text n) (codes "$/cancelRequest") (Some (params_tree n)) (cancel_says n low) calm.still; turn = turn_more before cause events s (cancel_text n) calm.turn };
+    calm = record { still = still_notified settings now s events (cancel_text n) (codes "$/cancelRequest") (Some (params_tree n)) (cancel_says n low) calm.still; turn = turn_more before cause events s (cancel_text n) calm.turn };
     others = λ w k. ap (λ (z : Sent). z.held) (sent_more s w events (said (ToServer s (cancel_text n))))
         ∙ ap₂ (λ b m. if b then told (sent_of s w events).encoding w (held_at s w events) (saying_of m) else held_at s w events) (same_number s) (cancel_says n low);
   }
@@ -124,7 +124,7 @@ module _ (settings : Settings) (range : InRange settings) (before : List Event) 
       let is : message_of (error_text a.bytes request_failed) ≡ error (Some a.id) (error_tree request_failed) = error_law (Some a.id) a.bytes request_failed (id_as_response a.id a.bytes text) in
       record {
         why = (resolves (record { id = a.id; resolution = refused_for a listed refl refl; ready = calm.still.ready; stays = rests; response = ap is_response is; answers = ap answered_id is; waits = waits }), tt);
-        calm = record { still = still_answered now s events (error_text a.bytes request_failed) (Some a.id) (error_tree request_failed) is calm.still; turn = turn_more before cause events s (error_text a.bytes request_failed) calm.turn };
+        calm = record { still = still_answered settings now s events (error_text a.bytes request_failed) (Some a.id) (error_tree request_failed) is calm.still; turn = turn_more before cause events s (error_text a.bytes request_failed) calm.turn };
         others = λ w k. ap (λ (z : Sent). z.held) (sent_more s w events (said (ToServer s (error_text a.bytes request_failed))))
             ∙ ap₂ (λ b m. if b then told (sent_of s w events).encoding w (held_at s w events) (saying_of m) else held_at s w events) (same_number s) is;
       }

@@ -105,7 +105,7 @@ module _ (settings : Settings) (range : settings.limits.requests < 2 ^ 32) (befo
         untouched = λ ready. absurd (told_not (life_of s events).stage (message_of body) asks (sym (stage_by true same) ∙ ready));
         stopping = λ was. stage_by true same ∙ ap (λ z. stage_told z (message_of body)) (k.stopping was);
       }
-      go false other = standing_apart events (ToServer n body) s (stage_by false other) (number_other events n body s other) other k
+      go false other = standing_apart events (ToServer n body) s (stage_by false other) (number_other settings events n body s other) other k
 
   ended_standing : (events : List Event) (n : ℕ) → is_starting (life_of n events).stage ≡ true → (s : ℕ) → Standing events s → Standing (events ++ said (EndServer n) ∷ []) s
   ended_standing events n starts s k = go (nat_eq n s) refl

@@ -70,7 +70,7 @@ module _ (settings : Settings) (before : List Event) (cause : Cause) (events : L
   null_told : (x : Json) → message_of body ≡ error None x → (e : ℕ) → WaitsAt (desk_of e events) (open_of e events) → WaitsAt (desk_of e told) (open_of e told)
   null_told x says e h = by_told e h (λ same. subst (λ m. WaitsAt (told_desk (desk_of e events) m) (without (answered_id m) (open_of e events))) (sym says) (null_waits true (desk_of e events) (open_of e events) x h))
 
-  refusal_told : IsRefusal events n body → (e : ℕ) → WaitsAt (desk_of e events) (open_of e events) → WaitsAt (desk_of e told) (open_of e told)
+  refusal_told : IsRefusal settings events n body → (e : ℕ) → WaitsAt (desk_of e events) (open_of e events) → WaitsAt (desk_of e told) (open_of e told)
   refusal_told k e h = by_told e h (λ same. subst (λ m. WaitsAt (told_desk (desk_of e events) m) (without (answered_id m) (open_of e events))) (sym k.says)
       (refused_waits (desk_of e events).phase (desk_of e events).initialize (open_of e events) k.id k.x (subst (λ z. (desk_of z events).phase ≡ Waiting → has_id k.id (message_of (desk_of z events).initialize) ≡ false) same k.others) h))
 

@@ -55,10 +55,10 @@ module _ (settings : Settings) (range : InRange settings) (before : List Event) 
           says = made.1;
         }
 
-    requested : (s : ℕ) (f : Forwarded) → is_ready (life_of s before).stage ≡ true → find (is_worked e (named_of (codes "token") params)) (forwarding_of s before).open_requests ≡ Some f
+    requested : (s : ℕ) (f : Forwarded) → is_ready (life_of s before).stage ≡ true → find (is_worked e (named_of (codes "token") params)) (forwarding_of settings s before).open_requests ≡ Some f
         → IsWorkCancel settings before (FromEditor e body) now s (marked_text (mark_text (work_mark f.number)) body)
     requested s f ready found =
-        let small : f.number < 2 ^ 64 = found_is (λ (g : Forwarded). IsSmall g.number) (is_worked e (named_of (codes "token") params)) f (forwarding_of s before).open_requests (numbers_small settings range before bounded s (ready_is (life_of s before).stage ready)) found in
+        let small : f.number < 2 ^ 64 = found_is (λ (g : Forwarded). IsSmall g.number) (is_worked e (named_of (codes "token") params)) f (forwarding_of settings s before).open_requests (numbers_small settings range before bounded s (ready_is (life_of s before).stage ready)) found in
         reason s (mark_text (work_mark f.number)) ready (mark_token (work_mark f.number) (omega (arith, small))) (of_request f found refl)
 
     made : (s : ℕ) (t : Token) → is_ready (life_of s before).stage ≡ true → token_marked s params (created_of settings s before) ≡ Some t → has_accepted e t.number (created_of settings s before) ≡ true

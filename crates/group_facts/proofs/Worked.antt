@@ -91,9 +91,9 @@ the_second_asks : open_of 1 (events_of (played (with_groups 8) two_ask)) ≡ int
 unfolding computes url_on_literals message_of named no_name_twice is_integer member_bytes with_id_text id_edits escape_byte digits own_request own_notification goes_nowhere editor_request editor_notification
 the_second_asks = refl
 
-both_are_sent : (forwarding_of 0 (events_of (played (with_groups 8) two_ask))).open_requests ≡ record { number = 2; editor = 0; id = codes "1"; work = None; partial = None; cancelled = false } ∷ record { number = 3; editor = 1; id = codes "1"; work = None; partial = None; cancelled = false } ∷ []
+both_are_sent : (settings : Settings) → (forwarding_of settings 0 (events_of (played (with_groups 8) two_ask))).open_requests ≡ record { number = 2; editor = 0; id = codes "1"; work = None; partial = None; cancelled = false } ∷ record { number = 3; editor = 1; id = codes "1"; work = None; partial = None; cancelled = false } ∷ []
 unfolding computes url_on_literals message_of named no_name_twice is_integer member_bytes with_id_text id_edits escape_byte digits own_request own_notification goes_nowhere editor_request editor_notification
-both_are_sent = refl
+both_are_sent settings = refl
 
 -- A second `initialize`
 

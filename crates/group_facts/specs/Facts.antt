@@ -9,15 +9,16 @@ use Rattle.document_model.specs.Texts.{Texts}
 use Rattle.mux_history.specs.declared.cause.Cause.{Cause}
 use Rattle.mux_history.specs.declared.cause.Cause.TheVariants.{EditorGone, FromEditor, FromServer, Joined, ServerGone, StartFailed}
 use Rattle.mux_history.specs.declared.out.Out.TheVariants.{ToEditor, ToServer}
-use Rattle.rpc_message.specs.Message.{Id, Message, integer, request, message_of, same_id}
+use Rattle.rpc_message.specs.Message.{Id, Message, id_bytes, integer, request, message_of, same_id}
 use Rattle.rpc_message.specs.ValueTexts.{IsIdText, IsShallowText}
 use Rattle.event_model.specs.declared.phase.Phase.{Phase}
 use Rattle.event_model.specs.declared.phase.Phase.TheVariants.{Absent, New, Waiting}
 use Rattle.event_model.specs.declared.stage.Stage.{Stage}
 use Rattle.event_model.specs.declared.stage.Stage.TheVariants.{Unspawned, Spawning, Initializing, Ready, Stopping}
 use Rattle.event_model.specs.Event.{Event, took, did, notifies, requests}
+use Rattle.event_model.specs.Members.{params_of}
 use Rattle.event_model.specs.Phases.{desk_of, editors_of, is_begun, is_there, is_waiting}
-use Rattle.event_model.specs.Requests.{answered_id, next_number, is_open, open_of, with_request, without}
+use Rattle.event_model.specs.Requests.{answered_id, next_number, is_open, is_own, open_of, with_request, without}
 use Rattle.event_model.specs.Settings.{Settings}
 use Rattle.event_model.specs.Spawns.{group_of, starts_of}
 use Rattle.event_model.specs.Stages.{is_first_result, is_initializing, is_ready, life_of, no_life}
@@ -27,13 +28,16 @@ use Rattle.group_words.specs.declared.placed.Placed.{Placed}
 use Rattle.group_words.specs.declared.placed.Placed.TheVariants.{TooMany}
 use Rattle.group_words.specs.Houses.{groups_of, home_of, is_doubled, is_first_error, is_home, places, placed_for, stops}
 use Rattle.group_words.specs.Rows.{folders_text, initialize_of, result_of}
+use Rattle.group_rows.specs.held_requests.specs.declared.request.Request.{Request}
 use Rattle.group_rows.specs.Asks.{Ask, Parked, asks_of, is_patient, is_under, parked_of, waits_under}
 use Rattle.group_rows.specs.Created.{Taking, created_of}
 use Rattle.group_rows.specs.Earlier.{differs, given_of, was_shown}
 use Rattle.group_rows.specs.ExitRows.{ends_group}
 use Rattle.group_rows.specs.Forwarded.{Forwarded, forwarding_of}
 use Rattle.group_rows.specs.StopRows.{stopped}
+use Rattle.group_rows.specs.Reserved.{reserves}
 use Rattle.group_rows.specs.Texts.{texts_of}
+use Rattle.group_rows.specs.Waiting.{waiting_of}
 
 -- Starts and editors that weren't there yet
 
@@ -104,8 +108,8 @@ is_unbegun Unspawned = true
 is_unbegun Spawning = true
 is_unbegun other = false
 
-abbrev pub Unbegun : List Event → Type 0
-Unbegun events = (s : ℕ) → is_unbegun (life_of s events).stage ≡ true → (next_number s events ≡ 1) × ((forwarding_of s events).next ≡ 2)
+abbrev pub Unbegun : Settings → List Event → Type 0
+Unbegun settings events = (s : ℕ) → is_unbegun (life_of s events).stage ≡ true → (next_number s events ≡ 1) × ((forwarding_of settings s events).next ≡ 2)
 
 -- a start that isn't ready yet holds no document
 abbrev pub is_unready : Stage → Bool
@@ -119,15 +123,15 @@ Untold events = (s : ℕ) → is_unready (life_of s events).stage ≡ true → (
 
 -- while a start is up, the number of its next request by editors' requests is at most the limit and two, and that by all is no greater
 abbrev pub Bounded : Settings → List Event → Type 0
-Bounded settings events = (s : ℕ) → is_up (life_of s events).stage ≡ true → (next_number s events ≤ (forwarding_of s events).next) × ((forwarding_of s events).next ≤ settings.limits.requests + 2)
+Bounded settings events = (s : ℕ) → is_up (life_of s events).stage ≡ true → (next_number s events ≤ (forwarding_of settings s events).next) × ((forwarding_of settings s events).next ≤ settings.limits.requests + 2)
 
 -- while a start is ready, the next request to it has the same number by the count of all requests as by that of editors' requests
-abbrev pub Numbered : List Event → Type 0
-Numbered events = (s : ℕ) → (life_of s events).stage ≡ Ready → next_number s events ≡ (forwarding_of s events).next
+abbrev pub Numbered : Settings → List Event → Type 0
+Numbered settings events = (s : ℕ) → (life_of s events).stage ≡ Ready → next_number s events ≡ (forwarding_of settings s events).next
 
 -- and behind `shutdown`, which is no editor's, one more was counted
-abbrev pub Stopped : List Event → Type 0
-Stopped events = (s : ℕ) → (life_of s events).stage ≡ Stopping → next_number s events ≡ (forwarding_of s events).next + 1
+abbrev pub Stopped : Settings → List Event → Type 0
+Stopped settings events = (s : ℕ) → (life_of s events).stage ≡ Stopping → next_number s events ≡ (forwarding_of settings s events).next + 1
 
 -- it is there before its `initialize` is answered, or didn't join
 abbrev pub is_early : Phase → Bool
@@ -146,19 +150,49 @@ pub record IsAsker (events : List Event) (e : ℕ) (bytes : List ℕ) : Type 0 w
 abbrev pub IsForwarded : List Event → Forwarded → Type 0
 IsForwarded events f = IsAsker events f.editor f.id
 
-abbrev pub AllForwarded : List Event → Type 0
-AllForwarded events = (s : ℕ) → AllByRecursion (IsForwarded events) (forwarding_of s events).open_requests
+abbrev pub AllForwarded : Settings → List Event → Type 0
+AllForwarded settings events = (s : ℕ) → AllByRecursion (IsForwarded events) (forwarding_of settings s events).open_requests
 
 -- of one editor under one id there is one open request, at one start
 abbrev pub OneRequest : ℕ → Forwarded → ℕ → Forwarded → Type 0
 OneRequest s f t g = (id : Id) → g.editor ≡ f.editor → IsIdText id f.id → IsIdText id g.id → (t ≡ s) × (g.number ≡ f.number)
 
-abbrev pub Apart : List Event → Type 0
-Apart events = (s : ℕ) → AllByRecursion (λ f. (t : ℕ) → AllByRecursion (OneRequest s f t) (forwarding_of t events).open_requests) (forwarding_of s events).open_requests
+abbrev pub Apart : Settings → List Event → Type 0
+Apart settings events = (s : ℕ) → AllByRecursion (λ f. (t : ℕ) → AllByRecursion (OneRequest s f t) (forwarding_of settings t events).open_requests) (forwarding_of settings s events).open_requests
 
 -- no request of e under this id is open at a start
-abbrev pub IsAlone : List Event → ℕ → Id → Type 0
-IsAlone events e id = (t : ℕ) → AllByRecursion (λ (g : Forwarded). g.editor ≡ e → IsIdText id g.id → ⊥) (forwarding_of t events).open_requests
+abbrev pub IsAlone : Settings → List Event → ℕ → Id → Type 0
+IsAlone settings events e id = (t : ℕ) → AllByRecursion (λ (g : Forwarded). g.editor ≡ e → IsIdText id g.id → ⊥) (forwarding_of settings t events).open_requests
+
+-- Requests that wait
+
+-- a request of an editor of the group that waits there is open, no request of the editor under its id is open at a start, and it may go to one
+pub record IsHeld (settings : Settings) (g : ℕ) (events : List Event) (r : Request) : Type 0 where
+  pub asker : IsAsker events r.editor r.id
+  pub there : is_there (desk_of r.editor events).phase ≡ true
+  pub home : home_of settings r.editor events ≡ Some g
+  pub alone : IsAlone settings events r.editor asker.id
+  pub method : List ℕ
+  pub params : Option Json
+  pub says : message_of r.body ≡ request asker.id method params
+  pub bytes : r.id ≡ id_bytes r.body
+  pub other : is_own method ≡ false
+  pub free : reserves (params_of r.body) ≡ false
+
+-- no two of an editor have the same id
+abbrev pub HasOtherId : Request → Request → Type 0
+HasOtherId r q = (id : Id) → q.editor ≡ r.editor → IsIdText id r.id → IsIdText id q.id → ⊥
+
+abbrev pub HaveOtherIds : List Request → Type 0
+HaveOtherIds [] = Unit {0}
+HaveOtherIds (r ∷ rs) = AllByRecursion (HasOtherId r) rs × HaveOtherIds rs
+
+pub record AreHeld (settings : Settings) (g : ℕ) (events : List Event) : Type 0 where
+  pub each : AllByRecursion (IsHeld settings g events) (waiting_of settings g events)
+  pub apart : HaveOtherIds (waiting_of settings g events)
+
+abbrev pub AllHeld : Settings → List Event → Type 0
+AllHeld settings events = (g : ℕ) → AreHeld settings g events
 
 -- Requests of starts
 
@@ -316,17 +350,18 @@ leaves settings before cause e = ends_link settings before cause e || shuts caus
 pub record Known (settings : Settings) (events : List Event) : Type 0 where
   pub starts : NoStarts events
   pub editors : NoEditors events
-  pub unbegun : Unbegun events
+  pub unbegun : Unbegun settings events
   pub untold : Untold events
   pub bounded : Bounded settings events
-  pub asked : stopped events ≡ false → AllForwarded events
+  pub asked : stopped events ≡ false → AllForwarded settings events
   pub quit : Quit events
-  pub apart : Apart events
+  pub apart : Apart settings events
+  pub held : AllHeld settings events
   pub asks : Asks settings events
   pub takes : Takes settings events
   pub housed : Housed settings events
-  pub numbered : Numbered events
-  pub stopped : Stopped events
+  pub numbered : Numbered settings events
+  pub stopped : Stopped settings events
   pub waiting : WaitingAsked events
   pub opened : Opened settings events
   pub results : Results events

@@ -14,16 +14,16 @@ use Rattle.event_model.specs.Settings.{Settings}
 use Rattle.event_model.specs.Spawns.{group_of, start_of}
 use Rattle.event_model.specs.Stages.{is_ready, life_of}
 use Rattle.mux_model.specs.Documents.{held_at}
-use Rattle.group_rows.specs.Texts.{is_synced, texts_of, worker_of}
+use Rattle.group_rows.specs.Texts.{is_synced, texts_of, toucher_of}
 
 -- a start that has this of a document agrees with an editor
 abbrev pub HasOwn : Open → Option HeldText → Type 0
 HasOwn o None = ⊥
 HasOwn o (Some h) = Agrees o h
 
--- At a body that goes to s behind a sync: of each document that is open at the editor whose message is at work, s has the text of that editor in its language.
+-- At a body that goes to s behind a sync: of each document that is open at the editor whose message is at work, or whose request has waited longest, s has the text of that editor in its language.
 abbrev pub OnOwnTexts : Settings → List Event → Out → Type 0
-OnOwnTexts settings events (ToServer s body) = is_synced (message_of body) ≡ true → (e g : ℕ) → worker_of events ≡ Some e → group_of s events ≡ Some g
+OnOwnTexts settings events (ToServer s body) = is_synced (message_of body) ≡ true → (e g : ℕ) → toucher_of settings s events (message_of body) ≡ Some e → group_of s events ≡ Some g
     → (u : List ℕ) (o : Open) → found e u (texts_of settings g events) ≡ Some o → HasOwn o (held_at s u events)
 OnOwnTexts settings events other = Unit {0}
 

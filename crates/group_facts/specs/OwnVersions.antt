@@ -30,21 +30,26 @@ use Rattle.event_model.specs.Stages.{life_of}
 use Rattle.group_rows.specs.response_route.specs.Asked.{documents_asked}
 use Rattle.group_rows.specs.response_route.specs.Results.{documents_in}
 use Rattle.mux_facts.specs.Allowed.{is_response}
+use Rattle.group_rows.specs.held_requests.specs.declared.request.Request.{Request}
 use Rattle.mux_model.specs.Documents.{held_at}
 use Rattle.group_rows.specs.Answers.{shared_texts}
 use Rattle.group_rows.specs.AskRows.{is_edit}
 use Rattle.group_rows.specs.Forwarded.{Forwarded, answered_by, forwarding_of}
 use Rattle.group_rows.specs.Tokens.{forwarded_text}
+use Rattle.group_rows.specs.Waiting.{first_waiting}
 use Rattle.group_facts.specs.OwnTexts.{HasOwn}
 
--- At this moment, in the entry of a message of e with these bytes as its id, start s was sent that message as its request n, with the daemon's tokens, and all else in it as e gave it.
-pub record IsSentOn (s : ℕ) (events : List Event) (n e : ℕ) (id : List ℕ) : Type 0 where
+-- The moment is in the entry of this message of e; or in one of start s, in whose group this message waited longest.
+pub data SendingOn (settings : Settings) (s e : ℕ) (asked : List ℕ) (moment : List Event) : Type 0 where
+  by_message : (before : List Event) (outs : List Out) → moment ≡ behind (with_cause before (FromEditor e asked)) outs → SendingOn settings s e asked moment
+  by_result : (before : List Event) (answer : List ℕ) (outs : List Out) (r : Request) → moment ≡ behind (with_cause before (FromServer s answer)) outs → first_waiting settings s moment ≡ Some r → r.editor ≡ e → r.body ≡ asked → SendingOn settings s e asked moment
+
+-- At this moment, in the entry of a message of e with these bytes as its id, or in S2, start s was sent that message as its request n, with the daemon's tokens, and all else in it as e gave it.
+pub record IsSentOn (settings : Settings) (s : ℕ) (events : List Event) (n e : ℕ) (id : List ℕ) : Type 0 where
   pub asked : List ℕ
   pub own_id : id_bytes asked ≡ id
-  pub before : List Event
-  pub outs : List Out
   pub moment : List Event
-  pub entry : moment ≡ behind (with_cause before (FromEditor e asked)) outs
+  pub sending : SendingOn settings s e asked moment
   pub body : List ℕ
   pub bytes : body ≡ forwarded_text n asked
   pub method : List ℕ
@@ -113,9 +118,9 @@ pub data IsOwnAnswer (settings : Settings) (s e : ℕ) (moment events : List Eve
 -- A body that e gets in the entry of an answer of s: it answers an open request of e, by e's own id, which was sent on to s.
 pub record IsHandedOn (settings : Settings) (before : List Event) (s : ℕ) (answer : List ℕ) (e : ℕ) (body : List ℕ) : Type 0 where
   pub request : Forwarded
-  pub listed : find (answered_by (answered_id (message_of answer))) (forwarding_of s before).open_requests ≡ Some request
+  pub listed : find (answered_by (answered_id (message_of answer))) (forwarding_of settings s before).open_requests ≡ Some request
   pub editor : request.editor ≡ e
-  pub sent : IsSentOn s before request.number e request.id
+  pub sent : IsSentOn settings s before request.number e request.id
   pub id : Id
   pub text : IsIdText id request.id
   pub waits : is_open id (open_of e before) ≡ true

@@ -1,5 +1,5 @@
 -- What else holds of every legal history: of the groups, and of which requests are open.
-use Rattle.std.specs.Prelude.{◌≡◌, ◌↔◌, ℕ, ◌^◌, ◌≤◌, Bool, true, false, List, [], ◌∷◌, length, IsUtf8}
+use Rattle.std.specs.Prelude.{◌≡◌, ◌↔◌, ◌⊎◌, ℕ, ◌^◌, ◌≤◌, Bool, true, false, List, [], ◌∷◌, length, IsUtf8}
 use Rattle.std.specs.Prelude.{None, Some, slice_get}
 use Rattle.std.specs.List.{AllByRecursion}
 use Rattle.rpc_message.specs.Message.{Id, message_of}
@@ -15,10 +15,12 @@ use Rattle.event_model.specs.Stages.{life_of}
 use Rattle.event_model.specs.declared.stage.Stage.TheVariants.{Ready}
 use Rattle.group_words.specs.declared.kept.Kept.{Kept}
 use Rattle.group_words.specs.Houses.{groups_of, home_of}
+use Rattle.group_rows.specs.held_requests.specs.declared.request.Request.{Request}
 use Rattle.group_rows.specs.Asks.{Ask, asks_of}
 use Rattle.group_rows.specs.Created.{Taking, created_of, no_created}
 use Rattle.group_rows.specs.Forwarded.{Forwarded, forwarding_of}
 use Rattle.group_rows.specs.StopRows.{stopped}
+use Rattle.group_rows.specs.Waiting.{waiting_of}
 use Rattle.group_facts.specs.Facts.{is_up}
 use Rattle.group_facts.specs.Lively.{Lively, lives_at}
 
@@ -40,7 +42,17 @@ pub record IsSent (settings : Settings) (events : List Event) (e : ℕ) (id : Id
   pub last : start_of group events ≡ Some start
   pub place : ℕ
   pub request : Forwarded
-  pub at : slice_get (forwarding_of start events).open_requests place ≡ Some request
+  pub at : slice_get (forwarding_of settings start events).open_requests place ≡ Some request
+  pub editor : request.editor ≡ e
+  pub text : IsIdText id request.id
+
+-- or it waits until that is ready
+pub record IsKeptBack (settings : Settings) (events : List Event) (e : ℕ) (id : Id) : Type 0 where
+  pub group : ℕ
+  pub home : home_of settings e events ≡ Some group
+  pub place : ℕ
+  pub request : Request
+  pub at : slice_get (waiting_of settings group events) place ≡ Some request
   pub editor : request.editor ≡ e
   pub text : IsIdText id request.id
 
@@ -82,7 +94,7 @@ pub record IsServing (settings : Settings) (events : List Event) (s : ℕ) : Typ
   pub live : lives_at group (groups_of settings events) ≡ true
 
 -- each group has a start, and the last one of a group that lives no more isn't up; an editor's group lives until the editor leaves it, and
--- behind a stop none lives; each open request of an editor that got its result was sent on, an editor that was asked
+-- behind a stop none lives; each open request of an editor that got its result was sent on or waits, an editor that was asked
 -- runs, as long as nothing was stopped, and one that needs a server is in a group that has a start; a start that wasn't spawned created no token,
 -- and an editor that was asked to take one runs, as long as numerals tell starts apart
 pub record Settled (settings : Settings) (events : List Event) : Type 0 where
@@ -94,7 +106,7 @@ pub record Settled (settings : Settings) (events : List Event) : Type 0 where
   pub over : stopped events ≡ true → (g : ℕ) → lives_at g (groups_of settings events) ≡ false
   pub unasked : (e : ℕ) → (desk_of e events).phase ≡ New → open_of e events ≡ []
   pub waiting : (e : ℕ) → (desk_of e events).phase ≡ Waiting → IsOnly events e
-  pub sent : (e : ℕ) (id : Id) → is_answered (desk_of e events).phase ≡ true → is_open id (open_of e events) ≡ true → IsSent settings events e id
+  pub sent : (e : ℕ) (id : Id) → is_answered (desk_of e events).phase ≡ true → is_open id (open_of e events) ≡ true → IsSent settings events e id ⊎ IsKeptBack settings events e id
   pub asks : stopped events ≡ false → (s : ℕ) → AllByRecursion (HasSeat settings events s) (asks_of settings s events)
   pub seated : (e : ℕ) → needs_server (desk_of e events).phase ≡ true → IsSeated settings events e
   pub uncreated : (s : ℕ) → starts_of events ≤ s → created_of settings s events ≡ no_created

@@ -38,6 +38,7 @@ use Rattle.group_rows.specs.diagnostics_route.specs.declared.last_list.LastList.
 use Rattle.group_rows.specs.diagnostics_route.specs.Published.{published}
 use Rattle.group_rows.specs.diagnostics_route.specs.Rows.{is_of}
 use Rattle.group_rows.specs.diagnostics_route.specs.Shown.{fits, shown_text}
+use Rattle.group_rows.specs.held_requests.specs.declared.request.Request.{Request}
 use Rattle.group_rows.specs.registrations.specs.declared.registration.Registration.{Registration}
 use Rattle.group_rows.specs.registrations.specs.Items.{again, registered}
 use Rattle.group_words.specs.declared.kept.Kept.{Kept}
@@ -51,7 +52,7 @@ use Rattle.group_rows.specs.Created.{Taking, Token, accepts, created_of, created
 use Rattle.group_rows.specs.CreatedRows.{create_text}
 use Rattle.group_rows.specs.Ends.{answers_shutdown, exit_text}
 use Rattle.group_rows.specs.ExitRows.{empty_text, end_text, has_begun, is_full, unanswered_at}
-use Rattle.group_rows.specs.Forwarded.{Forwarded, Sender, answered_by, forwarding_of}
+use Rattle.group_rows.specs.Forwarded.{Forwarded, Sender, answered_by, first_sender, forwarding_of, sender_of, sender_or}
 use Rattle.group_rows.specs.Leaves.{cancel_text}
 use Rattle.group_rows.specs.Lists.{agreement_at, lists_of, sayings_of, version_at}
 use Rattle.group_rows.specs.Live.{is_registering, live_of, register_text, taken_back, unregister_text}
@@ -60,7 +61,9 @@ use Rattle.group_facts.specs.SlowRows.{is_slow}
 use Rattle.group_rows.specs.StopRows.{stopped as is_stopped}
 use Rattle.group_rows.specs.Earlier.{configuration_of}
 use Rattle.group_rows.specs.Texts.{texts_of}
-use Rattle.group_rows.specs.Tokens.{forwarded_text, is_told, is_worked, listens, mark_text, marked_text, own_token, reserves, work_mark}
+use Rattle.group_rows.specs.Tokens.{forwarded_text, is_told, is_worked, listens, mark_text, marked_text, own_token, work_mark}
+use Rattle.group_rows.specs.Reserved.{reserves}
+use Rattle.group_rows.specs.Waiting.{first_waiting, waiting_of}
 use Rattle.group_facts.specs.Built.{is_left}
 use Rattle.group_facts.specs.Facts.{IsAlone, IsWaiting, asked_by, asked_of, ends_link, is_early, is_exit, leaves, turned_away}
 use Rattle.group_facts.specs.Lively.{IsDying}
@@ -129,31 +132,65 @@ pub record IsBehindSync (settings : Settings) (before : List Event) (events : Li
   pub asks : AllByRecursion (IsQuestion e) questions
   pub place : events ≡ behind (with_cause before (FromEditor e asked)) (questions ++ map (λ text. ToServer s text) (sync_bodies settings.limits.versions (λ u. held_at s u before) e (texts_of settings group before).opens))
 
--- the request of an editor, which is at work, goes under the next number to s, which is ready; none of its tokens begins as the daemon's do (E10)
-pub record IsForward (settings : Settings) (before : List Event) (cause : Cause) (events : List Event) (s : ℕ) (body : List ℕ) : Type 0 where
-  pub sender : Sender
-  pub asked : List ℕ
-  pub from : cause ≡ FromEditor sender.editor asked
-  pub free : reserves (params_of asked) ≡ false
-  pub synced : IsBehindSync settings before events s sender.editor asked
-  pub bytes : body ≡ forwarded_text (forwarding_of s events).next asked
-  pub id : Id
-  pub method : List ℕ
-  pub params : Option Json
-  pub at_work : (forwarding_of s events).sender ≡ Some sender
-  pub says : message_of body ≡ request (integer (decimal (forwarding_of s events).next)) method params
-  pub other : is_own method ≡ false
-  pub room : nat_lt (forwarding_of s events).next settings.limits.requests ≡ true
-  pub ready : (life_of s events).stage ≡ Ready
-  pub text : IsIdText id sender.id
-  pub waits : is_open id (open_of sender.editor events) ≡ true
-  pub late : is_early (desk_of sender.editor events).phase ≡ false
-  pub alone : IsAlone events sender.editor id
-
 -- s doesn't move on in this entry, or was greeted in it before
 pub data Turn (before : List Event) (cause : Cause) (events : List Event) (s : ℕ) : Type 0 where
   stays : moves before cause s ≡ false → Turn before cause events s
   greeted : (xs : List Event) → server_part s events ≡ server_part s before ++ heard cause ∷ said (ToServer s initialized_text) ∷ xs → Turn before cause events s
+
+-- s gave its result in this entry, and of all that waits in its group this request of e came first; since it is sent, s was told of e's documents and of nothing else (S2)
+pub record IsAwaited (settings : Settings) (before : List Event) (cause : Cause) (events : List Event) (s e : ℕ) (asked : List ℕ) : Type 0 where
+  pub group : ℕ
+  pub answer : List ℕ
+  pub request : Request
+  pub from : cause ≡ FromServer s answer
+  pub home : group_of s before ≡ Some group
+  pub stage : (life_of s before).stage ≡ Initializing
+  pub member : group_of s events ≡ Some group
+  pub turn : Turn before cause events s
+  pub last : start_of group before ≡ Some s → start_of group events ≡ Some s
+  pub first : first_waiting settings s events ≡ Some request
+  pub editor : request.editor ≡ e
+  pub bytes : request.id ≡ id_bytes asked
+  pub body : request.body ≡ asked
+  pub outs : List Out
+  pub earlier : List Event
+  pub entry : earlier ≡ behind (with_cause before cause) outs
+  pub place : events ≡ behind earlier (map (λ text. ToServer s text) (sync_bodies settings.limits.versions (λ u. held_at s u earlier) e (texts_of settings group earlier).opens))
+
+-- a request of e goes on by its own message, or by the result of s
+pub data Going (settings : Settings) (before : List Event) (cause : Cause) (events : List Event) (s e : ℕ) (asked : List ℕ) : Type 0 where
+  at_once : cause ≡ FromEditor e asked → IsBehindSync settings before events s e asked → Going settings before cause events s e asked
+  had_waited : IsAwaited settings before cause events s e asked → Going settings before cause events s e asked
+
+-- whose request start s is sent, where it is sent one
+abbrev pub asker_at : Settings → ℕ → List Event → Option Sender
+asker_at settings s events = sender_or (forwarding_of settings s events).sender (first_sender settings s events)
+
+-- no request of e under this id waits
+abbrev pub IsUnheld : Settings → List Event → ℕ → Id → Type 0
+IsUnheld settings events e id = (g : ℕ) → AllByRecursion (λ (r : Request). r.editor ≡ e → IsIdText id r.id → ⊥) (waiting_of settings g events)
+
+-- the request of an editor goes under the next number to s, which is ready; none of its tokens begins as the daemon's do (E10, S2)
+pub record IsForward (settings : Settings) (before : List Event) (cause : Cause) (events : List Event) (s : ℕ) (body : List ℕ) : Type 0 where
+  pub sender : Sender
+  pub asked : List ℕ
+  pub own : sender_of sender.editor asked (message_of asked) ≡ Some sender
+  pub free : reserves (params_of asked) ≡ false
+  pub going : Going settings before cause events s sender.editor asked
+  pub bytes : body ≡ forwarded_text (forwarding_of settings s events).next asked
+  pub id : Id
+  pub method : List ℕ
+  pub params : Option Json
+  pub at_work : asker_at settings s events ≡ Some sender
+  pub says : message_of body ≡ request (integer (decimal (forwarding_of settings s events).next)) method params
+  pub other : is_own method ≡ false
+  pub room : nat_lt (forwarding_of settings s events).next settings.limits.requests ≡ true
+  pub ready : (life_of s events).stage ≡ Ready
+  pub text : IsIdText id sender.id
+  pub waits : is_open id (open_of sender.editor events) ≡ true
+  pub late : is_early (desk_of sender.editor events).phase ≡ false
+  pub alone : IsAlone settings events sender.editor id
+  pub unheld : IsUnheld settings (events ++ said (ToServer s body) ∷ []) sender.editor id
 
 -- s was greeted in this entry, and is told of the configuration that its group keeps, as it came (S2, E16)
 pub record IsConfiguring (settings : Settings) (before : List Event) (cause : Cause) (events : List Event) (s : ℕ) (body : List ℕ) : Type 0 where
@@ -199,37 +236,37 @@ abbrev pub is_uncancelled : ℕ → Forwarded → Bool
 is_uncancelled n f = nat_eq f.number n && not f.cancelled
 
 -- an editor that is served cancels an open request of its own, which it names: its message goes on under the request's number
-pub record IsOwnCancel (before : List Event) (cause : Cause) (s number : ℕ) (body : List ℕ) : Type 0 where
+pub record IsOwnCancel (settings : Settings) (before : List Event) (cause : Cause) (s number : ℕ) (body : List ℕ) : Type 0 where
   pub editor : ℕ
   pub asked : List ℕ
   pub params : Option Json
   pub from : cause ≡ FromEditor editor asked
   pub served : is_served (desk_of editor before).phase ≡ true
   pub notified : message_of asked ≡ notification (codes "$/cancelRequest") params
-  pub meant : number_named editor params (forwarding_of s before).open_requests ≡ Some number
+  pub meant : number_named editor params (forwarding_of settings s before).open_requests ≡ Some number
   pub bytes : body ≡ numbered_text number asked
 
 -- the daemon's own text, since the request's editor leaves, or the editor's
-pub data CancelText (before : List Event) (cause : Cause) (s number : ℕ) (body : List ℕ) : Type 0 where
-  of_daemon : body ≡ cancel_text number → CancelText before cause s number body
-  of_editor : IsOwnCancel before cause s number body → CancelText before cause s number body
+pub data CancelText (settings : Settings) (before : List Event) (cause : Cause) (s number : ℕ) (body : List ℕ) : Type 0 where
+  of_daemon : body ≡ cancel_text number → CancelText settings before cause s number body
+  of_editor : IsOwnCancel settings before cause s number body → CancelText settings before cause s number body
 
 -- an open request that wasn't cancelled is cancelled at s, which is ready, by its number (LSP 3.17, Cancellation Support)
-pub record IsCancel (before : List Event) (cause : Cause) (events : List Event) (s : ℕ) (body : List ℕ) : Type 0 where
+pub record IsCancel (settings : Settings) (before : List Event) (cause : Cause) (events : List Event) (s : ℕ) (body : List ℕ) : Type 0 where
   pub number : ℕ
   pub params : Json
   pub value : Json
   pub named : named_of (codes "id") (Some params) ≡ Some value
   pub id : id_of value ≡ Some (integer (decimal number))
-  pub waits : list_any (is_uncancelled number) (forwarding_of s events).open_requests ≡ true
+  pub waits : list_any (is_uncancelled number) (forwarding_of settings s events).open_requests ≡ true
   pub ready : (life_of s events).stage ≡ Ready
   pub stays : moves before cause s ≡ false
-  pub text : CancelText before cause s number body
+  pub text : CancelText settings before cause s number body
   pub says : message_of body ≡ notification (codes "$/cancelRequest") (Some params)
 
 -- what an editor names by a token: an open request of its own, of which the start knows the daemon's token, or a token that it accepted, of which the start gets its own bytes
 pub data WorkMeant (settings : Settings) (before : List Event) (s editor : ℕ) (given : Option Json) (text : List ℕ) : Type 0 where
-  of_request : (request : Forwarded) → find (is_worked editor (named_of (codes "token") given)) (forwarding_of s before).open_requests ≡ Some request → text ≡ mark_text (work_mark request.number) → WorkMeant settings before s editor given text
+  of_request : (request : Forwarded) → find (is_worked editor (named_of (codes "token") given)) (forwarding_of settings s before).open_requests ≡ Some request → text ≡ mark_text (work_mark request.number) → WorkMeant settings before s editor given text
   of_token : (token : Token) → token_marked s given (created_of settings s before) ≡ Some token → has_accepted editor token.number (created_of settings s before) ≡ true → text ≡ token.text → WorkMeant settings before s editor given text
 
 -- an editor that is served cancels work, which it names by its token: its message goes on with the start's to s, which is ready (LSP 3.17, Work Done Progress)
@@ -300,7 +337,7 @@ pub data WhyToServer (settings : Settings) (before : List Event) (cause : Cause)
   notes : IsNotice settings before cause events s body → WhyToServer settings before cause events s body
   tells : IsTelling before cause events s body → WhyToServer settings before cause events s body
   shuts : IsShutting settings before cause events s body → WhyToServer settings before cause events s body
-  cancels : IsCancel before cause events s body → WhyToServer settings before cause events s body
+  cancels : IsCancel settings before cause events s body → WhyToServer settings before cause events s body
   cancels_work : IsWorkCancel settings before cause events s body → WhyToServer settings before cause events s body
   responds : IsReply before cause events s body → WhyToServer settings before cause events s body
   resolves : IsResolving settings before cause events s body → WhyToServer settings before cause events s body
@@ -319,13 +356,13 @@ pub record IsRejection (before : List Event) (cause : Cause) (events : List Even
   pub says : message_of body ≡ error None x
 
 -- an error for an open request, which isn't the `initialize` of an editor that waits, and isn't open at a start
-pub record IsRefusal (events : List Event) (e : ℕ) (body : List ℕ) : Type 0 where
+pub record IsRefusal (settings : Settings) (events : List Event) (e : ℕ) (body : List ℕ) : Type 0 where
   pub id : Id
   pub x : Json
   pub there : is_there (desk_of e events).phase ≡ true
   pub waits : is_open id (open_of e events) ≡ true
   pub others : (desk_of e events).phase ≡ Waiting → has_id id (message_of (desk_of e events).initialize) ≡ false
-  pub alone : IsAlone events e id
+  pub alone : IsAlone settings events e id
   pub says : message_of body ≡ error (Some id) x
 
 -- the `initialize` of an editor that waits is open, under another id
@@ -335,13 +372,13 @@ pub record IsBeside (events : List Event) (e : ℕ) (id : Id) : Type 0 where
   pub other : same_id id first ≡ false
 
 -- the daemon's own result for an open request, which isn't the `initialize` of an editor that waits, and isn't open at a start
-pub record IsAnswer (events : List Event) (e : ℕ) (body : List ℕ) : Type 0 where
+pub record IsAnswer (settings : Settings) (events : List Event) (e : ℕ) (body : List ℕ) : Type 0 where
   pub id : Id
   pub r : Json
   pub there : is_there (desk_of e events).phase ≡ true
   pub others : (desk_of e events).phase ≡ Waiting → IsBeside events e id
   pub waits : is_open id (open_of e events) ≡ true
-  pub alone : IsAlone events e id
+  pub alone : IsAlone settings events e id
   pub says : message_of body ≡ result (Some id) r
 
 -- an error for the `initialize` of an editor that waits: the daemon has too many groups, the start for which it waits refuses its own, the group ends with its start, or all is stopped
@@ -380,13 +417,13 @@ pub record IsPassing (settings : Settings) (before : List Event) (cause : Cause)
   pub request : Forwarded
   pub id : Id
   pub from : cause ≡ FromServer start answer
-  pub found : find (answered_by (answered_id (message_of answer))) (forwarding_of start before).open_requests ≡ Some request
+  pub found : find (answered_by (answered_id (message_of answer))) (forwarding_of settings start before).open_requests ≡ Some request
   pub editor : request.editor ≡ e
   pub there : is_there (desk_of e events).phase ≡ true
   pub late : is_early (desk_of e events).phase ≡ false
   pub text : IsIdText id request.id
   pub waits : is_open id (open_of e events) ≡ true
-  pub alone : IsAlone events e id
+  pub alone : IsAlone settings events e id
   pub bytes : body ≡ answer_text (own_version settings before start request) answer request.id
   pub response : is_response (message_of body) ≡ true
   pub answers : answered_id (message_of body) ≡ Some id
@@ -560,7 +597,7 @@ pub record IsTaken (settings : Settings) (before : List Event) (cause : Cause) (
 
 -- what is told: of an open request of the editor, with the editor's own token, and of a token that it accepted, with the daemon's (S13); and what was held of a token that it accepts, behind what was held before it (E19)
 pub data Telling (settings : Settings) (before : List Event) (cause : Cause) (events : List Event) (e : ℕ) (body : List ℕ) : Type 0 where
-  of_request : (s : ℕ) (asked : List ℕ) (given : Option Json) (request : Forwarded) (token : List ℕ) → IsNotified before cause s asked given → find (is_told before (named_of (codes "token") given)) (forwarding_of s before).open_requests ≡ Some request
+  of_request : (s : ℕ) (asked : List ℕ) (given : Option Json) (request : Forwarded) (token : List ℕ) → IsNotified before cause s asked given → find (is_told before (named_of (codes "token") given)) (forwarding_of settings s before).open_requests ≡ Some request
       → own_token (named_of (codes "token") given) request ≡ Some token → request.editor ≡ e → body ≡ marked_text token asked → Telling settings before cause events e body
   of_token : (s : ℕ) (asked : List ℕ) (given : Option Json) (token : Token) → IsNotified before cause s asked given → token_called (named_token given) (created_of settings s before) ≡ Some token
       → has_accepted e token.number (created_of settings s before) ≡ true → body ≡ marked_text (created_text s token.number) asked → Telling settings before cause events e body
@@ -623,8 +660,8 @@ pub record IsLosing (settings : Settings) (before : List Event) (cause : Cause) 
 
 pub data WhyToEditor (settings : Settings) (before : List Event) (cause : Cause) (events : List Event) (e : ℕ) (body : List ℕ) : Type 0 where
   rejects : IsRejection before cause events e body → WhyToEditor settings before cause events e body
-  refuses : IsRefusal events e body → WhyToEditor settings before cause events e body
-  answers : IsAnswer events e body → WhyToEditor settings before cause events e body
+  refuses : IsRefusal settings events e body → WhyToEditor settings before cause events e body
+  answers : IsAnswer settings events e body → WhyToEditor settings before cause events e body
   turns_away : IsTurning settings before cause events e body → WhyToEditor settings before cause events e body
   welcomes : IsWelcome events e body → WhyToEditor settings before cause events e body
   passes : IsPassing settings before cause events e body → WhyToEditor settings before cause events e body

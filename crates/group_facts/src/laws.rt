@@ -48,7 +48,7 @@ pub fn own_versions()
 /// under its own.
 pub fn own_moments()
     ensures moments { (settings : Settings) (history : List Entry) → OwnTexts settings history → (s n e : ℕ) (id : List ℕ) (events later : List Event)
-        → events_of history ≡ events ++ later → (k : IsSentOn s events n e id) → HasOwnTexts settings s e k.moment }
+        → events_of history ≡ events ++ later → (k : IsSentOn settings s events n e id) → HasOwnTexts settings s e k.moment }
     ensures agreed { (settings : Settings) (s e : ℕ) (events : List Event) (u digits : List ℕ) → HasOwnTexts settings s e events
         → (k : IsUnder settings s e events u digits) → Agrees k.own k.held }
 {}

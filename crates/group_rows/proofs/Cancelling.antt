@@ -23,7 +23,8 @@ use Rattle.rpc_message.proofs.Ids.{id_flat}
 use Rattle.rpc_message.proofs.PutLaws.{notification_puts}
 use Rattle.response_route.specs.document_model.proofs.Bares.{Notice, notice}
 use Rattle.event_model.specs.Members.{named_of}
-use Rattle.group_rows.specs.Cancelling.{id_meant, id_puts, named_id, new_id, numbered_text}
+use Rattle.group_rows.specs.Cancelling.{id_puts, new_id, numbered_text}
+use Rattle.group_rows.specs.Waiting.{id_meant, named_id}
 
 -- the id of the text of an id
 pub text_meant : (id : Id) (bytes : List ℕ) → IsIdText id bytes → id_meant bytes ≡ Some id

@@ -18,7 +18,7 @@ use Rattle.group_rows.specs.Asks.{next_ask}
 use Rattle.group_rows.specs.Created.{Created, Taking, Token, accepts, answered, asked, begun_by, created_next, created_of, created_token, first_begin, held_first, held_more, if_new, is_answered, is_at, is_begin, is_creating, is_ended_by, is_marked, is_numbered, is_over, is_progress, left, lives, may_create, may_hold, named_token, no_created, progressed, settled, token_called, token_marked, token_of, told, with_asked, with_token}
 use Rattle.group_rows.specs.Forwarded.{token_in}
 use Rattle.group_rows.specs.Live.{is_heard}
-use Rattle.group_rows.specs.Tokens.{is_reserved}
+use Rattle.group_rows.specs.Reserved.{is_reserved}
 use Rattle.group_rows.proofs.TokenTexts.{IsTokenText, token_written}
 use Rattle.group_rows.proofs.Versions.{AllMeant, IsMeant}
 

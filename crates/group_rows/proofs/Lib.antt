@@ -23,6 +23,7 @@ pub mod WorkedLists
 pub mod WorkedStop
 pub mod WorkedExits
 pub mod WorkedRestarts
+pub mod WorkedWaiting
 pub mod ExitTexts
 pub mod ListTexts
 pub mod ListsKept

@@ -3,7 +3,7 @@ use Rattle.std.proofs.Common.{◌≡◌, ℕ, ◌+◌, ◌^◌, ◌<◌, ◌≤�
 use Rattle.std.proofs.lemmas.Bool.{and_parts, and_from}
 use Rattle.std.proofs.lemmas.Bool.Decides.{nat_tests}
 use Rattle.std.specs.Option.{option_and_then}
-use Rattle.std.specs.Prelude.{MatchOption, fold, filter, map, cond, not, nat_eq}
+use Rattle.std.specs.Prelude.{MatchOption, filter, map, cond, not, nat_eq}
 use Rattle.std.specs.List.{AllByRecursion}
 use Rattle.json_text.specs.declared.span.Span.{Span}
 use Rattle.json_text.specs.Bare.{bare, bare_members, nowhere}
@@ -39,7 +39,11 @@ use Rattle.response_route.specs.document_model.proofs.Bares.{Notice, notice}
 use Rattle.event_model.specs.Event.{Event, did, took}
 use Rattle.event_model.specs.Requests.{answered_id, is_own}
 use Rattle.event_model.specs.Members.{bytes_if, has_token, is_token, named_of, params_of}
-use Rattle.group_rows.specs.Forwarded.{Forwarded, Forwarding, Sender, answered_by, cancelled_by, forwarding_behind, forwarding_of, forwards, is_written, no_forwarding, numbered, sender_of, token_in}
+use Rattle.event_model.specs.Settings.{Settings}
+use Rattle.held_requests.specs.declared.request.Request.{Request}
+use Rattle.group_words.specs.Past.{past}
+use Rattle.group_rows.specs.Forwarded.{Forwarded, Forwarding, Sender, answered_by, cancelled_by, first_sender, forwarding_next, forwarding_of, forwards, is_written, no_forwarding, numbered, sender_of, sender_or, sender_waiting, token_in}
+use Rattle.group_rows.specs.Waiting.{first_waiting}
 use Rattle.group_rows.specs.Tokens.{forwarded_text, mark, mark_edits, mark_text, marked_text, new_mark, new_token, partial_mark, token_edits, work_mark}
 
 both_false : (a b : Bool) → (a || b) ≡ false → (a ≡ false) × (b ≡ false)
@@ -353,60 +357,71 @@ sender_kept e body (error id x) = tt
 sender_kept e body not_json = tt
 sender_kept e body not_message = tt
 
-forwards_kept : (x : Forwarding) (m : Message) → KeptTokens x → KeptTokens (forwards x m)
-forwards_kept x (request id method ps) h = go (is_own method)
+or_kept : (o first : Option Sender) → MatchOption o (Unit {0}) SentTokens → MatchOption first (Unit {0}) SentTokens → MatchOption (sender_or o first) (Unit {0}) SentTokens
+or_kept (Some x) first h k = h
+or_kept None first h k = k
+
+first_kept : (settings : Settings) (s : ℕ) (events : List Event) → MatchOption (first_sender settings s events) (Unit {0}) SentTokens
+first_kept settings s events = go (first_waiting settings s events)
   where
-    go : (b : Bool) → KeptTokens (if b then x else record { sender = x.sender; next = x.next + 1; open_requests = x.open_requests ++ numbered x.sender x.next })
+    go : (o : Option Request) → MatchOption (option_and_then sender_waiting o) (Unit {0}) SentTokens
+    go (Some r) = sender_kept r.editor r.body (message_of r.body)
+    go None = tt
+
+forwards_kept : (first : Option Sender) (x : Forwarding) (m : Message) → MatchOption first (Unit {0}) SentTokens → KeptTokens x → KeptTokens (forwards first x m)
+forwards_kept first x (request id method ps) k h = go (is_own method)
+  where
+    go : (b : Bool) → KeptTokens (if b then x else record { sender = x.sender; next = x.next + 1; open_requests = x.open_requests ++ numbered (sender_or x.sender first) x.next })
     go true = h
-    go false = record { sender = h.sender; all = more_kept x.open_requests (numbered x.sender x.next) h.all (new_kept x.sender x.next h.sender) }
-forwards_kept x (notification method ps) h = go (bytes_eq method (codes "$/cancelRequest"))
+    go false = record { sender = h.sender; all = more_kept x.open_requests (numbered (sender_or x.sender first) x.next) h.all (new_kept (sender_or x.sender first) x.next (or_kept x.sender first h.sender k)) }
+forwards_kept first x (notification method ps) k h = go (bytes_eq method (codes "$/cancelRequest"))
   where
     go : (b : Bool) → KeptTokens (if b then record { sender = x.sender; next = x.next; open_requests = map (cancelled_by (named_of (codes "id") ps)) x.open_requests } else x)
     go true = record { sender = h.sender; all = cancelled_kept (named_of (codes "id") ps) x.open_requests h.all }
     go false = h
-forwards_kept x (result id r) h = h
-forwards_kept x (error id r) h = h
-forwards_kept x not_json h = h
-forwards_kept x not_message h = h
+forwards_kept first x (result id r) k h = h
+forwards_kept first x (error id r) k h = h
+forwards_kept first x not_json k h = h
+forwards_kept first x not_message k h = h
 
 no_sender : (x : Forwarding) → KeptTokens x → KeptTokens (record { sender = None; next = x.next; open_requests = x.open_requests })
 no_sender x h = record { sender = tt; all = h.all }
 
-step_kept : (s : ℕ) (x : Forwarding) (event : Event) → KeptTokens x → KeptTokens (forwarding_behind s x event)
-step_kept s x (took (FromEditor e body) m) h = record { sender = sender_kept e body m; all = h.all }
-step_kept s x (took (FromServer n body) m) h = record { sender = tt; all = go (nat_eq n s) }
+step_kept : (settings : Settings) (s : ℕ) (before : List Event) (x : Forwarding) (event : Event) → KeptTokens x → KeptTokens (forwarding_next settings s before x event)
+step_kept settings s before x (took (FromEditor e body) m) h = record { sender = sender_kept e body m; all = h.all }
+step_kept settings s before x (took (FromServer n body) m) h = record { sender = tt; all = go (nat_eq n s) }
   where
     go : (b : Bool) → AllByRecursion HasTokens (if b then filter (λ f. not (answered_by (answered_id m) f)) x.open_requests else x.open_requests)
     go true = some_kept (λ f. not (answered_by (answered_id m) f)) x.open_requests h.all
     go false = h.all
-step_kept s x (took (StartFailed n) m) h = go (nat_eq n s)
+step_kept settings s before x (took (StartFailed n) m) h = go (nat_eq n s)
   where
     go : (b : Bool) → KeptTokens (if b then no_forwarding else record { sender = None; next = x.next; open_requests = x.open_requests })
     go true = none_kept
     go false = no_sender x h
-step_kept s x (took (ServerGone n) m) h = go (nat_eq n s)
+step_kept settings s before x (took (ServerGone n) m) h = go (nat_eq n s)
   where
     go : (b : Bool) → KeptTokens (if b then no_forwarding else record { sender = None; next = x.next; open_requests = x.open_requests })
     go true = none_kept
     go false = no_sender x h
-step_kept s x (took (Joined e) m) h = no_sender x h
-step_kept s x (took (EditorGone e why) m) h = no_sender x h
-step_kept s x (took (Started n) m) h = no_sender x h
-step_kept s x (took (Drained e k) m) h = no_sender x h
-step_kept s x (took (Tick t) m) h = no_sender x h
-step_kept s x (did (ToServer n body) m) h = go (nat_eq n s)
+step_kept settings s before x (took (Joined e) m) h = no_sender x h
+step_kept settings s before x (took (EditorGone e why) m) h = no_sender x h
+step_kept settings s before x (took (Started n) m) h = no_sender x h
+step_kept settings s before x (took (Drained e k) m) h = no_sender x h
+step_kept settings s before x (took (Tick t) m) h = no_sender x h
+step_kept settings s before x (did (ToServer n body) m) h = go (nat_eq n s)
   where
-    go : (b : Bool) → KeptTokens (if b then forwards x m else x)
-    go true = forwards_kept x m h
+    go : (b : Bool) → KeptTokens (if b then forwards (first_sender settings s before) x m else x)
+    go true = forwards_kept (first_sender settings s before) x m (first_kept settings s before) h
     go false = h
-step_kept s x (did (ToEditor n body) m) h = h
-step_kept s x (did (Spawn n c) m) h = h
-step_kept s x (did (CloseEditor n) m) h = h
-step_kept s x (did (EndServer n) m) h = h
+step_kept settings s before x (did (ToEditor n body) m) h = h
+step_kept settings s before x (did (Spawn n c) m) h = h
+step_kept settings s before x (did (CloseEditor n) m) h = h
+step_kept settings s before x (did (EndServer n) m) h = h
 
-all_kept : (s : ℕ) (x : Forwarding) (events : List Event) → KeptTokens x → KeptTokens (fold (forwarding_behind s) x events)
-all_kept s x [] h = h
-all_kept s x (event ∷ events) h = all_kept s (forwarding_behind s x event) events (step_kept s x event h)
+all_kept : (settings : Settings) (s : ℕ) (before : List Event) (x : Forwarding) (events : List Event) → KeptTokens x → KeptTokens (past (forwarding_next settings s) before x events)
+all_kept settings s before x [] h = h
+all_kept settings s before x (event ∷ events) h = all_kept settings s (before ++ event ∷ []) (forwarding_next settings s before x event) events (step_kept settings s before x event h)
 
-pub tokens_kept : (s : ℕ) (events : List Event) → AllByRecursion HasTokens (forwarding_of s events).open_requests
-tokens_kept s events = (all_kept s no_forwarding events none_kept).all
+pub tokens_kept : (settings : Settings) (s : ℕ) (events : List Event) → AllByRecursion HasTokens (forwarding_of settings s events).open_requests
+tokens_kept settings s events = (all_kept settings s [] no_forwarding events none_kept).all

@@ -32,7 +32,7 @@ use Rattle.group_rows.specs.AskRows.{current_version}
 use Rattle.group_rows.specs.Answers.{agreed_version, held_version, moment_next, moment_of, own_version, sends_on, shared_texts, stamp_at, stamped}
 use Rattle.group_rows.specs.Forwarded.{Forwarded}
 use Rattle.group_rows.specs.Lists.{version_at}
-use Rattle.group_rows.specs.Texts.{encoding_of, is_synced, texts_heard, texts_next, texts_of, touch_all, touched_at, worker_of}
+use Rattle.group_rows.specs.Texts.{encoding_of, is_synced, texts_heard, texts_next, texts_of, touch_all, touched_at, toucher_of}
 use Rattle.group_rows.proofs.Integers.{IsSaidNumber, said_number}
 
 -- the events are of causes and outs: the message of a body is what the body says
@@ -113,7 +113,7 @@ module _ (settings : Settings) where
       (behind_numbered (encoding_of g before) e (saying_of m) x (subst (λ z. IsSaidNumber (saying_of z)) (sym is) (said_number body)) h)) h
   next_numbered g before x (took (EditorGone e why) m) is h = without_numbered e x h
   next_numbered g before x (did (CloseEditor e) m) is h = without_numbered e x h
-  next_numbered g before x (did (ToServer s body) m) is h = either_way AreNumbered (is_home g (group_of s before) && is_synced m) (touch_all (worker_of before) x) x (touched_numbered (worker_of before) x h) h
+  next_numbered g before x (did (ToServer s body) m) is h = either_way AreNumbered (is_home g (group_of s before) && is_synced m) (touch_all (toucher_of settings s before m) x) x (touched_numbered (toucher_of settings s before m) x h) h
   next_numbered g before x other is h = h
 
   past_numbered : (g : ℕ) (before : List Event) (x : Texts) (events : List Event) → AllMeant events → AreNumbered x → AreNumbered (past (texts_next settings g) before x events)
@@ -147,18 +147,18 @@ module _ (settings : Settings) where
       go None there h = absurd (cc)
 
 -- a moment of a history is a front of it
-past_meant : (s n : ℕ) (before : List Event) (o : Option (List Event)) (events : List Event) (m : List Event) → AllMeant before → AllMeant events → ((k : List Event) → o ≡ Some k → AllMeant k)
-    → past (moment_next s n) before o events ≡ Some m → AllMeant m
-past_meant s n before o [] m h told known is = known m is
-past_meant s n before o (ev ∷ events) m h told known is =
-    past_meant s n (before ++ ev ∷ []) (moment_next s n before o ev) events m (meant_more before ev h told.0) told.1 (next (sends_on s n before ev)) is
+past_meant : (settings : Settings) (s n : ℕ) (before : List Event) (o : Option (List Event)) (events : List Event) (m : List Event) → AllMeant before → AllMeant events → ((k : List Event) → o ≡ Some k → AllMeant k)
+    → past (moment_next settings s n) before o events ≡ Some m → AllMeant m
+past_meant settings s n before o [] m h told known is = known m is
+past_meant settings s n before o (ev ∷ events) m h told known is =
+    past_meant settings s n (before ++ ev ∷ []) (moment_next settings s n before o ev) events m (meant_more before ev h told.0) told.1 (next (sends_on settings s n before ev)) is
   where
     next : (b : Bool) (k : List Event) → (if b then Some before else o) ≡ Some k → AllMeant k
     next true k e = let same : before ≡ k = cc in subst AllMeant same h
     next false k e = known k e
 
-moment_meant : (s n : ℕ) (events m : List Event) → AllMeant events → moment_of s n events ≡ Some m → AllMeant m
-moment_meant s n events m told is = past_meant s n [] None events m tt told (λ k e. absurd (cc)) is
+moment_meant : (settings : Settings) (s n : ℕ) (events m : List Event) → AllMeant events → moment_of settings s n events ≡ Some m → AllMeant m
+moment_meant settings s n events m told is = past_meant settings s n [] None events m tt told (λ k e. absurd (cc)) is
 
 -- the bytes of a number, and null, are those of values that hold no others
 
@@ -184,15 +184,15 @@ now_flat digits text (Some x) then_ f g e = go (is_held digits x.held) e
     go true h = let same : x.version ≡ text = cc in subst IsFlatText same (number_flat x.version (f x refl))
     go false h = number_flat text (then_number digits text then_ g h)
 
-noted_numbered : (settings : Settings) (s n e : ℕ) (before : List Event) (u : List ℕ) → AllMeant before → (o : Option (List Event)) → moment_of s n before ≡ o → (x : Stamp)
+noted_numbered : (settings : Settings) (s n e : ℕ) (before : List Event) (u : List ℕ) → AllMeant before → (o : Option (List Event)) → moment_of settings s n before ≡ o → (x : Stamp)
     → option_and_then (λ m. stamp_at held_version settings s e m u) o ≡ Some x → IsNumber x.version
-noted_numbered settings s n e before u told (Some m) is x h = stamp_numbered settings held_version s e m u x (moment_meant s n before m told is) h
+noted_numbered settings s n e before u told (Some m) is x h = stamp_numbered settings held_version s e m u x (moment_meant settings s n before m told is) h
 noted_numbered settings s n e before u told None is x h = absurd (cc)
 
 pub own_flat : (settings : Settings) (before : List Event) (s : ℕ) (f : Forwarded) → AllMeant before → GivesFlat (own_version settings before s f)
 own_flat settings before s f told u digits text is =
-    now_flat digits text (stamp_at agreed_version settings s f.editor before u) (option_and_then (λ m. stamp_at held_version settings s f.editor m u) (moment_of s f.number before))
-    (λ x e. stamp_numbered settings agreed_version s f.editor before u x told e) (λ x e. noted_numbered settings s f.number f.editor before u told (moment_of s f.number before) refl x e) is
+    now_flat digits text (stamp_at agreed_version settings s f.editor before u) (option_and_then (λ m. stamp_at held_version settings s f.editor m u) (moment_of settings s f.number before))
+    (λ x e. stamp_numbered settings agreed_version s f.editor before u x told e) (λ x e. noted_numbered settings s f.number f.editor before u told (moment_of settings s f.number before) refl x e) is
 
 pub current_flat : (settings : Settings) (before : List Event) (s e : ℕ) → AllMeant before → GivesFlat (current_version settings before s e)
 current_flat settings before s e told u digits text is = now_flat digits text (stamp_at agreed_version settings s e before u) None (λ x h. stamp_numbered settings agreed_version s e before u x told h) (λ x h. absurd (cc)) is

@@ -24,16 +24,16 @@ use Rattle.group_rows.specs.Forwarded.{Forwarded, answered_by, forwarding_of}
 use Rattle.group_rows.specs.Texts.{texts_of}
 
 -- the body with which an editor's request goes on to start s, as its request n
-abbrev pub sends_on : ℕ → ℕ → List Event → Event → Bool
-sends_on s n before (did (ToServer k body) (request id method ps)) = nat_eq k s && (not (is_own method) && nat_eq (forwarding_of s before).next n)
-sends_on s n before other = false
+abbrev pub sends_on : Settings → ℕ → ℕ → List Event → Event → Bool
+sends_on settings s n before (did (ToServer k body) (request id method ps)) = nat_eq k s && (not (is_own method) && nat_eq (forwarding_of settings s before).next n)
+sends_on settings s n before other = false
 
-abbrev pub moment_next : ℕ → ℕ → List Event → Option (List Event) → Event → Option (List Event)
-moment_next s n before moment event = if sends_on s n before event then Some before else moment
+abbrev pub moment_next : Settings → ℕ → ℕ → List Event → Option (List Event) → Event → Option (List Event)
+moment_next settings s n before moment event = if sends_on settings s n before event then Some before else moment
 
 -- the moment of its forwarding: the events before that body, and so behind the sync
-abbrev pub moment_of : ℕ → ℕ → List Event → Option (List Event)
-moment_of s n events = past (moment_next s n) [] None events
+abbrev pub moment_of : Settings → ℕ → ℕ → List Event → Option (List Event)
+moment_of settings s n events = past (moment_next settings s n) [] None events
 
 -- what the editors have open that share start s
 abbrev pub shared_texts : Settings → ℕ → List Event → Texts
@@ -56,11 +56,11 @@ stamp_at version settings s e events u = option_map (λ o. stamped (version o (h
 
 -- V1: e's version of what the start has as e does; else that of what the start had as the request was forwarded, where u was open at e then and is now
 abbrev pub own_version : Settings → List Event → ℕ → Forwarded → Renaming
-own_version settings before s f u digits = version_now digits (stamp_at agreed_version settings s f.editor before u) (option_and_then (λ moment. stamp_at held_version settings s f.editor moment u) (moment_of s f.number before))
+own_version settings before s f u digits = version_now digits (stamp_at agreed_version settings s f.editor before u) (option_and_then (λ moment. stamp_at held_version settings s f.editor moment u) (moment_of settings s f.number before))
 
 -- S5, V2: an answer goes to the editor that asked, under its own id and with its own versions; where one stands for no text that it has, it gets an error
 abbrev pub hand_on : Settings → List Event → ℕ → List ℕ → Forwarded → Row
 hand_on settings before s body f = choose (is_there (desk_of f.editor before).phase) (send (ToEditor f.editor (answer_text (own_version settings before s f) body f.id))) nothing
 
 abbrev pub answer_row : Settings → ℕ → List Event → List ℕ → Message → Row
-answer_row settings s before body m = on (find (answered_by (answered_id m)) (forwarding_of s before).open_requests) nothing (hand_on settings before s body)
+answer_row settings s before body m = on (find (answered_by (answered_id m)) (forwarding_of settings s before).open_requests) nothing (hand_on settings before s body)

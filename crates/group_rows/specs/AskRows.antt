@@ -78,7 +78,7 @@ abbrev pub ask_in_focus : Settings → List Event → ℕ → List ℕ → List 
 ask_in_focus settings before s body method e = choose (is_edit method) (ask_edit settings before s body e) (ask body e)
 
 abbrev pub focused_row : Settings → List Event → ℕ → ℕ → List ℕ → List ℕ → Row
-focused_row settings before g s body method = on (in_focus (running_in settings g before) (forwarding_of s before).open_requests) (send (ToServer s (error_text (id_bytes body) request_failed))) (ask_in_focus settings before s body method)
+focused_row settings before g s body method = on (in_focus (running_in settings g before) (forwarding_of settings s before).open_requests) (send (ToServer s (error_text (id_bytes body) request_failed))) (ask_in_focus settings before s body method)
 
 -- S12: the lowest editor is asked; where none runs the request waits
 abbrev pub lowest_row : Settings → List Event → ℕ → List ℕ → Row

@@ -4,25 +4,18 @@ use Rattle.std.specs.Prelude.{Option, Some, None}
 use Rattle.std.specs.Option.{option_and_then, option_map_or}
 use Rattle.json_text.specs.Json.{Json}
 use Rattle.json_text.specs.Replace.{Edit, replace}
-use Rattle.json_text.specs.Tree.{tree_of}
 use Rattle.response_route.specs.json_nodes.specs.Puts.{put_edits}
 use Rattle.mux_history.specs.declared.out.Out.TheVariants.{ToServer}
-use Rattle.rpc_message.specs.Message.{Id, id_of, same_id}
+use Rattle.rpc_message.specs.Message.{Id, same_id}
 use Rattle.event_model.specs.Event.{Event}
-use Rattle.event_model.specs.Members.{named_of, params_of}
+use Rattle.event_model.specs.Members.{params_of}
 use Rattle.event_model.specs.Row.{Row, nothing, send, choose, on}
 use Rattle.event_model.specs.Settings.{Settings}
 use Rattle.event_model.specs.Spawns.{start_of}
 use Rattle.event_model.specs.Stages.{life_of, is_ready}
 use Rattle.group_words.specs.Houses.{home_of}
 use Rattle.group_rows.specs.Forwarded.{Forwarded, forwarding_of, is_of}
-
--- the id that its params name, and the one that these bytes are
-abbrev pub named_id : Option Json → Option Id
-named_id params = option_and_then id_of (named_of (codes "id") params)
-
-abbrev pub id_meant : List ℕ → Option Id
-id_meant bytes = option_and_then id_of (tree_of bytes)
+use Rattle.group_rows.specs.Waiting.{id_meant, named_id}
 
 -- a request of e under this id
 abbrev pub is_called : ℕ → Id → Forwarded → Bool
@@ -51,9 +44,9 @@ abbrev pub numbered_text : ℕ → List ℕ → List ℕ
 numbered_text n body = replace body (id_puts (decimal n) (params_of body))
 
 -- it goes to the start of the editor's group, where the start is ready, without a sync
-abbrev pub cancelling_at : List Event → ℕ → List ℕ → Option Json → ℕ → Row
-cancelling_at before e body params s = choose (is_ready (life_of s before).stage)
-    (on (number_named e params (forwarding_of s before).open_requests) nothing (λ n. send (ToServer s (numbered_text n body)))) nothing
+abbrev pub cancelling_at : Settings → List Event → ℕ → List ℕ → Option Json → ℕ → Row
+cancelling_at settings before e body params s = choose (is_ready (life_of s before).stage)
+    (on (number_named e params (forwarding_of settings s before).open_requests) nothing (λ n. send (ToServer s (numbered_text n body)))) nothing
 
 abbrev pub cancelling_row : Settings → List Event → ℕ → List ℕ → Option Json → Row
-cancelling_row settings before e body params = on (home_of settings e before) nothing (λ g. on (start_of g before) nothing (λ s. cancelling_at before e body params s))
+cancelling_row settings before e body params = on (home_of settings e before) nothing (λ g. on (start_of g before) nothing (λ s. cancelling_at settings before e body params s))

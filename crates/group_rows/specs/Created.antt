@@ -20,7 +20,7 @@ use Rattle.group_words.specs.Past.{past}
 use Rattle.group_rows.specs.Asks.{next_ask}
 use Rattle.group_rows.specs.Forwarded.{names, token_in}
 use Rattle.group_rows.specs.Live.{is_heard}
-use Rattle.group_rows.specs.Tokens.{is_reserved}
+use Rattle.group_rows.specs.Reserved.{is_reserved}
 
 -- the characters of the daemon's own token of start s and number k, and its text
 abbrev pub created_mark : ℕ → ℕ → List ℕ

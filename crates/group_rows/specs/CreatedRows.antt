@@ -55,7 +55,7 @@ created_row settings s before body params = on (token_called (named_token params
 
 -- S13: by its token progress is of an open request, or of a token that the start created
 abbrev pub progress_row : Settings → ℕ → List Event → List ℕ → Option Json → Row
-progress_row settings s before body params = on (find (is_told before (named_of (codes "token") params)) (forwarding_of s before).open_requests)
+progress_row settings s before body params = on (find (is_told before (named_of (codes "token") params)) (forwarding_of settings s before).open_requests)
     (created_row settings s before body params) (tell_progress body (named_of (codes "token") params))
 
 -- E19: an editor that accepts a token gets what was held for it, in order
@@ -76,7 +76,7 @@ created_work settings before e body params s = on (token_marked s params (create
 -- E11: work of an open request of its own, or of a token that it accepted
 abbrev pub work_at : Settings → List Event → ℕ → List ℕ → Option Json → ℕ → Row
 work_at settings before e body params s = choose (is_ready (life_of s before).stage)
-    (on (find (is_worked e (named_of (codes "token") params)) (forwarding_of s before).open_requests) (created_work settings before e body params s) (cancel_work s body)) nothing
+    (on (find (is_worked e (named_of (codes "token") params)) (forwarding_of settings s before).open_requests) (created_work settings before e body params s) (cancel_work s body)) nothing
 
 abbrev pub work_row : Settings → List Event → ℕ → List ℕ → Option Json → Row
 work_row settings before e body params = on (home_of settings e before) nothing (λ g. on (start_of g before) nothing (work_at settings before e body params))

@@ -12,14 +12,14 @@ use Rattle.event_model.specs.declared.phase.Phase.TheVariants.{Answered, Running
 use Rattle.event_model.specs.Event.{Event, notifies, took}
 use Rattle.event_model.specs.Members.{named_of}
 use Rattle.event_model.specs.Phases.{desk_of, is_served}
-use Rattle.event_model.specs.Row.{Row, nothing, send, choose, on}
+use Rattle.event_model.specs.Row.{Row, nothing, send, choose, each, on}
 use Rattle.event_model.specs.Settings.{Settings}
 use Rattle.event_model.specs.Spawns.{group_of}
 use Rattle.event_model.specs.Stages.{is_first_result, is_initializing, life_of}
 use Rattle.group_words.specs.Houses.{editors_in, home_of, is_home}
 use Rattle.group_words.specs.Past.{past}
 use Rattle.group_words.specs.Rows.{shown_of}
-use Rattle.group_rows.specs.StopRows.{close_each}
+use Rattle.group_rows.specs.Waiting.{part}
 
 -- the body with the last result that a start of the group gave
 abbrev pub gives_result : ℕ → List Event → ℕ → Message → Bool
@@ -55,9 +55,9 @@ was_shown _ = false
 abbrev pub shown_in : Settings → ℕ → List Event → List ℕ
 shown_in settings g events = editors_in was_shown g (λ e. home_of settings e events) events
 
--- S2: where the new start's capabilities aren't those, the link of each is to be ended
+-- S2: where the new start's capabilities aren't those, each is refused its requests that wait, and its link is to be ended
 abbrev pub part_row : Settings → List Event → List ℕ → ℕ → Row
-part_row settings before body g = choose (differs (given_of g before) body) (close_each (shown_in settings g before)) nothing
+part_row settings before body g = choose (differs (given_of g before) body) (each (part settings g) (shown_in settings g before)) nothing
 
 -- E16: the last change of the configuration that an editor of the group gave, also where no start was ready
 abbrev pub configures : Settings → ℕ → List Event → ℕ → Message → Bool

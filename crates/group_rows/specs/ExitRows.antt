@@ -6,7 +6,7 @@ use Rattle.std.specs.Option.{option_map_or}
 use Rattle.json.specs.Print.{quoted}
 use Rattle.rpc_message.specs.Message.{notification}
 use Rattle.rpc_message.specs.Texts.{notification_text}
-use Rattle.mux_history.specs.declared.out.Out.TheVariants.{ToEditor, CloseEditor}
+use Rattle.mux_history.specs.declared.out.Out.TheVariants.{ToEditor}
 use Rattle.event_model.specs.Event.{Event, did}
 use Rattle.event_model.specs.Phases.{needs_server}
 use Rattle.event_model.specs.Row.{Row, nothing, send, choose, each, on, ◌⨾◌}
@@ -26,10 +26,11 @@ use Rattle.group_rows.specs.Lists.{is_publishing, lists_of}
 use Rattle.group_rows.specs.Live.{live_of}
 use Rattle.group_rows.specs.LiveRows.{unregister_any}
 use Rattle.group_rows.specs.StopRows.{lose_request, refuse_initialize}
+use Rattle.group_rows.specs.Waiting.{part}
 
 -- X1: each of an editor's requests that the start has to answer is refused, by its number
-abbrev pub lose_sent : List Event → ℕ → ℕ → Row
-lose_sent before s e = each lose_request (filter (is_of e) (forwarding_of s before).open_requests)
+abbrev pub lose_sent : Settings → List Event → ℕ → ℕ → Row
+lose_sent settings before s e = each lose_request (filter (is_of e) (forwarding_of settings s before).open_requests)
 
 -- X2: a token that the editor accepted, and of which it was told a `begin` and no `end`, ends there (LSP 3.17, Work Done Progress)
 abbrev pub end_params : List ℕ → List ℕ
@@ -87,9 +88,9 @@ lose_start settings before s e =
     ⨾ (each (cancel_ask e) (filter (is_with e) (asks_of settings s before))
     ⨾ (unregister_any (live_of settings s before) e ⨾ each (empty_list before e) (lists_of s before))))
 
--- X3: an editor whose `initialize` waits is refused that, and the link of each is to be ended
-abbrev pub turn_out : ℕ → Row
-turn_out e = refuse_initialize e ⨾ send (CloseEditor e)
+-- X3: an editor whose `initialize` waits is refused that, each is refused its requests that wait, and the link of each is to be ended
+abbrev pub turn_out : Settings → ℕ → ℕ → Row
+turn_out settings g e = refuse_initialize e ⨾ part settings g e
 
 -- X3: where an editor needs the server, and the group's starts ended no more often than they may, there is a new start, else the group ends
 abbrev pub starts_again : Settings → List Event → ℕ → Kept → Bool
@@ -97,9 +98,9 @@ starts_again settings before g x = has_editor needs_server g (λ e. home_of sett
 
 abbrev pub exit_in : Settings → List Event → ℕ → ℕ → Kept → Row
 exit_in settings before s g x = choose x.live
-    (each (lose_sent before s) (members_in settings g before)
+    (each (lose_sent settings before s) (members_in settings g before)
     ⨾ (choose (is_ready (life_of s before).stage) (each (lose_start settings before s) (running_in settings g before)) nothing
-    ⨾ choose (starts_again settings before g x) (spawn g) (each turn_out (members_in settings g before)))) nothing
+    ⨾ choose (starts_again settings before g x) (spawn g) (each (turn_out settings g) (members_in settings g before)))) nothing
 
 abbrev pub lost_row : Settings → List Event → ℕ → Row
 lost_row settings before s = on (group_of s before) nothing (λ g. on (slice_get (groups_of settings before) g) nothing (exit_in settings before s g))

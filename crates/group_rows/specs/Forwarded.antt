@@ -1,13 +1,18 @@
 -- The requests of editors that were sent on to a start of a server, by their numbers (JSON-RPC 2.0, section 4: an id is the client's own, and its response has it).
-use Rattle.std.specs.Prelude.{ℕ, ◌+◌, Bool, true, false, not, List, [], ◌∷◌, ◌++◌, map, filter, find, fold, codes, nat_eq, bytes_eq, decimal, if◌then◌else◌}
+use Rattle.std.specs.Prelude.{ℕ, ◌+◌, Bool, true, false, not, List, [], ◌∷◌, ◌++◌, map, filter, find, codes, nat_eq, bytes_eq, decimal, if◌then◌else◌}
 use Rattle.std.specs.Prelude.{Option, Some, None}
+use Rattle.std.specs.Option.{option_and_then}
 use Rattle.json_text.specs.Json.{Json, number}
 use Rattle.mux_history.specs.declared.cause.Cause.TheVariants.{FromEditor, FromServer, StartFailed, ServerGone}
 use Rattle.mux_history.specs.declared.out.Out.TheVariants.{ToServer}
-use Rattle.rpc_message.specs.Message.{Message, request, notification, Id, integer, id_bytes}
+use Rattle.rpc_message.specs.Message.{Message, request, notification, Id, integer, id_bytes, message_of}
 use Rattle.event_model.specs.Event.{Event, took, did}
 use Rattle.event_model.specs.Requests.{answered_id, is_own}
 use Rattle.event_model.specs.Members.{bytes_if, is_token, named_of, params_of}
+use Rattle.event_model.specs.Settings.{Settings}
+use Rattle.held_requests.specs.declared.request.Request.{Request}
+use Rattle.group_words.specs.Past.{past}
+use Rattle.group_rows.specs.Waiting.{first_waiting}
 
 -- whose request is at work, the bytes of its id, and those of its tokens for progress, where it has them (LSP 3.17, Work Done Progress and Partial Result Progress)
 pub record Sender : Type 0 where
@@ -39,6 +44,17 @@ abbrev pub sender_of : ℕ → List ℕ → Message → Option Sender
 sender_of e body (request id method ps) = Some (record { editor = e; id = id_bytes body; work = token_in (codes "workDoneToken") body; partial = token_in (codes "partialResultToken") body })
 sender_of e body other = None
 
+-- S2: a request that waited is sent by the start's own result, in whose entry none is at work
+abbrev pub sender_waiting : Request → Option Sender
+sender_waiting r = sender_of r.editor r.body (message_of r.body)
+
+abbrev pub first_sender : Settings → ℕ → List Event → Option Sender
+first_sender settings s events = option_and_then sender_waiting (first_waiting settings s events)
+
+abbrev pub sender_or : Option Sender → Option Sender → Option Sender
+sender_or (Some sender) first = Some sender
+sender_or None first = first
+
 abbrev pub numbered : Option Sender → ℕ → List Forwarded
 numbered None n = []
 numbered (Some sender) n = record { number = n; editor = sender.editor; id = sender.id; work = sender.work; partial = sender.partial; cancelled = false } ∷ []
@@ -60,10 +76,10 @@ abbrev pub cancelled_by : Option Json → Forwarded → Forwarded
 cancelled_by id f = if is_written id f.number then record f { cancelled = true } else f
 
 -- the daemon's own `initialize` and `shutdown` are no editor's: they have the numbers before 2, and behind the last
-abbrev pub forwards : Forwarding → Message → Forwarding
-forwards x (request id method ps) = if is_own method then x else record { sender = x.sender; next = x.next + 1; open_requests = x.open_requests ++ numbered x.sender x.next }
-forwards x (notification method ps) = if bytes_eq method (codes "$/cancelRequest") then record { sender = x.sender; next = x.next; open_requests = map (cancelled_by (named_of (codes "id") ps)) x.open_requests } else x
-forwards x other = x
+abbrev pub forwards : Option Sender → Forwarding → Message → Forwarding
+forwards first x (request id method ps) = if is_own method then x else record { sender = x.sender; next = x.next + 1; open_requests = x.open_requests ++ numbered (sender_or x.sender first) x.next }
+forwards first x (notification method ps) = if bytes_eq method (codes "$/cancelRequest") then record { sender = x.sender; next = x.next; open_requests = map (cancelled_by (named_of (codes "id") ps)) x.open_requests } else x
+forwards first x other = x
 
 -- a body that its open requests, or their numbers, speak of
 abbrev pub moves_ids : Message → Bool
@@ -75,17 +91,17 @@ abbrev pub no_forwarding : Forwarding
 no_forwarding = record { sender = None; next = 2; open_requests = [] }
 
 -- a request is open from its own body to the start until the start's response, or the end of its program
-abbrev pub forwarding_behind : ℕ → Forwarding → Event → Forwarding
-forwarding_behind s x (took (FromEditor e body) m) = record { sender = sender_of e body m; next = x.next; open_requests = x.open_requests }
-forwarding_behind s x (took (FromServer n body) m) = record { sender = None; next = x.next; open_requests = if nat_eq n s then filter (λ f. not (answered_by (answered_id m) f)) x.open_requests else x.open_requests }
-forwarding_behind s x (took (StartFailed n) m) = if nat_eq n s then no_forwarding else record { sender = None; next = x.next; open_requests = x.open_requests }
-forwarding_behind s x (took (ServerGone n) m) = if nat_eq n s then no_forwarding else record { sender = None; next = x.next; open_requests = x.open_requests }
-forwarding_behind s x (took cause m) = record { sender = None; next = x.next; open_requests = x.open_requests }
-forwarding_behind s x (did (ToServer n body) m) = if nat_eq n s then forwards x m else x
-forwarding_behind s x (did out m) = x
+abbrev pub forwarding_next : Settings → ℕ → List Event → Forwarding → Event → Forwarding
+forwarding_next settings s before x (took (FromEditor e body) m) = record { sender = sender_of e body m; next = x.next; open_requests = x.open_requests }
+forwarding_next settings s before x (took (FromServer n body) m) = record { sender = None; next = x.next; open_requests = if nat_eq n s then filter (λ f. not (answered_by (answered_id m) f)) x.open_requests else x.open_requests }
+forwarding_next settings s before x (took (StartFailed n) m) = if nat_eq n s then no_forwarding else record { sender = None; next = x.next; open_requests = x.open_requests }
+forwarding_next settings s before x (took (ServerGone n) m) = if nat_eq n s then no_forwarding else record { sender = None; next = x.next; open_requests = x.open_requests }
+forwarding_next settings s before x (took cause m) = record { sender = None; next = x.next; open_requests = x.open_requests }
+forwarding_next settings s before x (did (ToServer n body) m) = if nat_eq n s then forwards (first_sender settings s before) x m else x
+forwarding_next settings s before x (did out m) = x
 
-abbrev pub forwarding_of : ℕ → List Event → Forwarding
-forwarding_of s events = fold (forwarding_behind s) no_forwarding events
+abbrev pub forwarding_of : Settings → ℕ → List Event → Forwarding
+forwarding_of settings s events = past (forwarding_next settings s) [] no_forwarding events
 
 -- the open request of a number
 abbrev pub is_under : ℕ → Forwarded → Bool

@@ -33,8 +33,8 @@ abbrev pub cancel : ℕ → ℕ → Row
 cancel s n = send (ToServer s (cancel_text n))
 
 -- these are cancelled at a start that is ready
-abbrev pub cancels : List Event → ℕ → ℕ → Row
-cancels before s e = choose (is_ready (life_of s before).stage) (each (cancel s) (uncancelled_of e (forwarding_of s before).open_requests)) nothing
+abbrev pub cancels : Settings → List Event → ℕ → ℕ → Row
+cancels settings before s e = choose (is_ready (life_of s before).stage) (each (cancel s) (uncancelled_of e (forwarding_of settings s before).open_requests)) nothing
 
 -- each request of the start that waits for the editor's answer is refused
 abbrev pub refuse : ℕ → Ask → Row
@@ -56,7 +56,7 @@ closings settings before g s e = choose (is_ready (life_of s before).stage)
     (to_start s (leave_bodies settings.limits.versions (λ u. held_at s u before) e (texts_of settings g before).opens (texts_of settings g before).opens)) nothing
 
 abbrev pub cancels_row : Settings → List Event → ℕ → Row
-cancels_row settings before e = on (home_of settings e before) nothing (λ g. on (start_of g before) nothing (λ s. cancels before s e ⨾ refusals settings before s e))
+cancels_row settings before e = on (home_of settings e before) nothing (λ g. on (start_of g before) nothing (λ s. cancels settings before s e ⨾ refusals settings before s e))
 
 abbrev pub leave_row : Settings → List Event → ℕ → Row
-leave_row settings before e = on (home_of settings e before) nothing (λ g. on (start_of g before) nothing (λ s. cancels before s e ⨾ (refusals settings before s e ⨾ closings settings before g s e)))
+leave_row settings before e = on (home_of settings e before) nothing (λ g. on (start_of g before) nothing (λ s. cancels settings before s e ⨾ (refusals settings before s e ⨾ closings settings before g s e)))

@@ -13,6 +13,8 @@ pub mod Rows
 pub mod StopExample
 pub mod StopRows
 pub mod Texts
+pub mod Waiting
+pub mod WaitingExample
 pub mod Leaves
 pub mod Status
 pub mod Ticks
@@ -24,6 +26,7 @@ pub mod LiveExample
 pub mod LiveRows
 pub mod LiveTexts
 pub mod Tokens
+pub mod Reserved
 pub mod TokensExample
 pub mod Created
 pub mod CreatedExample
@@ -33,6 +36,7 @@ pub mod ListRows
 pub mod ListsExample
 pub use Rattle.diagnostics_route
 pub use Rattle.group_words
+pub use Rattle.held_requests
 pub use Rattle.registrations.specs.mux_members
 pub use Rattle.registrations.specs.mux_model
 pub use Rattle.registrations

@@ -1,8 +1,8 @@
 -- The routing table over several editors and groups, in part: J1, J2, E2 to E10, E11, E12 to E17, E19, S1, S2 with X4, S3, S4, S5 with V1 and V2, S6 to S12 with V3, S13 to S15, L2, X1 to X3, and X5 to X7.
-use Rattle.std.specs.Prelude.{ℕ, Bool, true, false, ◌&&◌, ◌||◌, List, [], ◌∷◌, ◌++◌, filter, flat_map, codes, nat_eq, nat_lt, bytes_eq, if◌then◌else◌}
+use Rattle.std.specs.Prelude.{ℕ, Bool, true, false, ◌&&◌, ◌||◌, List, [], ◌∷◌, ◌++◌, filter, flat_map, codes, length, nat_eq, nat_lt, bytes_eq, if◌then◌else◌}
 use Rattle.std.specs.Prelude.{Option, Some, None, slice_get}
 use Rattle.std.specs.List.{list_any}
-use Rattle.std.specs.Option.{option_map_or}
+use Rattle.std.specs.Option.{option_and_then, option_map_or}
 use Rattle.mux_history.specs.declared.cause.Cause.{Cause}
 use Rattle.mux_history.specs.declared.cause.Cause.TheVariants.{Joined, FromEditor, EditorGone, Started, StartFailed, FromServer, ServerGone, Tick}
 use Rattle.mux_history.specs.declared.out.Out.{Out}
@@ -31,8 +31,10 @@ use Rattle.event_model.specs.Row.{Row, nothing, send, choose, look, outs, each, 
 use Rattle.event_model.specs.Settings.{Settings}
 use Rattle.event_model.specs.Spawns.{group_of, start_of}
 use Rattle.event_model.specs.Stages.{life_of, is_ready, is_first_result}
+use Rattle.held_requests.specs.declared.request.Request.{Request}
+use Rattle.held_requests.specs.Tables.{takes}
 use Rattle.registrations.specs.mux_model.specs.Documents.{held_at}
-use Rattle.registrations.specs.mux_model.specs.Methods.{goes_on, is_dollar, is_wrong}
+use Rattle.registrations.specs.mux_model.specs.Methods.{goes_on, is_dollar}
 use Rattle.registrations.specs.mux_model.specs.Rows.{malformed_row, to_start}
 use Rattle.group_words.specs.Houses.{editors_in, groups_of, home_of, is_doubled, is_first_error, is_first_open, server_asked}
 use Rattle.group_words.specs.Rows.{initialize_of, initialize_row, shown_of}
@@ -48,10 +50,12 @@ use Rattle.group_rows.specs.Forwarded.{forwarding_of}
 use Rattle.group_rows.specs.Leaves.{leave_row}
 use Rattle.group_rows.specs.ListRows.{show_opened}
 use Rattle.group_rows.specs.Status.{items_of, status_text}
-use Rattle.group_rows.specs.StopRows.{joined_row, stop_row}
+use Rattle.group_rows.specs.StopRows.{joined_row, lose_waiting, stop_row}
 use Rattle.group_rows.specs.Texts.{encoding_of, texts_of}
 use Rattle.group_rows.specs.Ticks.{tick_row}
-use Rattle.group_rows.specs.Tokens.{forwarded_text, reserves}
+use Rattle.group_rows.specs.Tokens.{forwarded_text}
+use Rattle.group_rows.specs.Reserved.{reserves}
+use Rattle.group_rows.specs.Waiting.{cancel_waiting, is_misplaced, is_restarting, part, refuse_waiting, waiting_named, waiting_of}
 
 abbrev pub answer_error : ℕ → List ℕ → Code → Row
 answer_error e body code = send (ToEditor e (error_text (id_bytes body) code))
@@ -89,17 +93,24 @@ replay_bodies told all (o ∷ os) =
     else option_map_or (λ (h : Open). open_text h.uri h.language h.text ∷ []) (holder o.uri all) [] ++ replay_bodies (o.uri ∷ told) all os
 
 -- E10: the request goes to the start of the editor's group under the next number, with the daemon's tokens, behind a sync; a token that begins as the daemon's do is refused
-abbrev pub forward : ℕ → List ℕ → Row
-forward s body = look (λ events. send (ToServer s (forwarded_text (forwarding_of s events).next body)))
+abbrev pub forward : Settings → ℕ → List ℕ → Row
+forward settings s body = look (λ events. send (ToServer s (forwarded_text (forwarding_of settings s events).next body)))
+
+abbrev pub has_room : Settings → ℕ → List Event → Bool
+has_room settings s events = nat_lt (forwarding_of settings s events).next settings.limits.requests
 
 abbrev pub can_ask : Settings → ℕ → List Event → Bool
-can_ask settings s events = is_ready (life_of s events).stage && nat_lt (forwarding_of s events).next settings.limits.requests
+can_ask settings s events = is_ready (life_of s events).stage && has_room settings s events
+
+-- where that start isn't ready the request waits, as long as so many of the editor's may, and so many bytes of these
+abbrev pub may_wait : Settings → List Event → ℕ → List ℕ → ℕ → Bool
+may_wait settings before e body g = is_restarting g before && takes e (length body) (waiting_of settings g before)
 
 abbrev pub sync_row : Settings → List Event → ℕ → ℕ → ℕ → Row
 sync_row settings before g s e = to_start s (sync_bodies settings.limits.versions (λ u. held_at s u before) e (texts_of settings g before).opens)
 
 abbrev pub request_at : Settings → List Event → ℕ → List ℕ → ℕ → ℕ → Row
-request_at settings before e body g s = choose (can_ask settings s before) (sync_row settings before g s e ⨾ forward s body) (answer_error e body request_failed)
+request_at settings before e body g s = choose (can_ask settings s before) (sync_row settings before g s e ⨾ forward settings s body) (choose (may_wait settings before e body g) nothing (answer_error e body request_failed))
 
 abbrev pub request_row : Settings → List Event → ℕ → List ℕ → Row
 request_row settings before e body = choose (reserves (params_of body)) (answer_error e body invalid_params) (on (home_of settings e before) (answer_error e body request_failed)
@@ -124,9 +135,9 @@ notice_row settings before e body = on (home_of settings e before) nothing (λ g
 abbrev pub closing_row : Settings → List Event → ℕ → Row
 closing_row settings before e = send (CloseEditor e) ⨾ leave_row settings before e
 
--- E9: `shutdown` is answered, and the editor leaves
+-- E9: behind a `shutdown` the editor's requests that wait are refused, it is answered, and the editor leaves
 abbrev pub shutdown_row : Settings → List Event → ℕ → List ℕ → Row
-shutdown_row settings before e body = send (ToEditor e (ok_text (id_bytes body) (codes "null"))) ⨾ leave_row settings before e
+shutdown_row settings before e body = lose_waiting settings before e ⨾ (send (ToEditor e (ok_text (id_bytes body) (codes "null"))) ⨾ leave_row settings before e)
 
 -- E8: what a request that isn't taken is answered with; a second `initialize` is an invalid one
 abbrev pub wrong_code : List ℕ → Code → Code
@@ -134,9 +145,6 @@ wrong_code method otherwise = if is_dollar method then method_not_found else oth
 
 abbrev pub early_code : List ℕ → Code
 early_code method = if bytes_eq (codes "initialize") method then invalid_request else wrong_code method server_not_initialized
-
-abbrev pub is_misplaced : List ℕ → Bool
-is_misplaced method = bytes_eq (codes "initialize") method || is_wrong (class_of method Editor false)
 
 -- E9: `exit`, in any phase; E8 and E15: another notification gives nothing, nor does a response
 abbrev pub exit_row : Settings → List Event → ℕ → Message → Row
@@ -148,6 +156,10 @@ abbrev pub early_row : Settings → List Event → ℕ → List ℕ → Message 
 early_row settings before e body (request id method params) = answer_error e body (early_code method)
 early_row settings before e body other = exit_row settings before e other
 
+-- E11: one of the editor's requests that wait is cancelled here, another one at the start
+abbrev pub cancel_row : Settings → List Event → ℕ → List ℕ → Option Json → Row
+cancel_row settings before e body params = on (option_and_then (λ g. waiting_named e params (waiting_of settings g before)) (home_of settings e before)) (cancelling_row settings before e body params) cancel_waiting
+
 abbrev pub served_request : Settings → List Event → ℕ → List ℕ → List ℕ → Row
 served_request settings before e body method = choose (is_misplaced method) (answer_error e body (wrong_code method invalid_request))
     (choose (bytes_eq (codes "shutdown") method) (shutdown_row settings before e body) (request_row settings before e body))
@@ -156,7 +168,7 @@ served_request settings before e body method = choose (is_misplaced method) (ans
 abbrev pub served_notice : Settings → List Event → ℕ → List ℕ → List ℕ → Option Json → Row
 served_notice settings before e body method params = choose (bytes_eq (codes "exit") method) (closing_row settings before e)
     (choose (goes_on (class_of method Editor true)) (notice_row settings before e body)
-    (choose (bytes_eq (codes "$/cancelRequest") method) (cancelling_row settings before e body params)
+    (choose (bytes_eq (codes "$/cancelRequest") method) (cancel_row settings before e body params)
     (choose (bytes_eq (codes "window/workDoneProgress/cancel") method) (work_row settings before e body params) (document_row settings before e body (saying_by method params)))))
 
 abbrev pub served_row : Settings → List Event → ℕ → List ℕ → Message → Row
@@ -229,23 +241,28 @@ welcome_all settings body g = look (λ events. each (welcome body) (waiting_in s
 abbrev pub replay : Settings → ℕ → ℕ → Row
 replay settings s g = look (λ events. to_start s (replay_bodies [] (texts_of settings g events).opens (texts_of settings g events).opens))
 
--- S2: the editors that were shown other capabilities are parted with, the session begins, the start is told of the configuration and of each document that is open, and the editors that wait are answered
+-- S2: what waits goes to the start as E10 says, in the order in which it came, as long as numbers are left
+abbrev pub send_waiting : Settings → ℕ → ℕ → Request → Row
+send_waiting settings g s r = look (λ events. choose (has_room settings s events) (sync_row settings events g s r.editor ⨾ forward settings s r.body) (refuse_waiting r))
+
+abbrev pub send_held : Settings → ℕ → ℕ → Row
+send_held settings s g = look (λ events. each (send_waiting settings g s) (waiting_of settings g events))
+
+-- S2: the editors that were shown other capabilities are parted with, the session begins, the start is told of the configuration and of each document that is open, the editors that wait are answered, and the requests that wait are sent
 abbrev pub result_in : Settings → List Event → ℕ → List ℕ → ℕ → Row
-result_in settings before s body g = part_row settings before body g ⨾ (send (ToServer s initialized_text) ⨾ (configure settings before s g ⨾ (replay settings s g ⨾ welcome_all settings body g)))
+result_in settings before s body g =
+    part_row settings before body g ⨾ (send (ToServer s initialized_text) ⨾ (configure settings before s g ⨾ (replay settings s g ⨾ (welcome_all settings body g ⨾ send_held settings s g))))
 
 abbrev pub first_result : Settings → List Event → ℕ → List ℕ → Row
 first_result settings before s body = on (group_of s before) nothing (result_in settings before s body)
 
--- S3: a start refuses its `initialize`: each editor of its group that waits gets the error under its own id, and then its link is to be ended; then those of the others, and the program (LSP 3.17, Initialize Request)
+-- S3: a start refuses its `initialize`: each editor of its group that waits gets the error under its own id, and then its link is to be ended; then those of the others, behind refusals of what waits, and the program (LSP 3.17, Initialize Request)
 abbrev pub refusal : List ℕ → ℕ → Row
 refusal body e = look (λ events. send (ToEditor e (with_id_text body (id_bytes (desk_of e events).initialize)))) ⨾ send (CloseEditor e)
 
-abbrev pub close_all : List ℕ → Row
-close_all es = each (λ e. send (CloseEditor e)) es
-
 -- behind the refusals none waits
 abbrev pub refused_in : Settings → ℕ → List ℕ → ℕ → Row
-refused_in settings s body g = look (λ events. each (refusal body) (waiting_in settings g events)) ⨾ (look (λ events. close_all (members_in settings g events)) ⨾ send (EndServer s))
+refused_in settings s body g = look (λ events. each (refusal body) (waiting_in settings g events)) ⨾ (look (λ events. each (part settings g) (members_in settings g events)) ⨾ send (EndServer s))
 
 abbrev pub refused_row : Settings → List Event → ℕ → List ℕ → Row
 refused_row settings before s body = on (group_of s before) nothing (refused_in settings s body)

@@ -62,8 +62,8 @@ abbrev pub server_of : Settings → List Event → ℕ → List ℕ
 server_of settings before g = option_map_or (name_of settings.servers) (slice_get (groups_of settings before) g) []
 
 -- how many requests a start has to answer whose editors are there: also those that were cancelled, and those of editors that are down
-abbrev pub asked_at : List Event → ℕ → ℕ
-asked_at before s = length (filter (λ (f : Forwarded). is_there (desk_of f.editor before).phase) (forwarding_of s before).open_requests)
+abbrev pub asked_at : Settings → List Event → ℕ → ℕ
+asked_at settings before s = length (filter (λ (f : Forwarded). is_there (desk_of f.editor before).phase) (forwarding_of settings s before).open_requests)
 
 abbrev pub item_at : Settings → List Event → ℕ → ℕ → Item
 item_at settings before g s = record {
@@ -72,7 +72,7 @@ item_at settings before g s = record {
   start = s;
   stage = (life_of s before).stage;
   editors = editors_in is_begun g (λ e. home_of settings e before) before;
-  asked = asked_at before s;
+  asked = asked_at settings before s;
 }
 
 -- a live group has a start

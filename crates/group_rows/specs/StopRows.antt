@@ -15,6 +15,7 @@ use Rattle.group_words.specs.Past.{past}
 use Rattle.group_words.specs.Placing.{all_from, is_live}
 use Rattle.group_words.specs.Rows.{end_group}
 use Rattle.group_rows.specs.Forwarded.{Forwarded, forwarding_of, is_of}
+use Rattle.group_rows.specs.Waiting.{refuse_held}
 
 -- the editors that are there, rising
 abbrev pub there_in : List Event → List ℕ
@@ -29,10 +30,14 @@ abbrev pub lose_request : Forwarded → Row
 lose_request f = send (ToEditor f.editor (error_text f.id request_failed))
 
 abbrev pub lose_requests : Settings → List Event → ℕ → Row
-lose_requests settings before e = on (home_of settings e before) nothing (λ g. on (start_of g before) nothing (λ s. each lose_request (filter (is_of e) (forwarding_of s before).open_requests)))
+lose_requests settings before e = on (home_of settings e before) nothing (λ g. on (start_of g before) nothing (λ s. each lose_request (filter (is_of e) (forwarding_of settings s before).open_requests)))
+
+-- and each that waits until a start is ready
+abbrev pub lose_waiting : Settings → List Event → ℕ → Row
+lose_waiting settings before e = on (home_of settings e before) nothing (λ g. refuse_held settings g e)
 
 abbrev pub refuse_open : Settings → List Event → ℕ → Row
-refuse_open settings before e = refuse_initialize e ⨾ lose_requests settings before e
+refuse_open settings before e = refuse_initialize e ⨾ (lose_requests settings before e ⨾ lose_waiting settings before e)
 
 abbrev pub close_each : List ℕ → Row
 close_each es = each (λ e. send (CloseEditor e)) es

@@ -1,5 +1,5 @@
 -- Tokens for progress of editors' requests: what a start gets in their place, and what an editor is told of them (LSP 3.17, Work Done Progress and Partial Result Progress).
-use Rattle.std.specs.Prelude.{ℕ, ◌+◌, ◌*◌, Bool, true, false, ◌&&◌, ◌||◌, List, [], ◌++◌, codes, decimal, is_some, bytes_eq, take, if◌then◌else◌}
+use Rattle.std.specs.Prelude.{ℕ, ◌+◌, ◌*◌, Bool, true, false, ◌&&◌, List, [], ◌++◌, codes, decimal, is_some, bytes_eq, if◌then◌else◌}
 use Rattle.std.specs.Prelude.{Option, Some, None}
 use Rattle.std.specs.Option.{option_and_then, option_map_or}
 use Rattle.json_text.specs.Json.{Json, string}
@@ -11,10 +11,10 @@ use Rattle.mux_history.specs.declared.out.Out.TheVariants.{ToEditor, ToServer}
 use Rattle.event_model.specs.declared.phase.Phase.{Phase}
 use Rattle.event_model.specs.declared.phase.Phase.TheVariants.{Running, Down}
 use Rattle.event_model.specs.Event.{Event}
-use Rattle.event_model.specs.Members.{is_token, named_of, params_of, string_of}
+use Rattle.event_model.specs.Members.{is_token, named_of, params_of}
 use Rattle.event_model.specs.Phases.{desk_of}
 use Rattle.event_model.specs.Row.{Row, nothing, send, on}
-use Rattle.group_rows.specs.Cancelling.{id_meant}
+use Rattle.group_rows.specs.Waiting.{id_meant}
 use Rattle.group_rows.specs.Forwarded.{Forwarded, is_of}
 
 -- the characters of the daemon's own token of a number, and its text
@@ -44,16 +44,6 @@ token_edits n None = []
 -- E10: a request as it goes to a start: under its number, with the daemon's tokens, and all else as it came
 abbrev pub forwarded_text : ℕ → List ℕ → List ℕ
 forwarded_text n body = changed_text body (decimal n) (token_edits n (params_of body))
-
--- a token that an editor may not have chosen, since it might be the daemon's
-abbrev pub begins_as_mark : List ℕ → Bool
-begins_as_mark cs = bytes_eq (codes "lspmux:") (take 7 cs)
-
-abbrev pub is_reserved : Option Json → Bool
-is_reserved token = option_map_or begins_as_mark (string_of token) false
-
-abbrev pub reserves : Option Json → Bool
-reserves params = is_reserved (named_of (codes "workDoneToken") params) || is_reserved (named_of (codes "partialResultToken") params)
 
 -- the editor's own token that a token of a start stands for, of this request
 abbrev pub is_mark : Option Json → ℕ → Bool

@@ -1,5 +1,6 @@
 //! What several editors that share servers have open, and the routing table over them, in part: definitions, which nothing runs.
 #![tactic(auto)]
 
+pub use held_requests;
 pub use registrations;
 pub use registrations::mux_members;

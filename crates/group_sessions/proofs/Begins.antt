@@ -187,7 +187,7 @@ module _ (settings : Settings) (range : InRange settings) (before : List Event) 
     meant_there = meant_behind now (outs (run_row settings before e) now) (meant_more before (heard (FromEditor e body)) (facts.base).meant (meant_heard (FromEditor e body)))
 
     serves : (xs : List (List ℕ)) → At e xs there → At e xs later
-    serves xs h = subst (At e xs) (sym later_is) (going e xs (outs served there) there ((still_served settings before e body (ap is_running was) (message_of body) refl runs).goes there meant_there) h)
+    serves xs h = subst (At e xs) (sym later_is) (going e xs (outs served there) there ((still_served settings before e body (facts.steady).held (ap is_running was) (message_of body) refl runs).goes there meant_there) h)
 
     unrun : outs (run_row settings before e) now ≡ [] → At e [] later
     unrun none = serves [] (subst (λ zs. At e [] (behind now zs)) (sym none) (subst (At e []) (sym (append-nil now)) at_now))
@@ -274,7 +274,7 @@ module _ (settings : Settings) (range : InRange settings) (before : List Event) 
           empty = all.unready s (up_unready (life_of s before).stage (up_of settings before settled.lively e g s (ap answered_phase was) home start) off)
 
       outcome : Outcome
-      outcome = finish (still_there e live (live_written settings s before) served there (λ xs h. going e xs (outs served there) there ((still_served settings before e body (ap is_running was) (message_of body) refl runs).goes there meant_there) h) live
+      outcome = finish (still_there e live (live_written settings s before) served there (λ xs h. going e xs (outs served there) there ((still_served settings before e body (facts.steady).held (ap is_running was) (message_of body) refl runs).goes there meant_there) h) live
           (subst (λ zs. Held (behind now zs)) (sym run_is) (run_holds (is_ready (life_of s before).stage) refl)))
         where
           finish : Held (behind there (outs served there)) → Outcome

@@ -39,7 +39,7 @@ use Rattle.group_rows.proofs.CreatedTexts.{created_is}
 use Rattle.group_facts.specs.Legal.{Legal}
 use Rattle.group_facts.specs.Why.{IsNotified, Telling, Why, WhyToEditor, answers, asks, calls, of_held, of_request, of_token, passes, progresses, recalls, refuses, rejects, resumes, shows, spreads, turns_away, welcomes, loses, quitting, winds_up}
 use Rattle.group_facts.proofs.Facts.{Facts}
-use Rattle.group_facts.proofs.Forwards.{forwarding_more}
+use Rattle.group_rows.proofs.Frames.{forwarding_more}
 use Rattle.group_facts.proofs.Known.{Here, here_did, here_took}
 use Rattle.group_facts.proofs.Reached.{Reached, facts_at, reached}
 use Rattle.group_facts.proofs.Table.{reasons}
@@ -58,6 +58,7 @@ use Rattle.event_model.specs.Phases.{desk_of, is_there}
 use Rattle.std.proofs.lemmas.Bool.{and_parts}
 use Rattle.group_facts.proofs.SlowRow.{parting_walk}
 use Rattle.event_model.proofs.Frames.{never}
+use Rattle.group_sessions.proofs.KeptTokens.{Kept, all_kept}
 
 -- What is told
 
@@ -100,7 +101,7 @@ module _ (settings : Settings) (range : InRange settings) (before : List Event) 
     here : Here settings before cause events
     outs : List Out
     place : events ≡ behind (with_cause before cause) outs
-    ties : stopped events ≡ false → Ties events
+    ties : stopped events ≡ false → Ties settings events
     rules : (e : ℕ) → Always ClientRule6 (editor_part e events)
 
   module _ (events : List Event) (n : ℕ) (body : List ℕ) (at : At events) where
@@ -116,15 +117,15 @@ module _ (settings : Settings) (range : InRange settings) (before : List Event) 
         (or_second (not (bytes_eq method (codes "$/progress"))) (is_one (token_at (codes "token") m.params) tokens) (ap (λ o. is_one o tokens) m.names ∙ there)))
 
     -- a request that was open when its start told of it is kept with its tokens
-    kept : (s : ℕ) (asked : List ℕ) (given : Option Json) → IsNotified before cause s asked given → stopped events ≡ false → AllTold events (forwarding_of s before).open_requests
-    kept s asked given k on = unfiltered events (forwarding_of s before).open_requests (subst (AllTold events) moved (subst (λ c. AllTold events (forwarding_of s (with_cause before c)).open_requests) k.from first))
+    kept : (s : ℕ) (asked : List ℕ) (given : Option Json) → IsNotified before cause s asked given → stopped events ≡ false → AllTold events (forwarding_of settings s before).open_requests
+    kept s asked given k on = unfiltered settings events (forwarding_of settings s before).open_requests (subst (AllTold events) moved (subst (λ c. AllTold events (forwarding_of settings s (with_cause before c)).open_requests) k.from first))
       where
-        first : AllTold events (forwarding_of s (with_cause before cause)).open_requests
-        first = outs_back events s (with_cause before cause) at.outs (subst (λ z. AllTold events (forwarding_of s z).open_requests) at.place (at.ties on s))
+        first : AllTold events (forwarding_of settings s (with_cause before cause)).open_requests
+        first = outs_back settings events s (with_cause before cause) at.outs (subst (λ z. AllTold events (forwarding_of settings s z).open_requests) at.place (at.ties on s))
 
-        moved : (forwarding_of s (with_cause before (FromServer s asked))).open_requests ≡ filter (λ f. not (answered_by None f)) (forwarding_of s before).open_requests
-        moved = ap (λ (x : Forwarding). x.open_requests) (forwarding_more s before (heard (FromServer s asked)))
-            ∙ ap₂ (λ b m. if b then filter (λ f. not (answered_by (answered_id m) f)) (forwarding_of s before).open_requests else (forwarding_of s before).open_requests) (same_number s) k.asks
+        moved : (forwarding_of settings s (with_cause before (FromServer s asked))).open_requests ≡ filter (λ f. not (answered_by None f)) (forwarding_of settings s before).open_requests
+        moved = ap (λ (x : Forwarding). x.open_requests) (forwarding_more settings s before (heard (FromServer s asked)))
+            ∙ ap₂ (λ b m. if b then filter (λ f. not (answered_by (answered_id m) f)) (forwarding_of settings s before).open_requests else (forwarding_of settings s before).open_requests) (same_number s) k.asks
 
     of_editor : (asked method : List ℕ) (given : Option Json) (request : Forwarded) (token : List ℕ) → message_of asked ≡ notification method given → IsTold events request → own_token (named_of (codes "token") given) request ≡ Some token → request.editor ≡ n
         → body ≡ marked_text token asked → May (message_of body)
@@ -140,10 +141,10 @@ module _ (settings : Settings) (range : InRange settings) (before : List Event) 
 
     telling : (told : Telling settings before cause events n body) → Hears settings before cause events n body told → May (message_of body)
     telling (of_request s asked given request token k found own editor bytes) h =
-        of_editor asked k.method given request token k.asks (found_is (IsTold events) (is_told before (named_of (codes "token") given)) request (forwarding_of s before).open_requests (kept s asked given k goes) found) own editor bytes
+        of_editor asked k.method given request token k.asks (found_is (IsTold events) (is_told before (named_of (codes "token") given)) request (forwarding_of settings s before).open_requests (kept s asked given k goes) found) own editor bytes
       where
         there : is_there (desk_of request.editor before).phase ≡ true
-        there = listens_there (desk_of request.editor before).phase (and_parts (is_some (own_token (named_of (codes "token") given) request)) (listens (desk_of request.editor before).phase) (find_true (is_told before (named_of (codes "token") given)) (forwarding_of s before).open_requests request found)).1
+        there = listens_there (desk_of request.editor before).phase (and_parts (is_some (own_token (named_of (codes "token") given) request)) (listens (desk_of request.editor before).phase) (find_true (is_told before (named_of (codes "token") given)) (forwarding_of settings s before).open_requests request found)).1
 
         goes : stopped events ≡ false
         goes = ap stopped at.place ∙ (stopped_outs (with_cause before cause) at.outs ∙ (ap (λ c. stopped (with_cause before c)) k.from ∙ (stopped_more before (heard (FromServer s asked)) ∙ not_stopped before facts.quit request.editor there)))
@@ -187,7 +188,7 @@ module _ (settings : Settings) (range : InRange settings) (before : List Event) 
   free : (events : List Event) (event : Event) → is_body event ≡ false → ((e : ℕ) → Always ClientRule6 (editor_part e events)) → (e : ℕ) → Always ClientRule6 (editor_part e (events ++ event ∷ []))
   free events event off h e = rule_more ClientRule6 (is_of_editor e) events event (h e) (λ same. free_6 (editor_part e events) event off)
 
-  more : (events : List Event) (out : Out) → Why settings before cause events out → At events → (stopped (events ++ said out ∷ []) ≡ false → Ties (events ++ said out ∷ [])) → ((e : ℕ) → Always ClientRule6 (editor_part e (events ++ said out ∷ []))) → At (events ++ said out ∷ [])
+  more : (events : List Event) (out : Out) → Why settings before cause events out → At events → (stopped (events ++ said out ∷ []) ≡ false → Ties settings (events ++ said out ∷ [])) → ((e : ℕ) → Always ClientRule6 (editor_part e (events ++ said out ∷ []))) → At (events ++ said out ∷ [])
   more events out why i ties rules = record {
     here = here_did settings range before cause facts events out why i.here;
     outs = i.outs ++ out ∷ [];
@@ -196,13 +197,13 @@ module _ (settings : Settings) (range : InRange settings) (before : List Event) 
     rules = rules;
   }
 
-  step : (events : List Event) (out : Out) → Both events out → At events → At (events ++ said out ∷ [])
-  step events (ToEditor n body) why i = more events (ToEditor n body) why.0 i (λ on. let off : stopped events ≡ false = stopped_back events (said (ToEditor n body)) on in ties_told settings before cause events n body off ((((i.here).mid).steady).asked off) why.0 (i.ties off))
+  step : Kept settings before → (events : List Event) (out : Out) → Both events out → At events → At (events ++ said out ∷ [])
+  step kept events (ToEditor n body) why i = more events (ToEditor n body) why.0 i (λ on. let off : stopped events ≡ false = stopped_back events (said (ToEditor n body)) on in ties_told settings before cause events n body off ((((i.here).mid).steady).asked off) why.0 (i.ties off))
       (λ e. rule_more ClientRule6 (is_of_editor e) events (said (ToEditor n body)) (i.rules e) (λ same. subst (λ k. ClientRule6 (editor_part k events) (said (ToEditor n body))) (number_same n e same) (may_go events n body i why.0 why.1)))
-  step events (ToServer n body) why i = more events (ToServer n body) why.0 i (λ on. ties_sent settings before cause events n body why.0 (i.ties (stopped_back events (said (ToServer n body)) on))) (free events (said (ToServer n body)) refl i.rules)
-  step events (Spawn n g) why i = more events (Spawn n g) why.0 i (λ on. ties_free events (Spawn n g) refl (λ s. refl) (i.ties (stopped_back events (said (Spawn n g)) on))) (free events (said (Spawn n g)) refl i.rules)
-  step events (CloseEditor e) why i = more events (CloseEditor e) why.0 i (λ on. ties_free events (CloseEditor e) refl (λ s. refl) (i.ties (stopped_back events (said (CloseEditor e)) on))) (free events (said (CloseEditor e)) refl i.rules)
-  step events (EndServer n) why i = more events (EndServer n) why.0 i (λ on. ties_free events (EndServer n) refl (λ s. refl) (i.ties (stopped_back events (said (EndServer n)) on))) (free events (said (EndServer n)) refl i.rules)
+  step kept events (ToServer n body) why i = more events (ToServer n body) why.0 i (λ on. ties_sent settings before kept cause events n body why.0 (i.ties (stopped_back events (said (ToServer n body)) on))) (free events (said (ToServer n body)) refl i.rules)
+  step kept events (Spawn n g) why i = more events (Spawn n g) why.0 i (λ on. ties_free settings events (Spawn n g) refl (λ s. refl) (i.ties (stopped_back events (said (Spawn n g)) on))) (free events (said (Spawn n g)) refl i.rules)
+  step kept events (CloseEditor e) why i = more events (CloseEditor e) why.0 i (λ on. ties_free settings events (CloseEditor e) refl (λ s. refl) (i.ties (stopped_back events (said (CloseEditor e)) on))) (free events (said (CloseEditor e)) refl i.rules)
+  step kept events (EndServer n) why i = more events (EndServer n) why.0 i (λ on. ties_free settings events (EndServer n) refl (λ s. refl) (i.ties (stopped_back events (said (EndServer n)) on))) (free events (said (EndServer n)) refl i.rules)
 
   both : (events : List Event) (outs : List Out) → Reasons (Why settings before cause) events outs → Reasons (Heard settings before cause) events outs → Reasons Both events outs
   both events [] r h = tt
@@ -213,40 +214,40 @@ module _ (settings : Settings) (range : InRange settings) (before : List Event) 
   rules_took c h = free before (heard c) refl h
 
 -- Between entries
-record Rests (events : List Event) : Type 0 where
-  ties : stopped events ≡ false → Ties events
+record Rests (settings : Settings) (events : List Event) : Type 0 where
+  ties : stopped events ≡ false → Ties settings events
   rules : (e : ℕ) → Always ClientRule6 (editor_part e events)
 
 -- where what editors are told of created tokens is as it should be
 module _ (settings : Settings) (range : InRange settings) (all_heard : AllHeard settings) where
-  entry : (before : List Event) → Reached settings before → (cause : Cause) → fits_behind before cause ≡ true → Rests before → Rests (behind (with_cause before cause) (outs_of settings before cause))
+  entry : (before : List Event) → Reached settings before → (cause : Cause) → fits_behind before cause ≡ true → Rests settings before → Rests settings (behind (with_cause before cause) (outs_of settings before cause))
   entry before so_far cause fits h =
       let facts : Facts settings before = facts_at settings range before so_far in
       let now : List Event = with_cause before cause in
-      let last : At settings range before facts cause (behind now (outs_of settings before cause)) = reasons_keep (Both settings range before facts cause) (At settings range before facts cause) (step settings range before facts cause)
+      let last : At settings range before facts cause (behind now (outs_of settings before cause)) = reasons_keep (Both settings range before facts cause) (At settings range before facts cause) (step settings range before facts cause (all_kept settings before so_far))
       now (outs_of settings before cause)
       (both settings range before facts cause now (outs_of settings before cause) (reasons settings range before facts cause).why (all_heard before so_far cause fits))
       (record {
         here = here_took settings range before cause fits facts;
         outs = [];
         place = sym (behind_nothing now);
-        ties = λ on. ties_took before cause (h.ties (stopped_back before (heard cause) on));
+        ties = λ on. ties_took settings before cause (h.ties (stopped_back before (heard cause) on));
         rules = rules_took settings range before facts cause cause h.rules;
       }) in
       record { ties = last.ties; rules = last.rules }
 
-  slow : KeepsSlow settings Rests
+  slow : KeepsSlow settings (Rests settings)
   slow place at e is h =
       let facts : Facts settings place = facts_at settings range place at in
-      parting_walk settings range place facts e is Rests
+      parting_walk settings range place facts e is (Rests settings)
       (λ i. record {
-        ties = λ on. ties_free place (CloseEditor e) refl (λ s. refl) (i.ties (stopped_back place (said (CloseEditor e)) on));
+        ties = λ on. ties_free settings place (CloseEditor e) refl (λ s. refl) (i.ties (stopped_back place (said (CloseEditor e)) on));
         rules = free settings range place facts (quitting e) place (said (CloseEditor e)) refl i.rules;
       })
       (λ events n body why i. record {
-        ties = λ on. ties_sent settings place (quitting e) events n body why (i.ties (stopped_back events (said (ToServer n body)) on));
+        ties = λ on. ties_sent settings place (all_kept settings place at) (quitting e) events n body why (i.ties (stopped_back events (said (ToServer n body)) on));
         rules = free settings range place facts (quitting e) events (said (ToServer n body)) refl i.rules;
       }) h
 
   pub client_6_law : (history : List Entry) → Legal settings history → KeepsClient6 history
-  client_6_law history legal = (walk settings Rests entry slow (record { ties = λ on s. tt; rules = λ e. tt }) (events_of history) (reached settings history legal)).rules
+  client_6_law history legal = (walk settings (Rests settings) entry slow (record { ties = λ on s. tt; rules = λ e. tt }) (events_of history) (reached settings history legal)).rules

@@ -21,7 +21,7 @@ use Rattle.group_rows.specs.Asks.{next_ask}
 use Rattle.group_rows.specs.Created.{Created, Taking, Token, accepts, answered, asked, begun_by, created_next, created_of, created_token, first_begin, if_new, is_answered, is_at, is_begin, is_called, is_creating, is_ended_by, is_marked, is_numbered, is_over, is_progress, left, lives, may_create, may_hold, named_token, no_created, progressed, settled, told, token_called, token_marked, token_of, with_asked, with_token}
 use Rattle.group_rows.specs.Forwarded.{token_in}
 use Rattle.group_rows.specs.Live.{is_heard}
-use Rattle.group_rows.specs.Tokens.{begins_as_mark, is_reserved}
+use Rattle.group_rows.specs.Reserved.{begins_as_mark, is_reserved}
 use Rattle.group_sessions.proofs.Brought.{Brought, brought}
 
 some_same : {A : Type 0} (a b : A) → ◌≡◌ {A = Option A} (Some a) (Some b) → a ≡ b

@@ -49,7 +49,7 @@ use Rattle.group_sessions.proofs.Behind.{created_behind, ready_outs}
 use Rattle.group_sessions.proofs.Brought.{token_request}
 use Rattle.group_sessions.proofs.Client7Law.{begun_later}
 use Rattle.group_sessions.proofs.CreatedFold.{AllApart, IsApart, IsNew, created_orderly, new_is, none_called}
-use Rattle.group_sessions.proofs.TellingSent.{one_token}
+use Rattle.group_sessions.proofs.KeptTokens.{one_token}
 use Rattle.group_facts.proofs.SlowRow.{parting}
 use Rattle.group_facts.proofs.AskEntries.{onward_slow}
 use Rattle.group_facts.specs.SlowRows.{is_slow}

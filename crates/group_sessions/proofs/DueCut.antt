@@ -1,5 +1,5 @@
 -- X2: as the program of a start ends, an editor where a token had begun is told that it ends, and nothing else of it.
-use Rattle.std.proofs.Common.{◌≡◌, ℕ, ◌^◌, ◌<◌, ◌≤◌, Bool, true, false, ◌&&◌, ◌||◌, List, [], ◌∷◌, ◌++◌, bytes_eq, filter, flat_map, nat_eq, nat_le, if◌then◌else◌, Option, Some, None, refl, sym, ◌∙◌, ap, ap₂, subst, ltb-true, arith}
+use Rattle.std.proofs.Common.{◌≡◌, ℕ, ◌^◌, ◌<◌, ◌≤◌, Bool, true, false, ◌&&◌, ◌||◌, List, [], ◌∷◌, ◌++◌, bytes_eq, filter, flat_map, nat_eq, nat_le, if◌then◌else◌, Option, Some, None, refl, sym, ◌∙◌, ap, ap₂, subst, ltb-true, arith, append_assoc}
 use Rattle.std.specs.Prelude.{slice_get}
 use Rattle.std.specs.List.{AllByRecursion, list_any, range_with_len}
 use Rattle.std.proofs.lemmas.Bool.{and_parts, leb-false, leb-true}
@@ -37,7 +37,7 @@ use Rattle.group_rows.proofs.Cancels.{cancel_says}
 use Rattle.group_rows.proofs.ExitTexts.{empty_says, end_says}
 use Rattle.group_rows.proofs.ListsKept.{IsList, lists_kept}
 use Rattle.group_rows.proofs.LiveTexts.{live_written, unregister_says}
-use Rattle.group_facts.specs.Facts.{IsAsked, IsForwarded, IsTake}
+use Rattle.group_facts.specs.Facts.{IsAsked, IsForwarded, IsTake, AllHeld}
 use Rattle.group_facts.specs.Lively.{lives as lives_kept, lives_at}
 use Rattle.group_facts.specs.Settled.{Settled, is_answered}
 use Rattle.group_facts.specs.Why.{IsLost}
@@ -57,8 +57,10 @@ use Rattle.group_sessions.proofs.DueWords.{flat_join}
 use Rattle.group_sessions.proofs.EndTexts.{end_marks}
 use Rattle.group_sessions.proofs.HeldFold.{IsAlive, IsFair, created_fair}
 use Rattle.group_sessions.specs.Due.{names_mark, sent_by}
+use Rattle.group_sessions.proofs.HeldPlaces.{held_lost, held_turned, turned_by}
+use Rattle.mux_facts.specs.Ranges.{InRange}
 
-module _ (settings : Settings) (before : List Event) (facts : Facts settings before) (settled : Settled settings before) (few : starts_of before ≤ 2 ^ 64) (cause : Cause) (s k e : ℕ) (exit : Exit settings before cause s) (low : s < 2 ^ 64) (small : k < 2 ^ 64) where
+module _ (settings : Settings) (range : InRange settings) (before : List Event) (facts : Facts settings before) (settled : Settled settings before) (few : starts_of before ≤ 2 ^ 64) (cause : Cause) (s k e : ℕ) (exit : Exit settings before cause s) (low : s < 2 ^ 64) (small : k < 2 ^ 64) where
   abbrev now : List Event
   now = with_cause before cause
 
@@ -66,7 +68,7 @@ module _ (settings : Settings) (before : List Event) (facts : Facts settings bef
   x = created_of settings s before
 
   abbrev fs : List Forwarded
-  fs = (forwarding_of s before).open_requests
+  fs = (forwarding_of settings s before).open_requests
 
   -- outs that tell e nothing of the token
 
@@ -101,9 +103,9 @@ module _ (settings : Settings) (before : List Event) (facts : Facts settings bef
   requests_off [] known events = by_nothing
   requests_off (f ∷ gs) known events = by_then (by_send (plain_out f.editor (lost_text f) (ap (names_mark s k) (lost_says before f known.0)))) (requests_off gs known.1 (behind events (outs (lose_request f) events)))
 
-  sent_off : AllByRecursion (IsForwarded before) fs → (es : List ℕ) (events : List Event) → Off events (each (lose_sent before s) es)
+  sent_off : AllByRecursion (IsForwarded before) fs → (es : List ℕ) (events : List Event) → Off events (each (lose_sent settings before s) es)
   sent_off known [] events = by_nothing
-  sent_off known (n ∷ es) events = by_then (requests_off (filter (is_of n) fs) (all_filtered (IsForwarded before) (IsForwarded before) (is_of n) (λ f t j. j) fs known) events) (sent_off known es (behind events (outs (lose_sent before s n) events)))
+  sent_off known (n ∷ es) events = by_then (requests_off (filter (is_of n) fs) (all_filtered (IsForwarded before) (IsForwarded before) (is_of n) (λ f t j. j) fs known) events) (sent_off known es (behind events (outs (lose_sent settings before s n) events)))
 
   -- X2
   takes_off : (cs : List Taking) → AllByRecursion (IsTake before) cs → (events : List Event) → Off events (each (cancel_take e) cs)
@@ -216,7 +218,7 @@ module _ (settings : Settings) (before : List Event) (facts : Facts settings bef
       where
         go : (b : Bool) → nat_eq n e ≡ b → sent_outs s k e (outs (lose_start settings before s n) events) ≡ (if b then the_end else [])
         go true same = subst (λ z. sent_outs s k e (outs (lose_start settings before s z) events) ≡ the_end) (sym (number_same n e same)) (own_marks events)
-        go false off = off_marks events (lose_start settings before s n) (start_by (λ places out. Markless out) n (λ places body. other_out n body off) s settings before events)
+        go false off = off_marks events (lose_start settings before s n) (start_by settings (λ places out. Markless out) n (λ places body. other_out n body off) s before events)
 
     each_marks : (ns : List ℕ) (events : List Event) → sent_outs s k e (outs (each (lose_start settings before s) ns) events) ≡ flat_map of_one ns
     each_marks [] events = refl
@@ -257,16 +259,18 @@ module _ (settings : Settings) (before : List Event) (facts : Facts settings bef
       waits_not : (xs : List Out) → is_waiting (desk_of e (behind now xs)).phase ≡ true → ⊥
       waits_not xs waits = never (sym (outs_tested is_waiting waiting_told waiting_closed e now xs waits) ∙ (ap (λ (d : Desk). is_waiting d.phase) (exit.desk e) ∙ ap is_waiting lost.ran))
 
-      turned_off : (es : List ℕ) (xs : List Out) → Off (behind now xs) (each turn_out es)
-      turned_off [] xs = by_nothing
-      turned_off (n ∷ es) xs = by_then (by_then (by_look (by_choose (λ waits. by_send (by (nat_eq n e) refl waits _)) (λ late. by_nothing))) (by_send refl)) (subst (λ z. Off z (each turn_out es)) (behind_both now xs (outs (turn_out n) (behind now xs))) (turned_off es (xs ++ outs (turn_out n) (behind now xs))))
+      turned_off : (g : ℕ) (es : List ℕ) (xs : List Out) → AllHeld settings (behind now xs) → Off (behind now xs) (each (turn_out settings g) es)
+      turned_off g [] xs held = by_nothing
+      turned_off g (n ∷ es) xs held = by_then (turned_by settings (λ places out. Markless out) (λ places i text id y says. plain_out i text (ap (names_mark s k) says)) g n (behind now xs) held (λ places. refl) (by_look (by_choose (λ waits. by_send (by (nat_eq n e) refl waits _)) (λ late. by_nothing))))
+          (subst (λ z. Off z (each (turn_out settings g) es)) (behind_both now xs (outs (turn_out settings g n) (behind now xs))) (turned_off g es (xs ++ outs (turn_out settings g n) (behind now xs))
+          (subst (AllHeld settings) (sym (behind_both now xs (outs (turn_out settings g n) (behind now xs)))) (held_turned settings g n (behind now xs) held))))
         where
           by : (b : Bool) → nat_eq n e ≡ b → is_waiting (desk_of n (behind now xs)).phase ≡ true → (body : List ℕ) → Markless (ToEditor n body)
           by true same waits body = absurd (waits_not xs (subst (λ z. is_waiting (desk_of z (behind now xs)).phase ≡ true) (number_same n e same) waits))
           by false off waits body = other_out n body off
 
       abbrev errors : List Out
-      errors = outs (each (lose_sent before s) (members_in settings g before)) now
+      errors = outs (each (lose_sent settings before s) (members_in settings g before)) now
 
       abbrev told : List Event
       told = behind now errors
@@ -281,26 +285,33 @@ module _ (settings : Settings) (before : List Event) (facts : Facts settings bef
       losing_marks = ap (λ b. sent_outs s k e (outs (choose b (each (lose_start settings before s) (running_in settings g before)) nothing) told)) (ap is_ready lost.ready) ∙ group_marks told
 
       abbrev ending : Kept → Row
-      ending z = choose (starts_again settings before g z) (spawn g) (each turn_out (members_in settings g before))
+      ending z = choose (starts_again settings before g z) (spawn g) (each (turn_out settings g) (members_in settings g before))
 
-      ends_off : (z : Kept) → Off (behind told losses) (ending z)
-      ends_off z = by_choose (λ again. by_look (by_send refl)) (λ last. subst (λ w. Off w (each turn_out (members_in settings g before))) (behind_both now errors losses) (turned_off (members_in settings g before) (errors ++ losses)))
+      ends_off : (z : Kept) → AllHeld settings (behind now (errors ++ losses)) → Off (behind told losses) (ending z)
+      ends_off z held = by_choose (λ again. by_look (by_send refl)) (λ last. subst (λ w. Off w (each (turn_out settings g) (members_in settings g before))) (behind_both now errors losses) (turned_off g (members_in settings g before) (errors ++ losses) held))
 
       known : AllByRecursion (IsForwarded before) fs
-      known = asked_while before (facts.steady).asked facts.quit e (ap is_there lost.ran) s
+      known = asked_while settings before (facts.steady).asked facts.quit e (ap is_there lost.ran) s
 
-      live_marks : (z : Kept) → sent_outs s k e (outs (each (lose_sent before s) (members_in settings g before) ⨾ (losing ⨾ ending z)) now) ≡ the_end
-      live_marks z = sent_join errors (losses ++ outs (ending z) (behind told losses))
-          ∙ (ap (λ w. w ++ sent_outs s k e (losses ++ outs (ending z) (behind told losses))) (off_marks now (each (lose_sent before s) (members_in settings g before)) (sent_off known (members_in settings g before) now))
+      live_marks : (z : Kept) → AllHeld settings (behind now (errors ++ losses)) → sent_outs s k e (outs (each (lose_sent settings before s) (members_in settings g before) ⨾ (losing ⨾ ending z)) now) ≡ the_end
+      live_marks z held = sent_join errors (losses ++ outs (ending z) (behind told losses))
+          ∙ (ap (λ w. w ++ sent_outs s k e (losses ++ outs (ending z) (behind told losses))) (off_marks now (each (lose_sent settings before s) (members_in settings g before)) (sent_off known (members_in settings g before) now))
           ∙ (sent_join losses (outs (ending z) (behind told losses))
-          ∙ ap₂ (λ u v. u ++ v) losing_marks (off_marks (behind told losses) (ending z) (ends_off z))))
+          ∙ ap₂ (λ u v. u ++ v) losing_marks (off_marks (behind told losses) (ending z) (ends_off z held))))
 
       living : lives_at g (groups_of settings before) ≡ true
       living = lives_of settings before settled.lively e g (ap is_answered lost.ran) lost.home
 
       kept_marks : (o : Option Kept) → slice_get (groups_of settings before) g ≡ o → sent_outs s k e (outs (on o nothing (exit_in settings before s g)) now) ≡ the_end
       kept_marks None none = never (sym (sym (ap lives_kept none) ∙ living))
-      kept_marks (Some z) found = ap (λ b. sent_outs s k e (outs (choose b (each (lose_sent before s) (members_in settings g before) ⨾ (losing ⨾ ending z)) nothing) now)) (sym (ap lives_kept found) ∙ living) ∙ live_marks z
+      kept_marks (Some z) found = ap (λ b. sent_outs s k e (outs (choose b (each (lose_sent settings before s) (members_in settings g before) ⨾ (losing ⨾ ending z)) nothing) now)) (sym (ap lives_kept found) ∙ living)
+          ∙ live_marks z (held_lost settings before cause range facts s exit (errors ++ losses) (outs (ending z) (behind told losses)) whole)
+        where
+          whole : outs_of settings before cause ≡ (errors ++ losses) ++ outs (ending z) (behind told losses)
+          whole = exit.row ∙ (ap (λ o. outs (on o nothing (λ h. on (slice_get (groups_of settings before) h) nothing (exit_in settings before s h))) now) lost.kept
+              ∙ (ap (λ o. outs (on o nothing (exit_in settings before s g)) now) found
+              ∙ (ap (λ b. outs (choose b (each (lose_sent settings before s) (members_in settings g before) ⨾ (losing ⨾ ending z)) nothing) now) (sym (ap lives_kept found) ∙ living)
+              ∙ sym (append_assoc errors losses (outs (ending z) (behind told losses))))))
 
       cut_marks : sent_outs s k e (outs_of settings before cause) ≡ the_end
       cut_marks = ap (sent_outs s k e) exit.row ∙ (ap (λ o. sent_outs s k e (outs (on o nothing (λ h. on (slice_get (groups_of settings before) h) nothing (exit_in settings before s h))) now)) lost.kept ∙ kept_marks (slice_get (groups_of settings before) g) refl)

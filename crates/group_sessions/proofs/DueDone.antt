@@ -79,7 +79,7 @@ module _ (settings : Settings) (range : InRange settings) where
       settled : Settled settings before
       settled = settled_at settings range before so_far
 
-      free : Unreserved before
+      free : Unreserved settings before
       free = all_unreserved settings range before so_far
 
       few_before : starts_of before ≤ 2 ^ 64

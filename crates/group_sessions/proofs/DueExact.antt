@@ -114,7 +114,7 @@ module _ (settings : Settings) (before : List Event) (facts : Facts settings bef
     row_is = ap (λ z. outs (from_server settings s before body (message_of body) z) now) notified.ready
         ∙ (ap (λ m. outs (from_server settings s before body m Ready) now) notified.asks
         ∙ (ap (λ c. outs (notified_row settings s before body given c) now) notified.class
-        ∙ (ap (λ o. outs (on o (created_row settings s before body given) (tell_progress body (named_of (codes "token") given))) now) (none_found (is_told before (named_of (codes "token") given)) (untold (named_token given) refl called) (forwarding_of s before).open_requests)
+        ∙ (ap (λ o. outs (on o (created_row settings s before body given) (tell_progress body (named_of (codes "token") given))) now) (none_found (is_told before (named_of (codes "token") given)) (untold (named_token given) refl called) (forwarding_of settings s before).open_requests)
         ∙ (ap (λ o. outs (on o nothing (tell_takers settings before s body)) now) called
         ∙ (ap (λ o. outs (on o nothing (λ g. each (λ n. tell s t.number n body) (takers settings before g s t))) now) runs.kept
         ∙ outs_each (λ n. ToEditor n told) (takers settings before runs.group s t) now)))))

@@ -101,7 +101,7 @@ or_none false = refl
 
 -- One entry
 
-module _ (settings : Settings) (range : InRange settings) (before : List Event) (facts : Facts settings before) (settled : Settled settings before) (free : Unreserved before) (clear : IsClear settings before) (cause : Cause) (fits : fits_behind before cause ≡ true)
+module _ (settings : Settings) (range : InRange settings) (before : List Event) (facts : Facts settings before) (settled : Settled settings before) (free : Unreserved settings before) (clear : IsClear settings before) (cause : Cause) (fits : fits_behind before cause ≡ true)
     (few : starts_of before ≤ 2 ^ 64) (s k e : ℕ) (low : s < 2 ^ 64) (small : k < 2 ^ 64) (tie : Tie settings s k e before) where
   abbrev x : Created
   x = created_of settings s before
@@ -202,7 +202,7 @@ module _ (settings : Settings) (range : InRange settings) (before : List Event) 
     where
       cut : (c : Cause) → cause ≡ c → Exit settings before c s → gain settings s k e before (heard c) ≡ [] → (broke e k (word settings s k e before (heard c)) && has_begun e k x) ≡ true → Sends
       cut c is exit none breaks_now = subst (λ d. sent_outs s k e (outs_of settings before d) ≡ map (marked_text (created_text s k)) (gain settings s k e before (heard d)) ++ closing s k (broke e k (word settings s k e before (heard d)) && has_begun e k x)) (sym is)
-          (cut_exactly settings before facts settled few c s k e exit low small (subst (λ d. IsLost settings before d e s) is lost) begun ∙ sym (ap₂ (λ u b. map (marked_text (created_text s k)) u ++ closing s k b) none breaks_now))
+          (cut_exactly settings range before facts settled few c s k e exit low small (subst (λ d. IsLost settings before d e s) is lost) begun ∙ sym (ap₂ (λ u b. map (marked_text (created_text s k)) u ++ closing s k b) none breaks_now))
 
       by_cause : (c : Cause) → cause ≡ c → is_exit cause s ≡ true → Sends
       by_cause (StartFailed n) is h = let at : n ≡ s = number_same n s (sym (ap (λ c. is_exit c s) is) ∙ h) in

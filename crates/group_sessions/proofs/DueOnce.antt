@@ -594,7 +594,7 @@ module _ (settings : Settings) (range : InRange settings) (before : List Event) 
     single once = subst (Reasons Once there) (sym (first_row ∙ (ap (λ b. outs (choose b (closing_row settings before e) (told_row settings before e body (message_of body) Answered)) there) once
         ∙ (ap (λ b. outs (choose b (lspmux_row settings before e body (message_of body)) (taken_row settings before e body (message_of body) Answered)) there) (well_formed (message_of body) runs).1
         ∙ ap (λ b. outs (choose b (run_row settings before e) nothing ⨾ served) there) runs))))
-        (reasons_both Once there (outs (run_row settings before e) there) (outs served mid) begun_part.why (going_once (outs served mid) mid ((still_served settings before e body (ap is_running was) (message_of body) refl runs).goes mid (meant_behind there (outs (run_row settings before e) there) (meant_more before (heard (FromEditor e body)) (facts.base).meant (meant_heard (FromEditor e body)))))))
+        (reasons_both Once there (outs (run_row settings before e) there) (outs served mid) begun_part.why (going_once (outs served mid) mid ((still_served settings before e body (facts.steady).held (ap is_running was) (message_of body) refl runs).goes mid (meant_behind there (outs (run_row settings before e) there) (meant_more before (heard (FromEditor e body)) (facts.base).meant (meant_heard (FromEditor e body)))))))
 
     begun_once : Reasons Once there (outs_of settings before (FromEditor e body))
     begun_once = go (is_doubled before e (message_of body)) refl

@@ -164,7 +164,7 @@ no_item (z ∷ xs) x ys h = cc
 
 -- Where it comes from
 
-module _ (settings : Settings) (before : List Event) (facts : Facts settings before) (settled : Settled settings before) (free : Unreserved before) (few : starts_of before ≤ 2 ^ 64) (cause : Cause) (s k e : ℕ) (low : s < 2 ^ 64) (small : k < 2 ^ 64) where
+module _ (settings : Settings) (before : List Event) (facts : Facts settings before) (settled : Settled settings before) (free : Unreserved settings before) (few : starts_of before ≤ 2 ^ 64) (cause : Cause) (s k e : ℕ) (low : s < 2 ^ 64) (small : k < 2 ^ 64) where
   abbrev x : Created
   x = created_of settings s before
 
@@ -208,8 +208,8 @@ module _ (settings : Settings) (before : List Event) (facts : Facts settings bef
       own_one = own_is (named_of (codes "token") given) f token own
 
       chosen : (f.work ≡ Some token) ⊎ (f.partial ≡ Some token) → IsFreeText token
-      chosen (inl g) = (found_is IsUnreserved (is_told before (named_of (codes "token") given)) f (forwarding_of n before).open_requests (free n) found).work token g
-      chosen (inr g) = (found_is IsUnreserved (is_told before (named_of (codes "token") given)) f (forwarding_of n before).open_requests (free n) found).partial token g
+      chosen (inl g) = (found_is IsUnreserved (is_told before (named_of (codes "token") given)) f (forwarding_of settings n before).open_requests (free n) found).work token g
+      chosen (inr g) = (found_is IsUnreserved (is_told before (named_of (codes "token") given)) f (forwarding_of settings n before).open_requests (free n) found).partial token g
 
       t : IsFreeText token
       t = chosen own_one.1

@@ -1,5 +1,5 @@
 -- X2: the tokens of a start that ends are ended at the editors that accepted them, and heard no end.
-use Rattle.std.proofs.Common.{◌≡◌, ℕ, ◌^◌, ◌<◌, ◌≤◌, Bool, true, false, ◌&&◌, ◌||◌, List, [], ◌∷◌, ◌++◌, append-nil, bytes_eq, codes, filter, nat_eq, Option, Some, None, refl, sym, ◌∙◌, ap, ap₂, subst, ltb-true, arith}
+use Rattle.std.proofs.Common.{◌≡◌, ℕ, ◌^◌, ◌<◌, ◌≤◌, Bool, true, false, ◌&&◌, ◌||◌, List, [], ◌∷◌, ◌++◌, append-nil, bytes_eq, codes, filter, nat_eq, Option, Some, None, refl, sym, ◌∙◌, ap, ap₂, subst, ltb-true, arith, append_assoc}
 use Rattle.std.specs.Prelude.{slice_get}
 use Rattle.std.specs.List.{AllByRecursion, list_any}
 use Rattle.std.proofs.lemmas.Bool.{and_parts}
@@ -13,7 +13,7 @@ use Rattle.event_model.specs.declared.phase.Phase.TheVariants.{Running}
 use Rattle.event_model.specs.Event.{Event, behind, heard, said, same_id, with_cause}
 use Rattle.event_model.specs.Phases.{desk_of, editors_of, is_running, is_there, is_waiting}
 use Rattle.event_model.specs.Requests.{is_open}
-use Rattle.event_model.specs.Row.{Row, choose, each, nothing, on, outs, send}
+use Rattle.event_model.specs.Row.{Row, choose, each, nothing, on, outs, send, ◌⨾◌}
 use Rattle.event_model.specs.Settings.{Settings}
 use Rattle.event_model.specs.Spawns.{group_of}
 use Rattle.event_model.specs.Stages.{is_ended, is_ready, life_of}
@@ -28,7 +28,7 @@ use Rattle.group_words.specs.Houses.{groups_of, home_of, is_home}
 use Rattle.group_rows.specs.diagnostics_route.specs.declared.last_list.LastList.{LastList}
 use Rattle.group_rows.specs.Asks.{Ask, asks_of, has_number, is_with, members_in, next_ask, running_in}
 use Rattle.group_rows.specs.Created.{Taking, Token, created_mark, created_of, created_text, is_at}
-use Rattle.group_rows.specs.ExitRows.{begun_at, cancel_ask, cancel_take, empty_list, end_text, end_token, exit_in, has_begun, lose_sent, lose_start, lost_row, turn_out, unanswered_at}
+use Rattle.group_rows.specs.ExitRows.{begun_at, cancel_ask, cancel_take, empty_list, end_text, end_token, exit_in, has_begun, lose_sent, lose_start, lost_row, turn_out, unanswered_at, starts_again}
 use Rattle.group_rows.specs.Forwarded.{Forwarded, forwarding_of, is_of}
 use Rattle.group_rows.specs.Lists.{lists_of}
 use Rattle.group_rows.specs.Live.{live_of, unregister_text}
@@ -40,7 +40,7 @@ use Rattle.group_rows.proofs.ExitTexts.{empty_says, end_says, end_tree}
 use Rattle.group_rows.proofs.ListsKept.{IsList, lists_kept}
 use Rattle.group_rows.proofs.LiveTexts.{live_written, unregister_says}
 use Rattle.group_rows.proofs.Stops.{range_below}
-use Rattle.group_facts.specs.Facts.{IsAsked, IsForwarded, IsTake, is_exit}
+use Rattle.group_facts.specs.Facts.{IsAsked, IsForwarded, IsTake, is_exit, AllHeld}
 use Rattle.group_facts.proofs.AskingRows.{running_is}
 use Rattle.group_facts.proofs.ExitEntry.{Exit, failed_exit, gone_exit}
 use Rattle.group_facts.proofs.ExitOuts.{start_by}
@@ -55,6 +55,11 @@ use Rattle.group_sessions.proofs.Taken.{Rests, same_mark}
 use Rattle.group_sessions.proofs.TakingTies.{IsTied, TiedIf, accepted_aside, told_here, told_there}
 use Rattle.group_sessions.proofs.TellingPlaces.{RunsIn}
 use Rattle.group_sessions.proofs.EndTexts.{end_names, end_told, weaker}
+use Rattle.group_sessions.proofs.HeldPlaces.{held_lost, held_turned, turned_by}
+use Rattle.group_words.specs.Rows.{spawn}
+use Rattle.mux_facts.specs.Ranges.{InRange}
+use Rattle.group_words.specs.declared.kept.Kept.{Kept}
+use Rattle.mux_facts.proofs.Keeps.{behind_both}
 
 -- Messages
 
@@ -85,7 +90,7 @@ module _ (settings : Settings) (before : List Event) (facts : Facts settings bef
       go f true is z = here is
       go f false is z = f z
 
-  module _ (lasts : AllLast before) (cause : Cause) where
+  module _ (range : InRange settings) (lasts : AllLast before) (cause : Cause) where
     abbrev K : List Event → Out → Type 0
     K = Closes settings before cause
 
@@ -109,10 +114,10 @@ module _ (settings : Settings) (before : List Event) (facts : Facts settings bef
 
     module _ (s : ℕ) (exit : Exit settings before cause s) where
       abbrev fs : List Forwarded
-      fs = (forwarding_of s before).open_requests
+      fs = (forwarding_of settings s before).open_requests
 
       askers : (e : ℕ) → is_there (desk_of e before).phase ≡ true → AllByRecursion (IsForwarded before) fs
-      askers e there = asked_while before (facts.steady).asked facts.quit e there s
+      askers e there = asked_while settings before (facts.steady).asked facts.quit e there s
 
       abbrev Known : List Forwarded → Type 0
       Known gs = (e : ℕ) → is_there (desk_of e before).phase ≡ true → AllByRecursion (IsForwarded before) gs
@@ -124,10 +129,10 @@ module _ (settings : Settings) (before : List Event) (facts : Facts settings bef
           (by_send (λ w params is. never (sym (ap is_progress is) ∙ ap is_progress (lost_says before f (known f.editor (ap is_there (w.lost).ran)).0))))
           (requests_close gs (λ e there. (known e there).1) (behind events (outs (lose_request f) events)))
 
-      sent_close : (es : List ℕ) (events : List Event) → Because K events (each (lose_sent before s) es)
+      sent_close : (es : List ℕ) (events : List Event) → Because K events (each (lose_sent settings before s) es)
       sent_close [] events = by_nothing
       sent_close (e ∷ es) events = by_then (requests_close (filter (is_of e) fs) (λ n there. all_filtered (IsForwarded before) (IsForwarded before) (is_of e) (λ f t k. k) fs (askers n there)) events)
-          (sent_close es (behind events (outs (lose_sent before s e) events)))
+          (sent_close es (behind events (outs (lose_sent settings before s e) events)))
 
       -- what leaves what an editor accepted
       abbrev Spares : ℕ → List Event → Out → Type 0
@@ -150,9 +155,9 @@ module _ (settings : Settings) (before : List Event) (facts : Facts settings bef
       requests_same e [] known events = by_nothing
       requests_same e (f ∷ gs) known events = by_then (by_send (refused_same e f.editor (lost_text f) _ _ (lost_says before f known.0) events)) (requests_same e gs known.1 (behind events (outs (lose_request f) events)))
 
-      sent_same : AllByRecursion (IsForwarded before) fs → (e : ℕ) (es : List ℕ) (events : List Event) → Because (Spares e) events (each (lose_sent before s) es)
+      sent_same : AllByRecursion (IsForwarded before) fs → (e : ℕ) (es : List ℕ) (events : List Event) → Because (Spares e) events (each (lose_sent settings before s) es)
       sent_same known e [] events = by_nothing
-      sent_same known e (n ∷ es) events = by_then (requests_same e (filter (is_of n) fs) (all_filtered (IsForwarded before) (IsForwarded before) (is_of n) (λ f t k. k) fs known) events) (sent_same known e es (behind events (outs (lose_sent before s n) events)))
+      sent_same known e (n ∷ es) events = by_then (requests_same e (filter (is_of n) fs) (all_filtered (IsForwarded before) (IsForwarded before) (is_of n) (λ f t k. k) fs known) events) (sent_same known e es (behind events (outs (lose_sent settings before s n) events)))
 
       same_now : (e : ℕ) → Same e now
       same_now e = go cause exit.is
@@ -240,9 +245,11 @@ module _ (settings : Settings) (before : List Event) (facts : Facts settings bef
             (by_then (forgets_close _) (empties_close (lists_of s before) (lists_kept s before (facts.base).meant) _))))
 
       -- X3
-      turned_close : (es : List ℕ) (events : List Event) → Because K events (each turn_out es)
-      turned_close [] events = by_nothing
-      turned_close (e ∷ es) events = by_then (by_then (by_look (by_choose (λ waits. by_send (λ w params is. never (sym waits ∙ ap is_waiting w.running))) (λ late. by_nothing))) (by_send tt)) (turned_close es (behind events (outs (turn_out e) events)))
+      turned_close : (g : ℕ) (es : List ℕ) (events : List Event) → AllHeld settings events → Because K events (each (turn_out settings g) es)
+      turned_close g [] events held = by_nothing
+      turned_close g (e ∷ es) events held = by_then (turned_by settings K (λ places i text id y says. no_progress i text (error (Some id) y) says refl places) g e events held (λ places. tt)
+          (by_look (by_choose (λ waits. by_send (λ w params is. never (sym waits ∙ ap is_waiting w.running))) (λ late. by_nothing))))
+          (turned_close g es (behind events (outs (turn_out settings g e) events)) (held_turned settings g e events held))
 
       module _ (g : ℕ) (home : group_of s before ≡ Some g) where
         abbrev runs_here : ℕ → Bool
@@ -253,10 +260,10 @@ module _ (settings : Settings) (before : List Event) (facts : Facts settings bef
           same : Same e events
 
         stands_still : (k e : ℕ) (events : List Event) → nat_eq k e ≡ false → Stands e events → Stands e (behind events (outs (lose_start settings before s k) events))
-        stands_still k e events other h = record { runs = h.runs; same = same_behind e events (lose_start settings before s k) (start_by (Spares e) k (λ places body. told_there (RunsIn settings before) settings places k body e other) s settings before events) h.same }
+        stands_still k e events other h = record { runs = h.runs; same = same_behind e events (lose_start settings before s k) (start_by settings (Spares e) k (λ places body. told_there (RunsIn settings before) settings places k body e other) s before events) h.same }
 
         abbrev told : List Event
-        told = behind now (outs (each (lose_sent before s) (members_in settings g before)) now)
+        told = behind now (outs (each (lose_sent settings before s) (members_in settings g before)) now)
 
         home_is : (o : Option ℕ) → is_home g o ≡ true → o ≡ Some g
         home_is None h = never (sym h)
@@ -267,15 +274,31 @@ module _ (settings : Settings) (before : List Event) (facts : Facts settings bef
             let q = and_parts (is_running (desk_of e before).phase) (is_home g (home_of settings e before)) t in
             let ran : (desk_of e before).phase ≡ Running = running_is settings before (desk_of e before).phase q.0 in record {
               runs = record { running = ran; group = g; home = home_is (home_of settings e before) q.1; last = lasts s g home (ap is_ended (ready_is (life_of s before).stage ready)) };
-              same = same_behind e now (each (lose_sent before s) (members_in settings g before)) (sent_same (askers e (ap is_there ran)) e (members_in settings g before) now) (same_now e);
+              same = same_behind e now (each (lose_sent settings before s) (members_in settings g before)) (sent_same (askers e (ap is_there ran)) e (members_in settings g before) now) (same_now e);
             }
 
         losses_close : Because K told (choose (is_ready (life_of s before).stage) (each (lose_start settings before s) (running_in settings g before)) nothing)
         losses_close = by_choose (λ ready. subst (λ ns. Because K told (each (lose_start settings before s) (filter runs_here ns))) (sym (range_below (editors_of before)))
             (by_rising (lose_start settings before s) Stands (λ e events h. start_close e h.runs events h.same) stands_still told runs_here (stands_told ready) (editors_of before))) (λ off. by_nothing)
 
+        abbrev errors : List Out
+        errors = outs (each (lose_sent settings before s) (members_in settings g before)) now
+
+        abbrev ending : Kept → Row
+        ending x = choose (starts_again settings before g x) (spawn g) (each (turn_out settings g) (members_in settings g before))
+
+        abbrev losing : Row
+        losing = choose (is_ready (life_of s before).stage) (each (lose_start settings before s) (running_in settings g before)) nothing
+
+        held_there : (x : Kept) → slice_get (groups_of settings before) g ≡ Some x → x.live ≡ true → AllHeld settings (behind told (outs losing told))
+        held_there x found live = subst (AllHeld settings) (behind_both now errors (outs losing told)) (held_lost settings before cause range facts s exit (errors ++ outs losing told) (outs (ending x) (behind told (outs losing told)))
+            (exit.row ∙ (ap (λ o. outs (on o nothing (λ h. on (slice_get (groups_of settings before) h) nothing (exit_in settings before s h))) now) home
+            ∙ (ap (λ o. outs (on o nothing (exit_in settings before s g)) now) found
+            ∙ (ap (λ b. outs (choose b (each (lose_sent settings before s) (members_in settings g before) ⨾ (losing ⨾ ending x)) nothing) now) live
+            ∙ sym (append_assoc errors (outs losing told) (outs (ending x) (behind told (outs losing told)))))))))
+
         group_close : Because K now (on (slice_get (groups_of settings before) g) nothing (exit_in settings before s g))
-        group_close = by_on (λ none. by_nothing) (λ x found. by_choose (λ live. by_then (sent_close (members_in settings g before) now) (by_then losses_close (by_choose (λ again. by_look (by_send tt)) (λ last. turned_close (members_in settings g before) _)))) (λ over. by_nothing))
+        group_close = by_on (λ none. by_nothing) (λ x found. by_choose (λ live. by_then (sent_close (members_in settings g before) now) (by_then losses_close (by_choose (λ again. by_look (by_send tt)) (λ last. turned_close g (members_in settings g before) _ (held_there x found live))))) (λ over. by_nothing))
 
       lost_close : Because K now (lost_row settings before s)
       lost_close = by_on (λ none. by_nothing) (λ g home. group_close g home)
@@ -283,13 +306,13 @@ module _ (settings : Settings) (before : List Event) (facts : Facts settings bef
       exit_close : Reasons K now (outs_of settings before cause)
       exit_close = subst (Reasons K now) (sym exit.row) lost_close.why
 
-  pub all_close : AllLast before → (cause : Cause) → Reasons (Closes settings before cause) (with_cause before cause) (outs_of settings before cause)
-  all_close lasts (StartFailed s) = exit_close lasts (StartFailed s) s (failed_exit settings before s)
-  all_close lasts (ServerGone s) = exit_close lasts (ServerGone s) s (gone_exit settings before s)
-  all_close lasts (Joined e) = not_lost lasts (Joined e) (λ s is. never (sym is)) (with_cause before (Joined e)) (outs_of settings before (Joined e))
-  all_close lasts (FromEditor e body) = not_lost lasts (FromEditor e body) (λ s is. never (sym is)) (with_cause before (FromEditor e body)) (outs_of settings before (FromEditor e body))
-  all_close lasts (EditorGone e why) = not_lost lasts (EditorGone e why) (λ s is. never (sym is)) (with_cause before (EditorGone e why)) (outs_of settings before (EditorGone e why))
-  all_close lasts (Started n) = not_lost lasts (Started n) (λ s is. never (sym is)) (with_cause before (Started n)) (outs_of settings before (Started n))
-  all_close lasts (FromServer n body) = not_lost lasts (FromServer n body) (λ s is. never (sym is)) (with_cause before (FromServer n body)) (outs_of settings before (FromServer n body))
-  all_close lasts (Drained e k) = not_lost lasts (Drained e k) (λ s is. never (sym is)) (with_cause before (Drained e k)) (outs_of settings before (Drained e k))
-  all_close lasts (Tick t) = not_lost lasts (Tick t) (λ s is. never (sym is)) (with_cause before (Tick t)) (outs_of settings before (Tick t))
+  pub all_close : InRange settings → AllLast before → (cause : Cause) → Reasons (Closes settings before cause) (with_cause before cause) (outs_of settings before cause)
+  all_close range lasts (StartFailed s) = exit_close range lasts (StartFailed s) s (failed_exit settings before s)
+  all_close range lasts (ServerGone s) = exit_close range lasts (ServerGone s) s (gone_exit settings before s)
+  all_close range lasts (Joined e) = not_lost range lasts (Joined e) (λ s is. never (sym is)) (with_cause before (Joined e)) (outs_of settings before (Joined e))
+  all_close range lasts (FromEditor e body) = not_lost range lasts (FromEditor e body) (λ s is. never (sym is)) (with_cause before (FromEditor e body)) (outs_of settings before (FromEditor e body))
+  all_close range lasts (EditorGone e why) = not_lost range lasts (EditorGone e why) (λ s is. never (sym is)) (with_cause before (EditorGone e why)) (outs_of settings before (EditorGone e why))
+  all_close range lasts (Started n) = not_lost range lasts (Started n) (λ s is. never (sym is)) (with_cause before (Started n)) (outs_of settings before (Started n))
+  all_close range lasts (FromServer n body) = not_lost range lasts (FromServer n body) (λ s is. never (sym is)) (with_cause before (FromServer n body)) (outs_of settings before (FromServer n body))
+  all_close range lasts (Drained e k) = not_lost range lasts (Drained e k) (λ s is. never (sym is)) (with_cause before (Drained e k)) (outs_of settings before (Drained e k))
+  all_close range lasts (Tick t) = not_lost range lasts (Tick t) (λ s is. never (sym is)) (with_cause before (Tick t)) (outs_of settings before (Tick t))

@@ -117,7 +117,7 @@ member_named settings before s k editors e member = named_in (λ n. is_begun (de
 -- X1, then X2 and X3
 module _ (settings : Settings) (before : List Event) (s : ℕ) (k : Lives settings before s) (now : List Event) where
   abbrev pub errors : List Out
-  errors = outs (each (lose_sent before s) (members_in settings k.group before)) now
+  errors = outs (each (lose_sent settings before s) (members_in settings k.group before)) now
 
   abbrev pub told : List Event
   told = behind now errors
@@ -129,7 +129,7 @@ module _ (settings : Settings) (before : List Event) (s : ℕ) (k : Lives settin
   losses = outs losing told
 
   abbrev pub ending : Row
-  ending = choose (starts_again settings before k.group k.kept) (spawn k.group) (each turn_out (members_in settings k.group before))
+  ending = choose (starts_again settings before k.group k.kept) (spawn k.group) (each (turn_out settings k.group) (members_in settings k.group before))
 
   pub exit_parts : outs (lost_row settings before s) now ≡ errors ++ (losses ++ outs ending (behind told losses))
   exit_parts = rw (k.home, k.found, k.live) refl

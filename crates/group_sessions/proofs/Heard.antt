@@ -111,4 +111,4 @@ module _ (settings : Settings) (before : List Event) (facts : Facts settings bef
 
 pub all_heard : (settings : Settings) → InRange settings → AllHeard settings
 all_heard settings range before so_far cause fits = heard_outs settings before (facts_at settings range before so_far) (all_rests settings range before so_far) cause (with_cause before cause) (outs_of settings before cause)
-    (all_known settings before (last_starts settings range before so_far) cause) (all_close settings before (facts_at settings range before so_far) (all_rests settings range before so_far) (last_starts settings range before so_far) cause)
+    (all_known settings before (last_starts settings range before so_far) cause) (all_close settings before (facts_at settings range before so_far) (all_rests settings range before so_far) range (last_starts settings range before so_far) cause)

@@ -41,6 +41,10 @@ pub mod CreatedFold
 pub mod HeldFold
 pub mod TakingTies
 pub mod Unreserved
+mod ExitsHeld
+pub mod FirstTexts
+mod HeldPlaces
+mod KeptTokens
 pub mod TellingPlaces
 pub mod Taken
 pub mod Heard

@@ -261,7 +261,7 @@ module _ (settings : Settings) (range : InRange settings) (before : List Event) 
           bodies : AllByRecursion IsBody xs
           bodies = subst (AllByRecursion IsBody) (sym row_is) (all_join IsBody run_outs served_outs
               (all_of (IsQuestion e) IsBody (question_body e) run_outs (run_questions settings before e body waited runs (stays_there settings before e body waited runs once) (facts.steady).asks (facts.base).meant))
-              (all_of Goes IsBody goes_body served_outs ((still_served settings before e body (ap is_running waited) m refl runs).goes mid mid_meant)))
+              (all_of Goes IsBody goes_body served_outs ((still_served settings before e body (facts.steady).held (ap is_running waited) m refl runs).goes mid mid_meant)))
 
           served_by : (z : Message) → m ≡ z → (w : Opens (saying_of z)) → lists_to e (outs (served_row settings before e body z) mid) ≡ at_start settings e before (due_opening settings e (behind mid (outs (served_row settings before e body z) mid)) (saying_of z))
           served_by (notification method params) is w = subst (λ y. lists_to e (outs (served_row settings before e body (notification method params)) mid) ≡ at_start settings e before (due_opening settings e (behind mid (outs (served_row settings before e body (notification method params)) mid)) y)) (sym w.is)
@@ -274,7 +274,7 @@ module _ (settings : Settings) (range : InRange settings) (before : List Event) 
 
           served_lists : (Opens (saying_of m)) ⊎ (OpensNone (saying_of m)) → lists_to e served_outs ≡ at_start settings e before (due_opening settings e later (saying_of m))
           served_lists (inl w) = served_by m refl w
-          served_lists (inr none) = off_lists e mid (served_row settings before e body m) (served_off settings before e body (ap is_running waited) mid m refl runs none)
+          served_lists (inr none) = off_lists e mid (served_row settings before e body m) (served_off settings before e body (ap is_running waited) mid (facts.steady).held m refl runs none)
               ∙ sym (at_same settings e before (due_opening settings e later (saying_of m)) (λ s. []) (none_due settings e before later (saying_of m) none) ∙ at_none settings e before)
 
       run_later : Sends

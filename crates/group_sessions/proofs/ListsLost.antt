@@ -1,5 +1,5 @@
 -- X2: which lists the exit of a start brings an editor: an empty one for each document of which the last list that it was sent isn't empty.
-use Rattle.std.proofs.Common.{◌≡◌, ℕ, ◌^◌, ◌<◌, Bool, true, false, ◌&&◌, List, [], ◌∷◌, ◌++◌, append-nil, codes, filter, flat_map, nat_eq, nat_le, if◌then◌else◌, Option, Some, None, refl, sym, ◌∙◌, ap, ap₂, subst, ltb-true, arith}
+use Rattle.std.proofs.Common.{◌≡◌, ℕ, ◌^◌, ◌<◌, Bool, true, false, ◌&&◌, List, [], ◌∷◌, ◌++◌, append-nil, codes, filter, flat_map, nat_eq, nat_le, if◌then◌else◌, Option, Some, None, refl, sym, ◌∙◌, ap, ap₂, subst, ltb-true, arith, append_assoc}
 use Rattle.std.specs.Prelude.{slice_get}
 use Rattle.std.specs.List.{AllByRecursion, range_with_len}
 use Rattle.std.specs.Option.{option_map_or}
@@ -41,7 +41,7 @@ use Rattle.group_rows.proofs.Cancels.{cancel_says}
 use Rattle.group_rows.proofs.ExitTexts.{empty_says, end_says}
 use Rattle.group_rows.proofs.ListsKept.{IsList, lists_kept}
 use Rattle.group_rows.proofs.LiveTexts.{live_written, unregister_says}
-use Rattle.group_facts.specs.Facts.{IsAsked, IsForwarded, IsTake}
+use Rattle.group_facts.specs.Facts.{IsAsked, IsForwarded, IsTake, AllHeld}
 use Rattle.group_facts.specs.Lively.{lives, lives_at}
 use Rattle.group_facts.specs.Settled.{Settled, is_answered}
 use Rattle.group_facts.proofs.AskingRows.{running_is}
@@ -59,6 +59,7 @@ use Rattle.group_sessions.proofs.DueSent.{flat_kept, only_one}
 use Rattle.group_sessions.proofs.ListsNone.{Listless, Off, lists_join, off_lists, plain_out, unrun_off}
 use Rattle.group_sessions.proofs.ListsShown.{serves_is}
 use Rattle.group_sessions.specs.LastLists.{due_ending, emptied, gives_list, is_hearing, lists_to}
+use Rattle.group_sessions.proofs.HeldPlaces.{held_lost, held_turned, turned_by}
 
 progress_gives : is_publishing (codes "$/progress") ≡ false
 unfolding server_notification
@@ -77,7 +78,7 @@ module _ (settings : Settings) (range : InRange settings) (before : List Event) 
   now = with_cause before cause
 
   abbrev fs : List Forwarded
-  fs = (forwarding_of s before).open_requests
+  fs = (forwarding_of settings s before).open_requests
 
   -- to another editor
   other_out : (n : ℕ) (body : List ℕ) → nat_eq n e ≡ false → Listless e (ToEditor n body)
@@ -88,9 +89,9 @@ module _ (settings : Settings) (range : InRange settings) (before : List Event) 
   requests_off [] known events = by_nothing
   requests_off (f ∷ gs) known events = by_then (by_send (plain_out e f.editor (lost_text f) (ap gives_list (lost_says before f known.0)))) (requests_off gs known.1 (behind events (outs (lose_request f) events)))
 
-  sent_off : AllByRecursion (IsForwarded before) fs → (es : List ℕ) (events : List Event) → Off e events (each (lose_sent before s) es)
+  sent_off : AllByRecursion (IsForwarded before) fs → (es : List ℕ) (events : List Event) → Off e events (each (lose_sent settings before s) es)
   sent_off known [] events = by_nothing
-  sent_off known (n ∷ es) events = by_then (requests_off (filter (is_of n) fs) (all_filtered (IsForwarded before) (IsForwarded before) (is_of n) (λ f t k. k) fs known) events) (sent_off known es (behind events (outs (lose_sent before s n) events)))
+  sent_off known (n ∷ es) events = by_then (requests_off (filter (is_of n) fs) (all_filtered (IsForwarded before) (IsForwarded before) (is_of n) (λ f t k. k) fs known) events) (sent_off known es (behind events (outs (lose_sent settings before s n) events)))
 
   -- X2
   tokens_off : (ts : List Token) (events : List Event) → Off e events (each (end_token s e (created_of settings s before)) ts)
@@ -173,7 +174,7 @@ module _ (settings : Settings) (range : InRange settings) (before : List Event) 
     where
       go : (b : Bool) → nat_eq n e ≡ b → lists_to e (outs (lose_start settings before s n) events) ≡ (if b then due else [])
       go true same = subst (λ z. lists_to e (outs (lose_start settings before s z) events) ≡ due) (sym (number_same n e same)) (own_lists events)
-      go false off = off_lists e events (lose_start settings before s n) (start_by (λ places out. Listless e out) n (λ places body. other_out n body off) s settings before events)
+      go false off = off_lists e events (lose_start settings before s n) (start_by settings (λ places out. Listless e out) n (λ places body. other_out n body off) s before events)
 
   each_lists : (ns : List ℕ) (events : List Event) → lists_to e (outs (each (lose_start settings before s) ns) events) ≡ flat_map of_one ns
   each_lists [] events = refl
@@ -235,20 +236,22 @@ module _ (settings : Settings) (range : InRange settings) (before : List Event) 
     waits_not : (xs : List Out) → is_waiting (desk_of e (behind now xs)).phase ≡ true → ⊥
     waits_not xs waits = never (sym (outs_tested is_waiting waiting_told waiting_closed e now xs waits) ∙ (ap (λ (d : Desk). is_waiting d.phase) (exit.desk e) ∙ ap is_waiting ran))
 
-    turned_off : (es : List ℕ) (xs : List Out) → Off e (behind now xs) (each turn_out es)
-    turned_off [] xs = by_nothing
-    turned_off (n ∷ es) xs = by_then (by_then (by_look (by_choose (λ waits. by_send (by (nat_eq n e) refl waits _)) (λ late. by_nothing))) (by_send refl)) (subst (λ z. Off e z (each turn_out es)) (behind_both now xs (outs (turn_out n) (behind now xs))) (turned_off es (xs ++ outs (turn_out n) (behind now xs))))
+    turned_off : (g : ℕ) (es : List ℕ) (xs : List Out) → AllHeld settings (behind now xs) → Off e (behind now xs) (each (turn_out settings g) es)
+    turned_off g [] xs held = by_nothing
+    turned_off g (n ∷ es) xs held = by_then (turned_by settings (λ places out. Listless e out) (λ places i text id y says. plain_out e i text (ap gives_list says)) g n (behind now xs) held (λ places. refl) (by_look (by_choose (λ waits. by_send (by (nat_eq n e) refl waits _)) (λ late. by_nothing))))
+        (subst (λ z. Off e z (each (turn_out settings g) es)) (behind_both now xs (outs (turn_out settings g n) (behind now xs))) (turned_off g es (xs ++ outs (turn_out settings g n) (behind now xs))
+        (subst (AllHeld settings) (sym (behind_both now xs (outs (turn_out settings g n) (behind now xs)))) (held_turned settings g n (behind now xs) held))))
       where
         by : (b : Bool) → nat_eq n e ≡ b → is_waiting (desk_of n (behind now xs)).phase ≡ true → (body : List ℕ) → Listless e (ToEditor n body)
         by true same waits body = absurd (waits_not xs (subst (λ z. is_waiting (desk_of z (behind now xs)).phase ≡ true) (number_same n e same) waits))
         by false off waits body = other_out n body off
 
     known : AllByRecursion (IsForwarded before) fs
-    known = asked_while before (facts.steady).asked facts.quit e (ap is_there ran) s
+    known = asked_while settings before (facts.steady).asked facts.quit e (ap is_there ran) s
 
     module _ (g : ℕ) where
       abbrev errors : List Out
-      errors = outs (each (lose_sent before s) (members_in settings g before)) now
+      errors = outs (each (lose_sent settings before s) (members_in settings g before)) now
 
       abbrev told : List Event
       told = behind now errors
@@ -267,16 +270,16 @@ module _ (settings : Settings) (range : InRange settings) (before : List Event) 
           go false = refl
 
       abbrev ending : Kept → Row
-      ending x = choose (starts_again settings before g x) (spawn g) (each turn_out (members_in settings g before))
+      ending x = choose (starts_again settings before g x) (spawn g) (each (turn_out settings g) (members_in settings g before))
 
-      ends_off : (x : Kept) → Off e (behind told losses) (ending x)
-      ends_off x = by_choose (λ again. by_look (by_send refl)) (λ last. subst (λ z. Off e z (each turn_out (members_in settings g before))) (behind_both now errors losses) (turned_off (members_in settings g before) (errors ++ losses)))
+      ends_off : (x : Kept) → AllHeld settings (behind now (errors ++ losses)) → Off e (behind told losses) (ending x)
+      ends_off x held = by_choose (λ again. by_look (by_send refl)) (λ last. subst (λ z. Off e z (each (turn_out settings g) (members_in settings g before))) (behind_both now errors losses) (turned_off g (members_in settings g before) (errors ++ losses) held))
 
-      live_lists : (x : Kept) → lists_to e (outs (each (lose_sent before s) (members_in settings g before) ⨾ (losing ⨾ ending x)) now) ≡ (if is_ready (life_of s before).stage then (if P g e then due else []) else [])
-      live_lists x = lists_join e errors (losses ++ outs (ending x) (behind told losses))
-          ∙ (ap (λ z. z ++ lists_to e (losses ++ outs (ending x) (behind told losses))) (off_lists e now (each (lose_sent before s) (members_in settings g before)) (sent_off known (members_in settings g before) now))
+      live_lists : (x : Kept) → AllHeld settings (behind now (errors ++ losses)) → lists_to e (outs (each (lose_sent settings before s) (members_in settings g before) ⨾ (losing ⨾ ending x)) now) ≡ (if is_ready (life_of s before).stage then (if P g e then due else []) else [])
+      live_lists x held = lists_join e errors (losses ++ outs (ending x) (behind told losses))
+          ∙ (ap (λ z. z ++ lists_to e (losses ++ outs (ending x) (behind told losses))) (off_lists e now (each (lose_sent settings before s) (members_in settings g before)) (sent_off known (members_in settings g before) now))
           ∙ (lists_join e losses (outs (ending x) (behind told losses))
-          ∙ (ap₂ (λ u v. u ++ v) losing_lists (off_lists e (behind told losses) (ending x) (ends_off x))
+          ∙ (ap₂ (λ u v. u ++ v) losing_lists (off_lists e (behind told losses) (ending x) (ends_off x held))
           ∙ append-nil (if is_ready (life_of s before).stage then (if P g e then due else []) else []))))
 
       home_is : (o : Option ℕ) → is_home g o ≡ true → o ≡ Some g
@@ -302,16 +305,22 @@ module _ (settings : Settings) (range : InRange settings) (before : List Event) 
       nothing_due true = refl
       nothing_due false = refl
 
-      kept_lists : (o : Option Kept) → slice_get (groups_of settings before) g ≡ o → lists_to e (outs (on o nothing (exit_in settings before s g)) now) ≡ Due (P g e)
-      kept_lists None none = nothing_due (is_ready (life_of s before).stage) ∙ ap Due (sym (none_runs (ap lives none)))
-      kept_lists (Some x) found = go x.live refl
+      kept_lists : group_of s before ≡ Some g → (o : Option Kept) → slice_get (groups_of settings before) g ≡ o → lists_to e (outs (on o nothing (exit_in settings before s g)) now) ≡ Due (P g e)
+      kept_lists home None none = nothing_due (is_ready (life_of s before).stage) ∙ ap Due (sym (none_runs (ap lives none)))
+      kept_lists home (Some x) found = go x.live refl
         where
-          go : (b : Bool) → x.live ≡ b → lists_to e (outs (choose b (each (lose_sent before s) (members_in settings g before) ⨾ (losing ⨾ ending x)) nothing) now) ≡ Due (P g e)
-          go true live = live_lists x ∙ both (is_ready (life_of s before).stage) (P g e)
+          whole : x.live ≡ true → outs_of settings before cause ≡ (errors ++ losses) ++ outs (ending x) (behind told losses)
+          whole live = exit.row ∙ (ap (λ o. outs (on o nothing (λ h. on (slice_get (groups_of settings before) h) nothing (exit_in settings before s h))) now) home
+              ∙ (ap (λ o. outs (on o nothing (exit_in settings before s g)) now) found
+              ∙ (ap (λ b. outs (choose b (each (lose_sent settings before s) (members_in settings g before) ⨾ (losing ⨾ ending x)) nothing) now) live
+              ∙ sym (append_assoc errors losses (outs (ending x) (behind told losses))))))
+
+          go : (b : Bool) → x.live ≡ b → lists_to e (outs (choose b (each (lose_sent settings before s) (members_in settings g before) ⨾ (losing ⨾ ending x)) nothing) now) ≡ Due (P g e)
+          go true live = live_lists x (held_lost settings before cause range facts s exit (errors ++ losses) (outs (ending x) (behind told losses)) (whole live)) ∙ both (is_ready (life_of s before).stage) (P g e)
           go false over = nothing_due (is_ready (life_of s before).stage) ∙ ap Due (sym (none_runs (ap lives found ∙ over)))
 
     by_group : (o : Option ℕ) → group_of s before ≡ o → lists_to e (outs (on o nothing (λ g. on (slice_get (groups_of settings before) g) nothing (exit_in settings before s g))) now) ≡ due_ending settings s e before
-    by_group o at = go o (hears_by (is_ready (life_of s before).stage) refl)
+    by_group o at = go o at (hears_by (is_ready (life_of s before).stage) refl)
       where
         hears_by : (b : Bool) → is_ready (life_of s before).stage ≡ b → (b && (is_running (desk_of e before).phase && serves settings before s e)) ≡ (b && (is_running (desk_of e before).phase && option_map_or (λ g. is_home g (home_of settings e before)) o false))
         hears_by true ready = ap (λ b. is_running (desk_of e before).phase && b) (serves_is settings before facts settled lasts e s (ap is_ended (ready_is (life_of s before).stage ready)) ∙ ap (λ p. option_map_or (λ g. is_home g (home_of settings e before)) p false) at)
@@ -322,10 +331,10 @@ module _ (settings : Settings) (range : InRange settings) (before : List Event) 
         off true false = refl
         off false b = refl
 
-        go : (p : Option ℕ) → is_hearing settings s e before ≡ (is_ready (life_of s before).stage && (is_running (desk_of e before).phase && option_map_or (λ g. is_home g (home_of settings e before)) p false))
+        go : (p : Option ℕ) → group_of s before ≡ p → is_hearing settings s e before ≡ (is_ready (life_of s before).stage && (is_running (desk_of e before).phase && option_map_or (λ g. is_home g (home_of settings e before)) p false))
             → lists_to e (outs (on p nothing (λ g. on (slice_get (groups_of settings before) g) nothing (exit_in settings before s g))) now) ≡ due_ending settings s e before
-        go (Some g) hears = kept_lists g (slice_get (groups_of settings before) g) refl ∙ ap (λ b. if b then due else []) (sym hears)
-        go None hears = ap (λ b. if b then due else []) (sym (hears ∙ off (is_ready (life_of s before).stage) (is_running (desk_of e before).phase)))
+        go (Some g) home hears = kept_lists g home (slice_get (groups_of settings before) g) refl ∙ ap (λ b. if b then due else []) (sym hears)
+        go None home hears = ap (λ b. if b then due else []) (sym (hears ∙ off (is_ready (life_of s before).stage) (is_running (desk_of e before).phase)))
 
   pub ending_lists : lists_to e (outs_of settings before cause) ≡ due_ending settings s e before
   ending_lists = go (is_running (desk_of e before).phase) refl

@@ -40,7 +40,7 @@ use Rattle.group_rows.specs.ListRows.{show_all, show_full, show_opened}
 use Rattle.group_rows.specs.Lists.{agreement_at, lists_of, version_at}
 use Rattle.group_rows.specs.Live.{live_of, register_text}
 use Rattle.group_rows.specs.LiveRows.{restore}
-use Rattle.group_rows.specs.Rows.{answer_error, closing_row, document_at, document_bodies, document_row, notice_at, notice_row, request_at, request_row, served_row, sync_bodies, wrong_code}
+use Rattle.group_rows.specs.Rows.{answer_error, closing_row, document_at, document_bodies, document_row, notice_at, notice_row, request_at, request_row, served_row, sync_bodies, wrong_code, cancel_row}
 use Rattle.group_rows.specs.Texts.{encoding_of, texts_of}
 use Rattle.group_rows.proofs.CreatedKept.{found_one}
 use Rattle.group_rows.proofs.CreatedTexts.{create_says}
@@ -48,7 +48,7 @@ use Rattle.group_rows.proofs.Going.{going_silent}
 use Rattle.group_rows.proofs.ListsKept.{IsList, lists_kept}
 use Rattle.group_rows.proofs.LiveTexts.{live_written, register_says}
 use Rattle.group_rows.proofs.Versions.{AllMeant}
-use Rattle.group_facts.specs.Facts.{Asks, IsParked}
+use Rattle.group_facts.specs.Facts.{Asks, IsParked, AllHeld, IsHeld}
 use Rattle.group_facts.specs.Why.{IsQuestion, has_method}
 use Rattle.group_facts.proofs.Begun.{bodies_by}
 use Rattle.group_facts.proofs.Same.{same_questions}
@@ -57,6 +57,8 @@ use Rattle.group_facts.proofs.Still.{unended, unshut}
 use Rattle.group_sessions.proofs.ListsNone.{Listless, Off, lists_join, off_lists, plain_out}
 use Rattle.group_sessions.proofs.ListsShown.{all_full, own_full, same_due}
 use Rattle.group_sessions.specs.LastLists.{at_start, due_opening, gives_list, lists_to, of_start, shown_full}
+use Rattle.group_facts.proofs.Held.{named_held, cancelled_says}
+use Rattle.group_rows.specs.Waiting.{cancelled_text}
 
 -- What a ready start of e's group gives
 
@@ -239,7 +241,7 @@ module _ (settings : Settings) (before : List Event) (e : ℕ) (body : List ℕ)
       named name none at = silent (ap (λ z. saying_by z params) (sym ((bytes_eq-Decides name method).0 at)) ∙ none)
 
       go : (a : Bool) → bytes_eq (codes "exit") method ≡ a → (b : Bool) → goes_on (class_of method Editor true) ≡ b → (c : Bool) → bytes_eq (codes "$/cancelRequest") method ≡ c → (d : Bool) → bytes_eq (codes "window/workDoneProgress/cancel") method ≡ d
-          → outs (choose a (closing_row settings before e) (choose b (notice_row settings before e body) (choose c (cancelling_row settings before e body params) (choose d (work_row settings before e body params) (document_row settings before e body (saying_by method params)))))) events
+          → outs (choose a (closing_row settings before e) (choose b (notice_row settings before e body) (choose c (cancel_row settings before e body params) (choose d (work_row settings before e body params) (document_row settings before e body (saying_by method params)))))) events
           ≡ outs (document_row settings before e body it) events
       go true at b p c q d r = absurd (named (codes "exit") refl at)
       go false off true going c q d r = absurd (silent (going_silent method going params))
@@ -286,7 +288,7 @@ module _ (settings : Settings) (before : List Event) (e : ℕ) (body : List ℕ)
     refused_off code = by_send (plain_out e e (error_text (id_bytes body) code) (ap gives_list (refusal_says body id method params code says)))
 
     request_there : (g s : ℕ) → Off e events (request_at settings before e body g s)
-    request_there g s = by_choose (λ can. by_then (starts_off s (sync_bodies settings.limits.versions (λ u. held_at s u before) e (texts_of settings g before).opens) events) (by_look (by_send refl))) (λ cannot. refused_off request_failed)
+    request_there g s = by_choose (λ can. by_then (starts_off s (sync_bodies settings.limits.versions (λ u. held_at s u before) e (texts_of settings g before).opens) events) (by_look (by_send refl))) (λ cannot. by_choose (λ waits. by_nothing) (λ full. refused_off request_failed))
 
     request_in : (g : ℕ) → Off e events (on (start_of g before) (answer_error e body request_failed) (request_at settings before e body g))
     request_in g = by_on (λ none. refused_off request_failed) (λ s start. request_there g s)
@@ -303,14 +305,19 @@ module _ (settings : Settings) (before : List Event) (e : ℕ) (body : List ℕ)
   notice_off : Off e events (notice_row settings before e body)
   notice_off = by_on (λ none. by_nothing) (λ g home. notice_in g)
 
-  cancel_there : (params : Option Json) (s : ℕ) → Off e events (cancelling_at before e body params s)
+  cancel_there : (params : Option Json) (s : ℕ) → Off e events (cancelling_at settings before e body params s)
   cancel_there params s = by_choose (λ ready. by_on (λ none. by_nothing) (λ n is. by_send refl)) (λ off. by_nothing)
 
-  cancel_in : (params : Option Json) (g : ℕ) → Off e events (on (start_of g before) nothing (cancelling_at before e body params))
+  cancel_in : (params : Option Json) (g : ℕ) → Off e events (on (start_of g before) nothing (cancelling_at settings before e body params))
   cancel_in params g = by_on (λ none. by_nothing) (λ s start. cancel_there params s)
 
   cancel_off : (params : Option Json) → Off e events (cancelling_row settings before e body params)
   cancel_off params = by_on (λ none. by_nothing) (λ g home. cancel_in params g)
+
+  cancelled_off : AllHeld settings before → (params : Option Json) → Off e events (cancel_row settings before e body params)
+  cancelled_off held params = by_on (λ none. cancel_off params) (λ r found.
+      let is : (g : ℕ) × IsHeld settings g before r = named_held settings e params before r (home_of settings e before) held found in
+      by_send (plain_out e r.editor (cancelled_text r.id) (ap gives_list (cancelled_says ((is.1).asker).id r.id ((is.1).asker).text).1)))
 
   token_there : (params : Option Json) (s : ℕ) → Off e events (created_work settings before e body params s)
   token_there params s = by_on (λ none. by_nothing) (λ t found. by_choose (λ accepted. by_send refl) (λ no. by_nothing))
@@ -349,12 +356,12 @@ module _ (settings : Settings) (before : List Event) (e : ℕ) (body : List ℕ)
   response_off : (m : Message) → Off e events (response_row settings before e body m)
   response_off m = by_on (λ none. by_nothing) (λ g home. response_in m g)
 
-  pub served_off : (m : Message) → message_of body ≡ m → makes_running m ≡ true → OpensNone (saying_of m) → Off e events (served_row settings before e body m)
-  served_off (request id method params) says runs none = by_choose (λ misplaced. refused_off id method params says (wrong_code method invalid_request))
+  pub served_off : AllHeld settings before → (m : Message) → message_of body ≡ m → makes_running m ≡ true → OpensNone (saying_of m) → Off e events (served_row settings before e body m)
+  served_off held (request id method params) says runs none = by_choose (λ misplaced. refused_off id method params says (wrong_code method invalid_request))
       (λ placed. by_choose (λ shuts. never (sym shuts ∙ unshut settings before e body (request id method params) runs)) (λ stays. request_off id method params says))
-  served_off (notification method params) says runs none = by_choose (λ ends. never (sym ends ∙ unended settings before e body (notification method params) runs))
-      (λ stays. by_choose (λ going. notice_off) (λ off. by_choose (λ cancels. cancel_off params) (λ off. by_choose (λ works. work_off params) (λ other. document_off (saying_by method params) none))))
-  served_off (result id r) says runs none = response_off (result id r)
-  served_off (error id x) says runs none = response_off (error id x)
-  served_off not_json says runs none = response_off not_json
-  served_off not_message says runs none = response_off not_message
+  served_off held (notification method params) says runs none = by_choose (λ ends. never (sym ends ∙ unended settings before e body (notification method params) runs))
+      (λ stays. by_choose (λ going. notice_off) (λ off. by_choose (λ cancels. cancelled_off held params) (λ off. by_choose (λ works. work_off params) (λ other. document_off (saying_by method params) none))))
+  served_off held (result id r) says runs none = response_off (result id r)
+  served_off held (error id x) says runs none = response_off (error id x)
+  served_off held not_json says runs none = response_off not_json
+  served_off held not_message says runs none = response_off not_message

@@ -137,7 +137,7 @@ module _ (settings : Settings) (before : List Event) (cause : Cause) (same : is_
     -- a whole entry
     module _ (range : InRange settings) (facts : Facts settings before) (exit : Exit settings before cause s) (k : RenewsGroup settings before s) (ready : is_ready (life_of s before).stage ≡ true) where
       abbrev errors : List Out
-      errors = outs (each (lose_sent before s) (members_in settings k.group before)) now
+      errors = outs (each (lose_sent settings before s) (members_in settings k.group before)) now
 
       abbrev told : List Event
       told = behind now errors

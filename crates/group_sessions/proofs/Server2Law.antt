@@ -17,7 +17,7 @@ use Rattle.event_model.specs.declared.stage.Stage.TheVariants.{Unspawned, Spawni
 use Rattle.event_model.specs.Event.{Event, did, heard, said, behind, with_cause, notifies, requests}
 use Rattle.event_model.specs.Parts.{server_part, is_of_server}
 use Rattle.event_model.specs.Settings.{Settings}
-use Rattle.event_model.specs.Row.{choose, nothing, outs}
+use Rattle.event_model.specs.Row.{choose, nothing, outs, each}
 use Rattle.event_model.specs.Spawns.{group_of, starts_of}
 use Rattle.event_model.specs.Stages.{Life, life_of, is_first_result, is_initializing, is_spawning, stage_ending, stage_hears, stage_started, stage_told}
 use Rattle.event_model.proofs.Places.{item_at}
@@ -35,15 +35,17 @@ use Rattle.group_words.specs.Houses.{groups_of}
 use Rattle.group_words.specs.Rows.{initialize_of}
 use Rattle.group_rows.specs.Earlier.{differs, given_of, part_row, shown_in}
 use Rattle.group_rows.specs.Rows.{outs_of, result_in}
-use Rattle.group_rows.specs.StopRows.{close_each}
 use Rattle.group_facts.specs.Facts.{Housed, IsHoused, IsWritten, Written, is_unready}
 use Rattle.group_rows.proofs.Going.{no_initialized}
 use Rattle.group_facts.specs.Legal.{Legal}
-use Rattle.group_facts.specs.Why.{Turn, WhyToServer, begins, greets, conveys, forwarded, notes, tells, shuts, cancels, stays, greeted, moves, responds, exits, resolves, cancels_work}
+use Rattle.group_facts.specs.Why.{Turn, WhyToServer, begins, greets, conveys, forwarded, notes, tells, shuts, cancels, stays, greeted, moves, responds, exits, resolves, cancels_work, Going, at_once, had_waited}
 use Rattle.group_facts.proofs.Forwards.{get_all}
 use Rattle.group_facts.proofs.Facts.{Facts}
 use Rattle.group_facts.proofs.RestLaws.{RestLaw}
 use Rattle.group_sessions.proofs.PartLaws.{ServerRule, server_history}
+use Rattle.group_rows.specs.Waiting.{part}
+use Rattle.group_facts.proofs.HeldOuts.{parts_by}
+use Rattle.mux_facts.proofs.Reasons.{reasons_keep}
 
 -- The start that moves on in an entry: whose program begins, or that answers its `initialize`
 
@@ -255,7 +257,11 @@ module _ (settings : Settings) (range : InRange settings) (before : List Event) 
       let now : hand s events ≡ answered = ap handshake_of (k.part ∙ (ap (λ c. server_part s before ++ heard c ∷ []) k.from ∙ sym heard_part)) ∙ greeted_hand before s k.answer k.first (subst (λ z. Link z (hand s before)) k.stage (h s)) in
       let moving : moves before cause s ≡ true = ap (λ c. moves before c s) k.from ∙ ap₂ (λ a z. a && (is_initializing z && is_first_result (message_of k.answer))) (same_number s) k.stage ∙ k.first in
       record { allowed = ap₂ allows now k.says; next = λ still. absurd (cc) }
-  step (forwarded k) h m = ready_step k.ready (ap (λ c. moves before c s) k.from) m (λ o. asked_on (hand s events) s body (message_of body) _ k.method k.params k.says o)
+  step (forwarded k) h m = told_step k.ready (turn_by k.going) h m (λ o. asked_on (hand s events) s body (message_of body) _ k.method k.params k.says o)
+    where
+      turn_by : Going settings before cause events s (k.sender).editor k.asked → Turn before cause events s
+      turn_by (at_once from sync) = stays (ap (λ c. moves before c s) from)
+      turn_by (had_waited w) = w.turn
   step (notes k) h m = ready_step k.ready (ap (λ c. moves before c s) k.from) m (λ o. noted_on (hand s events) s body (message_of body) k.method k.params k.says (no_initialized k.method k.going) o)
   step (conveys k) h m = told_step k.ready k.turn h m (λ o. noted_on (hand s events) s body (message_of body) (codes "workspace/didChangeConfiguration") k.params k.says refl o)
   step (tells k) h m = told_step k.ready k.turn h m (λ o. tells_on settings range (hand s events) s body (message_of body) k.spoken o)
@@ -329,11 +335,18 @@ module _ (settings : Settings) (before : List Event) (n : ℕ) (none : Starts be
     abbrev now : List Event
     now = with_cause before (FromServer n body)
 
-    -- behind the links that are to be ended
-    closed_hand : (es : List ℕ) (events : List Event) → hand n (behind events (outs (close_each es) events)) ≡ hand n events
-    closed_hand [] events = ap (hand n) (append-nil events)
-    closed_hand (e ∷ es) events = ap (hand n) (sym (append_assoc events (said (CloseEditor e) ∷ []) (map said (outs (close_each es) (events ++ said (CloseEditor e) ∷ [])))))
-        ∙ (closed_hand es (events ++ said (CloseEditor e) ∷ []) ∙ ap handshake_of (filter-append (is_of_server n) events (said (CloseEditor e) ∷ []) ∙ append-nil (server_part n events)))
+    -- behind bodies to editors, and the links that are to be ended
+    abbrev IsAside : Out → Type 0
+    IsAside (ToEditor e text) = Unit {0}
+    IsAside (CloseEditor e) = Unit {0}
+    IsAside out = ⊥
+
+    aside_hand : (events : List Event) (out : Out) → IsAside out → hand n events ≡ hand n now → hand n (events ++ said out ∷ []) ≡ hand n now
+    aside_hand events (ToEditor e text) aside h = ap handshake_of (filter-append (is_of_server n) events (said (ToEditor e text) ∷ []) ∙ append-nil (server_part n events)) ∙ h
+    aside_hand events (CloseEditor e) aside h = ap handshake_of (filter-append (is_of_server n) events (said (CloseEditor e) ∷ []) ∙ append-nil (server_part n events)) ∙ h
+    aside_hand events (ToServer s text) aside h = absurd aside
+    aside_hand events (Spawn s g) aside h = absurd aside
+    aside_hand events (EndServer s) aside h = absurd aside
 
     abbrev partings : ℕ → List Out
     partings g = outs (part_row settings before body g) now
@@ -341,8 +354,9 @@ module _ (settings : Settings) (before : List Event) (n : ℕ) (none : Starts be
     parted_hand : (g : ℕ) → hand n (behind now (partings g)) ≡ hand n now
     parted_hand g = go (differs (given_of g before) body)
       where
-        go : (b : Bool) → hand n (behind now (outs (choose b (close_each (shown_in settings g before)) nothing) now)) ≡ hand n now
-        go true = closed_hand (shown_in settings g before) now
+        go : (b : Bool) → hand n (behind now (outs (choose b (each (part settings g) (shown_in settings g before)) nothing) now)) ≡ hand n now
+        go true = reasons_keep (λ places out. IsAside out) (λ places. hand n places ≡ hand n now) aside_hand now (outs (each (part settings g) (shown_in settings g before)) now)
+            (parts_by settings (λ places out. IsAside out) g (λ e places text. tt) (λ e places. tt) (shown_in settings g before) now).why refl
         go false = ap (hand n) (append-nil now)
 
     result_outs : (g : ℕ) → (rest : List Out) × (outs (result_in settings before n body g) now ≡ partings g ++ ToServer n initialized_text ∷ rest)

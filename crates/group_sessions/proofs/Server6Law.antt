@@ -21,11 +21,11 @@ use Rattle.mux_facts.proofs.Lists.{all_filtered, all_join, all_of}
 use Rattle.mux_facts.proofs.Words.{number_same, open_last, open_more, still_open}
 use Rattle.session_laws.specs.ServerRules.{KeepsServer6, ServerRule6, cancelled_id, id_at, is_among, may_cancel, waiting_behind, waiting_told}
 use Rattle.session_laws.proofs.Server6Law.{free, response_free, spoken_free, waiting, waiting_more}
-use Rattle.group_rows.specs.Forwarded.{Forwarded, Forwarding, Sender, answered_by, cancelled_by, forwarding_behind, forwarding_of, forwards, is_written, names, numbered}
+use Rattle.group_rows.specs.Forwarded.{Forwarded, Forwarding, Sender, answered_by, cancelled_by, first_sender, forwarding_next, forwarding_of, forwards, is_written, names, numbered, sender_or}
 use Rattle.group_rows.proofs.Going.{not_cancel}
 use Rattle.group_facts.specs.Legal.{Legal}
 use Rattle.group_facts.specs.Why.{WhyToServer, begins, greets, conveys, forwarded, notes, tells, shuts, cancels, is_uncancelled, responds, exits, resolves, cancels_work}
-use Rattle.group_facts.proofs.Forwards.{forwarding_more}
+use Rattle.group_rows.proofs.Frames.{forwarding_more}
 use Rattle.group_facts.proofs.RestLaws.{Inside, Law}
 use Rattle.group_sessions.proofs.PartLaws.{ServerRule, server_history}
 
@@ -36,11 +36,11 @@ Named ids f = f.cancelled ≡ false → is_open (integer (decimal f.number)) ids
 abbrev TiedTo : Forwarding → List Id → Type 0
 TiedTo x ids = AllByRecursion (Named ids) x.open_requests
 
-abbrev Ties : List Event → Type 0
-Ties events = (s : ℕ) → TiedTo (forwarding_of s events) (waiting s events)
+abbrev Ties : Settings → List Event → Type 0
+Ties settings events = (s : ℕ) → TiedTo (forwarding_of settings s events) (waiting s events)
 
-more : (s : ℕ) (events : List Event) (event : Event) → TiedTo (forwarding_behind s (forwarding_of s events) event) (cond (is_of_server s event) (waiting_behind (waiting s events) event) (waiting s events)) → TiedTo (forwarding_of s (events ++ event ∷ [])) (waiting s (events ++ event ∷ []))
-more s events event h = subst₂ TiedTo (sym (forwarding_more s events event)) (sym (waiting_more s events event)) h
+more : (settings : Settings) (s : ℕ) (events : List Event) (event : Event) → TiedTo (forwarding_next settings s events (forwarding_of settings s events) event) (cond (is_of_server s event) (waiting_behind (waiting s events) event) (waiting s events)) → TiedTo (forwarding_of settings s (events ++ event ∷ [])) (waiting s (events ++ event ∷ []))
+more settings s events event h = subst₂ TiedTo (sym (forwarding_more settings s events event)) (sym (waiting_more s events event)) h
 
 either : (b : Bool) (x : Forwarding) (ids : List Id) → TiedTo x ids → TiedTo x (cond b ids ids)
 either true x ids h = h
@@ -94,16 +94,16 @@ ends n s x ids h = go (nat_eq n s)
     go true = tt
     go false = h
 
-took_it : (before : List Event) (cause : Cause) → Ties before → Ties (with_cause before cause)
-took_it before (FromServer n body) h s = more s before (heard (FromServer n body)) (hears n s (message_of body) (forwarding_of s before) (waiting s before) (h s))
-took_it before (StartFailed n) h s = more s before (heard (StartFailed n)) (ends n s (forwarding_of s before) (waiting s before) (h s))
-took_it before (ServerGone n) h s = more s before (heard (ServerGone n)) (ends n s (forwarding_of s before) (waiting s before) (h s))
-took_it before (Started n) h s = more s before (heard (Started n)) (either (nat_eq n s) (forwarding_of s before) (waiting s before) (h s))
-took_it before (FromEditor e body) h s = more s before (heard (FromEditor e body)) (h s)
-took_it before (Joined e) h s = more s before (heard (Joined e)) (h s)
-took_it before (EditorGone e why) h s = more s before (heard (EditorGone e why)) (h s)
-took_it before (Drained e k) h s = more s before (heard (Drained e k)) (h s)
-took_it before (Tick t) h s = more s before (heard (Tick t)) (h s)
+took_it : (settings : Settings) (before : List Event) (cause : Cause) → Ties settings before → Ties settings (with_cause before cause)
+took_it settings before (FromServer n body) h s = more settings s before (heard (FromServer n body)) (hears n s (message_of body) (forwarding_of settings s before) (waiting s before) (h s))
+took_it settings before (StartFailed n) h s = more settings s before (heard (StartFailed n)) (ends n s (forwarding_of settings s before) (waiting s before) (h s))
+took_it settings before (ServerGone n) h s = more settings s before (heard (ServerGone n)) (ends n s (forwarding_of settings s before) (waiting s before) (h s))
+took_it settings before (Started n) h s = more settings s before (heard (Started n)) (either (nat_eq n s) (forwarding_of settings s before) (waiting s before) (h s))
+took_it settings before (FromEditor e body) h s = more settings s before (heard (FromEditor e body)) (h s)
+took_it settings before (Joined e) h s = more settings s before (heard (Joined e)) (h s)
+took_it settings before (EditorGone e why) h s = more settings s before (heard (EditorGone e why)) (h s)
+took_it settings before (Drained e k) h s = more settings s before (heard (Drained e k)) (h s)
+took_it settings before (Tick t) h s = more settings s before (heard (Tick t)) (h s)
 
 -- A body to a start
 
@@ -119,27 +119,27 @@ one_more : (ids : List Id) (id : Id) (o : Option Sender) (n : ℕ) → id ≡ in
 one_more ids id None n is = tt
 one_more ids id (Some sender) n is = (λ open_still. subst (λ z. is_open z (ids ++ id ∷ []) ≡ true) is (open_last id ids), tt)
 
-told : (x : Forwarding) (ids : List Id) (m : Message) → IsNumbered x.next m → TiedTo x ids → TiedTo (forwards x m) (waiting_told ids m)
-told x ids (request id method params) next_is h = go (is_own method) refl
+told : (first : Option Sender) (x : Forwarding) (ids : List Id) (m : Message) → IsNumbered x.next m → TiedTo x ids → TiedTo (forwards first x m) (waiting_told ids m)
+told first x ids (request id method params) next_is h = go (is_own method) refl
   where
-    go : (b : Bool) → is_own method ≡ b → TiedTo (if b then x else record { sender = x.sender; next = x.next + 1; open_requests = x.open_requests ++ numbered x.sender x.next }) (ids ++ id ∷ [])
+    go : (b : Bool) → is_own method ≡ b → TiedTo (if b then x else record { sender = x.sender; next = x.next + 1; open_requests = x.open_requests ++ numbered (sender_or x.sender first) x.next }) (ids ++ id ∷ [])
     go true own = all_more ids id x.open_requests h
-    go false other = all_join (Named (ids ++ id ∷ [])) x.open_requests (numbered x.sender x.next) (all_more ids id x.open_requests h) (one_more ids id x.sender x.next (next_is other))
-told x ids (notification method params) next_is h = go (bytes_eq method (codes "$/cancelRequest"))
+    go false other = all_join (Named (ids ++ id ∷ [])) x.open_requests (numbered (sender_or x.sender first) x.next) (all_more ids id x.open_requests h) (one_more ids id (sender_or x.sender first) x.next (next_is other))
+told first x ids (notification method params) next_is h = go (bytes_eq method (codes "$/cancelRequest"))
   where
     go : (b : Bool) → TiedTo (if b then record { sender = x.sender; next = x.next; open_requests = map (cancelled_by (named_of (codes "id") params)) x.open_requests } else x) (if b then without (cancelled_id params) ids else ids)
     go true = cancelled_all (named_of (codes "id") params) ids x.open_requests h
     go false = h
-told x ids (result id r) next_is h = h
-told x ids (error id e) next_is h = h
-told x ids not_json next_is h = h
-told x ids not_message next_is h = h
+told first x ids (result id r) next_is h = h
+told first x ids (error id e) next_is h = h
+told first x ids not_json next_is h = h
+told first x ids not_message next_is h = h
 
-sent_it : (events : List Event) (n : ℕ) (body : List ℕ) → IsNumbered (forwarding_of n events).next (message_of body) → Ties events → Ties (events ++ said (ToServer n body) ∷ [])
-sent_it events n body next_is h s = more s events (said (ToServer n body)) (go (nat_eq n s) refl)
+sent_it : (settings : Settings) (events : List Event) (n : ℕ) (body : List ℕ) → IsNumbered (forwarding_of settings n events).next (message_of body) → Ties settings events → Ties settings (events ++ said (ToServer n body) ∷ [])
+sent_it settings events n body next_is h s = more settings s events (said (ToServer n body)) (go (nat_eq n s) refl)
   where
-    go : (b : Bool) → nat_eq n s ≡ b → TiedTo (if b then forwards (forwarding_of s events) (message_of body) else forwarding_of s events) (cond b (waiting_told (waiting s events) (message_of body)) (waiting s events))
-    go true same = told (forwarding_of s events) (waiting s events) (message_of body) (subst (λ k. IsNumbered (forwarding_of k events).next (message_of body)) (number_same n s same) next_is) (h s)
+    go : (b : Bool) → nat_eq n s ≡ b → TiedTo (if b then forwards (first_sender settings s events) (forwarding_of settings s events) (message_of body) else forwarding_of settings s events) (cond b (waiting_told (waiting s events) (message_of body)) (waiting s events))
+    go true same = told (first_sender settings s events) (forwarding_of settings s events) (waiting s events) (message_of body) (subst (λ k. IsNumbered (forwarding_of settings k events).next (message_of body)) (number_same n s same) next_is) (h s)
     go false other = h s
 
 response_numbered : (n : ℕ) (m : Message) → is_response m ≡ true → IsNumbered n m
@@ -169,24 +169,24 @@ may_name n ids (f ∷ fs) h some = go (is_uncancelled n f) refl (λ e. may_name 
     go false here later e = later e
 
 module _ (settings : Settings) (before : List Event) (cause : Cause) (events : List Event) (s : ℕ) (body : List ℕ) where
-  numbered_by : WhyToServer settings before cause events s body → IsNumbered (forwarding_of s events).next (message_of body)
-  numbered_by (begins k) = subst (IsNumbered (forwarding_of s events).next) (sym k.says) (λ other. absurd (cc))
-  numbered_by (shuts k) = subst (IsNumbered (forwarding_of s events).next) (sym k.says) (λ other. absurd (cc))
-  numbered_by (forwarded k) = subst (IsNumbered (forwarding_of s events).next) (sym k.says) (λ other. refl)
-  numbered_by (greets k) = subst (IsNumbered (forwarding_of s events).next) (sym k.says) tt
-  numbered_by (conveys k) = subst (IsNumbered (forwarding_of s events).next) (sym k.says) tt
-  numbered_by (cancels k) = subst (IsNumbered (forwarding_of s events).next) (sym k.says) tt
-  numbered_by (cancels_work k) = subst (IsNumbered (forwarding_of s events).next) (sym k.says) tt
-  numbered_by (exits k) = subst (IsNumbered (forwarding_of s events).next) (sym k.says) tt
-  numbered_by (notes k) = subst (IsNumbered (forwarding_of s events).next) (sym k.says) tt
-  numbered_by (tells k) = spoken_numbered (forwarding_of s events).next (message_of body) k.spoken
-  numbered_by (resolves k) = response_numbered (forwarding_of s events).next (message_of body) k.response
-  numbered_by (responds k) = response_numbered (forwarding_of s events).next (message_of body) k.response
+  numbered_by : WhyToServer settings before cause events s body → IsNumbered (forwarding_of settings s events).next (message_of body)
+  numbered_by (begins k) = subst (IsNumbered (forwarding_of settings s events).next) (sym k.says) (λ other. absurd (cc))
+  numbered_by (shuts k) = subst (IsNumbered (forwarding_of settings s events).next) (sym k.says) (λ other. absurd (cc))
+  numbered_by (forwarded k) = subst (IsNumbered (forwarding_of settings s events).next) (sym k.says) (λ other. refl)
+  numbered_by (greets k) = subst (IsNumbered (forwarding_of settings s events).next) (sym k.says) tt
+  numbered_by (conveys k) = subst (IsNumbered (forwarding_of settings s events).next) (sym k.says) tt
+  numbered_by (cancels k) = subst (IsNumbered (forwarding_of settings s events).next) (sym k.says) tt
+  numbered_by (cancels_work k) = subst (IsNumbered (forwarding_of settings s events).next) (sym k.says) tt
+  numbered_by (exits k) = subst (IsNumbered (forwarding_of settings s events).next) (sym k.says) tt
+  numbered_by (notes k) = subst (IsNumbered (forwarding_of settings s events).next) (sym k.says) tt
+  numbered_by (tells k) = spoken_numbered (forwarding_of settings s events).next (message_of body) k.spoken
+  numbered_by (resolves k) = response_numbered (forwarding_of settings s events).next (message_of body) k.response
+  numbered_by (responds k) = response_numbered (forwarding_of settings s events).next (message_of body) k.response
 
   abbrev May : Message → Type 0
   May m = IsTrue (may_cancel (waiting s events) m)
 
-  may_send : WhyToServer settings before cause events s body → Ties events → May (message_of body)
+  may_send : WhyToServer settings before cause events s body → Ties settings events → May (message_of body)
   may_send (begins k) h = subst May (sym k.says) refl
   may_send (shuts k) h = subst May (sym k.says) refl
   may_send (forwarded k) h = subst May (sym k.says) refl
@@ -197,23 +197,23 @@ module _ (settings : Settings) (before : List Event) (cause : Cause) (events : L
   may_send (tells k) h = spoken_free (waiting s events) (message_of body) k.spoken
   may_send (responds k) h = response_free (waiting s events) (message_of body) k.response
   may_send (resolves k) h = response_free (waiting s events) (message_of body) k.response
-  may_send (cancels k) h = subst May (sym k.says) (ap (λ j. is_among (id_at j) (waiting s events)) k.named ∙ ap (λ i. is_among i (waiting s events)) k.id ∙ may_name k.number (waiting s events) (forwarding_of s events).open_requests (h s) k.waits)
+  may_send (cancels k) h = subst May (sym k.says) (ap (λ j. is_among (id_at j) (waiting s events)) k.named ∙ ap (λ i. is_among i (waiting s events)) k.id ∙ may_name k.number (waiting s events) (forwarding_of settings s events).open_requests (h s) k.waits)
   may_send (cancels_work k) h = subst May (sym k.says) refl
 
-law : (settings : Settings) → Law settings Ties
+law : (settings : Settings) → Law settings (Ties settings)
 law settings = record {
-  took = λ before cause fits known h. took_it before cause h;
-  to_editor = λ before cause events e body why known here h i. λ s. more s events (said (ToEditor e body)) (i s);
-  to_server = λ before cause events n body why known here h i. sent_it events n body (numbered_by settings before cause events n body why) i;
-  close = λ before cause events e turned there known here h i. λ s. more s events (said (CloseEditor e)) (i s);
-  end = λ before cause events n starting known here h i. λ s. more s events (said (EndServer n)) (either (nat_eq n s) (forwarding_of s events) (waiting s events) (i s));
-  spawn = λ before cause events g inside known here h i. λ s. more s events (said (Spawn (starts_of events) g)) (i s);
+  took = λ before cause fits known h. took_it settings before cause h;
+  to_editor = λ before cause events e body why known here h i. λ s. more settings s events (said (ToEditor e body)) (i s);
+  to_server = λ before cause events n body why known here h i. sent_it settings events n body (numbered_by settings before cause events n body why) i;
+  close = λ before cause events e turned there known here h i. λ s. more settings s events (said (CloseEditor e)) (i s);
+  end = λ before cause events n starting known here h i. λ s. more settings s events (said (EndServer n)) (either (nat_eq n s) (forwarding_of settings s events) (waiting s events) (i s));
+  spawn = λ before cause events g inside known here h i. λ s. more settings s events (said (Spawn (starts_of events) g)) (i s);
   rest = λ before cause fits known h i. i;
   turn = λ place e slow known h. h;
   left = λ place e slow known h i. i;
 }
 
-rule : (settings : Settings) → ServerRule settings Ties (Inside Ties) ServerRule6
+rule : (settings : Settings) → ServerRule settings (Ties settings) (Inside (Ties settings)) ServerRule6
 rule settings = record {
   law = law settings;
   free = free;
@@ -221,4 +221,4 @@ rule settings = record {
 }
 
 pub server_6_law : (settings : Settings) → InRange settings → (history : List Entry) → Legal settings history → KeepsServer6 history
-server_6_law settings range history legal = server_history settings Ties (Inside Ties) ServerRule6 (rule settings) range (λ s. tt) history legal
+server_6_law settings range history legal = server_history settings (Ties settings) (Inside (Ties settings)) ServerRule6 (rule settings) range (λ s. tt) history legal

@@ -105,8 +105,8 @@ module _ (settings : Settings) (range : InRange settings) (before : List Event) 
     here : Here settings before cause events
     outs : List Out
     place : events ≡ behind (with_cause before cause) outs
-    first : Ties before
-    ties : Ties events
+    first : Ties settings before
+    ties : Ties settings events
     rules : (s : ℕ) → Always ServerRule7 (server_part s events)
 
   -- where it cancels the work that it may
@@ -152,12 +152,12 @@ module _ (settings : Settings) (range : InRange settings) (before : List Event) 
       waits_here : (n : ℕ) → Waits s before n → Waits s events n
       waits_here n h = subst (λ z. Waits s z n) (sym place) (waits_behind s (with_cause before (FromEditor k.editor k.asked)) at.outs n (waits_took s before k.editor k.asked n h))
 
-      requested : (f : Forwarded) → find (is_worked k.editor (named_of (codes "token") k.given)) (forwarding_of s before).open_requests ≡ Some f → k.text ≡ mark_text (work_mark f.number) → MayGo (message_of body)
+      requested : (f : Forwarded) → find (is_worked k.editor (named_of (codes "token") k.given)) (forwarding_of settings s before).open_requests ≡ Some f → k.text ≡ mark_text (work_mark f.number) → MayGo (message_of body)
       requested f found same =
-          let small : f.number < 2 ^ 64 = found_is (λ (g : Forwarded). IsSmall g.number) (is_worked k.editor (named_of (codes "token") k.given)) f (forwarding_of s before).open_requests (numbers_small settings range before (facts.steady).bounded s was_ready) found in
+          let small : f.number < 2 ^ 64 = found_is (λ (g : Forwarded). IsSmall g.number) (is_worked k.editor (named_of (codes "token") k.given)) f (forwarding_of settings s before).open_requests (numbers_small settings range before (facts.steady).bounded s was_ready) found in
           let w : Worked (named_of (codes "token") k.given) f.work = worked (named_of (codes "token") k.given) f.work
-          (and_parts (is_of k.editor f) (is_token_of (named_of (codes "token") k.given) f.work) (found_true (is_worked k.editor (named_of (codes "token") k.given)) f (forwarding_of s before).open_requests found)).1 in
-          let tied : IsWorking s before f = found_is (IsWorking s before) (is_worked k.editor (named_of (codes "token") k.given)) f (forwarding_of s before).open_requests (at.first s) found in
+          (and_parts (is_of k.editor f) (is_token_of (named_of (codes "token") k.given) f.work) (found_true (is_worked k.editor (named_of (codes "token") k.given)) f (forwarding_of settings s before).open_requests found)).1 in
+          let tied : IsWorking s before f = found_is (IsWorking s before) (is_worked k.editor (named_of (codes "token") k.given)) f (forwarding_of settings s before).open_requests (at.first s) found in
           may_name (text (mark (work_mark f.number))) (mark_text (work_mark f.number)) k.asked (codes "window/workDoneProgress/cancel")
           (marked (text (mark (work_mark f.number))) (mark_text (work_mark f.number)) k.asked (codes "window/workDoneProgress/cancel") k.given (mark_id (work_mark f.number) (omega (arith, small))) k.notified w.named)
           (k.bytes ∙ ap (λ t. marked_text t k.asked) same)
@@ -186,7 +186,7 @@ module _ (settings : Settings) (range : InRange settings) (before : List Event) 
   free : (events : List Event) (event : Event) → is_to_server event ≡ false → ((s : ℕ) → Always ServerRule7 (server_part s events)) → (s : ℕ) → Always ServerRule7 (server_part s (events ++ event ∷ []))
   free events event off h s = rule_more ServerRule7 (is_of_server s) events event (h s) (λ same. free_7 (server_part s events) event off)
 
-  more : (events : List Event) (out : Out) → Why settings before cause events out → At events → Ties (events ++ said out ∷ []) → ((s : ℕ) → Always ServerRule7 (server_part s (events ++ said out ∷ []))) → At (events ++ said out ∷ [])
+  more : (events : List Event) (out : Out) → Why settings before cause events out → At events → Ties settings (events ++ said out ∷ []) → ((s : ℕ) → Always ServerRule7 (server_part s (events ++ said out ∷ []))) → At (events ++ said out ∷ [])
   more events out why i ties rules = record {
     here = here_did settings range before cause facts events out why i.here;
     outs = i.outs ++ out ∷ [];
@@ -199,22 +199,22 @@ module _ (settings : Settings) (range : InRange settings) (before : List Event) 
   step : (events : List Event) (out : Out) → Why settings before cause events out → At events → At (events ++ said out ∷ [])
   step events (ToServer n body) why i = more events (ToServer n body) why i (ties_sent settings range before cause events n body why i.ties)
       (λ s. rule_more ServerRule7 (is_of_server s) events (said (ToServer n body)) (i.rules s) (λ same. subst (λ k. ServerRule7 (server_part k events) (said (ToServer n body))) (number_same n s same) (may_go events n body i why)))
-  step events (ToEditor e body) why i = more events (ToEditor e body) why i (ties_free events (said (ToEditor e body)) refl (λ s. refl) i.ties) (free events (said (ToEditor e body)) refl i.rules)
-  step events (Spawn n g) why i = more events (Spawn n g) why i (ties_free events (said (Spawn n g)) refl (λ s. refl) i.ties) (free events (said (Spawn n g)) refl i.rules)
-  step events (CloseEditor e) why i = more events (CloseEditor e) why i (ties_free events (said (CloseEditor e)) refl (λ s. refl) i.ties) (free events (said (CloseEditor e)) refl i.rules)
-  step events (EndServer n) why i = more events (EndServer n) why i (ties_free events (said (EndServer n)) refl (λ s. refl) i.ties) (free events (said (EndServer n)) refl i.rules)
+  step events (ToEditor e body) why i = more events (ToEditor e body) why i (ties_free settings events (said (ToEditor e body)) refl (λ s. refl) i.ties) (free events (said (ToEditor e body)) refl i.rules)
+  step events (Spawn n g) why i = more events (Spawn n g) why i (ties_free settings events (said (Spawn n g)) refl (λ s. refl) i.ties) (free events (said (Spawn n g)) refl i.rules)
+  step events (CloseEditor e) why i = more events (CloseEditor e) why i (ties_free settings events (said (CloseEditor e)) refl (λ s. refl) i.ties) (free events (said (CloseEditor e)) refl i.rules)
+  step events (EndServer n) why i = more events (EndServer n) why i (ties_free settings events (said (EndServer n)) refl (λ s. refl) i.ties) (free events (said (EndServer n)) refl i.rules)
 
   rules_took : (c : Cause) → ((s : ℕ) → Always ServerRule7 (server_part s before)) → (s : ℕ) → Always ServerRule7 (server_part s (with_cause before c))
   rules_took (Joined e) h = free before (heard (Joined e)) refl h
   rules_took c h = free before (heard c) refl h
 
 -- Between entries
-record Rests (events : List Event) : Type 0 where
-  ties : Ties events
+record Rests (settings : Settings) (events : List Event) : Type 0 where
+  ties : Ties settings events
   rules : (s : ℕ) → Always ServerRule7 (server_part s events)
 
 module _ (settings : Settings) (range : InRange settings) where
-  entry : (before : List Event) → Reached settings before → (cause : Cause) → fits_behind before cause ≡ true → Rests before → Rests (behind (with_cause before cause) (outs_of settings before cause))
+  entry : (before : List Event) → Reached settings before → (cause : Cause) → fits_behind before cause ≡ true → Rests settings before → Rests settings (behind (with_cause before cause) (outs_of settings before cause))
   entry before so_far cause fits h =
       let facts : Facts settings before = facts_at settings range before so_far in
       let now : List Event = with_cause before cause in
@@ -226,17 +226,17 @@ module _ (settings : Settings) (range : InRange settings) where
         outs = [];
         place = sym (behind_nothing now);
         first = h.ties;
-        ties = ties_took before cause h.ties;
+        ties = ties_took settings before cause h.ties;
         rules = rules_took settings range before facts cause created cause h.rules;
       }) in
       record { ties = last.ties; rules = last.rules }
 
-  slow : KeepsSlow settings Rests
+  slow : KeepsSlow settings (Rests settings)
   slow place at e is h =
       let facts : Facts settings place = facts_at settings range place at in
       let created : (s : ℕ) → (life_of s place).stage ≡ Ready → AllByRecursion (IsCreated s place) (created_of settings s place).tokens = all_created settings range place at in
-      parting_walk settings range place facts e is Rests
-      (λ i. record { ties = ties_free place (said (CloseEditor e)) refl (λ s. refl) i.ties; rules = free settings range place facts (quitting e) created place (said (CloseEditor e)) refl i.rules })
+      parting_walk settings range place facts e is (Rests settings)
+      (λ i. record { ties = ties_free settings place (said (CloseEditor e)) refl (λ s. refl) i.ties; rules = free settings range place facts (quitting e) created place (said (CloseEditor e)) refl i.rules })
       (λ events n body why i. record {
         ties = ties_sent settings range place (quitting e) events n body why i.ties;
         rules = λ s. rule_more ServerRule7 (is_of_server s) events (said (ToServer n body)) (i.rules s) (λ same. subst (λ k. ServerRule7 (server_part k events) (said (ToServer n body))) (number_same n s same)
@@ -244,4 +244,4 @@ module _ (settings : Settings) (range : InRange settings) where
       }) h
 
   pub server_7_law : (history : List Entry) → Legal settings history → KeepsServer7 history
-  server_7_law history legal = (walk settings Rests entry slow (record { ties = λ s. tt; rules = λ s. tt }) (events_of history) (reached settings history legal)).rules
+  server_7_law history legal = (walk settings (Rests settings) entry slow (record { ties = λ s. tt; rules = λ s. tt }) (events_of history) (reached settings history legal)).rules

@@ -207,7 +207,7 @@ desk p i = record { phase = p; initialize = i }
 
 -- One entry
 
-module _ (settings : Settings) (range : InRange settings) (before : List Event) (facts : Facts settings before) (settled : Settled settings before) (free : Unreserved before) (lasts : AllLast before) (cause : Cause) (fits : fits_behind before cause ≡ true) where
+module _ (settings : Settings) (range : InRange settings) (before : List Event) (facts : Facts settings before) (settled : Settled settings before) (free : Unreserved settings before) (lasts : AllLast before) (cause : Cause) (fits : fits_behind before cause ≡ true) where
   abbrev now : List Event
   now = with_cause before cause
 
@@ -326,8 +326,8 @@ module _ (settings : Settings) (range : InRange settings) (before : List Event) 
         notified_tied t.id token asked k.method (marked t.id token asked k.method given t.text k.asks own_one.0) bytes (λ end s c stands on own fair small. free_apart t.id t.free s c.token)
       where
         chosen : (f.work ≡ Some token) ⊎ (f.partial ≡ Some token) → IsFreeText token
-        chosen (inl h) = (found_is IsUnreserved (is_told before (named_of (codes "token") given)) f (forwarding_of s before).open_requests (free s) found).work token h
-        chosen (inr h) = (found_is IsUnreserved (is_told before (named_of (codes "token") given)) f (forwarding_of s before).open_requests (free s) found).partial token h
+        chosen (inl h) = (found_is IsUnreserved (is_told before (named_of (codes "token") given)) f (forwarding_of settings s before).open_requests (free s) found).work token h
+        chosen (inr h) = (found_is IsUnreserved (is_told before (named_of (codes "token") given)) f (forwarding_of settings s before).open_requests (free s) found).partial token h
     told_tied (of_token s asked given token k called takes bytes) known = notified_tied (text (created_mark s token.number)) (created_text s token.number) asked k.method m bytes
         (λ end t c stands on own fair low. ended_apart events n s token.number (record { at = known.0; small = small; gone = gone end }) t c stands on own fair low)
       where

@@ -29,7 +29,7 @@ use Rattle.group_rows.specs.Live.{is_heard}
 use Rattle.group_sessions.proofs.Accepted.{accepted}
 use Rattle.group_sessions.proofs.CreatedFold.{all_flat}
 use Rattle.group_sessions.proofs.CreatedTies.{create_is, created_more, told_request}
-use Rattle.group_sessions.proofs.TellingSent.{one_token}
+use Rattle.group_sessions.proofs.KeptTokens.{one_token}
 use Rattle.group_sessions.proofs.Working.{names_same}
 
 -- the daemon's token of start s that it was asked to take

@@ -196,7 +196,7 @@ module _ (settings : Settings) (before : List Event) (lasts : AllLast before) (s
     token_known = by_on (λ none. by_nothing) (λ t called. by_on (λ none. by_nothing)
         (λ g kept. takers_known t called (takers settings before g s t) heard_now (all_take t called g kept) (takers_differ t called g) (all_same (Untold t called heard_now) (λ e. refl) (takers settings before g s t))))
 
-    request_known : (f : Forwarded) → find (is_told before (named_of (codes "token") params)) (forwarding_of s before).open_requests ≡ Some f → (token : List ℕ) → own_token (named_of (codes "token") params) f ≡ Some token → Out_known heard_now (ToEditor f.editor (marked_text token body))
+    request_known : (f : Forwarded) → find (is_told before (named_of (codes "token") params)) (forwarding_of settings s before).open_requests ≡ Some f → (token : List ℕ) → own_token (named_of (codes "token") params) f ≡ Some token → Out_known heard_now (ToEditor f.editor (marked_text token body))
     request_known f found token own told = record { told = of_request s body params f token notified found own refl refl; knows = tt }
 
     progress_known : Because Out_known heard_now (progress_row settings s before body params)

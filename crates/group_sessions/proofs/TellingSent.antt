@@ -1,8 +1,7 @@
 -- Behind a body to a start, too, the tokens that are kept are those of open requests: those of an editor's request that goes on are in the message that is at work.
-use Rattle.std.proofs.Common.{◌≡◌, ℕ, ◌+◌, Bool, true, false, ◌&&◌, cond, List, [], ◌∷◌, ◌++◌, append-nil, append_assoc, codes, decimal, fold, map, nat_eq, if◌then◌else◌, Option, Some, None, refl, sym, ◌∙◌, ap, ap₂, subst}
+use Rattle.std.proofs.Common.{◌≡◌, ℕ, ◌+◌, Bool, true, false, List, [], ◌∷◌, ◌++◌, append-nil, append_assoc, codes, decimal, map, nat_eq, if◌then◌else◌, Option, Some, None, refl, sym, ◌∙◌, ap, subst, subst₂}
 use Rattle.std.specs.List.{AllByRecursion}
-use Rattle.std.specs.Option.{option_map_or}
-use Rattle.std.proofs.lemmas.List.Sums.{fold-append}
+use Rattle.std.specs.Option.{option_and_then}
 use Rattle.json_text.specs.Json.{Json}
 use Rattle.document_model.proofs.Written.{Spoken, spoken}
 use Rattle.mux_history.specs.declared.cause.Cause.{Cause}
@@ -12,55 +11,26 @@ use Rattle.mux_history.specs.declared.out.Out.TheVariants.{ToEditor, ToServer, S
 use Rattle.rpc_message.specs.Message.{Id, Message, request, notification, result, error, not_json, not_message, id_bytes, integer, message_of}
 use Rattle.rpc_message.specs.ValueTexts.{IsIdText}
 use Rattle.rpc_message.proofs.Ids.{request_id_bytes}
-use Rattle.event_model.specs.Event.{Event, behind, heard, said, same_id, took, with_cause}
-use Rattle.event_model.specs.Requests.{answered_id, is_open, is_own, next_number}
+use Rattle.event_model.specs.Event.{Event, behind, said, with_cause}
+use Rattle.event_model.specs.Requests.{answered_id, next_number}
 use Rattle.event_model.specs.Settings.{Settings}
 use Rattle.mux_model.specs.Documents.{held_at}
 use Rattle.mux_facts.specs.Allowed.{is_response}
 use Rattle.mux_facts.proofs.Lists.{all_join, all_of}
-use Rattle.mux_facts.proofs.Words.{open_more, same_id_itself, same_number}
-use Rattle.session_laws.specs.ClientRules.{tokened_behind}
-use Rattle.session_laws.specs.Progress.{token_at, tokens_at}
-use Rattle.session_laws.proofs.Client6Law.{tokened, tokened_grows, tokened_left, tokened_more}
-use Rattle.session_laws.proofs.Tokens.{holds, holds_last, open_behind, or_first}
-use Rattle.group_rows.specs.Forwarded.{Forwarding, Sender, forwarding_behind, forwarding_of, forwards, no_forwarding, numbered, sender_of, token_in}
+use Rattle.session_laws.proofs.Client6Law.{tokened, tokened_grows, tokened_left}
+use Rattle.session_laws.proofs.Tokens.{holds}
+use Rattle.group_rows.specs.Forwarded.{Sender, first_sender, forwarding_of, forwards, sender_of, token_in}
 use Rattle.group_rows.specs.Rows.{sync_bodies}
 use Rattle.group_rows.specs.Texts.{texts_of}
-use Rattle.group_facts.specs.Why.{IsForward, IsQuestion, WhyToServer, begins, cancels, cancels_work, exits, forwarded, greets, conveys, has_method, notes, resolves, responds, shuts, tells}
-use Rattle.group_facts.proofs.Apart.{grow, new}
-use Rattle.group_facts.proofs.Forwards.{forwarding_more, notified_sender}
+use Rattle.group_facts.specs.Why.{IsForward, IsQuestion, WhyToServer, begins, cancels, cancels_work, exits, forwarded, greets, conveys, has_method, notes, resolves, responds, shuts, tells, Going, IsAwaited, IsBehindSync, at_once, had_waited}
+use Rattle.group_facts.proofs.Apart.{grow, new, one_id}
 use Rattle.group_sessions.proofs.Brought.{Brought, brought, token_request}
 use Rattle.group_sessions.proofs.Telling.{Adds, AllTold, HasToken, IsTold, Ties, all_grown, forwards_told, ties_by}
+use Rattle.group_sessions.proofs.KeptTokens.{IsKept, Kept, kept_behind, kept_first, kept_took, partial_now, work_now}
+use Rattle.std.specs.Prelude.{slice_get}
+use Rattle.group_rows.specs.Waiting.{waiting_of}
 
--- Whose request is at work, as outs leave it
-
-forwards_leave : (x : Forwarding) (m : Message) → (forwards x m).sender ≡ x.sender
-forwards_leave x (request id method params) = go (is_own method)
-  where
-    go : (b : Bool) → (if b then x else record { sender = x.sender; next = x.next + 1; open_requests = x.open_requests ++ numbered x.sender x.next }).sender ≡ x.sender
-    go true = refl
-    go false = refl
-forwards_leave x (notification method params) = notified_sender x method params
-forwards_leave x (result id r) = refl
-forwards_leave x (error id x') = refl
-forwards_leave x not_json = refl
-forwards_leave x not_message = refl
-
-outs_leave : (s : ℕ) (x : Forwarding) (xs : List Out) → (fold (forwarding_behind s) x (map said xs)).sender ≡ x.sender
-outs_leave s x [] = refl
-outs_leave s x (ToServer n body ∷ xs) = outs_leave s (if nat_eq n s then forwards x (message_of body) else x) xs ∙ go (nat_eq n s)
-  where
-    go : (b : Bool) → (if b then forwards x (message_of body) else x).sender ≡ x.sender
-    go true = forwards_leave x (message_of body)
-    go false = refl
-outs_leave s x (ToEditor e body ∷ xs) = outs_leave s x xs
-outs_leave s x (Spawn n g ∷ xs) = outs_leave s x xs
-outs_leave s x (CloseEditor e ∷ xs) = outs_leave s x xs
-outs_leave s x (EndServer n ∷ xs) = outs_leave s x xs
-
-pub sender_still : (s : ℕ) (before : List Event) (e : ℕ) (asked : List ℕ) (xs : List Out) → (forwarding_of s (behind (with_cause before (FromEditor e asked)) xs)).sender ≡ sender_of e asked (message_of asked)
-sender_still s before e asked xs = ap (λ (x : Forwarding). x.sender) (fold-append (forwarding_behind s) no_forwarding (with_cause before (FromEditor e asked)) (map said xs))
-    ∙ outs_leave s (forwarding_of s (with_cause before (FromEditor e asked))) xs ∙ ap (λ (x : Forwarding). x.sender) (forwarding_more s before (heard (FromEditor e asked)))
+-- Whose request is at work
 
 -- what is kept of it
 pub record AtWork (e : ℕ) (asked : List ℕ) (sender : Sender) : Type 0 where
@@ -136,41 +106,18 @@ module _ (e : ℕ) (id token : Id) where
   all_quiet events [] quiet h = subst (λ z. holds id token (tokened e z) ≡ true) (sym (append-nil events)) h
   all_quiet events (out ∷ outs) quiet h = subst (λ z. holds id token (tokened e z) ≡ true) (append_assoc events (said out ∷ []) (map said outs)) (all_quiet (events ++ said out ∷ []) outs quiet.1 (one_quiet events out quiet.0 h))
 
--- The message that is at work brings its tokens
-
-and_both : (a b : Bool) → a ≡ true → b ≡ true → (a && b) ≡ true
-and_both a b h k = ap₂ (λ x y. x && y) h k
-
--- a token of this name is among these
-pub one_token : (name : List ℕ) (params : Option Json) (token : Id) → token_at name params ≡ Some token → is_open token (tokens_at name params) ≡ true
-one_token name params token is = ap (λ o. is_open token (option_map_or (λ (t : Id). t ∷ []) o [])) is ∙ or_first (same_id token token) false (same_id_itself token)
-
-module _ (before : List Event) (e : ℕ) (asked : List ℕ) (id : Id) (method : List ℕ) (params : Option Json) (says : message_of asked ≡ request id method params) where
-  abbrev tokens : List Id
-  tokens = tokens_at (codes "workDoneToken") params ++ tokens_at (codes "partialResultToken") params
-
-  brought_now : (token : Id) → is_open token tokens ≡ true → holds id token (tokened e (with_cause before (FromEditor e asked))) ≡ true
-  brought_now token there = subst (λ rs. holds id token rs ≡ true) (sym (tokened_more e before (heard (FromEditor e asked)) ∙ ap₂ (λ b m. cond b (tokened_behind (tokened e before) (took (FromEditor e asked) m)) (tokened e before)) (same_number e) says))
-      (holds_last id token (tokened e before) (record { id = id; tokens = tokens }) (and_both (same_id id id) (is_open token tokens) (same_id_itself id) there))
-
-  pub work_now : (token : Id) → token_at (codes "workDoneToken") params ≡ Some token → holds id token (tokened e (with_cause before (FromEditor e asked))) ≡ true
-  work_now token is = brought_now token (open_more token (tokens_at (codes "workDoneToken") params) (tokens_at (codes "partialResultToken") params) (one_token (codes "workDoneToken") params token is))
-
-  pub partial_now : (token : Id) → token_at (codes "partialResultToken") params ≡ Some token → holds id token (tokened e (with_cause before (FromEditor e asked))) ≡ true
-  partial_now token is = brought_now token (open_behind token (tokens_at (codes "workDoneToken") params) (tokens_at (codes "partialResultToken") params) (one_token (codes "partialResultToken") params token is))
-
 -- A body to a start
 
-module _ (settings : Settings) (before : List Event) (cause : Cause) (events : List Event) (n : ℕ) (body : List ℕ) where
+module _ (settings : Settings) (before : List Event) (kept : Kept settings before) (cause : Cause) (events : List Event) (n : ℕ) (body : List ℕ) where
   abbrev sent : List Event
   sent = events ++ said (ToServer n body) ∷ []
 
   -- that is no editor's request
-  plain : (m : Message) → message_of body ≡ m → Adds m → Ties events → Ties sent
-  plain m says own h = ties_by events sent (said (ToServer n body)) refl (λ s. go s (nat_eq n s) (all_grown events (said (ToServer n body)) refl (forwarding_of s events).open_requests (h s)))
+  plain : (m : Message) → message_of body ≡ m → Adds m → Ties settings events → Ties settings sent
+  plain m says own h = ties_by settings events sent (said (ToServer n body)) refl (λ s. go s (nat_eq n s) (all_grown events (said (ToServer n body)) refl (forwarding_of settings s events).open_requests (h s)))
     where
-      go : (s : ℕ) (b : Bool) → AllTold sent (forwarding_of s events).open_requests → AllTold sent (if b then forwards (forwarding_of s events) (message_of body) else forwarding_of s events).open_requests
-      go s true k = forwards_told sent (forwarding_of s events) (message_of body) (subst Adds (sym says) own) k
+      go : (s : ℕ) (b : Bool) → AllTold sent (forwarding_of settings s events).open_requests → AllTold sent (if b then forwards (first_sender settings s events) (forwarding_of settings s events) (message_of body) else forwarding_of settings s events).open_requests
+      go s true k = forwards_told settings sent (first_sender settings s events) (forwarding_of settings s events) (message_of body) (subst Adds (sym says) own) k
       go s false k = k
 
   answer_adds : (m : Message) → is_response m ≡ true → Adds m
@@ -186,40 +133,75 @@ module _ (settings : Settings) (before : List Event) (cause : Cause) (events : L
     abbrev e : ℕ
     e = (k.sender).editor
 
-    abbrev outs : List Out
-    outs = (k.synced).questions ++ map (λ z. ToServer n z) (sync_bodies settings.limits.versions (λ u. held_at n u before) e (texts_of settings (k.synced).group before).opens)
-
     its : AtWork e k.asked k.sender
-    its = at_work e k.asked k.sender (sym (sender_still n before e k.asked outs) ∙ ap (λ z. (forwarding_of n z).sender) (sym (k.synced).place) ∙ k.at_work)
+    its = at_work e k.asked k.sender k.own
 
-    -- its tokens are those of its message, and stay there
-    there : (token : Id) → holds its.id token (tokened e (with_cause before (FromEditor e k.asked))) ≡ true → holds its.id token (tokened e sent) ≡ true
-    there token h = tokened_grows e events (said (ToServer n body)) refl its.id token (subst (λ z. holds its.id token (tokened e z) ≡ true) (sym (k.synced).place)
-        (all_quiet e its.id token (with_cause before (FromEditor e k.asked)) outs (all_join Quiet (k.synced).questions (map (λ z. ToServer n z) (sync_bodies settings.limits.versions (λ u. held_at n u before) e (texts_of settings (k.synced).group before).opens))
-        (all_of (IsQuestion e) Quiet (quiet_question e) (k.synced).questions (k.synced).asks) (quiet_sent n (sync_bodies settings.limits.versions (λ u. held_at n u before) e (texts_of settings (k.synced).group before).opens))) h))
+    later : (token : Id) → holds its.id token (tokened e events) ≡ true → holds its.id token (tokened e sent) ≡ true
+    later token h = tokened_grows e events (said (ToServer n body)) refl its.id token h
 
-    work : (bytes : List ℕ) → (k.sender).work ≡ Some bytes → HasToken e its.id sent bytes
-    work bytes is = let b : Brought (codes "workDoneToken") k.asked bytes = brought (codes "workDoneToken") k.asked bytes (sym its.work ∙ is) in record {
-      token = b.id;
-      text = b.text;
-      there = there b.id (work_now before e k.asked its.id its.method its.params its.says b.id (token_request its.id its.method its.params (codes "workDoneToken") k.asked its.says ∙ b.names));
-    }
+    -- its tokens are those of its message, which came now, and stay there
+    module _ (sync : IsBehindSync settings before events n e k.asked) where
+      there : (token : Id) → holds its.id token (tokened e (with_cause before (FromEditor e k.asked))) ≡ true → holds its.id token (tokened e sent) ≡ true
+      there token h = later token (subst (λ z. holds its.id token (tokened e z) ≡ true) (sym sync.place)
+          (all_quiet e its.id token (with_cause before (FromEditor e k.asked)) (sync.questions ++ map (λ z. ToServer n z) (sync_bodies settings.limits.versions (λ u. held_at n u before) e (texts_of settings sync.group before).opens))
+          (all_join Quiet sync.questions (map (λ z. ToServer n z) (sync_bodies settings.limits.versions (λ u. held_at n u before) e (texts_of settings sync.group before).opens))
+          (all_of (IsQuestion e) Quiet (quiet_question e) sync.questions sync.asks) (quiet_sent n (sync_bodies settings.limits.versions (λ u. held_at n u before) e (texts_of settings sync.group before).opens))) h))
 
-    partial : (bytes : List ℕ) → (k.sender).partial ≡ Some bytes → HasToken e its.id sent bytes
-    partial bytes is = let b : Brought (codes "partialResultToken") k.asked bytes = brought (codes "partialResultToken") k.asked bytes (sym its.partial ∙ is) in record {
-      token = b.id;
-      text = b.text;
-      there = there b.id (partial_now before e k.asked its.id its.method its.params its.says b.id (token_request its.id its.method its.params (codes "partialResultToken") k.asked its.says ∙ b.names));
-    }
+      work_there : (bytes : List ℕ) → (k.sender).work ≡ Some bytes → HasToken e its.id sent bytes
+      work_there bytes is = let b : Brought (codes "workDoneToken") k.asked bytes = brought (codes "workDoneToken") k.asked bytes (sym its.work ∙ is) in record {
+        token = b.id;
+        text = b.text;
+        there = there b.id (work_now before e k.asked its.id its.method its.params its.says b.id (token_request its.id its.method its.params (codes "workDoneToken") k.asked its.says ∙ b.names));
+      }
+
+      partial_there : (bytes : List ℕ) → (k.sender).partial ≡ Some bytes → HasToken e its.id sent bytes
+      partial_there bytes is = let b : Brought (codes "partialResultToken") k.asked bytes = brought (codes "partialResultToken") k.asked bytes (sym its.partial ∙ is) in record {
+        token = b.id;
+        text = b.text;
+        there = there b.id (partial_now before e k.asked its.id its.method its.params its.says b.id (token_request its.id its.method its.params (codes "partialResultToken") k.asked its.says ∙ b.names));
+      }
+
+    -- or of one that waited
+    module _ (w : IsAwaited settings before cause events n e k.asked) where
+      first_is : slice_get (waiting_of settings w.group events) 0 ≡ Some w.request
+      first_is = sym (ap (λ o. option_and_then (λ g. slice_get (waiting_of settings g events) 0) o) w.member) ∙ w.first
+
+      kept_here : Kept settings events
+      kept_here = subst (Kept settings) (sym (w.place ∙ ap (λ z. behind z (map (λ z. ToServer n z) (sync_bodies settings.limits.versions (λ u. held_at n u w.earlier) e (texts_of settings w.group w.earlier).opens))) w.entry))
+          (kept_behind settings (behind (with_cause before cause) w.outs) (map (λ z. ToServer n z) (sync_bodies settings.limits.versions (λ u. held_at n u w.earlier) e (texts_of settings w.group w.earlier).opens))
+          (kept_behind settings (with_cause before cause) w.outs (kept_took settings before cause kept)))
+
+      it : IsKept events w.request
+      it = kept_first events (waiting_of settings w.group events) w.request (kept_here w.group) first_is
+
+      same : it.id ≡ its.id
+      same = one_id it.id its.id w.request.id it.is (subst (IsIdText its.id) (sym w.bytes) (request_id_bytes k.asked its.id its.method its.params its.says))
+
+      moved : (bytes : List ℕ) → HasToken w.request.editor it.id events bytes → HasToken e its.id sent bytes
+      moved bytes h = let t : HasToken e its.id events bytes = subst₂ (λ n i. HasToken n i events bytes) w.editor same h in record { token = t.token; text = t.text; there = later t.token t.there }
+
+      work_kept : (bytes : List ℕ) → (k.sender).work ≡ Some bytes → HasToken e its.id sent bytes
+      work_kept bytes is = moved bytes (it.work bytes (ap (token_in (codes "workDoneToken")) w.body ∙ (sym its.work ∙ is)))
+
+      partial_kept : (bytes : List ℕ) → (k.sender).partial ≡ Some bytes → HasToken e its.id sent bytes
+      partial_kept bytes is = moved bytes (it.partial bytes (ap (token_in (codes "partialResultToken")) w.body ∙ (sym its.partial ∙ is)))
+
+    work : Going settings before cause events n e k.asked → (bytes : List ℕ) → (k.sender).work ≡ Some bytes → HasToken e its.id sent bytes
+    work (at_once from sync) bytes is = work_there sync bytes is
+    work (had_waited w) bytes is = work_kept w bytes is
+
+    partial : Going settings before cause events n e k.asked → (bytes : List ℕ) → (k.sender).partial ≡ Some bytes → HasToken e its.id sent bytes
+    partial (at_once from sync) bytes is = partial_there sync bytes is
+    partial (had_waited w) bytes is = partial_kept w bytes is
 
     told_new : IsTold sent (new settings before cause events n body k)
     unfolding new
-    told_new = record { id = its.id; is = subst (IsIdText its.id) (sym its.bytes) (request_id_bytes k.asked its.id its.method its.params its.says); work = work; partial = partial }
+    told_new = record { id = its.id; is = subst (IsIdText its.id) (sym its.bytes) (request_id_bytes k.asked its.id its.method its.params its.says); work = work k.going; partial = partial k.going }
 
-    asked_now : Ties events → Ties sent
-    asked_now h s = grow settings before cause events n body k s (IsTold sent) (all_grown events (said (ToServer n body)) refl (forwarding_of s events).open_requests (h s)) (λ same. told_new)
+    asked_now : Ties settings events → Ties settings sent
+    asked_now h s = grow settings before cause events n body k s (IsTold sent) (all_grown events (said (ToServer n body)) refl (forwarding_of settings s events).open_requests (h s)) (λ same. told_new)
 
-  pub ties_sent : WhyToServer settings before cause events n body → Ties events → Ties sent
+  pub ties_sent : WhyToServer settings before cause events n body → Ties settings events → Ties settings sent
   ties_sent (begins k) h = plain (request (integer (codes "1")) (codes "initialize") k.params) k.says refl h
   ties_sent (greets k) h = plain (notification (codes "initialized") k.params) k.says tt h
   ties_sent (conveys k) h = plain (notification (codes "workspace/didChangeConfiguration") k.params) k.says tt h

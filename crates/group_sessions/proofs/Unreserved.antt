@@ -14,25 +14,23 @@ use Rattle.event_model.specs.Members.{named_of, params_of}
 use Rattle.event_model.specs.Requests.{answered_id, is_own, next_number}
 use Rattle.event_model.specs.Settings.{Settings}
 use Rattle.event_model.proofs.Frames.{never}
-use Rattle.mux_model.specs.Documents.{held_at}
 use Rattle.mux_model.specs.Fits.{fits_behind}
 use Rattle.mux_facts.specs.Allowed.{is_response}
 use Rattle.mux_facts.specs.Ranges.{InRange}
 use Rattle.mux_facts.proofs.Lists.{all_filtered}
 use Rattle.mux_facts.proofs.Reasons.{reasons_keep}
-use Rattle.group_rows.specs.Forwarded.{Forwarded, Forwarding, answered_by, cancelled_by, forwarding_behind, forwarding_of, forwards, is_written, no_forwarding, numbered, token_in}
-use Rattle.group_rows.specs.Rows.{outs_of, sync_bodies}
-use Rattle.group_rows.specs.Texts.{texts_of}
-use Rattle.group_rows.specs.Tokens.{is_reserved}
+use Rattle.group_rows.specs.Forwarded.{Forwarded, Forwarding, answered_by, cancelled_by, first_sender, forwarding_next, forwarding_of, forwards, is_written, no_forwarding, numbered, token_in, Sender, sender_or}
+use Rattle.group_rows.specs.Rows.{outs_of}
+use Rattle.group_rows.specs.Reserved.{is_reserved}
 use Rattle.group_facts.specs.Why.{IsForward, Why, WhyToServer, begins, cancels, cancels_work, exits, forwarded, greets, conveys, notes, resolves, responds, shuts, tells}
 use Rattle.group_facts.proofs.Apart.{grow, new}
-use Rattle.group_facts.proofs.Forwards.{forwarding_more}
+use Rattle.group_rows.proofs.Frames.{forwarding_more}
 use Rattle.group_facts.proofs.Reached.{Reached, facts_at}
 use Rattle.group_facts.proofs.Table.{reasons}
 use Rattle.group_sessions.proofs.Brought.{Brought, brought}
 use Rattle.group_sessions.proofs.CreatedFold.{free_of, is_free}
 use Rattle.group_sessions.proofs.Telling.{Adds}
-use Rattle.group_sessions.proofs.TellingSent.{AtWork, at_work, sender_still}
+use Rattle.group_sessions.proofs.TellingSent.{AtWork, at_work}
 use Rattle.group_sessions.proofs.Walk.{KeepsSlow, walk}
 use Rattle.group_facts.proofs.SlowRow.{parting, parting_why}
 use Rattle.group_facts.specs.Why.{quitting}
@@ -50,13 +48,13 @@ pub record IsUnreserved (f : Forwarded) : Type 0 where
 abbrev pub AllUnreserved : List Forwarded → Type 0
 AllUnreserved fs = AllByRecursion IsUnreserved fs
 
-abbrev pub Unreserved : List Event → Type 0
-Unreserved events = (s : ℕ) → AllUnreserved (forwarding_of s events).open_requests
+abbrev pub Unreserved : Settings → List Event → Type 0
+Unreserved settings events = (s : ℕ) → AllUnreserved (forwarding_of settings s events).open_requests
 
 -- One event more
 
-by_event : (events later : List Event) (event : Event) → later ≡ events ++ event ∷ [] → ((s : ℕ) → AllUnreserved (forwarding_behind s (forwarding_of s events) event).open_requests) → Unreserved later
-by_event events later event is h s = subst (λ (x : Forwarding). AllUnreserved x.open_requests) (sym (ap (forwarding_of s) is ∙ forwarding_more s events event)) (h s)
+by_event : (settings : Settings) (events later : List Event) (event : Event) → later ≡ events ++ event ∷ [] → ((s : ℕ) → AllUnreserved (forwarding_next settings s events (forwarding_of settings s events) event).open_requests) → Unreserved settings later
+by_event settings events later event is h s = subst (λ (x : Forwarding). AllUnreserved x.open_requests) (sym (ap (forwarding_of settings s) is ∙ forwarding_more settings s events event)) (h s)
 
 cancelled : (f : Forwarded) (b : Bool) → IsUnreserved f → IsUnreserved (if b then record f { cancelled = true } else f)
 cancelled f true h = record { work = h.work; partial = h.partial }
@@ -74,35 +72,35 @@ ended : (b : Bool) (x : Forwarding) → AllUnreserved x.open_requests → AllUnr
 ended true x h = tt
 ended false x h = h
 
-heard_unreserved : (s : ℕ) (x : Forwarding) (cause : Cause) → AllUnreserved x.open_requests → AllUnreserved (forwarding_behind s x (heard cause)).open_requests
-heard_unreserved s x (FromServer n body) h = fewer (nat_eq n s) (λ f. not (answered_by (answered_id (message_of body)) f)) x.open_requests h
-heard_unreserved s x (StartFailed n) h = ended (nat_eq n s) x h
-heard_unreserved s x (ServerGone n) h = ended (nat_eq n s) x h
-heard_unreserved s x (FromEditor e body) h = h
-heard_unreserved s x (Joined e) h = h
-heard_unreserved s x (EditorGone e why) h = h
-heard_unreserved s x (Started n) h = h
-heard_unreserved s x (Drained e k) h = h
-heard_unreserved s x (Tick t) h = h
+heard_unreserved : (settings : Settings) (s : ℕ) (before : List Event) (x : Forwarding) (cause : Cause) → AllUnreserved x.open_requests → AllUnreserved (forwarding_next settings s before x (heard cause)).open_requests
+heard_unreserved settings s before x (FromServer n body) h = fewer (nat_eq n s) (λ f. not (answered_by (answered_id (message_of body)) f)) x.open_requests h
+heard_unreserved settings s before x (StartFailed n) h = ended (nat_eq n s) x h
+heard_unreserved settings s before x (ServerGone n) h = ended (nat_eq n s) x h
+heard_unreserved settings s before x (FromEditor e body) h = h
+heard_unreserved settings s before x (Joined e) h = h
+heard_unreserved settings s before x (EditorGone e why) h = h
+heard_unreserved settings s before x (Started n) h = h
+heard_unreserved settings s before x (Drained e k) h = h
+heard_unreserved settings s before x (Tick t) h = h
 
-took : (before : List Event) (cause : Cause) → Unreserved before → Unreserved (with_cause before cause)
-took before cause h = by_event before (with_cause before cause) (heard cause) refl (λ s. heard_unreserved s (forwarding_of s before) cause (h s))
+took : (settings : Settings) (before : List Event) (cause : Cause) → Unreserved settings before → Unreserved settings (with_cause before cause)
+took settings before cause h = by_event settings before (with_cause before cause) (heard cause) refl (λ s. heard_unreserved settings s before (forwarding_of settings s before) cause (h s))
 
-forwards_unreserved : (x : Forwarding) (m : Message) → Adds m → AllUnreserved x.open_requests → AllUnreserved (forwards x m).open_requests
-forwards_unreserved x (request id method ps) own h = go (is_own method) own
+forwards_unreserved : (first : Option Sender) (x : Forwarding) (m : Message) → Adds m → AllUnreserved x.open_requests → AllUnreserved (forwards first x m).open_requests
+forwards_unreserved first x (request id method ps) own h = go (is_own method) own
   where
-    go : (b : Bool) → b ≡ true → AllUnreserved (if b then x else record { sender = x.sender; next = x.next + 1; open_requests = x.open_requests ++ numbered x.sender x.next }).open_requests
+    go : (b : Bool) → b ≡ true → AllUnreserved (if b then x else record { sender = x.sender; next = x.next + 1; open_requests = x.open_requests ++ numbered (sender_or x.sender first) x.next }).open_requests
     go true k = h
     go false k = never (sym k)
-forwards_unreserved x (notification method ps) own h = go (bytes_eq method (codes "$/cancelRequest"))
+forwards_unreserved first x (notification method ps) own h = go (bytes_eq method (codes "$/cancelRequest"))
   where
     go : (b : Bool) → AllUnreserved (if b then record { sender = x.sender; next = x.next; open_requests = map (cancelled_by (named_of (codes "id") ps)) x.open_requests } else x).open_requests
     go true = all_cancelled (named_of (codes "id") ps) x.open_requests h
     go false = h
-forwards_unreserved x (result id r) own h = h
-forwards_unreserved x (error id r) own h = h
-forwards_unreserved x not_json own h = h
-forwards_unreserved x not_message own h = h
+forwards_unreserved first x (result id r) own h = h
+forwards_unreserved first x (error id r) own h = h
+forwards_unreserved first x not_json own h = h
+forwards_unreserved first x not_message own h = h
 
 -- A body to a start
 
@@ -114,11 +112,11 @@ module _ (settings : Settings) (before : List Event) (cause : Cause) (events : L
   abbrev sent : List Event
   sent = events ++ said (ToServer n body) ∷ []
 
-  plain : (m : Message) → message_of body ≡ m → Adds m → Unreserved events → Unreserved sent
-  plain m says own h = by_event events sent (said (ToServer n body)) refl (λ s. go s (nat_eq n s))
+  plain : (m : Message) → message_of body ≡ m → Adds m → Unreserved settings events → Unreserved settings sent
+  plain m says own h = by_event settings events sent (said (ToServer n body)) refl (λ s. go s (nat_eq n s))
     where
-      go : (s : ℕ) (b : Bool) → AllUnreserved (if b then forwards (forwarding_of s events) (message_of body) else forwarding_of s events).open_requests
-      go s true = forwards_unreserved (forwarding_of s events) (message_of body) (subst Adds (sym says) own) (h s)
+      go : (s : ℕ) (b : Bool) → AllUnreserved (if b then forwards (first_sender settings s events) (forwarding_of settings s events) (message_of body) else forwarding_of settings s events).open_requests
+      go s true = forwards_unreserved (first_sender settings s events) (forwarding_of settings s events) (message_of body) (subst Adds (sym says) own) (h s)
       go s false = h s
 
   answer_adds : (m : Message) → is_response m ≡ true → Adds m
@@ -131,11 +129,8 @@ module _ (settings : Settings) (before : List Event) (cause : Cause) (events : L
 
   -- an editor's request
   module _ (k : IsForward settings before cause events n body) where
-    abbrev outs : List Out
-    outs = (k.synced).questions ++ map (λ z. ToServer n z) (sync_bodies settings.limits.versions (λ u. held_at n u before) (k.sender).editor (texts_of settings (k.synced).group before).opens)
-
     its : AtWork (k.sender).editor k.asked k.sender
-    its = at_work (k.sender).editor k.asked k.sender (sym (sender_still n before (k.sender).editor k.asked outs) ∙ ap (λ z. (forwarding_of n z).sender) (sym (k.synced).place) ∙ k.at_work)
+    its = at_work (k.sender).editor k.asked k.sender k.own
 
     free_named : (name bytes : List ℕ) → is_reserved (named_of name (params_of k.asked)) ≡ false → token_in name k.asked ≡ Some bytes → IsFreeText bytes
     free_named name bytes off is = let b : Brought name k.asked bytes = brought name k.asked bytes is in record { id = b.id; text = b.text; free = free_of (named_of name (params_of k.asked)) b.id b.names (ap not off) }
@@ -147,7 +142,7 @@ module _ (settings : Settings) (before : List Event) (cause : Cause) (events : L
     unfolding new
     new_unreserved = record { work = λ bytes is. free_named (codes "workDoneToken") bytes both.0 (sym its.work ∙ is); partial = λ bytes is. free_named (codes "partialResultToken") bytes both.1 (sym its.partial ∙ is) }
 
-  unreserved_sent : WhyToServer settings before cause events n body → Unreserved events → Unreserved sent
+  unreserved_sent : WhyToServer settings before cause events n body → Unreserved settings events → Unreserved settings sent
   unreserved_sent (begins k) h = plain (request (integer (codes "1")) (codes "initialize") k.params) k.says refl h
   unreserved_sent (greets k) h = plain (notification (codes "initialized") k.params) k.says tt h
   unreserved_sent (conveys k) h = plain (notification (codes "workspace/didChangeConfiguration") k.params) k.says tt h
@@ -164,19 +159,19 @@ module _ (settings : Settings) (before : List Event) (cause : Cause) (events : L
 -- A whole history
 
 module _ (settings : Settings) (range : InRange settings) where
-  did : (before : List Event) (cause : Cause) (events : List Event) (out : Out) → Why settings before cause events out → Unreserved events → Unreserved (events ++ said out ∷ [])
+  did : (before : List Event) (cause : Cause) (events : List Event) (out : Out) → Why settings before cause events out → Unreserved settings events → Unreserved settings (events ++ said out ∷ [])
   did before cause events (ToServer n body) why h = unreserved_sent settings before cause events n body why h
-  did before cause events (ToEditor e body) why h = by_event events (events ++ said (ToEditor e body) ∷ []) (said (ToEditor e body)) refl h
-  did before cause events (Spawn n g) why h = by_event events (events ++ said (Spawn n g) ∷ []) (said (Spawn n g)) refl h
-  did before cause events (CloseEditor e) why h = by_event events (events ++ said (CloseEditor e) ∷ []) (said (CloseEditor e)) refl h
-  did before cause events (EndServer n) why h = by_event events (events ++ said (EndServer n) ∷ []) (said (EndServer n)) refl h
+  did before cause events (ToEditor e body) why h = by_event settings events (events ++ said (ToEditor e body) ∷ []) (said (ToEditor e body)) refl h
+  did before cause events (Spawn n g) why h = by_event settings events (events ++ said (Spawn n g) ∷ []) (said (Spawn n g)) refl h
+  did before cause events (CloseEditor e) why h = by_event settings events (events ++ said (CloseEditor e) ∷ []) (said (CloseEditor e)) refl h
+  did before cause events (EndServer n) why h = by_event settings events (events ++ said (EndServer n) ∷ []) (said (EndServer n)) refl h
 
-  entry : (before : List Event) → Reached settings before → (cause : Cause) → fits_behind before cause ≡ true → Unreserved before → Unreserved (behind (with_cause before cause) (outs_of settings before cause))
-  entry before so_far cause fits h = reasons_keep (λ events out. Why settings before cause events out) Unreserved (did before cause) (with_cause before cause) (outs_of settings before cause)
-      (reasons settings range before (facts_at settings range before so_far) cause).why (took before cause h)
+  entry : (before : List Event) → Reached settings before → (cause : Cause) → fits_behind before cause ≡ true → Unreserved settings before → Unreserved settings (behind (with_cause before cause) (outs_of settings before cause))
+  entry before so_far cause fits h = reasons_keep (λ events out. Why settings before cause events out) (Unreserved settings) (did before cause) (with_cause before cause) (outs_of settings before cause)
+      (reasons settings range before (facts_at settings range before so_far) cause).why (took settings before cause h)
 
-  slow : KeepsSlow settings Unreserved
-  slow place at e is h = reasons_keep (Why settings place (quitting e)) Unreserved (did place (quitting e)) place (parting settings place e) (parting_why settings range place (facts_at settings range place at) e is) h
+  slow : KeepsSlow settings (Unreserved settings)
+  slow place at e is h = reasons_keep (Why settings place (quitting e)) (Unreserved settings) (did place (quitting e)) place (parting settings place e) (parting_why settings range place (facts_at settings range place at) e is) h
 
-  pub all_unreserved : (before : List Event) → Reached settings before → Unreserved before
-  all_unreserved before so_far = walk settings Unreserved entry slow (λ s. tt) before so_far
+  pub all_unreserved : (before : List Event) → Reached settings before → Unreserved settings before
+  all_unreserved before so_far = walk settings (Unreserved settings) entry slow (λ s. tt) before so_far

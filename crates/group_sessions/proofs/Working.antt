@@ -14,7 +14,6 @@ use Rattle.event_model.specs.Members.{bytes_if, is_token, named_of, params_of}
 use Rattle.event_model.specs.Requests.{answered_id, is_open, is_own, next_number}
 use Rattle.event_model.specs.Settings.{Settings}
 use Rattle.event_model.proofs.Frames.{never}
-use Rattle.mux_model.specs.Documents.{held_at}
 use Rattle.mux_facts.specs.Allowed.{is_response}
 use Rattle.mux_facts.specs.Ranges.{InRange}
 use Rattle.mux_facts.proofs.Lists.{all_filtered, all_of}
@@ -23,16 +22,14 @@ use Rattle.session_laws.specs.Progress.{tokens_at, unanswered}
 use Rattle.session_laws.specs.ServerRules.{working_behind}
 use Rattle.session_laws.proofs.Server7Law.{is_from_server, working, working_grows, working_more}
 use Rattle.session_laws.proofs.Tokens.{holds, holds_last, holds_left, or_first}
-use Rattle.group_rows.specs.Forwarded.{Forwarded, Forwarding, answered_by, cancelled_by, forwarding_behind, forwarding_of, forwards, is_written, names, no_forwarding, numbered, token_in}
-use Rattle.group_rows.specs.Rows.{sync_bodies}
-use Rattle.group_rows.specs.Texts.{texts_of}
+use Rattle.group_rows.specs.Forwarded.{Forwarded, Forwarding, answered_by, cancelled_by, first_sender, forwarding_next, forwarding_of, forwards, is_written, names, no_forwarding, numbered, token_in, Sender, sender_or}
 use Rattle.group_rows.specs.Tokens.{mark, work_mark}
 use Rattle.group_facts.specs.Why.{IsForward, WhyToServer, begins, cancels, cancels_work, exits, forwarded, greets, conveys, notes, resolves, responds, shuts, tells}
 use Rattle.group_facts.proofs.Apart.{grow, new}
-use Rattle.group_facts.proofs.Forwards.{forwarding_more}
+use Rattle.group_rows.proofs.Frames.{forwarding_more}
 use Rattle.group_sessions.proofs.SentWork.{SentWork, sent_work}
 use Rattle.group_sessions.proofs.Telling.{Adds}
-use Rattle.group_sessions.proofs.TellingSent.{AtWork, at_work, sender_still}
+use Rattle.group_sessions.proofs.TellingSent.{AtWork, at_work}
 
 -- the daemon's token for the work of request n waits there
 abbrev pub Waits : ℕ → List Event → ℕ → Type 0
@@ -44,8 +41,8 @@ IsWorking s events f = (bytes : List ℕ) → f.work ≡ Some bytes → Waits s 
 abbrev pub AllWorking : ℕ → List Event → List Forwarded → Type 0
 AllWorking s events fs = AllByRecursion (IsWorking s events) fs
 
-abbrev pub Ties : List Event → Type 0
-Ties events = (s : ℕ) → AllWorking s events (forwarding_of s events).open_requests
+abbrev pub Ties : Settings → List Event → Type 0
+Ties settings events = (s : ℕ) → AllWorking s events (forwarding_of settings s events).open_requests
 
 -- Later
 
@@ -69,12 +66,12 @@ waits_behind s events (out ∷ outs) n h = subst (λ z. Waits s z n) (append_ass
 pub waits_took : (s : ℕ) (before : List Event) (e : ℕ) (asked : List ℕ) (n : ℕ) → Waits s before n → Waits s (with_cause before (FromEditor e asked)) n
 waits_took s before e asked n h = waits_later s before (heard (FromEditor e asked)) refl n h
 
-ties_by : (events later : List Event) (event : Event) → later ≡ events ++ event ∷ [] → ((s : ℕ) → AllWorking s later (forwarding_behind s (forwarding_of s events) event).open_requests) → Ties later
-ties_by events later event is h s = subst (λ (x : Forwarding). AllWorking s later x.open_requests) (sym (ap (forwarding_of s) is ∙ forwarding_more s events event)) (h s)
+ties_by : (settings : Settings) (events later : List Event) (event : Event) → later ≡ events ++ event ∷ [] → ((s : ℕ) → AllWorking s later (forwarding_next settings s events (forwarding_of settings s events) event).open_requests) → Ties settings later
+ties_by settings events later event is h s = subst (λ (x : Forwarding). AllWorking s later x.open_requests) (sym (ap (forwarding_of settings s) is ∙ forwarding_more settings s events event)) (h s)
 
 -- an event that is no message of a start, and leaves what is open
-pub ties_free : (events : List Event) (event : Event) → is_from_server event ≡ false → ((s : ℕ) → (forwarding_behind s (forwarding_of s events) event).open_requests ≡ (forwarding_of s events).open_requests) → Ties events → Ties (events ++ event ∷ [])
-ties_free events event off same h = ties_by events (events ++ event ∷ []) event refl (λ s. subst (AllWorking s (events ++ event ∷ [])) (sym (same s)) (all_later s events event off (forwarding_of s events).open_requests (h s)))
+pub ties_free : (settings : Settings) (events : List Event) (event : Event) → is_from_server event ≡ false → ((s : ℕ) → (forwarding_next settings s events (forwarding_of settings s events) event).open_requests ≡ (forwarding_of settings s events).open_requests) → Ties settings events → Ties settings (events ++ event ∷ [])
+ties_free settings events event off same h = ties_by settings events (events ++ event ∷ []) event refl (λ s. subst (AllWorking s (events ++ event ∷ [])) (sym (same s)) (all_later s events event off (forwarding_of settings s events).open_requests (h s)))
 
 -- A message of a start
 
@@ -89,8 +86,8 @@ not_so false h = refl
 answer_other : (answer : Option Id) (n : ℕ) → not (names answer n) ≡ true → (i : Id) → answer ≡ Some i → same_id i (integer (decimal n)) ≡ false
 answer_other answer n other i is = names_same i n ∙ ap (λ o. names o n) (sym is) ∙ not_so (names answer n) other
 
-ties_heard : (before : List Event) (n : ℕ) (body : List ℕ) → Ties before → Ties (with_cause before (FromServer n body))
-ties_heard before n body h = ties_by before (with_cause before (FromServer n body)) (heard (FromServer n body)) refl (λ s. go s (nat_eq n s) refl)
+ties_heard : (settings : Settings) (before : List Event) (n : ℕ) (body : List ℕ) → Ties settings before → Ties settings (with_cause before (FromServer n body))
+ties_heard settings before n body h = ties_by settings before (with_cause before (FromServer n body)) (heard (FromServer n body)) refl (λ s. go s (nat_eq n s) refl)
   where
     later : List Event
     later = with_cause before (FromServer n body)
@@ -108,33 +105,33 @@ ties_heard before n body h = ties_by before (with_cause before (FromServer n bod
     still : (s : ℕ) (f : Forwarded) → nat_eq n s ≡ false → IsWorking s before f → IsWorking s later f
     still s f at k bytes is = subst (λ rs. holds (integer (decimal f.number)) (text (mark (work_mark f.number))) rs ≡ true) (sym (is_more s false at)) (k bytes is)
 
-    go : (s : ℕ) (b : Bool) → nat_eq n s ≡ b → AllWorking s later (if b then filter (λ f. not (answered_by answer f)) (forwarding_of s before).open_requests else (forwarding_of s before).open_requests)
-    go s true at = all_filtered (IsWorking s before) (IsWorking s later) (λ f. not (answered_by answer f)) (λ f other k. one s f at other k) (forwarding_of s before).open_requests (h s)
-    go s false at = all_of (IsWorking s before) (IsWorking s later) (λ f k. still s f at k) (forwarding_of s before).open_requests (h s)
+    go : (s : ℕ) (b : Bool) → nat_eq n s ≡ b → AllWorking s later (if b then filter (λ f. not (answered_by answer f)) (forwarding_of settings s before).open_requests else (forwarding_of settings s before).open_requests)
+    go s true at = all_filtered (IsWorking s before) (IsWorking s later) (λ f. not (answered_by answer f)) (λ f other k. one s f at other k) (forwarding_of settings s before).open_requests (h s)
+    go s false at = all_of (IsWorking s before) (IsWorking s later) (λ f k. still s f at k) (forwarding_of settings s before).open_requests (h s)
 
 -- its program ended
-ties_ended : (before : List Event) (cause : Cause) (n : ℕ) → is_from_server (heard cause) ≡ false
-    → ((s : ℕ) → (forwarding_behind s (forwarding_of s before) (heard cause)).open_requests ≡ (if nat_eq n s then [] else (forwarding_of s before).open_requests)) → Ties before → Ties (with_cause before cause)
-ties_ended before cause n off same h = ties_by before (with_cause before cause) (heard cause) refl (λ s. subst (AllWorking s (with_cause before cause)) (sym (same s)) (go s (nat_eq n s)))
+ties_ended : (settings : Settings) (before : List Event) (cause : Cause) (n : ℕ) → is_from_server (heard cause) ≡ false
+    → ((s : ℕ) → (forwarding_next settings s before (forwarding_of settings s before) (heard cause)).open_requests ≡ (if nat_eq n s then [] else (forwarding_of settings s before).open_requests)) → Ties settings before → Ties settings (with_cause before cause)
+ties_ended settings before cause n off same h = ties_by settings before (with_cause before cause) (heard cause) refl (λ s. subst (AllWorking s (with_cause before cause)) (sym (same s)) (go s (nat_eq n s)))
   where
-    go : (s : ℕ) (b : Bool) → AllWorking s (with_cause before cause) (if b then [] else (forwarding_of s before).open_requests)
+    go : (s : ℕ) (b : Bool) → AllWorking s (with_cause before cause) (if b then [] else (forwarding_of settings s before).open_requests)
     go s true = tt
-    go s false = all_later s before (heard cause) off (forwarding_of s before).open_requests (h s)
+    go s false = all_later s before (heard cause) off (forwarding_of settings s before).open_requests (h s)
 
 ended_list : (b : Bool) (x : Forwarding) → (if b then no_forwarding else record { sender = None; next = x.next; open_requests = x.open_requests }).open_requests ≡ (if b then [] else x.open_requests)
 ended_list true x = refl
 ended_list false x = refl
 
-pub ties_took : (before : List Event) (cause : Cause) → Ties before → Ties (with_cause before cause)
-ties_took before (FromServer n body) h = ties_heard before n body h
-ties_took before (StartFailed n) h = ties_ended before (StartFailed n) n refl (λ s. ended_list (nat_eq n s) (forwarding_of s before)) h
-ties_took before (ServerGone n) h = ties_ended before (ServerGone n) n refl (λ s. ended_list (nat_eq n s) (forwarding_of s before)) h
-ties_took before (FromEditor e body) h = ties_free before (heard (FromEditor e body)) refl (λ s. refl) h
-ties_took before (Joined e) h = ties_free before (heard (Joined e)) refl (λ s. refl) h
-ties_took before (EditorGone e why) h = ties_free before (heard (EditorGone e why)) refl (λ s. refl) h
-ties_took before (Started n) h = ties_free before (heard (Started n)) refl (λ s. refl) h
-ties_took before (Drained e k) h = ties_free before (heard (Drained e k)) refl (λ s. refl) h
-ties_took before (Tick t) h = ties_free before (heard (Tick t)) refl (λ s. refl) h
+pub ties_took : (settings : Settings) (before : List Event) (cause : Cause) → Ties settings before → Ties settings (with_cause before cause)
+ties_took settings before (FromServer n body) h = ties_heard settings before n body h
+ties_took settings before (StartFailed n) h = ties_ended settings before (StartFailed n) n refl (λ s. ended_list (nat_eq n s) (forwarding_of settings s before)) h
+ties_took settings before (ServerGone n) h = ties_ended settings before (ServerGone n) n refl (λ s. ended_list (nat_eq n s) (forwarding_of settings s before)) h
+ties_took settings before (FromEditor e body) h = ties_free settings before (heard (FromEditor e body)) refl (λ s. refl) h
+ties_took settings before (Joined e) h = ties_free settings before (heard (Joined e)) refl (λ s. refl) h
+ties_took settings before (EditorGone e why) h = ties_free settings before (heard (EditorGone e why)) refl (λ s. refl) h
+ties_took settings before (Started n) h = ties_free settings before (heard (Started n)) refl (λ s. refl) h
+ties_took settings before (Drained e k) h = ties_free settings before (heard (Drained e k)) refl (λ s. refl) h
+ties_took settings before (Tick t) h = ties_free settings before (heard (Tick t)) refl (λ s. refl) h
 
 -- A body to a start
 
@@ -147,21 +144,21 @@ module _ (s : ℕ) (events : List Event) where
   all_cancelled j [] h = tt
   all_cancelled j (f ∷ fs) h = (cancelled f (is_written j f.number) h.0, all_cancelled j fs h.1)
 
-  forwards_working : (x : Forwarding) (m : Message) → Adds m → AllWorking s events x.open_requests → AllWorking s events (forwards x m).open_requests
-  forwards_working x (request id method ps) own h = go (is_own method) own
+  forwards_working : (first : Option Sender) (x : Forwarding) (m : Message) → Adds m → AllWorking s events x.open_requests → AllWorking s events (forwards first x m).open_requests
+  forwards_working first x (request id method ps) own h = go (is_own method) own
     where
-      go : (b : Bool) → b ≡ true → AllWorking s events (if b then x else record { sender = x.sender; next = x.next + 1; open_requests = x.open_requests ++ numbered x.sender x.next }).open_requests
+      go : (b : Bool) → b ≡ true → AllWorking s events (if b then x else record { sender = x.sender; next = x.next + 1; open_requests = x.open_requests ++ numbered (sender_or x.sender first) x.next }).open_requests
       go true k = h
       go false k = never (sym k)
-  forwards_working x (notification method ps) own h = go (bytes_eq method (codes "$/cancelRequest"))
+  forwards_working first x (notification method ps) own h = go (bytes_eq method (codes "$/cancelRequest"))
     where
       go : (b : Bool) → AllWorking s events (if b then record { sender = x.sender; next = x.next; open_requests = map (cancelled_by (named_of (codes "id") ps)) x.open_requests } else x).open_requests
       go true = all_cancelled (named_of (codes "id") ps) x.open_requests h
       go false = h
-  forwards_working x (result id r) own h = h
-  forwards_working x (error id r) own h = h
-  forwards_working x not_json own h = h
-  forwards_working x not_message own h = h
+  forwards_working first x (result id r) own h = h
+  forwards_working first x (error id r) own h = h
+  forwards_working first x not_json own h = h
+  forwards_working first x not_message own h = h
 
 token_there : (name body bytes : List ℕ) → token_in name body ≡ Some bytes → is_token (named_of name (params_of body)) ≡ true
 token_there name body bytes h = go (is_token (named_of name (params_of body))) h
@@ -174,11 +171,11 @@ module _ (settings : Settings) (range : InRange settings) (before : List Event) 
   abbrev sent : List Event
   sent = events ++ said (ToServer n body) ∷ []
 
-  plain : (m : Message) → message_of body ≡ m → Adds m → Ties events → Ties sent
-  plain m says own h = ties_by events sent (said (ToServer n body)) refl (λ s. go s (nat_eq n s) (all_later s events (said (ToServer n body)) refl (forwarding_of s events).open_requests (h s)))
+  plain : (m : Message) → message_of body ≡ m → Adds m → Ties settings events → Ties settings sent
+  plain m says own h = ties_by settings events sent (said (ToServer n body)) refl (λ s. go s (nat_eq n s) (all_later s events (said (ToServer n body)) refl (forwarding_of settings s events).open_requests (h s)))
     where
-      go : (s : ℕ) (b : Bool) → AllWorking s sent (forwarding_of s events).open_requests → AllWorking s sent (if b then forwards (forwarding_of s events) (message_of body) else forwarding_of s events).open_requests
-      go s true k = forwards_working s sent (forwarding_of s events) (message_of body) (subst Adds (sym says) own) k
+      go : (s : ℕ) (b : Bool) → AllWorking s sent (forwarding_of settings s events).open_requests → AllWorking s sent (if b then forwards (first_sender settings s events) (forwarding_of settings s events) (message_of body) else forwarding_of settings s events).open_requests
+      go s true k = forwards_working s sent (first_sender settings s events) (forwarding_of settings s events) (message_of body) (subst Adds (sym says) own) k
       go s false k = k
 
   answer_adds : (m : Message) → is_response m ≡ true → Adds m
@@ -191,13 +188,10 @@ module _ (settings : Settings) (range : InRange settings) (before : List Event) 
 
   module _ (k : IsForward settings before cause events n body) where
     abbrev next : ℕ
-    next = (forwarding_of n events).next
-
-    abbrev outs : List Out
-    outs = (k.synced).questions ++ map (λ z. ToServer n z) (sync_bodies settings.limits.versions (λ u. held_at n u before) (k.sender).editor (texts_of settings (k.synced).group before).opens)
+    next = (forwarding_of settings n events).next
 
     its : AtWork (k.sender).editor k.asked k.sender
-    its = at_work (k.sender).editor k.asked k.sender (sym (sender_still n before (k.sender).editor k.asked outs) ∙ ap (λ z. (forwarding_of n z).sender) (sym (k.synced).place) ∙ k.at_work)
+    its = at_work (k.sender).editor k.asked k.sender k.own
 
     small : next < 2 ^ 64
     small = let low : next < settings.limits.requests = ltb-true next settings.limits.requests k.room in let wide : settings.limits.requests < 2 ^ 32 = range.requests in omega (arith, low, wide)
@@ -215,10 +209,10 @@ module _ (settings : Settings) (range : InRange settings) (before : List Event) 
     unfolding new
     working_new = waits_new
 
-    asked_now : Ties events → Ties sent
-    asked_now h s = grow settings before cause events n body k s (IsWorking s sent) (all_later s events (said (ToServer n body)) refl (forwarding_of s events).open_requests (h s)) (λ same. subst (λ z. IsWorking z sent (new settings before cause events n body k)) same working_new)
+    asked_now : Ties settings events → Ties settings sent
+    asked_now h s = grow settings before cause events n body k s (IsWorking s sent) (all_later s events (said (ToServer n body)) refl (forwarding_of settings s events).open_requests (h s)) (λ same. subst (λ z. IsWorking z sent (new settings before cause events n body k)) same working_new)
 
-  pub ties_sent : WhyToServer settings before cause events n body → Ties events → Ties sent
+  pub ties_sent : WhyToServer settings before cause events n body → Ties settings events → Ties settings sent
   ties_sent (begins k) h = plain (request (integer (codes "1")) (codes "initialize") k.params) k.says refl h
   ties_sent (greets k) h = plain (notification (codes "initialized") k.params) k.says tt h
   ties_sent (conveys k) h = plain (notification (codes "workspace/didChangeConfiguration") k.params) k.says tt h

@@ -1,5 +1,5 @@
 -- What the exit of a start leaves, whose group lives (X1 to X3): its requests are answered, nothing of it is left open at editors, and its group goes on with a new start, or ends; and what a start's first result brings it (S2, X4; LSP 3.17, Lifecycle Messages).
-use Rattle.std.specs.Prelude.{◌≡◌, ℕ, Bool, true, false, ◌&&◌, List, [], ◌∷◌, ◌++◌, bytes_eq, flat_map, nat_eq, if◌then◌else◌}
+use Rattle.std.specs.Prelude.{◌≡◌, ℕ, Bool, true, false, not, ◌&&◌, ◌||◌, List, [], ◌∷◌, ◌++◌, bytes_eq, flat_map, nat_eq, if◌then◌else◌}
 use Rattle.std.specs.Prelude.{Option, Some, None}
 use Rattle.std.specs.List.{AllByRecursion, list_any}
 use Rattle.std.specs.Option.{option_map}
@@ -32,6 +32,8 @@ use Rattle.group_rows.specs.Leaves.{cancel_text}
 use Rattle.group_rows.specs.Lists.{lists_of}
 use Rattle.group_rows.specs.Rows.{outs_of, replay_bodies}
 use Rattle.group_rows.specs.Texts.{texts_of}
+use Rattle.group_rows.specs.Waiting.{waiting_of}
+use Rattle.group_rows.specs.held_requests.specs.declared.request.Request.{Request}
 use Rattle.group_facts.specs.Facts.{is_exit, is_in}
 use Rattle.group_facts.specs.Lively.{lives_at}
 use Rattle.group_sessions.specs.LastLists.{is_hearing}
@@ -58,8 +60,8 @@ abbrev pub IsClosed : List Event → Forwarded → Type 0
 IsClosed after f = (id : Id) → IsIdText id f.id → is_there (desk_of f.editor after).phase ≡ true → is_open id (open_of f.editor after) ≡ false
 
 pub record Refuses (settings : Settings) (before : List Event) (s : ℕ) (outs : List Out) (after : List Event) : Type 0 where
-  pub refused : AllByRecursion (IsRefused settings before s outs) (forwarding_of s before).open_requests
-  pub closed : AllByRecursion (IsClosed after) (forwarding_of s before).open_requests
+  pub refused : AllByRecursion (IsRefused settings before s outs) (forwarding_of settings s before).open_requests
+  pub closed : AllByRecursion (IsClosed after) (forwarding_of settings s before).open_requests
 
 -- X2: of an editor that runs in the group of the start, which is ready: each token that lives, that it accepted and of which it was told a `begin`, ends there (LSP 3.17, Work Done Progress)
 abbrev pub IsEnded : Settings → List Event → ℕ → List Out → ℕ → Token → Type 0
@@ -109,6 +111,16 @@ Chosen settings before s outs after false = IsOver settings before s outs after
 abbrev pub GoesOn : Settings → List Event → ℕ → List Out → List Event → Type 0
 GoesOn settings before s outs after = Chosen settings before s outs after (begins_again settings before s)
 
+-- X3: a request that waited before the entry waits after it, or is answered by the error RequestFailed under its id, or its editor isn't there
+abbrev pub is_same : Request → Request → Bool
+is_same r q = nat_eq q.editor r.editor && (bytes_eq q.id r.id && bytes_eq q.body r.body)
+
+abbrev pub IsKeptHeld : Settings → List Out → List Event → ℕ → Request → Type 0
+IsKeptHeld settings outs after g r = (list_any (is_same r) (waiting_of settings g after) || (list_any (sends r.editor (error_text r.id request_failed)) outs || not (is_there (desk_of r.editor after).phase))) ≡ true
+
+abbrev pub HoldsOn : Settings → List Event → ℕ → List Out → List Event → Type 0
+HoldsOn settings before s outs after = (g : ℕ) → AllByRecursion (IsKeptHeld settings outs after g) (waiting_of settings g before)
+
 -- what holds of each entry in which a start exits whose group lives before it, by the events before the entry, its outs, and the events behind these
 abbrev pub AtExits : (Settings → List Event → ℕ → List Out → List Event → Type 0) → Settings → List Entry → Type 0
 AtExits R settings history = (before later : List Entry) (entry : Entry) → history ≡ before ++ entry ∷ later → (s : ℕ) → is_exit entry.cause s ≡ true → is_housed settings (events_of before) s ≡ true
@@ -120,14 +132,18 @@ KeepsRefused settings history = AtExits Refuses settings history
 abbrev pub KeepsGroups : Settings → List Entry → Type 0
 KeepsGroups settings history = AtExits GoesOn settings history
 
+abbrev pub KeepsHeld : Settings → List Entry → Type 0
+KeepsHeld settings history = AtExits HoldsOn settings history
+
 abbrev pub KeepsCleared : Settings → List Entry → Type 0
 KeepsCleared settings history = AtExits ClearsAll settings history
 
--- X1 to X3 of each exit
+-- X1 to X3 of each exit, and what waits
 pub record ExitsEnd (settings : Settings) (history : List Entry) : Type 0 where
   pub refused : KeepsRefused settings history
   pub cleared : KeepsCleared settings history
   pub groups : KeepsGroups settings history
+  pub held : KeepsHeld settings history
 
 -- S2: the first result of start s
 abbrev pub gives_result : ℕ → List Event → List ℕ → Bool
@@ -153,7 +169,13 @@ pub record IsReplayed (s : ℕ) (os : List Open) (outs : List Out) (after : List
   pub bodies : flat_map (spoken_to s) outs ≡ replay_bodies [] os os
   pub held : (u : List ℕ) → held_at s u after ≡ held_of u os
 
--- by what is open behind the cause's row, where editors that are slow didn't leave yet
+-- the outs of the entry's row up to the last document that is opened so, and behind these, where editors that are slow didn't leave yet
+pub record IsReplayedFirst (settings : Settings) (g s : ℕ) (now : List Event) (outs : List Out) : Type 0 where
+  pub first : List Out
+  pub rest : List Out
+  pub parts : outs ≡ first ++ rest
+  pub replayed : IsReplayed s (texts_of settings g (behind now first)).opens first (behind now first)
+
 abbrev pub Replays : Settings → List Entry → Type 0
 Replays settings history = (before later : List Entry) (entry : Entry) → history ≡ before ++ entry ∷ later → (s g : ℕ) (body : List ℕ) → entry.cause ≡ FromServer s body → gives_result s (events_of before) body ≡ true → group_of s (events_of before) ≡ Some g
-    → IsReplayed s (texts_of settings g (behind (with_cause (events_of before) entry.cause) (outs_of settings (events_of before) entry.cause))).opens (outs_of settings (events_of before) entry.cause) (behind (with_cause (events_of before) entry.cause) (outs_of settings (events_of before) entry.cause))
+    → IsReplayedFirst settings g s (with_cause (events_of before) entry.cause) (outs_of settings (events_of before) entry.cause)

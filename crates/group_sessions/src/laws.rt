@@ -119,13 +119,15 @@ pub fn last_lists()
 /// that it accepted and that began is ended, what the start asked it alone is cancelled, the last list of each document that it was sent is an
 /// empty one, and nothing is registered. There is a new start for the group, as long as an editor needs it and starts of the group ended no more
 /// often than they may; else the link of each editor of the group is ordered to be ended, and the group lives no more (LSP 3.17, Response Message,
-/// Work Done Progress, Cancellation Support, Publish Diagnostics and Unregister Capability).
+/// Work Done Progress, Cancellation Support, Publish Diagnostics and Unregister Capability). Each request that waited for a start waits behind the
+/// entry as well, or is answered by the error RequestFailed in it, or its editor isn't there any more.
 pub fn exits_end()
     ensures { (settings : Settings) → InRange settings → (history : List Entry) → Legal settings history → ExitsEnd settings history }
 {}
 
-/// A law: behind the row of a start's first result the start has just the documents that are open at an editor of its group, each opened once, under
-/// version 1, in the holder's language and with its text, in the order of the earliest opening (LSP 3.17, Text Document Synchronization).
+/// A law: in the row of a start's first result, behind the last document that it is brought, the start has just the documents that are open at an
+/// editor of its group, each opened once, under version 1, in the holder's language and with its text, in the order of the earliest opening (LSP
+/// 3.17, Text Document Synchronization). The requests that waited follow behind that, each behind a switch of its editor's documents.
 pub fn replays()
     ensures { (settings : Settings) → InRange settings → (history : List Entry) → Legal settings history → Replays settings history }
 {}

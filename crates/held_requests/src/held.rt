@@ -1,5 +1,5 @@
 //! The table of waiting requests.
-ghost use Rattle.std.specs.Prelude.{◌≡◌, true, [], ◌++◌, ◌∷◌, drop, filter, length, not, slice_get, IfOk, OnErr, OnOk};
+ghost use Rattle.std.specs.Prelude.{◌≡◌, true, [], ◌++◌, ◌∷◌, drop, filter, find, length, not, option_copied, slice_get, IfOk, OnErr, OnOk};
 ghost use Rattle.std.specs.List.{list_any};
 ghost use Rattle.numbered_rows.specs.Rows.{less};
 ghost use Rattle.held_requests.specs.Tables.{asked, ids_of, is_of, is_under, of_editor, takes};
@@ -53,6 +53,20 @@ impl Held {
         ensures err { OnErr result (self.new ≡ self.old) }
     {
         self.rows.push(Request { editor, id, body })
+    }
+
+    /// S2: the first request; None exactly where none waits. It takes no memory.
+    pub fn first(&self) -> Option<&Request>
+        ensures { option_copied result ≡ slice_get self.now 0 }
+    {
+        self.rows.first_request()
+    }
+
+    /// E3 and E11: the first request of an editor under this id, as `cancel` finds it. It takes no memory.
+    pub fn find(&self, editor: u64, id: &[u8]) -> Option<&Request>
+        ensures { option_copied result ≡ find (is_under editor id.now) self.now }
+    {
+        self.rows.find(editor, id)
     }
 
     /// S2: the first request waits no more, and is given; None exactly where none waits. It takes no memory.

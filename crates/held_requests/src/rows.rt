@@ -1,5 +1,5 @@
 //! Waiting requests by numbers, which rise in the order in which they come: what is looked up, put and taken.
-ghost use Rattle.std.specs.Prelude.{◌≡◌, ◌++◌, [], ◌∷◌, drop, filter, not, slice_get, IfOk, OnErr, OnOk};
+ghost use Rattle.std.specs.Prelude.{◌≡◌, ◌++◌, [], ◌∷◌, drop, filter, find, not, option_copied, slice_get, IfOk, OnErr, OnOk};
 ghost use Rattle.std.specs.List.{list_any};
 ghost use Rattle.std.specs.BTreeMap.{is_at};
 ghost use Rattle.std.specs.Map.{remove_entry, values_of};
@@ -183,6 +183,24 @@ impl Rows {
     {
         match numbers_of(&self.editors, editor) {
             Some(numbers) => first_of(&self.rows, numbers, editor),
+            None => None,
+        }
+    }
+
+    /// The first request.
+    pub fn first_request(&self) -> Option<&Request>
+        ensures { option_copied result ≡ slice_get (values_of self.now.rows) 0 }
+    {
+        let (_, request) = self.rows.first_key_value()?;
+        Some(request)
+    }
+
+    /// The first request of an editor under an id.
+    pub fn find(&self, editor: u64, id: &[u8]) -> Option<&Request>
+        ensures { option_copied result ≡ find (is_under editor id.now) (values_of self.now.rows) }
+    {
+        match self.under(editor, id) {
+            Some(number) => self.rows.get(&number),
             None => None,
         }
     }

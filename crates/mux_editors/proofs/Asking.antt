@@ -1,5 +1,5 @@
 -- An editor's request goes on behind a sync.
-use Rattle.std.proofs.Common.{◌≡◌, ℕ, ◌<◌, ◌^◌, true, false, not, List, [], ◌∷◌, ◌++◌, map, refl, ap, ap₂, sym, subst, ◌∙◌, codes, arith}
+use Rattle.std.proofs.Common.{◌≡◌, ℕ, ◌<◌, ◌^◌, true, false, not, List, [], ◌∷◌, ◌++◌, map, ap, ap₂, sym, subst, ◌∙◌, codes, arith}
 use Rattle.std.specs.Prelude.{Option, Some, decimal, slice_get}
 use Rattle.std.specs.List.{AllByRecursion}
 use Rattle.json_text.specs.Json.{Json}
@@ -14,16 +14,17 @@ use Rattle.event_model.specs.Event.{Event, behind, heard, requests, with_cause}
 use Rattle.event_model.specs.Requests.{is_own}
 use Rattle.event_model.specs.Row.{look, outs, send, ◌⨾◌}
 use Rattle.event_model.specs.Settings.{Settings}
-use Rattle.event_model.proofs.Frames.{one_more}
 use Rattle.mux_model.specs.Documents.{held_at}
 use Rattle.mux_model.specs.Rows.{to_start}
 use Rattle.mux_model.proofs.DocumentFolds.{outs_to_start}
 use Rattle.mux_turns.specs.group_facts.specs.Why.{IsQuestion}
-use Rattle.group_rows.specs.Forwarded.{Forwarding, forwarding_behind, forwarding_of, sender_of, token_in}
+use Rattle.group_rows.specs.Forwarded.{Forwarding, first_sender, forwarding_of, sender_of, sender_or, token_in}
 use Rattle.group_rows.specs.Rows.{forward, sync_bodies, sync_row}
 use Rattle.group_rows.specs.Tokens.{forwarded_text}
 use Rattle.group_rows.proofs.TokenTexts.{forwarded_says}
-use Rattle.group_rows.specs.Texts.{is_synced, texts_of, worker_of}
+use Rattle.group_rows.specs.Texts.{is_synced, texts_of, toucher, toucher_of}
+use Rattle.group_rows.specs.Waiting.{first_waiting, worker_of}
+use Rattle.group_rows.proofs.Frames.{forwarding_more}
 use Rattle.mux_tables.specs.declared.tables.Start.{Start}
 use Rattle.mux_tables.specs.declared.tables.Tables.{Tables}
 use Rattle.mux_tables.specs.Documents.{AllStand, AllTell, nothing_owed, syncing, to}
@@ -48,10 +49,10 @@ module _ (settings : Settings) (t : Tables) (before : List Event) (body method :
   g = x.life.group
 
   -- whose request is at work
-  pub sends : (bytes : List ℕ) (work partial : Option (List ℕ)) → bytes ≡ id_bytes body → work ≡ token_in (codes "workDoneToken") body → partial ≡ token_in (codes "partialResultToken") body → Sends s e bytes work partial now
-  sends bytes work partial is first second = ap (λ (f : Forwarding). f.sender) ((alike_since settings before body e xs asked).forwarding s) ∙ (ap (λ (f : Forwarding). f.sender) (one_more (forwarding_behind s) _ _ before (heard (FromEditor e body)) refl)
+  pub sends : (bytes : List ℕ) (work partial : Option (List ℕ)) → bytes ≡ id_bytes body → work ≡ token_in (codes "workDoneToken") body → partial ≡ token_in (codes "partialResultToken") body → Sends settings s e bytes work partial now
+  sends bytes work partial is first second = ap (λ o. sender_or o (first_sender settings s now)) (ap (λ (f : Forwarding). f.sender) ((alike_since settings before body e xs asked).forwarding s) ∙ (ap (λ (f : Forwarding). f.sender) (forwarding_more settings s before (heard (FromEditor e body)))
       ∙ (ap (sender_of e body) says ∙ (ap (λ w. Some (record { editor = e; id = w; work = token_in (codes "workDoneToken") body; partial = token_in (codes "partialResultToken") body })) (sym is)
-      ∙ ap₂ (λ a b. Some (record { editor = e; id = bytes; work = a; partial = b })) (sym first) (sym second))))
+      ∙ ap₂ (λ a b. Some (record { editor = e; id = bytes; work = a; partial = b })) (sym first) (sym second)))))
 
   pub works : worker_of now ≡ Some e
   works = at_work settings before body e xs asked
@@ -76,24 +77,25 @@ module _ (settings : Settings) (t : Tables) (before : List Event) (body method :
     text_says l = let new = forwarded_says n body id method params (omega (arith, l)) says in (new.0, ap message_of is ∙ new.1)
 
     -- the number is still the next one behind the sync
-    next_told : AllStand settings (t, nothing_owed) now → (forwarding_of s (behind now (to s bodies))).next ≡ n
+    next_told : AllStand settings (t, nothing_owed) now → (forwarding_of settings s (behind now (to s bodies))).next ≡ n
     next_told k =
         let d = documents_at settings nothing_owed t now i x at k.1 in
         let goes = (text_says (bound k.0)).1 in
         let silent : saying_of (message_of text) ≡ nothing = ap saying_of goes in
         let goes_behind : is_synced (message_of text) ≡ true = ap is_synced goes ∙ ap not passed in
-        let row = row_bodies settings t now i e x d.0 text at d.1 ready silent goes_behind works k.0 k.1 in
-        let speak : AllTell (syncing settings now g x.life.start e) = subst AllTell (sym row) (tell settings t now i e x d.0 text at d.1 ready silent goes_behind works k.0 k.1) in
+        let touches : toucher_of settings x.life.start now (message_of text) ≡ Some e = ap (λ w. toucher w (message_of text) (first_waiting settings x.life.start now)) works in
+        let row = row_bodies settings t now i e x d.0 text at d.1 ready silent goes_behind touches k.0 k.1 in
+        let speak : AllTell (syncing settings now g x.life.start e) = subst AllTell (sym row) (tell settings t now i e x d.0 text at d.1 ready silent goes_behind touches k.0 k.1) in
         let st = stands_told settings t i x at (syncing settings now g x.life.start e) now speak k.0 in
-        let told : (forwarding_of s (behind now (to s (syncing settings now g s e)))).next ≡ x.ids.next = subst (λ m. (forwarding_of m (behind now (to m (syncing settings now g m e)))).next ≡ x.ids.next) own ((st.lasts.each i x at).parts of_ids).next in
-        ap (λ bs. (forwarding_of s (behind now (to s bs))).next) (sym same_bodies) ∙ (told ∙ sym next)
+        let told : (forwarding_of settings s (behind now (to s (syncing settings now g s e)))).next ≡ x.ids.next = subst (λ m. (forwarding_of settings m (behind now (to m (syncing settings now g m e)))).next ≡ x.ids.next) own ((st.lasts.each i x at).parts of_ids).next in
+        ap (λ bs. (forwarding_of settings s (behind now (to s bs))).next) (sym same_bodies) ∙ (told ∙ sym next)
 
-    same_outs : AllStand settings (t, nothing_owed) now → outs (look (λ es. to_start s (syncing settings es g s e) ⨾ send (ToServer s text))) now ≡ outs (sync_row settings before g s e ⨾ forward s body) now
+    same_outs : AllStand settings (t, nothing_owed) now → outs (look (λ es. to_start s (syncing settings es g s e) ⨾ send (ToServer s text))) now ≡ outs (sync_row settings before g s e ⨾ forward settings s body) now
     same_outs k = ap (λ bs. outs (to_start s bs ⨾ send (ToServer s text)) now) same_bodies
-        ∙ ap (λ w. outs (to_start s bodies) now ++ ToServer s w ∷ []) (is ∙ ap (λ m. forwarded_text m body) (sym (ap (λ zs. (forwarding_of s (behind now zs)).next) (outs_to_start s bodies now) ∙ next_told k)))
+        ∙ ap (λ w. outs (to_start s bodies) now ++ ToServer s w ∷ []) (is ∙ ap (λ m. forwarded_text m body) (sym (ap (λ zs. (forwarding_of settings s (behind now zs)).next) (outs_to_start s bodies now) ∙ next_told k)))
 
     pub goes_on : ((name : Id) (new : Option Json) → message_of text ≡ request name method new → Does (λ k events. AllStand settings k events) (look (λ es. to_start s (syncing settings es g s e) ⨾ send (ToServer s text))) base (t, nothing_owed) xs (u, nothing_owed) ys)
-        → Does (λ k events. AllStand settings k events) (sync_row settings before g s e ⨾ forward s body) base (t, nothing_owed) xs (u, nothing_owed) ys
+        → Does (λ k events. AllStand settings k events) (sync_row settings before g s e ⨾ forward settings s body) base (t, nothing_owed) xs (u, nothing_owed) ys
     goes_on d = record {
       done = λ k.
           let goes = text_says (bound k.0) in

@@ -32,7 +32,8 @@ use Rattle.mux_turns.specs.mux_facts.proofs.Lists.{all_of}
 use Rattle.mux_turns.specs.mux_facts.proofs.Words.{same_number}
 use Rattle.mux_members.proofs.Roots.{read_params}
 use Rattle.mux_turns.specs.group_facts.specs.Facts.{AllForwarded, IsForwarded}
-use Rattle.group_rows.specs.Cancelling.{cancelling_at, cancelling_row, id_puts, is_called, named_id, new_id, number_called, number_named, numbered_text, uncancelled_number}
+use Rattle.group_rows.specs.Cancelling.{cancelling_at, cancelling_row, id_puts, is_called, new_id, number_called, number_named, numbered_text, uncancelled_number}
+use Rattle.group_rows.specs.Waiting.{named_id}
 use Rattle.group_rows.specs.Forwarded.{Forwarded, forwarding_of, is_written}
 use Rattle.group_rows.proofs.Cancelling.{Renumbered, renumbered, text_meant}
 use Rattle.group_words.specs.Houses.{home_of}
@@ -128,17 +129,17 @@ module _ (e : ℕ) (i : Id) (w : List ℕ) (text : IsIdText i w) where
         go None found k = absurd (cc)
 
 -- what is kept of each open request has an id
-pub have_ids : (settings : Settings) (t : Tables) (before : List Event) (g : ℕ) (z : Start) → AllForwarded before → Stands settings t before → slice_get t.lasts.items g ≡ Some z → HaveIds (map forwarded_of z.ids.requests)
+pub have_ids : (settings : Settings) (t : Tables) (before : List Event) (g : ℕ) (z : Start) → AllForwarded settings before → Stands settings t before → slice_get t.lasts.items g ≡ Some z → HaveIds (map forwarded_of z.ids.requests)
 have_ids settings t before g z asked st here =
     let opened = ((st.lasts.each g z here).parts of_ids).open_requests in
-    subst HaveIds opened (all_of (IsForwarded before) (λ (f : Forwarded). (id : Id) × IsIdText id f.id) (λ f k. (k.id, k.text)) (forwarding_of z.life.start before).open_requests (asked z.life.start))
+    subst HaveIds opened (all_of (IsForwarded before) (λ (f : Forwarded). (id : Id) × IsIdText id f.id) (λ f k. (k.id, k.text)) (forwarding_of settings z.life.start before).open_requests (asked z.life.start))
 
 -- what is found among them is what the events say
-pub called_at : (settings : Settings) (t : Tables) (before : List Event) (g s : ℕ) (z : Start) (e : ℕ) (i : Id) (o : Option ℕ) → AllForwarded before → Stands settings t before → slice_get t.lasts.items g ≡ Some z → slice_get (map number_in t.lasts.items) g ≡ Some s
-    → (HaveIds (map forwarded_of z.ids.requests) → o ≡ number_called e i (map forwarded_of z.ids.requests)) → o ≡ number_called e i (forwarding_of s before).open_requests
+pub called_at : (settings : Settings) (t : Tables) (before : List Event) (g s : ℕ) (z : Start) (e : ℕ) (i : Id) (o : Option ℕ) → AllForwarded settings before → Stands settings t before → slice_get t.lasts.items g ≡ Some z → slice_get (map number_in t.lasts.items) g ≡ Some s
+    → (HaveIds (map forwarded_of z.ids.requests) → o ≡ number_called e i (map forwarded_of z.ids.requests)) → o ≡ number_called e i (forwarding_of settings s before).open_requests
 called_at settings t before g s z e i o asked st here at f =
     let opened = ((st.lasts.each g z here).parts of_ids).open_requests in
-    f (have_ids settings t before g z asked st here) ∙ (ap (number_called e i) (sym opened) ∙ ap (λ n. number_called e i (forwarding_of n before).open_requests) (start_at_place t.lasts.items g s z here at))
+    f (have_ids settings t before g z asked st here) ∙ (ap (number_called e i) (sym opened) ∙ ap (λ n. number_called e i (forwarding_of settings n before).open_requests) (start_at_place t.lasts.items g s z here at))
 
 -- The row
 
@@ -157,29 +158,29 @@ module _ (settings : Settings) (before : List Event) (e : ℕ) (body : List ℕ)
   pub nameless : named_id params ≡ None → Silent (cancelling_row settings before e body params)
   nameless h = by_home (home_of settings e before)
     where
-      by_start : (start : Option ℕ) → Silent (on start nothing (cancelling_at before e body params))
+      by_start : (start : Option ℕ) → Silent (on start nothing (cancelling_at settings before e body params))
       by_start None = alike refl
-      by_start (Some s) = alike_then (alike (ap (λ o. choose (is_ready (life_of s before).stage) (named_row s (option_and_then (λ id. number_called e id (forwarding_of s before).open_requests) o)) nothing) h)) (either_nothing (is_ready (life_of s before).stage))
+      by_start (Some s) = alike_then (alike (ap (λ o. choose (is_ready (life_of s before).stage) (named_row s (option_and_then (λ id. number_called e id (forwarding_of settings s before).open_requests) o)) nothing) h)) (either_nothing (is_ready (life_of s before).stage))
 
-      by_home : (home : Option ℕ) → Silent (on home nothing (λ g. on (start_of g before) nothing (λ s. cancelling_at before e body params s)))
+      by_home : (home : Option ℕ) → Silent (on home nothing (λ g. on (start_of g before) nothing (λ s. cancelling_at settings before e body params s)))
       by_home None = alike refl
       by_home (Some g) = by_start (start_of g before)
 
   -- no start, or one that ended
   pub startless : HasEnded (start_for settings e before) before → Silent (cancelling_row settings before e body params)
-  startless h = ended_start (home_of settings e before) (λ g. start_of g before) nothing (λ g s. cancelling_at before e body params s) (λ g s at. is_second refl (ap is_ready (h s at)))
+  startless h = ended_start (home_of settings e before) (λ g. start_of g before) nothing (λ g s. cancelling_at settings before e body params s) (λ g s at. is_second refl (ap is_ready (h s at)))
 
   module _ (g s : ℕ) (stage : Stage) (home : home_of settings e before ≡ Some g) (start : start_of g before ≡ Some s) (at : stage ≡ (life_of s before).stage) where
-    there : cancelling_row settings before e body params ≡ cancelling_at before e body params s
-    there = some_start (home_of settings e before) (λ g. start_of g before) nothing (λ g s. cancelling_at before e body params s) g s home start
+    there : cancelling_row settings before e body params ≡ cancelling_at settings before e body params s
+    there = some_start (home_of settings e before) (λ g. start_of g before) nothing (λ g s. cancelling_at settings before e body params s) g s home start
 
     -- a start that isn't ready
     pub unready_cancel : is_ready stage ≡ false → Silent (cancelling_row settings before e body params)
     unready_cancel r = is_second there (ap is_ready (sym at) ∙ r)
 
-    module _ (id : Id) (o : Option ℕ) (r : is_ready stage ≡ true) (named : named_id params ≡ Some id) (is : o ≡ number_called e id (forwarding_of s before).open_requests) where
-      number_here : number_named e params (forwarding_of s before).open_requests ≡ o
-      number_here = ap (λ z. option_and_then (λ i. number_called e i (forwarding_of s before).open_requests) z) named ∙ sym is
+    module _ (id : Id) (o : Option ℕ) (r : is_ready stage ≡ true) (named : named_id params ≡ Some id) (is : o ≡ number_called e id (forwarding_of settings s before).open_requests) where
+      number_here : number_named e params (forwarding_of settings s before).open_requests ≡ o
+      number_here = ap (λ z. option_and_then (λ i. number_called e i (forwarding_of settings s before).open_requests) z) named ∙ sym is
 
       row_is : Alike (cancelling_row settings before e body params) (named_row s o)
       row_is = alike_then (is_first there (ap is_ready (sym at) ∙ r)) (alike (ap (named_row s) number_here))

@@ -10,7 +10,7 @@ use Rattle.lsp_method.specs.declared.variants.Origin.TheVariants.{Editor}
 use Rattle.mux_model.specs.Built.{is_other}
 use Rattle.mux_model.specs.Methods.{is_shutdown, is_wrong}
 use Rattle.event_model.specs.Requests.{is_own}
-use Rattle.group_rows.specs.Rows.{is_misplaced}
+use Rattle.group_rows.specs.Waiting.{is_misplaced}
 
 pub record NotOwn (m : List ℕ) : Type 0 where
   pub initialize : bytes_eq m (codes "initialize") ≡ false

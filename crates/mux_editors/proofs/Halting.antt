@@ -22,9 +22,13 @@ use Rattle.group_words.specs.Houses.{groups_of, home_of, stops}
 use Rattle.group_words.specs.Placing.{all_from, is_live}
 use Rattle.group_words.specs.Rows.{end_group}
 use Rattle.event_model.proofs.Turns.{alike, alike_then, behind_more, does_alike, does_entry, does_knowing, does_nothing, does_then}
-use Rattle.group_rows.specs.Forwarded.{Forwarded, Forwarding, forwarding_behind, forwarding_of, is_of}
+use Rattle.group_rows.specs.Forwarded.{Forwarded, Forwarding, forwarding_of, is_of}
 use Rattle.group_rows.specs.Rows.{asks_lspmux}
-use Rattle.group_rows.specs.StopRows.{close_each, lose_request, lose_requests, refuse_initialize, refuse_open, stop_row, there_in}
+use Rattle.group_rows.specs.Waiting.{refuse_held, refuse_waiting, waiting_of}
+use Rattle.mux_tables.specs.mux_waits.specs.held_requests.specs.declared.request.Request.{Request}
+use Rattle.mux_tables.specs.mux_waits.specs.held_requests.specs.Tables.{of_editor}
+use Rattle.group_rows.specs.StopRows.{lose_waiting, close_each, lose_request, lose_requests, refuse_initialize, refuse_open, stop_row, there_in}
+use Rattle.group_rows.proofs.Frames.{forwarding_more}
 use Rattle.mux_tables.specs.declared.tables.Tables.{Tables}
 use Rattle.mux_tables.specs.declared.tables.Start.{Start}
 use Rattle.mux_tables.specs.Documents.{AllStand, DocumentsStand, Owed, nothing_owed}
@@ -53,43 +57,43 @@ module _ (settings : Settings) (t u : Tables) (base : List Event) (xs ys : List 
   pub halts_each : ((owed : Owed) → Does (λ k events. AllStand settings k events) row base (t, owed) xs (u, owed) ys) → Does (λ t events. Halts settings t events) row base t xs u ys
   halts_each f = record { done = λ k. let d = f k.1.0 in let one = d.done (k.0, k.1.1) in record { outs = one.outs; stands = (one.stands.0, (k.1.0, one.stands.1)) } }
 
-pub loses_all : (settings : Settings) (t : Tables) (base : List Event) (xs ys : List Out) (e s : ℕ) (ids : List (List ℕ)) → AllByRecursion IsNamed (ids_at e (forwarding_of s (behind base xs)).open_requests)
-    → (Stands settings t (behind base xs) → ids ≡ ids_at e (forwarding_of s (behind base xs)).open_requests) → (AllByRecursion IsNamed ids → Does (λ t events. Stands settings t events) (each (refuse_id e) ids) base t xs t ys)
-    → Does (λ t events. Stands settings t events) (each (refuse_id e) (ids_at e (forwarding_of s (behind base xs)).open_requests)) base t xs t ys
-loses_all settings t base xs ys e s ids named is d = does_knowing (λ st.
-    subst (λ ws. Does (λ t events. Stands settings t events) (each (refuse_id e) ws) base t xs t ys) (is st) (d (subst (AllByRecursion IsNamed) (sym (is st)) named)))
+pub loses_all : (settings : Settings) (t u : Tables) (base : List Event) (xs ys : List Out) (e s : ℕ) (ids : List (List ℕ)) → AllByRecursion IsNamed (ids_at e (forwarding_of settings s (behind base xs)).open_requests)
+    → (Stands settings t (behind base xs) → ids ≡ ids_at e (forwarding_of settings s (behind base xs)).open_requests) → (AllByRecursion IsNamed ids → Does (λ t events. Stands settings t events) (each (refuse_id e) ids) base t xs u ys)
+    → Does (λ t events. Stands settings t events) (each (refuse_id e) (ids_at e (forwarding_of settings s (behind base xs)).open_requests)) base t xs u ys
+loses_all settings t u base xs ys e s ids named is d = does_knowing (λ st.
+    subst (λ ws. Does (λ t events. Stands settings t events) (each (refuse_id e) ws) base t xs u ys) (is st) (d (subst (AllByRecursion IsNamed) (sym (is st)) named)))
 
 -- the start of its group
 module _ (settings : Settings) (t : Tables) (before base : List Event) (xs : List Out) (home e : ℕ) (stays : Stays settings before (behind base xs)) where
   abbrev Loses : List Out → Type 0
-  Loses ys = Does (λ t events. Stands settings t events) (lose_from before e (start_of home before)) base t xs t ys
+  Loses ys = Does (λ t events. Stands settings t events) (lose_from settings before e (start_of home before)) base t xs t ys
 
   pub loses_lost : (Rise 0 t.lasts.items → IsLost home t.lasts.items) → Loses xs
   loses_lost lost = does_knowing (λ st. by_start (start_of home before) refl st)
     where
-      by_start : (o : Option ℕ) → start_of home before ≡ o → Stands settings t (behind base xs) → Does (λ t events. Stands settings t events) (lose_from before e o) base t xs t xs
+      by_start : (o : Option ℕ) → start_of home before ≡ o → Stands settings t (behind base xs) → Does (λ t events. Stands settings t events) (lose_from settings before e o) base t xs t xs
       by_start None is st = does_alike (λ _. alike refl) does_nothing
       by_start (Some s) is st =
           let gone = st.lasts.lost home s (lost st.lasts.rise) (stays.start home ∙ is) in
           let ids = (gone.stands).parts of_ids in
-          let none : (forwarding_of s before).open_requests ≡ [] = sym (stays.open_requests s) ∙ (ap (λ n. (forwarding_of n (behind base xs)).open_requests) (sym gone.number) ∙ (ids.open_requests ∙ ap (map forwarded_of) gone.answered)) in
+          let none : (forwarding_of settings s before).open_requests ≡ [] = sym (stays.open_requests s) ∙ (ap (λ n. (forwarding_of settings n (behind base xs)).open_requests) (sym gone.number) ∙ (ids.open_requests ∙ ap (map forwarded_of) gone.answered)) in
           does_alike (λ _. alike (ap (λ fs. each lose_request (filter (is_of e) fs)) none)) does_nothing
 
-module _ (settings : Settings) (t : Tables) (before base : List Event) (xs ys : List Out) (home e s : ℕ) (stays : Stays settings before (behind base xs)) (forwarded : AllForwarded before) where
+module _ (settings : Settings) (t u : Tables) (before base : List Event) (xs ys : List Out) (home e s : ℕ) (stays : Stays settings before (behind base xs)) (forwarded : AllForwarded settings before) where
   pub loses_some : (Stands settings t (behind base xs) → start_of home (behind base xs) ≡ Some s)
-      → (AllByRecursion IsNamed (ids_at e (forwarding_of s (behind base xs)).open_requests) → Does (λ t events. Stands settings t events) (each (refuse_id e) (ids_at e (forwarding_of s (behind base xs)).open_requests)) base t xs t ys)
-      → Does (λ t events. Stands settings t events) (lose_from before e (start_of home before)) base t xs t ys
-  loses_some at d = does_alike (λ st. alike_then (alike (ap (lose_from before e) (sym (stays.start home) ∙ at st)))
-      (alike_then (own_rows e (forwarding_of s before).open_requests) (alike (ap (λ fs. each (refuse_id e) (ids_at e fs)) (sym (stays.open_requests s))))))
-      (d (subst (λ fs. AllByRecursion IsNamed (ids_at e fs)) (sym (stays.open_requests s)) (named_all before e (forwarding_of s before).open_requests (forwarded s))))
+      → (AllByRecursion IsNamed (ids_at e (forwarding_of settings s (behind base xs)).open_requests) → Does (λ t events. Stands settings t events) (each (refuse_id e) (ids_at e (forwarding_of settings s (behind base xs)).open_requests)) base t xs u ys)
+      → Does (λ t events. Stands settings t events) (lose_from settings before e (start_of home before)) base t xs u ys
+  loses_some at d = does_alike (λ st. alike_then (alike (ap (lose_from settings before e) (sym (stays.start home) ∙ at st)))
+      (alike_then (own_rows e (forwarding_of settings s before).open_requests) (alike (ap (λ fs. each (refuse_id e) (ids_at e fs)) (sym (stays.open_requests s))))))
+      (d (subst (λ fs. AllByRecursion IsNamed (ids_at e fs)) (sym (stays.open_requests s)) (named_all before e (forwarding_of settings s before).open_requests (forwarded s))))
 
 module _ (settings : Settings) (t : Tables) (before base : List Event) (xs : List Out) (e : ℕ) where
   pub loses_homeless : Stays settings before (behind base xs) → (Stands settings t (behind base xs) → home_of settings e (behind base xs) ≡ None) → Does (λ t events. Stands settings t events) (lose_requests settings before e) base t xs t xs
-  loses_homeless stays none = does_alike (λ st. alike (ap (λ o. on o nothing (λ g. lose_from before e (start_of g before))) (sym (stays.home e) ∙ none st))) does_nothing
+  loses_homeless stays none = does_alike (λ st. alike (ap (λ o. on o nothing (λ g. lose_from settings before e (start_of g before))) (sym (stays.home e) ∙ none st))) does_nothing
 
-pub loses_home : (settings : Settings) (t : Tables) (before base : List Event) (xs ys : List Out) (e home : ℕ) → Stays settings before (behind base xs) → (Stands settings t (behind base xs) → home_of settings e (behind base xs) ≡ Some home)
-    → Does (λ t events. Stands settings t events) (lose_from before e (start_of home before)) base t xs t ys → Does (λ t events. Stands settings t events) (lose_requests settings before e) base t xs t ys
-loses_home settings t before base xs ys e home stays at d = does_alike (λ st. alike (ap (λ o. on o nothing (λ g. lose_from before e (start_of g before))) (sym (stays.home e) ∙ at st))) d
+pub loses_home : (settings : Settings) (t u : Tables) (before base : List Event) (xs ys : List Out) (e home : ℕ) → Stays settings before (behind base xs) → (Stands settings t (behind base xs) → home_of settings e (behind base xs) ≡ Some home)
+    → Does (λ t events. Stands settings t events) (lose_from settings before e (start_of home before)) base t xs u ys → Does (λ t events. Stands settings t events) (lose_requests settings before e) base t xs u ys
+loses_home settings t u before base xs ys e home stays at d = does_alike (λ st. alike (ap (λ o. on o nothing (λ g. lose_from settings before e (start_of g before))) (sym (stays.home e) ∙ at st))) d
 
 -- Bodies to editors
 
@@ -105,16 +109,16 @@ lost_told : (fs : List Forwarded) (events : List Event) → AllByRecursion IsTol
 lost_told [] events = tt
 lost_told (f ∷ fs) events = (tt, lost_told fs (events ++ said (ToEditor f.editor (error_text f.id request_failed)) ∷ []))
 
-from_told : (before : List Event) (e : ℕ) (start : Option ℕ) (events : List Event) → AllByRecursion IsTold (outs (lose_from before e start) events)
-from_told before e None events = tt
-from_told before e (Some s) events = lost_told (filter (is_of e) (forwarding_of s before).open_requests) events
+from_told : (settings : Settings) (before : List Event) (e : ℕ) (start : Option ℕ) (events : List Event) → AllByRecursion IsTold (outs (lose_from settings before e start) events)
+from_told settings before e None events = tt
+from_told settings before e (Some s) events = lost_told (filter (is_of e) (forwarding_of settings s before).open_requests) events
 
 lose_told : (settings : Settings) (before : List Event) (e : ℕ) (events : List Event) → AllByRecursion IsTold (outs (lose_requests settings before e) events)
 lose_told settings before e events = go (home_of settings e before)
   where
-    go : (o : Option ℕ) → AllByRecursion IsTold (outs (on o nothing (λ g. lose_from before e (start_of g before))) events)
+    go : (o : Option ℕ) → AllByRecursion IsTold (outs (on o nothing (λ g. lose_from settings before e (start_of g before))) events)
     go None = tt
-    go (Some g) = from_told before e (start_of g before) events
+    go (Some g) = from_told settings before e (start_of g before) events
 
 first_told : (e : ℕ) (events : List Event) → AllByRecursion IsTold (outs (refuse_initialize e) events)
 first_told e events = go (is_waiting (desk_of e events).phase)
@@ -123,8 +127,21 @@ first_told e events = go (is_waiting (desk_of e events).phase)
     go true = (tt, tt)
     go false = tt
 
+waited_told : (rs : List Request) (events : List Event) → AllByRecursion IsTold (outs (each refuse_waiting rs) events)
+waited_told [] events = tt
+waited_told (r ∷ rs) events = (tt, waited_told rs (events ++ said (ToEditor r.editor (error_text r.id request_failed)) ∷ []))
+
+held_told : (settings : Settings) (before : List Event) (e : ℕ) (events : List Event) → AllByRecursion IsTold (outs (lose_waiting settings before e) events)
+held_told settings before e events = go (home_of settings e before)
+  where
+    go : (o : Option ℕ) → AllByRecursion IsTold (outs (on o nothing (λ g. refuse_held settings g e)) events)
+    go None = tt
+    go (Some g) = waited_told (of_editor e (waiting_of settings g events)) events
+
 open_told : (settings : Settings) (before : List Event) (e : ℕ) (events : List Event) → AllByRecursion IsTold (outs (refuse_open settings before e) events)
-open_told settings before e events = all_join (outs (refuse_initialize e) events) _ (first_told e events) (lose_told settings before e (behind events (outs (refuse_initialize e) events)))
+open_told settings before e events =
+    let first = behind events (outs (refuse_initialize e) events) in
+    all_join (outs (refuse_initialize e) events) _ (first_told e events) (all_join (outs (lose_requests settings before e) first) _ (lose_told settings before e first) (held_told settings before e (behind first (outs (lose_requests settings before e) first))))
 
 module _ (settings : Settings) (before now : List Event) (k : ℕ) (body : List ℕ) (r : Refusing settings before now) where
   abbrev ev : Event
@@ -144,7 +161,7 @@ module _ (settings : Settings) (before now : List Event) (k : ℕ) (body : List 
     stays = record {
       home = λ e. home_more settings e now ev ∙ r.stays.home e;
       start = λ g. one_more (start_behind g) _ _ now ev refl ∙ r.stays.start g;
-      open_requests = λ s. ap (λ (f : Forwarding). f.open_requests) (one_more (forwarding_behind s) _ _ now ev refl) ∙ r.stays.open_requests s;
+      open_requests = λ s. ap (λ (f : Forwarding). f.open_requests) (forwarding_more settings s now ev) ∙ r.stays.open_requests s;
     };
     asking = λ e at. let d = told_desk e at in let asks = r.asking e d.0 in record { name = asks.name; method = asks.method; params = asks.params; says = ap message_of d.1 ∙ asks.says };
     housed = λ e at. let home = r.housed e (told_desk e at).0 in (home.0, home_more settings e now ev ∙ home.1);
@@ -155,29 +172,33 @@ still_refusing settings before events [] h r = subst (Refusing settings before) 
 still_refusing settings before events (ToEditor k body ∷ xs) h r = subst (Refusing settings before) (sym (behind_more events (ToEditor k body ∷ []) xs)) (still_refusing settings before (events ++ said (ToEditor k body) ∷ []) xs h.1 (told_refusing settings before events k body r))
 still_refusing settings before events (other ∷ xs) h r = absurd h.0
 
-pub refusing_on : (settings : Settings) (t : Tables) (before base : List Event) (xs ys : List Out) {row : Row} → ((events : List Event) → AllByRecursion IsTold (outs row events)) → Does (λ t events. Stands settings t events) row base t xs t ys → Stands settings t (behind base xs)
+pub refusing_on : (settings : Settings) (t u : Tables) (before base : List Event) (xs ys : List Out) {row : Row} → ((events : List Event) → AllByRecursion IsTold (outs row events)) → Does (λ t events. Stands settings t events) row base t xs u ys → Stands settings t (behind base xs)
     → Refusing settings before (behind base xs) → Refusing settings before (behind base ys)
-refusing_on settings t before base xs ys {row} told d st r = subst (Refusing settings before) (sym (ap (behind base) (d.done st).outs ∙ behind_more base xs (outs row (behind base xs)))) (still_refusing settings before (behind base xs) (outs row (behind base xs)) (told (behind base xs)) r)
+refusing_on settings t u before base xs ys {row} told d st r = subst (Refusing settings before) (sym (ap (behind base) (d.done st).outs ∙ behind_more base xs (outs row (behind base xs)))) (still_refusing settings before (behind base xs) (outs row (behind base xs)) (told (behind base xs)) r)
 
-pub opens_refused : (settings : Settings) (t : Tables) (before base : List Event) (xs ys zs : List Out) (e : ℕ) → Refusing settings before (behind base xs) → Does (λ t events. Stands settings t events) (refuse_initialize e) base t xs t ys
-    → (Refusing settings before (behind base ys) → Does (λ t events. Stands settings t events) (lose_requests settings before e) base t ys t zs) → Does (λ t events. Stands settings t events) (refuse_open settings before e) base t xs t zs
-opens_refused settings t before base xs ys zs e r one two = does_knowing (λ st. does_then one (two (refusing_on settings t before base xs ys (first_told e) one st r)))
+pub opens_refused : (settings : Settings) (t m n u : Tables) (before base : List Event) (xs ys zs ws : List Out) (e : ℕ) → Refusing settings before (behind base xs) → Does (λ t events. Stands settings t events) (refuse_initialize e) base t xs m ys
+    → (Refusing settings before (behind base ys) → Does (λ t events. Stands settings t events) (lose_requests settings before e) base m ys n zs)
+    → (Refusing settings before (behind base zs) → Does (λ t events. Stands settings t events) (lose_waiting settings before e) base n zs u ws) → Does (λ t events. Stands settings t events) (refuse_open settings before e) base t xs u ws
+opens_refused settings t m n u before base xs ys zs ws e r one two three = does_knowing (λ st.
+    let next : Refusing settings before (behind base ys) = refusing_on settings t m before base xs ys (first_told e) one st r in
+    let last : Refusing settings before (behind base zs) = refusing_on settings m n before base ys zs (lose_told settings before e) (two next) (one.done st).stands next in
+    does_then one (does_then (two next) (three last)))
 
-pub refusing_next : (settings : Settings) (t : Tables) (before base : List Event) (xs ys : List Out) (e : ℕ) → Refusing settings before (behind base xs) → Stands settings t (behind base xs) → Does (λ t events. Stands settings t events) (refuse_open settings before e) base t xs t ys → Refusing settings before (behind base ys)
-refusing_next settings t before base xs ys e r st d = refusing_on settings t before base xs ys (open_told settings before e) d st r
+pub refusing_next : (settings : Settings) (t u : Tables) (before base : List Event) (xs ys : List Out) (e : ℕ) → Refusing settings before (behind base xs) → Stands settings t (behind base xs) → Does (λ t events. Stands settings t events) (refuse_open settings before e) base t xs u ys → Refusing settings before (behind base ys)
+refusing_next settings t u before base xs ys e r st d = refusing_on settings t u before base xs ys (open_told settings before e) d st r
 
 -- the whole entry, where no start is ready behind it
-pub stops_done : (settings : Settings) (before base : List Event) (e : ℕ) (body : List ℕ) (t u v : Tables) (told refused closed ys : List Out) (lost shut live : List ℕ) → Stands settings t base → DocumentsStand settings nothing_owed t base
+pub stops_done : (settings : Settings) (before base : List Event) (e : ℕ) (body : List ℕ) (t a r u v : Tables) (told refused closed ys : List Out) (lost shut live : List ℕ) → Stands settings t base → DocumentsStand settings nothing_owed t base
     → lost ≡ there_in before → shut ≡ there_in before → live ≡ all_from 0 is_live (groups_of settings before)
-    → Does (λ t events. Halts settings t events) (send (ToEditor e (ok_text (id_bytes body) (codes "null")))) base t [] t told
-    → Does (λ t events. Halts settings t events) (each (refuse_open settings before) lost) base t told t refused
-    → Does (λ t events. Halts settings t events) (close_each shut) base t refused u closed
+    → Does (λ t events. Halts settings t events) (send (ToEditor e (ok_text (id_bytes body) (codes "null")))) base t [] a told
+    → Does (λ t events. Halts settings t events) (each (refuse_open settings before) lost) base a told r refused
+    → Does (λ t events. Halts settings t events) (close_each shut) base r refused u closed
     → Does (λ t events. Halts settings t events) (each end_group live) base u closed v ys
     → (ys ≡ outs (stop_row settings before e body) base → Stands settings v (behind base ys) → (g : ℕ) (x : Start) → slice_get v.lasts.items g ≡ Some x → is_ready x.life.stage ≡ false)
     → Done (λ k events. AllStand settings k events) (stop_row settings before e body) base [] (v, nothing_owed) ys
-stops_done settings before base e body t u v told refused closed ys lost shut live st ds those these alive one refuses closes ends none =
-    let two = subst (λ es. Does (λ t events. Halts settings t events) (each (refuse_open settings before) es) base t told t refused) those refuses in
-    let three = subst (λ es. Does (λ t events. Halts settings t events) (close_each es) base t refused u closed) these closes in
+stops_done settings before base e body t a r u v told refused closed ys lost shut live st ds those these alive one refuses closes ends none =
+    let two = subst (λ es. Does (λ t events. Halts settings t events) (each (refuse_open settings before) es) base a told r refused) those refuses in
+    let three = subst (λ es. Does (λ t events. Halts settings t events) (close_each es) base r refused u closed) these closes in
     let four = subst (λ gs. Does (λ t events. Halts settings t events) (each end_group gs) base u closed v ys) alive ends in
     let done = does_entry {Stands = λ t events. Halts settings t events} {row = stop_row settings before e body} (st, (nothing_owed, ds)) (does_then one (does_then two (does_then three four))) in
     let sent : ys ≡ outs (stop_row settings before e body) base = done.outs ∙ ap (outs (stop_row settings before e body)) (append-nil base) in
@@ -213,7 +234,7 @@ module _ (settings : Settings) (before : List Event) (k : ℕ) (body : List ℕ)
     stays = record {
       home = still_home;
       start = λ g. one_more (start_behind g) _ _ before stopping refl;
-      open_requests = λ s. ap (λ (f : Forwarding). f.open_requests) (one_more (forwarding_behind s) _ _ before stopping refl);
+      open_requests = λ s. ap (λ (f : Forwarding). f.open_requests) (forwarding_more settings s before stopping);
     };
     asking = λ e at.
         let was = heard_desk e at in
@@ -232,11 +253,11 @@ IsAside (ToEditor e body) = Unit {0}
 IsAside (CloseEditor e) = Unit {0}
 IsAside other = ⊥
 
-pub numbered_asides : (xs : List Out) (events : List Event) → AllByRecursion IsAside xs → Numbered events → Numbered (behind events xs)
-numbered_asides [] events h k = subst Numbered (sym (append-nil events)) k
-numbered_asides (ToEditor e body ∷ xs) events h k = subst Numbered (sym (behind_more events (ToEditor e body ∷ []) xs)) (numbered_asides xs (events ++ said (ToEditor e body) ∷ []) h.1 (numbered_told events e body k))
-numbered_asides (CloseEditor e ∷ xs) events h k = subst Numbered (sym (behind_more events (CloseEditor e ∷ []) xs)) (numbered_asides xs (events ++ said (CloseEditor e) ∷ []) h.1 (numbered_closed events e k))
-numbered_asides (other ∷ xs) events h k = absurd h.0
+pub numbered_asides : (settings : Settings) (xs : List Out) (events : List Event) → AllByRecursion IsAside xs → Numbered settings events → Numbered settings (behind events xs)
+numbered_asides settings [] events h k = subst (Numbered settings) (sym (append-nil events)) k
+numbered_asides settings (ToEditor e body ∷ xs) events h k = subst (Numbered settings) (sym (behind_more events (ToEditor e body ∷ []) xs)) (numbered_asides settings xs (events ++ said (ToEditor e body) ∷ []) h.1 (numbered_told settings events e body k))
+numbered_asides settings (CloseEditor e ∷ xs) events h k = subst (Numbered settings) (sym (behind_more events (CloseEditor e ∷ []) xs)) (numbered_asides settings xs (events ++ said (CloseEditor e) ∷ []) h.1 (numbered_closed settings events e k))
+numbered_asides settings (other ∷ xs) events h k = absurd h.0
 
 pub closes_aside : (es : List ℕ) (events : List Event) → AllByRecursion IsAside (outs (close_each es) events)
 closes_aside [] events = tt

@@ -208,7 +208,7 @@ waits_unserved Down i body m h = absurd (cc)
 waits_unserved Closed i body m h = absurd (cc)
 waits_unserved Gone i body m h = absurd (cc)
 
-module _ (before : List Event) (e : ℕ) (body : List ℕ) (xs : List Out) (first : xs ≡ []) where
+module _ (settings : Settings) (before : List Event) (e : ℕ) (body : List ℕ) (xs : List Out) (first : xs ≡ []) where
   here : behind (with_cause before (FromEditor e body)) xs ≡ with_cause before (FromEditor e body)
   here = ap (behind (with_cause before (FromEditor e body))) first ∙ append-nil (with_cause before (FromEditor e body))
 
@@ -216,14 +216,14 @@ module _ (before : List Event) (e : ℕ) (body : List ℕ) (xs : List Out) (firs
   unserved_now new = ap (λ es. is_served (desk_of e es).phase) here
       ∙ (ap (λ (d : Desk). is_served d.phase) (one_more (desk_behind e) _ _ before (heard (FromEditor e body)) refl) ∙ rw (itself e) (waits_unserved (desk_of e before).phase (desk_of e before).initialize body (message_of body) new))
 
-  pub numbered_now : Numbered before → Numbered (behind (with_cause before (FromEditor e body)) xs)
-  numbered_now k = subst Numbered (sym here) (numbered_heard before e body k)
+  pub numbered_now : Numbered settings before → Numbered settings (behind (with_cause before (FromEditor e body)) xs)
+  numbered_now k = subst (Numbered settings) (sym here) (numbered_heard settings before e body k)
 
 -- an editor that joins a group waits, where its start isn't ready behind the message
 pub joins_waits : (settings : Settings) (t : Tables) (before : List Event) (e : ℕ) (body : List ℕ) (g : ℕ) (xs : List Out) → xs ≡ [] → (Stands settings t (with_cause before (FromEditor e body)) → Alike (placed_row e body (with_cause before (FromEditor e body)) (Joins g)) nothing)
     → Does (λ k events. AllStand settings k events) (placed_row e body before (Joins g)) (with_cause before (FromEditor e body)) (t, nothing_owed) xs (t, nothing_owed) xs
 joins_waits settings t before e body g xs first waits =
-    does_alike (λ k. alike_then (alike (sym (joins_heard before e body g))) (waits (subst (Stands settings t) (here before e body xs first) k.0))) does_nothing
+    does_alike (λ k. alike_then (alike (sym (joins_heard before e body g))) (waits (subst (Stands settings t) (here settings before e body xs first) k.0))) does_nothing
 
 -- an editor that joins a group without a ready start waits
 module _ (before : List Event) (e : ℕ) (body : List ℕ) (g : ℕ) where

@@ -24,3 +24,6 @@ mod Telling
 pub mod Turns
 pub mod Unopened
 pub mod Working
+pub mod Staying
+pub mod KeptBack
+pub mod Withdrawing

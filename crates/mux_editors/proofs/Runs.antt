@@ -36,7 +36,7 @@ use Rattle.group_rows.specs.Live.{live_of, register_text}
 use Rattle.group_rows.proofs.CreatedTexts.{create_says}
 use Rattle.group_rows.specs.ListRows.{show_all}
 use Rattle.group_rows.specs.LiveRows.{call, has_some, register_any, restore}
-use Rattle.group_rows.specs.Texts.{worker_behind, worker_of}
+use Rattle.group_rows.specs.Waiting.{worker_behind, worker_of}
 use Rattle.group_words.specs.Houses.{home_of, is_doubled, stops}
 use Rattle.group_rows.specs.registrations.specs.declared.registration.Registration.{Registration}
 use Rattle.mux_tables.specs.Stands.{IsWorking, MayWait, start_for}

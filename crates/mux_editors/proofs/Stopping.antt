@@ -33,7 +33,9 @@ use Rattle.mux_turns.specs.group_facts.proofs.Ceased.{Low}
 use Rattle.mux_turns.specs.group_facts.proofs.StopDown.{stop_unready}
 use Rattle.mux_turns.proofs.Departing.{behind_first}
 use Rattle.mux_turns.proofs.Evictions.{numbered_heard}
-use Rattle.mux_turns.proofs.Keeping.{keeps_reply, null_says, null_tree}
+use Rattle.mux_tables.specs.mux_waits.specs.Stands.{AnswersId}
+use Rattle.event_model.specs.Requests.{answered_id}
+use Rattle.mux_turns.proofs.Keeping.{answers_own, keeps_reply, null_says, null_tree}
 use Rattle.mux_editors.proofs.Halting.{IsAside, aside_join, closes_aside, halts_does, halts_each, numbered_asides, refuses_aside, refusing_heard, refusing_on, stops_done}
 use Rattle.mux_editors.proofs.Lspmux.{lspmux_is, own_others, stop_asks}
 use Rattle.mux_editors.specs.Halting.{Halts, Refusing}
@@ -68,6 +70,12 @@ module _ (settings : Settings) (before : List Event) (e : ℕ) (body : List ℕ)
       subst (Keeps e text) (sym (behind_first base xs first))
       (keeps_reply e text base k.id null_tree (ap message_of is ∙ null_says body k.id k.method k.params k.is) (own_others before e body stop_own settings single settled))
 
+  -- and answers its request
+  pub answer_own : (text own : List ℕ) → own ≡ id_bytes body → text ≡ ok_text (id_bytes body) (codes "null") → AnswersId own text
+  answer_own text own same is =
+      let k = lspmux_is (message_of body) stop_own in
+      answers_own text body own k.method k.id k.params same k.is (ap answered_id (ap message_of is ∙ null_says body k.id k.method k.params k.is))
+
   -- numbers are small
   low : (t : Tables) → Stands settings t before → Known settings before → Low before
   low t st known g s at ready =
@@ -94,29 +102,29 @@ module _ (settings : Settings) (before : List Event) (e : ℕ) (body : List ℕ)
       let told = events ++ said (ToEditor e (ok_text (id_bytes body) (codes "null"))) ∷ [] in
       (tt, aside_join (outs (each (refuse_open settings before) lost) told) _ (refuses_aside settings before lost told) (closes_aside shut (behind told (outs (each (refuse_open settings before) lost) told))))
 
-  still_numbered : (t u : Tables) (ys : List Out) (lost shut : List ℕ) → Known settings before → Halts settings t (behind base []) → Does (λ t events. Halts settings t events) (first_parts lost shut) base t [] u ys → Numbered (behind base ys)
+  still_numbered : (t u : Tables) (ys : List Out) (lost shut : List ℕ) → Known settings before → Halts settings t (behind base []) → Does (λ t events. Halts settings t events) (first_parts lost shut) base t [] u ys → Numbered settings (behind base ys)
   still_numbered t u ys lost shut known here d =
       let sent : behind base ys ≡ behind (behind base []) (outs (first_parts lost shut) (behind base [])) = ap (behind base) (d.done here).outs ∙ behind_more base [] (outs (first_parts lost shut) (behind base [])) in
-      subst Numbered (sym sent) (numbered_asides (outs (first_parts lost shut) (behind base [])) (behind base []) (parts_aside lost shut (behind base [])) (subst Numbered (sym (append-nil base)) (numbered_heard before e body known.numbered)))
+      subst (Numbered settings) (sym sent) (numbered_asides settings (outs (first_parts lost shut) (behind base [])) (behind base []) (parts_aside lost shut (behind base [])) (subst (Numbered settings) (sym (append-nil base)) (numbered_heard settings before e body known.numbered)))
 
-  pub stops_all : Known settings before → Settled settings before → (t t0 u v : Tables) → Stands settings t before → Stands settings t0 base → DocumentsStand settings nothing_owed t0 base
+  pub stops_all : Known settings before → Settled settings before → (t t0 a r u v : Tables) → Stands settings t before → Stands settings t0 base → DocumentsStand settings nothing_owed t0 base
       → (xs told refused closed ys : List Out) (lost shut live : List ℕ) → xs ≡ [] → lost ≡ there_in before → shut ≡ there_in before → live ≡ all_from 0 is_live (groups_of settings before)
-      → Does (λ t events. Stands settings t events) answer base t0 xs t0 told → ((owed : Owed) → DocumentsStand settings owed t0 (behind base xs) → DocumentsStand settings owed t0 (behind base told))
-      → (AllForwarded before → Refusing settings before (behind base told) → Does (λ t events. Stands settings t events) (each (refuse_open settings before) lost) base t0 told t0 refused)
-      → ((owed : Owed) → DocumentsStand settings owed t0 (behind base told) → DocumentsStand settings owed t0 (behind base refused))
-      → Does (λ t events. Halts settings t events) (close_each shut) base t0 refused u closed
-      → ((owed : Owed) → Numbered (behind base closed) → Does (λ k events. AllStand settings k events) (each end_group live) base (u, owed) closed (v, owed) ys)
+      → Does (λ t events. Stands settings t events) answer base t0 xs a told → ((owed : Owed) → DocumentsStand settings owed t0 (behind base xs) → DocumentsStand settings owed a (behind base told))
+      → (AllForwarded settings before → Refusing settings before (behind base told) → Does (λ t events. Stands settings t events) (each (refuse_open settings before) lost) base a told r refused)
+      → ((owed : Owed) → DocumentsStand settings owed a (behind base told) → DocumentsStand settings owed r (behind base refused))
+      → Does (λ t events. Halts settings t events) (close_each shut) base r refused u closed
+      → ((owed : Owed) → Numbered settings (behind base closed) → Does (λ k events. AllStand settings k events) (each end_group live) base (u, owed) closed (v, owed) ys)
       → Done (λ k events. AllStand settings k events) (stop_row settings before e body) base [] (v, nothing_owed) ys
-  stops_all known settled t t0 u v was st ds xs told refused closed ys lost shut live first those these alive tells told_docs refuses refused_docs closes ends =
-      let says = subst (λ ws. Does (λ t events. Stands settings t events) answer base t0 ws t0 told) first tells in
-      let says_docs = subst (λ ws. (owed : Owed) → DocumentsStand settings owed t0 (behind base ws) → DocumentsStand settings owed t0 (behind base told)) first told_docs in
+  stops_all known settled t t0 a r u v was st ds xs told refused closed ys lost shut live first those these alive tells told_docs refuses refused_docs closes ends =
+      let says = subst (λ ws. Does (λ t events. Stands settings t events) answer base t0 ws a told) first tells in
+      let says_docs = subst (λ ws. (owed : Owed) → DocumentsStand settings owed t0 (behind base ws) → DocumentsStand settings owed a (behind base told)) first told_docs in
       let none : behind base [] ≡ base = append-nil base in
       let here : Halts settings t0 (behind base []) = subst (λ es. Halts settings t0 es) (sym none) (st, (nothing_owed, ds)) in
       let begins : Refusing settings before (behind base []) = subst (Refusing settings before) (sym none) (refusing_heard settings before e body stop known.waiting settled.seated) in
-      let goes_on : Refusing settings before (behind base told) = refusing_on settings t0 before base [] told {row = answer} (λ events. (tt, tt)) says here.0 begins in
-      let forwarded : AllForwarded before = asked_while before known.asked known.quit e parts.0 in
-      let one = halts_does settings t0 t0 base [] told says says_docs in
-      let two = halts_does settings t0 t0 base told refused (refuses forwarded goes_on) refused_docs in
-      let numbered : Numbered (behind base closed) = still_numbered t0 u closed lost shut known here (does_then one (does_then two closes)) in
-      stops_done settings before base e body t0 u v told refused closed ys lost shut live st ds those these alive one two closes
+      let goes_on : Refusing settings before (behind base told) = refusing_on settings t0 a before base [] told {row = answer} (λ events. (tt, tt)) says here.0 begins in
+      let forwarded : AllForwarded settings before = asked_while settings before known.asked known.quit e parts.0 in
+      let one = halts_does settings t0 a base [] told says says_docs in
+      let two = halts_does settings a r base told refused (refuses forwarded goes_on) refused_docs in
+      let numbered : Numbered settings (behind base closed) = still_numbered t0 u closed lost shut known here (does_then one (does_then two closes)) in
+      stops_done settings before base e body t0 a r u v told refused closed ys lost shut live st ds those these alive one two closes
       (halts_each settings u v base closed ys (λ owed. ends owed numbered)) (unready t v ys was known settled)

@@ -19,7 +19,8 @@ use Rattle.mux_turns.specs.group_facts.specs.Why.{IsQuestion}
 use Rattle.mux_turns.specs.group_facts.proofs.Same.{Same, same_held, same_questions}
 use Rattle.group_words.specs.Houses.{home_of, is_home}
 use Rattle.group_rows.specs.Rows.{sync_bodies, synced}
-use Rattle.group_rows.specs.Texts.{texts_heard, texts_of, worker_behind, worker_of}
+use Rattle.group_rows.specs.Texts.{texts_heard, texts_of}
+use Rattle.group_rows.specs.Waiting.{worker_behind, worker_of}
 use Rattle.group_rows.proofs.Frames.{texts_more}
 use Rattle.mux_tables.specs.Documents.{syncing}
 use Rattle.mux_editors.proofs.Runs.{still_works}

@@ -14,7 +14,7 @@ use Rattle.event_model.specs.Settings.{Settings}
 use Rattle.event_model.specs.Spawns.{start_of}
 use Rattle.event_model.specs.Stages.{is_ready, life_of}
 use Rattle.event_model.proofs.Turns.{alike, alike_then}
-use Rattle.group_rows.specs.Cancelling.{id_meant}
+use Rattle.group_rows.specs.Waiting.{id_meant}
 use Rattle.group_rows.specs.Forwarded.{Forwarded, forwarding_of, is_of}
 use Rattle.group_rows.specs.CreatedRows.{created_work, work_at, work_row}
 use Rattle.group_rows.specs.Tokens.{is_token_of, is_worked, mark_text, marked_text, work_mark}
@@ -50,7 +50,7 @@ module _ (settings : Settings) (before : List Event) (e : ℕ) (body : List ℕ)
     where
       by_start : (start : Option ℕ) → Alike (on start nothing (work_at settings before e body params)) (on start nothing (created_at settings before e body params))
       by_start None = alike refl
-      by_start (Some s) = alike (ap (λ o. of_ready s (sent s o)) (none_worked e named (forwarding_of s before).open_requests h))
+      by_start (Some s) = alike (ap (λ o. of_ready s (sent s o)) (none_worked e named (forwarding_of settings s before).open_requests h))
 
       by_home : (home : Option ℕ) → Alike (on home nothing (λ g. on (start_of g before) nothing (work_at settings before e body params))) (on home nothing (λ g. on (start_of g before) nothing (created_at settings before e body params)))
       by_home None = alike refl
@@ -68,22 +68,22 @@ module _ (settings : Settings) (before : List Event) (e : ℕ) (body : List ℕ)
     unready_work = alike_then unready_sent (record { sends = λ events. sym (unready_created.sends events) })
 
   module _ (g s : ℕ) (home : home_of settings e before ≡ Some g) (start : start_of g before ≡ Some s) (ready : is_ready (life_of s before).stage ≡ true) where
-    row_is : Alike (work_row settings before e body params) (sent s (find (is_worked e named) (forwarding_of s before).open_requests))
+    row_is : Alike (work_row settings before e body params) (sent s (find (is_worked e named) (forwarding_of settings s before).open_requests))
     row_is = is_first (some_start (home_of settings e before) (λ g. start_of g before) nothing (λ g. work_at settings before e body params) g s home start) ready
 
     -- the row of created tokens
     pub created_is : Alike (created_work_row settings before e body params) (created_work settings before e body params s)
     created_is = is_first (some_start (home_of settings e before) (λ g. start_of g before) nothing (λ g. created_at settings before e body params) g s home start) ready
 
-    pub none_works : None ≡ option_map (λ (f : Forwarded). f.number) (find (is_worked e named) (forwarding_of s before).open_requests) → Alike (work_row settings before e body params) (created_work_row settings before e body params)
-    none_works h = alike_then (alike_then row_is (go (find (is_worked e named) (forwarding_of s before).open_requests) h)) (record { sends = λ events. sym (created_is.sends events) })
+    pub none_works : None ≡ option_map (λ (f : Forwarded). f.number) (find (is_worked e named) (forwarding_of settings s before).open_requests) → Alike (work_row settings before e body params) (created_work_row settings before e body params)
+    none_works h = alike_then (alike_then row_is (go (find (is_worked e named) (forwarding_of settings s before).open_requests) h)) (record { sends = λ events. sym (created_is.sends events) })
       where
         go : (o : Option Forwarded) → None ≡ option_map (λ (f : Forwarded). f.number) o → Alike (sent s o) (created_work settings before e body params s)
         go None k = alike refl
         go (Some f) k = absurd (cc)
 
-    pub one_works : (n : ℕ) → Some n ≡ option_map (λ (f : Forwarded). f.number) (find (is_worked e named) (forwarding_of s before).open_requests) → Alike (work_row settings before e body params) (send (ToServer s (marked_text (mark_text (work_mark n)) body)))
-    one_works n h = alike_then row_is (go (find (is_worked e named) (forwarding_of s before).open_requests) h)
+    pub one_works : (n : ℕ) → Some n ≡ option_map (λ (f : Forwarded). f.number) (find (is_worked e named) (forwarding_of settings s before).open_requests) → Alike (work_row settings before e body params) (send (ToServer s (marked_text (mark_text (work_mark n)) body)))
+    one_works n h = alike_then row_is (go (find (is_worked e named) (forwarding_of settings s before).open_requests) h)
       where
         go : (o : Option Forwarded) → Some n ≡ option_map (λ (f : Forwarded). f.number) o → Alike (sent s o) (send (ToServer s (marked_text (mark_text (work_mark n)) body)))
         go None k = absurd (cc)

@@ -14,14 +14,14 @@ use Rattle.mux_turns.specs.Initials.{AllHoused}
 use Rattle.mux_turns.specs.Welcomes.{AllAsking}
 
 -- those that start s has to answer
-abbrev pub lose_from : List Event → ℕ → Option ℕ → Row
-lose_from before e start = on start nothing (λ s. each lose_request (filter (is_of e) (forwarding_of s before).open_requests))
+abbrev pub lose_from : Settings → List Event → ℕ → Option ℕ → Row
+lose_from settings before e start = on start nothing (λ s. each lose_request (filter (is_of e) (forwarding_of settings s before).open_requests))
 
 -- editors are in the groups in which they were, which have the starts that they had, with the same requests to answer
 pub record Stays (settings : Settings) (before now : List Event) : Type 0 where
   pub home : (e : ℕ) → home_of settings e now ≡ home_of settings e before
   pub start : (g : ℕ) → start_of g now ≡ start_of g before
-  pub open_requests : (s : ℕ) → (forwarding_of s now).open_requests ≡ (forwarding_of s before).open_requests
+  pub open_requests : (s : ℕ) → (forwarding_of settings s now).open_requests ≡ (forwarding_of settings s before).open_requests
 
 -- and what is known of those that wait
 pub record Refusing (settings : Settings) (before now : List Event) : Type 0 where

@@ -38,23 +38,26 @@ fn is_first(tables: &Tables, e: u64, phase: Phase) -> bool
 
 // The answer to it, where it names this server, or none.
 fn answer_named(
-    tables: &Tables,
+    tables: &mut Tables,
     alloc: Global,
     outs: &mut Outs,
     e: u64,
     message: &Message,
     server: Option<u32>,
 ) -> Result<(), Memory>
+    ensures requests { tables.new.requests ≡ tables.old.requests }
+    ensures versions { tables.new.versions ≡ tables.old.versions }
     ensures does { (settings : Settings) (base : List Event) (body method : List ℕ) (id : Id) (params : Option Json) → IsRead message.now body
         → message_of body ≡ request id method params → ((desk_of e (behind base outs.old)).phase ≡ Waiting → ⊥)
-        → OnOk result (Does (λ t events. Stands settings t events) (named_row e body server) base tables.now outs.old tables.now outs.new) }
-    ensures documents { (settings : Settings) (owed : Owed) (base : List Event) → DocumentsStand settings owed tables.now (behind base outs.old)
-        → OnOk result (DocumentsStand settings owed tables.now (behind base outs.new)) }
+        → OnOk result (Does (λ t events. Stands settings t events) (named_row e body server) base tables.old outs.old tables.new outs.new) }
+    ensures documents { (settings : Settings) (owed : Owed) (base : List Event) → DocumentsStand settings owed tables.old (behind base outs.old)
+        → OnOk result (DocumentsStand settings owed tables.new (behind base outs.new)) }
 {
     match server {
         Some(_) => {
-            let text = ok_reply(alloc, message.id_bytes(), b"null")?;
-            tables.tell(outs, e, text)?;
+            let id = message.id_bytes();
+            let text = ok_reply(alloc, id, b"null")?;
+            tables.answer(outs, e, id, text)?;
             Ok(())
         }
         None => {

@@ -1,29 +1,31 @@
 //! X5 and E9: an editor whose link is gone, that says `exit`, or that asks to shut down, as whole entries.
 ghost use Rattle.std.specs.Prelude.{◌≡◌, ◌≢◌, ◌<◌, ℕ, List, [], Option, true, false, bytes_eq, codes, length, OnOk};
 ghost use Rattle.event_model.specs.declared.phase.Phase.TheVariants.{Absent, Down};
-ghost use Rattle.event_model.specs.Does.{Done};
-ghost use Rattle.event_model.specs.Event.{Event, notifies, with_cause};
+ghost use Rattle.event_model.specs.Does.{Does, Done};
+ghost use Rattle.event_model.specs.Event.{Event, behind, notifies, with_cause};
 ghost use Rattle.event_model.specs.Phases.{desk_of, is_served};
 ghost use Rattle.event_model.specs.Settings.{Settings};
 ghost use Rattle.group_rows.specs.Rows.{answer_error, closing_row, gone_row, shutdown_row, wrong_code};
-ghost use Rattle.group_words.specs.Houses.{is_first_open, places, stops};
+ghost use Rattle.group_rows.specs.StopRows.{lose_waiting};
+ghost use Rattle.group_words.specs.Houses.{home_of, is_first_open, places, stops};
 ghost use Rattle.json_text.specs.Json.{Json};
 ghost use Rattle.mux_history.specs.declared.cause.Cause.TheVariants.{EditorGone, FromEditor};
 ghost use Rattle.mux_history.specs.declared.cause.Why.{Why};
-ghost use Rattle.mux_tables.specs.Documents.{AllStand, DocumentsStand, changes_documents, nothing_owed};
+ghost use Rattle.mux_tables.specs.Documents.{AllStand, DocumentsStand, Owed, changes_documents, nothing_owed};
 ghost use Rattle.mux_tables.specs.Stands.{AnswersNone, Stands};
 ghost use Rattle.rpc_message.specs.Message.{Id, message_of, request};
 ghost use Rattle.rpc_message.specs.Parsed.{IsRead};
 ghost use Rattle.rpc_message.specs.Texts.{invalid_request};
 ghost use Rattle.mux_turns.specs.group_facts.specs.Settled.{Settled};
 ghost use Rattle.mux_tables.specs.mux_tokens.specs.Stands.{TakesNone};
+ghost use Rattle.mux_tables.specs.mux_waits.specs.Stands.{Unheld};
 
 use crate::quiet::phase_of;
 use event_model::Phase;
 use message_body::Memory;
 use mux_history::Outs;
 use mux_tables::Tables;
-use mux_turns::{depart, leaving, refuse_wrong};
+use mux_turns::{depart, leaving, refuse_held, refuse_wrong};
 use rpc_message::{Message, ok_reply};
 use std::alloc::Global;
 
@@ -64,7 +66,7 @@ pub fn end_link(
     ensures requests { tables.new.requests ≡ tables.old.requests }
     ensures versions { tables.new.versions ≡ tables.old.versions }
     ensures does { (settings : Settings) (before : List Event) (body : List ℕ) → AnswersNone settings e (message_of body) before → TakesNone settings e (message_of body) before
-        → places (desk_of e before).phase (message_of body) ≡ false
+        → Unheld settings e body (message_of body) before → places (desk_of e before).phase (message_of body) ≡ false
         → stops before e (message_of body) ≡ false → is_first_open settings.servers before e (message_of body) ≡ false
         → changes_documents before e (message_of body) ≡ false
         → (desk_of e (with_cause before (FromEditor e body))).phase ≡ phase → outs.old ≡ []
@@ -94,7 +96,33 @@ pub fn take_exit(tables: &mut Tables, alloc: Global, outs: &mut Outs, e: u64) ->
     Ok(())
 }
 
-/// E9: an editor that is served sends `shutdown`: it gets its answer, and leaves (LSP 3.17, Shutdown Request).
+/// E6 and E9: each request of an editor that waits in its group is refused.
+pub fn lose_waiting(
+    tables: &mut Tables,
+    alloc: Global,
+    outs: &mut Outs,
+    e: u64,
+) -> Result<(), Memory>
+    ensures requests { tables.new.requests ≡ tables.old.requests }
+    ensures versions { tables.new.versions ≡ tables.old.versions }
+    ensures lasts { tables.new.lasts ≡ tables.old.lasts }
+    ensures editors { tables.new.editors ≡ tables.old.editors }
+    ensures does { (settings : Settings) (before base : List Event) → home_of settings e (behind base outs.old) ≡ home_of settings e before
+        → OnOk result (Does (λ t events. Stands settings t events) (lose_waiting settings before e) base tables.old outs.old tables.new outs.new) }
+    ensures documents { (settings : Settings) (owed : Owed) (base : List Event) → DocumentsStand settings owed tables.old (behind base outs.old)
+        → OnOk result (DocumentsStand settings owed tables.new (behind base outs.new)) }
+{
+    match tables.home(e) {
+        None => Ok(()),
+        Some(g) => {
+            refuse_held(tables, alloc, outs, g, e)?;
+            Ok(())
+        }
+    }
+}
+
+/// E9: an editor that is served sends `shutdown`: its requests that wait are refused, it gets its answer, and leaves (LSP 3.17, Shutdown
+/// Request).
 pub fn take_shutdown(
     tables: &mut Tables,
     alloc: Global,
@@ -113,8 +141,10 @@ pub fn take_shutdown(
 {
     let left = leaving(tables, e)?;
     let owed = tables.hear_shutdown(alloc, e)?;
-    let text = ok_reply(alloc, message.id_bytes(), b"null")?;
-    tables.tell(outs, e, text)?;
+    lose_waiting(tables, alloc, outs, e)?;
+    let id = message.id_bytes();
+    let text = ok_reply(alloc, id, b"null")?;
+    tables.answer(outs, e, id, text)?;
     depart(tables, alloc, outs, &left, owed)?;
     Ok(())
 }

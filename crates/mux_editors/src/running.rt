@@ -22,6 +22,7 @@ ghost use Rattle.rpc_message.specs.Message.{message_of};
 ghost use Rattle.mux_turns.specs.group_facts.specs.Facts.{Meant};
 ghost use Rattle.mux_turns.specs.group_facts.specs.Settled.{Settled};
 ghost use Rattle.mux_tables.specs.mux_tokens.specs.Stands.{TakesNone};
+ghost use Rattle.mux_tables.specs.mux_waits.specs.Stands.{Unheld};
 
 use crate::passed::ready_at;
 use crate::quiet::phase_of;
@@ -176,7 +177,7 @@ pub fn hear_running(
     ensures rest { OnOk result (map unasked tables.new.lasts.items ≡ map unasked tables.old.lasts.items) }
     ensures begun { (settings : Settings) (before : List Event) (body : List ℕ) → is_served (desk_of e before).phase ≡ true
         → makes_running (message_of body) ≡ true → AnswersNone settings e (message_of body) before → TakesNone settings e (message_of body) before
-        → changes_documents before e (message_of body) ≡ false → outs.old ≡ []
+        → Unheld settings e body (message_of body) before → changes_documents before e (message_of body) ≡ false → outs.old ≡ []
         → Meant before → Settled settings before → Stands settings tables.old before → DocumentsStand settings nothing_owed tables.old before
         → OnOk result (Begun settings before e body nothing_owed tables.new outs.new) }
 {

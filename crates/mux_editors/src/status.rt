@@ -247,7 +247,8 @@ pub fn take_status(
     let told = status_text(alloc, tables, servers)?;
     let phase = phase_of(tables, e);
     tables.hear_editor(e, phase);
-    let text = ok_reply(alloc, message.id_bytes(), told.bytes())?;
-    tables.tell(outs, e, text)?;
+    let id = message.id_bytes();
+    let text = ok_reply(alloc, id, told.bytes())?;
+    tables.answer(outs, e, id, text)?;
     Ok(())
 }

@@ -20,37 +20,56 @@ ghost use Rattle.group_rows.specs.Forwarded.{forwarding_of};
 ghost use Rattle.rpc_message.specs.Message.{message_of};
 ghost use Rattle.rpc_message.specs.Parsed.{IsRead};
 
+use crate::parting::lose_waiting;
 use crate::quiet::phase_of;
 use message_body::Memory;
 use mux_history::Outs;
 use mux_tables::Tables;
-use mux_turns::{end_groups, refuse_id, refuse_initialize};
+use mux_turns::{end_groups, refuse_ids, refuse_initialize};
 use rpc_message::{Message, ok_reply};
 use std::alloc::Global;
 
 // Those of its requests that the last start of its group, which is in this place, has to answer fail.
-fn lose_at(tables: &Tables, alloc: Global, outs: &mut Outs, g: usize, e: u64) -> Result<(), Memory>
-    requires { g < length tables.now.lasts.items }
-    ensures does { (settings : Settings) (base : List Event) (s : ℕ) → slice_get (map number_in tables.now.lasts.items) g ≡ Some s
-        → AllByRecursion IsNamed (ids_at e (forwarding_of s (behind base outs.old)).open_requests)
-        → OnOk result (Does (λ t events. Stands settings t events) (each (refuse_id e) (ids_at e (forwarding_of s (behind base outs.old)).open_requests))
-        base tables.now outs.old tables.now outs.new) }
-    ensures documents { (settings : Settings) (owed : Owed) (base : List Event) → DocumentsStand settings owed tables.now (behind base outs.old)
-        → OnOk result (DocumentsStand settings owed tables.now (behind base outs.new)) }
+fn lose_at(
+    tables: &mut Tables,
+    alloc: Global,
+    outs: &mut Outs,
+    g: usize,
+    e: u64,
+) -> Result<(), Memory>
+    requires { g < length tables.old.lasts.items }
+    ensures requests { tables.new.requests ≡ tables.old.requests }
+    ensures versions { tables.new.versions ≡ tables.old.versions }
+    ensures lasts { tables.new.lasts ≡ tables.old.lasts }
+    ensures editors { tables.new.editors ≡ tables.old.editors }
+    ensures does { (settings : Settings) (base : List Event) (s : ℕ) → slice_get (map number_in tables.old.lasts.items) g ≡ Some s
+        → AllByRecursion IsNamed (ids_at e (forwarding_of settings s (behind base outs.old)).open_requests)
+        → OnOk result (Does (λ t events. Stands settings t events) (each (refuse_id e) (ids_at e (forwarding_of settings s (behind base outs.old)).open_requests))
+        base tables.old outs.old tables.new outs.new) }
+    ensures documents { (settings : Settings) (owed : Owed) (base : List Event) → DocumentsStand settings owed tables.old (behind base outs.old)
+        → OnOk result (DocumentsStand settings owed tables.new (behind base outs.new)) }
 {
     let ids = tables.ids_of(alloc, g, e)?;
-    for id in &ids {
-        refuse_id(tables, alloc, outs, e, id.bytes())?;
-    }
+    refuse_ids(tables, alloc, outs, e, &ids)?;
     Ok(())
 }
 
 // Where its group, which has this number, has such a start.
-fn lose_in(tables: &Tables, alloc: Global, outs: &mut Outs, home: u64, e: u64) -> Result<(), Memory>
-    ensures does { (settings : Settings) (before base : List Event) → Stays settings before (behind base outs.old) → AllForwarded before
-        → OnOk result (Does (λ t events. Stands settings t events) (lose_from before e (start_of home before)) base tables.now outs.old tables.now outs.new) }
-    ensures documents { (settings : Settings) (owed : Owed) (base : List Event) → DocumentsStand settings owed tables.now (behind base outs.old)
-        → OnOk result (DocumentsStand settings owed tables.now (behind base outs.new)) }
+fn lose_in(
+    tables: &mut Tables,
+    alloc: Global,
+    outs: &mut Outs,
+    home: u64,
+    e: u64,
+) -> Result<(), Memory>
+    ensures requests { tables.new.requests ≡ tables.old.requests }
+    ensures versions { tables.new.versions ≡ tables.old.versions }
+    ensures lasts { tables.new.lasts ≡ tables.old.lasts }
+    ensures editors { tables.new.editors ≡ tables.old.editors }
+    ensures does { (settings : Settings) (before base : List Event) → Stays settings before (behind base outs.old) → AllForwarded settings before
+        → OnOk result (Does (λ t events. Stands settings t events) (lose_from settings before e (start_of home before)) base tables.old outs.old tables.new outs.new) }
+    ensures documents { (settings : Settings) (owed : Owed) (base : List Event) → DocumentsStand settings owed tables.old (behind base outs.old)
+        → OnOk result (DocumentsStand settings owed tables.new (behind base outs.new)) }
 {
     match tables.place_of(home) {
         None => Ok(()),
@@ -62,12 +81,16 @@ fn lose_in(tables: &Tables, alloc: Global, outs: &mut Outs, home: u64, e: u64) -
 }
 
 // Where it is in a group.
-fn lose_requests(tables: &Tables, alloc: Global, outs: &mut Outs, e: u64) -> Result<(), Memory>
-    requires { e < length tables.now.editors }
-    ensures does { (settings : Settings) (before base : List Event) → Stays settings before (behind base outs.old) → AllForwarded before
-        → OnOk result (Does (λ t events. Stands settings t events) (lose_requests settings before e) base tables.now outs.old tables.now outs.new) }
-    ensures documents { (settings : Settings) (owed : Owed) (base : List Event) → DocumentsStand settings owed tables.now (behind base outs.old)
-        → OnOk result (DocumentsStand settings owed tables.now (behind base outs.new)) }
+fn lose_requests(tables: &mut Tables, alloc: Global, outs: &mut Outs, e: u64) -> Result<(), Memory>
+    requires { e < length tables.old.editors }
+    ensures requests { tables.new.requests ≡ tables.old.requests }
+    ensures versions { tables.new.versions ≡ tables.old.versions }
+    ensures lasts { tables.new.lasts ≡ tables.old.lasts }
+    ensures editors { tables.new.editors ≡ tables.old.editors }
+    ensures does { (settings : Settings) (before base : List Event) → Stays settings before (behind base outs.old) → AllForwarded settings before
+        → OnOk result (Does (λ t events. Stands settings t events) (lose_requests settings before e) base tables.old outs.old tables.new outs.new) }
+    ensures documents { (settings : Settings) (owed : Owed) (base : List Event) → DocumentsStand settings owed tables.old (behind base outs.old)
+        → OnOk result (DocumentsStand settings owed tables.new (behind base outs.new)) }
 {
     match tables.editors.group(e) {
         None => Ok(()),
@@ -78,32 +101,41 @@ fn lose_requests(tables: &Tables, alloc: Global, outs: &mut Outs, e: u64) -> Res
     }
 }
 
-// What is open at an editor fails.
-fn refuse_open(tables: &Tables, alloc: Global, outs: &mut Outs, e: u64) -> Result<(), Memory>
-    requires { e < length tables.now.editors }
-    ensures does { (settings : Settings) (before base : List Event) → AllForwarded before → Refusing settings before (behind base outs.old)
-        → OnOk result (Does (λ t events. Stands settings t events) (refuse_open settings before e) base tables.now outs.old tables.now outs.new) }
-    ensures documents { (settings : Settings) (owed : Owed) (base : List Event) → DocumentsStand settings owed tables.now (behind base outs.old)
-        → OnOk result (DocumentsStand settings owed tables.now (behind base outs.new)) }
+// What is open at an editor fails, and what waits.
+fn refuse_open(tables: &mut Tables, alloc: Global, outs: &mut Outs, e: u64) -> Result<(), Memory>
+    requires { e < length tables.old.editors }
+    ensures requests { tables.new.requests ≡ tables.old.requests }
+    ensures versions { tables.new.versions ≡ tables.old.versions }
+    ensures lasts { tables.new.lasts ≡ tables.old.lasts }
+    ensures editors { tables.new.editors ≡ tables.old.editors }
+    ensures does { (settings : Settings) (before base : List Event) → AllForwarded settings before → Refusing settings before (behind base outs.old)
+        → OnOk result (Does (λ t events. Stands settings t events) (refuse_open settings before e) base tables.old outs.old tables.new outs.new) }
+    ensures documents { (settings : Settings) (owed : Owed) (base : List Event) → DocumentsStand settings owed tables.old (behind base outs.old)
+        → OnOk result (DocumentsStand settings owed tables.new (behind base outs.new)) }
 {
     refuse_initialize(tables, alloc, outs, e)?;
     lose_requests(tables, alloc, outs, e)?;
+    lose_waiting(tables, alloc, outs, e)?;
     Ok(())
 }
 
 // What is open at each of these editors does, editor by editor.
 fn refuse_each(
-    tables: &Tables,
+    tables: &mut Tables,
     alloc: Global,
     outs: &mut Outs,
     editors: &[u64],
 ) -> Result<(), Memory>
-    requires { All (λ e. e < length tables.now.editors) editors.now }
-    ensures does { (settings : Settings) (before base : List Event) → AllForwarded before → Refusing settings before (behind base outs.old)
+    requires { All (λ e. e < length tables.old.editors) editors.now }
+    ensures requests { tables.new.requests ≡ tables.old.requests }
+    ensures versions { tables.new.versions ≡ tables.old.versions }
+    ensures lasts { tables.new.lasts ≡ tables.old.lasts }
+    ensures editors { tables.new.editors ≡ tables.old.editors }
+    ensures does { (settings : Settings) (before base : List Event) → AllForwarded settings before → Refusing settings before (behind base outs.old)
         → OnOk result (Does (λ t events. Stands settings t events) (each (refuse_open settings before) editors.now) base
-        tables.now outs.old tables.now outs.new) }
-    ensures documents { (settings : Settings) (owed : Owed) (base : List Event) → DocumentsStand settings owed tables.now (behind base outs.old)
-        → OnOk result (DocumentsStand settings owed tables.now (behind base outs.new)) }
+        tables.old outs.old tables.new outs.new) }
+    ensures documents { (settings : Settings) (owed : Owed) (base : List Event) → DocumentsStand settings owed tables.old (behind base outs.old)
+        → OnOk result (DocumentsStand settings owed tables.new (behind base outs.new)) }
 {
     for e in editors {
         refuse_open(tables, alloc, outs, *e)?;
@@ -152,8 +184,9 @@ pub fn take_stop(
     let there = tables.there()?;
     let phase = phase_of(tables, e);
     let live = tables.hear_stop(e, phase)?;
-    let text = ok_reply(alloc, message.id_bytes(), b"null")?;
-    tables.tell(outs, e, text)?;
+    let id = message.id_bytes();
+    let text = ok_reply(alloc, id, b"null")?;
+    tables.answer(outs, e, id, text)?;
     refuse_each(tables, alloc, outs, &there)?;
     close_each(tables, alloc, outs, &there)?;
     end_groups(tables, alloc, outs, &live)?;

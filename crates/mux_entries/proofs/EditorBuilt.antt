@@ -20,7 +20,7 @@ use Rattle.mux_starts.specs.group_facts.specs.Built.{is_standard}
 use Rattle.mux_starts.specs.group_facts.specs.Facts.{is_early}
 use Rattle.group_rows.specs.Rows.{asks_lspmux, names_lspmux}
 use Rattle.group_words.specs.Houses.{is_doubled, stops}
-use Rattle.group_rows.specs.Rows.{is_misplaced}
+use Rattle.group_rows.specs.Waiting.{is_misplaced}
 use Rattle.mux_starts.specs.mux_tables.specs.Documents.{changes_documents}
 use Rattle.mux_editors.proofs.Classes.{first_named, is_initialize, swapped}
 
@@ -84,6 +84,17 @@ served_there Waiting h = absurd (cc)
 served_there Down h = absurd (cc)
 served_there Closed h = absurd (cc)
 served_there Gone h = absurd (cc)
+
+-- one that is served has begun, so where its message is under no open id of one that has, it is under none
+pub single_served : (p : Phase) (doubled : Bool) → is_served p ≡ true → (is_begun p && doubled) ≡ false → doubled ≡ false
+single_served Answered doubled h single = single
+single_served Running doubled h single = single
+single_served Absent doubled h single = absurd (cc)
+single_served New doubled h single = absurd (cc)
+single_served Waiting doubled h single = absurd (cc)
+single_served Down doubled h single = absurd (cc)
+single_served Closed doubled h single = absurd (cc)
+single_served Gone doubled h single = absurd (cc)
 
 -- such a request is refused by its method, is `shutdown`, or goes on
 pub other_class : (k : Class) → is_standard k ≡ true → (k ≡ class.Initialize → ⊥) → (k ≡ class.Wrong → ⊥) → (k ≡ class.Shutdown → ⊥) → is_other k ≡ true

@@ -183,7 +183,7 @@ module _ (settings : Settings) (s : ℕ) (before : List Event) (body : List ℕ)
   pub malformed_row : (m : Message) (stage : Stage) → is_malformed m ≡ true → Alike (from_server settings s before body m stage) nothing
   malformed_row m Initializing h = alike_then (is_second refl (unanswered_first m (malformed_names m h))) (alike_then (is_second refl (unanswered_error m (malformed_names m h))) (alike (unasked_row m (malformed_aside m h))))
   malformed_row m Ready h = alike_then (alike (ready_answers settings before s body m (malformed_aside m h) (malformed_aside_notice m h)))
-      (alike (ap (λ o. on o nothing (hand_on settings before s body)) (ap (λ id. find (answered_by id) (forwarding_of s before).open_requests) (malformed_names m h) ∙ nobody (forwarding_of s before).open_requests)))
+      (alike (ap (λ o. on o nothing (hand_on settings before s body)) (ap (λ id. find (answered_by id) (forwarding_of settings s before).open_requests) (malformed_names m h) ∙ nobody (forwarding_of settings s before).open_requests)))
   malformed_row m Unspawned h = alike refl
   malformed_row m Spawning h = alike refl
   malformed_row m Stopping h = is_second refl (ap (λ id. names id (last_number s before)) (malformed_names m h))
@@ -245,8 +245,8 @@ module _ (settings : Settings) (before : List Event) (s : ℕ) (body : List ℕ)
 asked_so : (before : List Event) (f : Forwarded) → IsForwarded before f → IsAsked before f
 asked_so before f k = record { name = k.id; text = k.text; answered = λ waits. never (sym (ap is_early waits) ∙ k.late) }
 
-pub asked : (before : List Event) (s : ℕ) (m : Message) → AllForwarded before → (f : Forwarded) → find (answered_by (answered_id m)) (forwarding_of s before).open_requests ≡ Some f → IsAsked before f
-asked before s m all f found = asked_so before f (found_is (IsForwarded before) (answered_by (answered_id m)) f (forwarding_of s before).open_requests (all s) found)
+pub asked : (settings : Settings) (before : List Event) (s : ℕ) (m : Message) → AllForwarded settings before → (f : Forwarded) → find (answered_by (answered_id m)) (forwarding_of settings s before).open_requests ≡ Some f → IsAsked before f
+asked settings before s m all f found = asked_so before f (found_is (IsForwarded before) (answered_by (answered_id m)) f (forwarding_of settings s before).open_requests (all s) found)
 
 pub answer_here : (settings : Settings) (before : List Event) (s : ℕ) (body : List ℕ) → (life_of s before).stage ≡ Ready → (sort_of (message_of body) ≡ Some sort.Request → ⊥) → (sort_of (message_of body) ≡ Some sort.Notification → ⊥)
     → Alike (from_server settings s before body (message_of body) (life_of s before).stage) (answer_row settings s before body (message_of body))

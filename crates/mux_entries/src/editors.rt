@@ -216,7 +216,7 @@ fn from_asking(
     ensures same_versions { tables.new.versions ≡ tables.old.versions }
     ensures does { (settings : Settings) (before : List Event) (body method : List ℕ) (id : Id) (params : Option Json) → IsRead message.now body
         → message_of body ≡ request id method params → is_standard (class_of method Editor false) ≡ true
-        → is_served (desk_of e before).phase ≡ true → outs.old ≡ []
+        → is_served (desk_of e before).phase ≡ true → is_doubled before e (message_of body) ≡ false → outs.old ≡ []
         → Meant before → Settled settings before → Stands settings tables.old before → DocumentsStand settings nothing_owed tables.old before
         → OnOk result (Done (λ k events. AllStand settings k events) (running_row settings before e (message_of body) ⨾ served_request settings before e body method)
         (with_cause before (FromEditor e body)) [] (tables.new, nothing_owed) outs.new) }

@@ -39,7 +39,7 @@ use Rattle.group_words.specs.Rows.{spawn}
 use Rattle.mux_exits.specs.declared.losses.Loss.{Loss}
 use Rattle.mux_exits.specs.declared.losses.Loss.TheVariants.{Emptied, Unregistered}
 use Rattle.mux_exits.specs.declared.partings.Parting.{Parting}
-use Rattle.mux_exits.specs.Losses.{CanLose, Runs, cancelled, emptied, ended, is_mild, live_at, loss_row, lost_at, lost_sent, lost_start, refused}
+use Rattle.mux_exits.specs.Losses.{CanLose, Runs, cancelled, emptied, ended, is_notice, live_at, loss_row, lost_at, lost_sent, lost_start, refused}
 use Rattle.mux_exits.specs.Partings.{AreHome, CanPart, IsOver, IsParting, parting_row, renewing_row}
 use Rattle.mux_exits.proofs.Gathering.{all_join, all_run, any_of}
 use Rattle.mux_exits.proofs.Rows.{losing_alike, parting_alike}
@@ -90,14 +90,14 @@ module _ (restarts : ℕ) (t u : Tables) (g : ℕ) (z : Start) (within : g < len
 
 pub part_does : (settings : Settings) (t u v w : Tables) (base : List Event) (h : ℕ) (xs ys zs : List Out) (p : Parting) (live : List Registration) (members : List ℕ) → live ≡ p.live.items → members ≡ p.members.items → CanPart settings (behind base xs) h p
     → Does (λ k events. AllStand settings k events) (each (loss_row live) p.losses.items) base (t, nothing_owed) xs (u, nothing_owed) ys
-    → (AllAsking (behind base ys) → AllHoused settings (behind base ys) → AreHome settings (behind base ys) h members → Does (λ k events. AllStand settings k events) (each turn_out members) base (u, nothing_owed) ys (v, nothing_owed) zs)
+    → (AllAsking (behind base ys) → AllHoused settings (behind base ys) → AreHome settings (behind base ys) h members → Does (λ k events. AllStand settings k events) (each (turn_out settings h) members) base (u, nothing_owed) ys (v, nothing_owed) zs)
     → (Stands settings v (behind base zs) → Stands settings w (behind base zs)) → (DocumentsStand settings nothing_owed v (behind base zs) → DocumentsStand settings nothing_owed w (behind base zs))
-    → Does (λ k events. AllStand settings k events) (parting_row p) base (t, nothing_owed) xs (w, nothing_owed) zs
+    → Does (λ k events. AllStand settings k events) (parting_row settings h p) base (t, nothing_owed) xs (w, nothing_owed) zs
 part_does settings t u v w base h xs ys zs p live members lives those can tells turns forgets docs = does_knowing (λ k.
     let said = adds_row tells k in
     let homes : AreHome settings (behind base ys) h p.members.items = λ i less. same_home base xs ys said settings _ ∙ can.home i less in
     let first = subst (λ l. Does (λ k events. AllStand settings k events) (each (loss_row l) p.losses.items) base (t, nothing_owed) xs (u, nothing_owed) ys) lives tells in
-    let second = subst (λ ms. Does (λ k events. AllStand settings k events) (each turn_out ms) base (u, nothing_owed) ys (v, nothing_owed) zs) those
+    let second = subst (λ ms. Does (λ k events. AllStand settings k events) (each (turn_out settings h) ms) base (u, nothing_owed) ys (v, nothing_owed) zs) those
     (turns (asking_on base xs ys said can.asking) (housed_on base xs ys said settings can.housed) (subst (AreHome settings (behind base ys) h) (sym those) homes)) in
     let both = does_then first second in
     record { done = λ s. let one = both.done s in record { outs = one.outs; stands = (forgets one.stands.0, docs one.stands.1) } })
@@ -136,15 +136,15 @@ cancel_plain = refl
 module _ (now : List Event) (e : ℕ) where
   refused_can : (ids : List (List ℕ)) → AllByRecursion IsNamed ids → AllByRecursion (CanLose now) (refused e ids)
   refused_can [] h = tt
-  refused_can (id ∷ ids) h = (ap is_mild (error_law (Some (h.0).0) id request_failed (id_as_response (h.0).0 id (h.0).1)), refused_can ids h.1)
+  refused_can (id ∷ ids) h = (h.0, refused_can ids h.1)
 
   ended_can : (s : ℕ) (ks : List ℕ) → AllByRecursion (CanLose now) (ended s e ks)
   ended_can s [] = tt
-  ended_can s (k ∷ ks) = (ap is_mild (end_says s k) ∙ ap not progress_plain, ended_can s ks)
+  ended_can s (k ∷ ks) = (ap is_notice (end_says s k) ∙ ap not progress_plain, ended_can s ks)
 
   cancelled_can : (ns : List ℕ) → AllByRecursion (λ n. n < 2 ^ 64) ns → AllByRecursion (CanLose now) (cancelled e ns)
   cancelled_can [] h = tt
-  cancelled_can (n ∷ ns) h = (ap is_mild (cancel_says n h.0) ∙ ap not cancel_plain, cancelled_can ns h.1)
+  cancelled_can (n ∷ ns) h = (ap is_notice (cancel_says n h.0) ∙ ap not cancel_plain, cancelled_can ns h.1)
 
   lists_can : (before : List Event) (ls : List LastList) → AllByRecursion IsList ls → AllByRecursion (CanLose now) (emptied before e ls)
   lists_can before [] h = tt
@@ -165,15 +165,15 @@ module _ (settings : Settings) (before : List Event) (cause : Cause) (s : ℕ) (
   now = with_cause before cause
 
   -- while a group lives nothing was stopped
-  forwarded : AllForwarded before
+  forwarded : AllForwarded settings before
   forwarded = known.asked (unstopped (stopped before) refl)
     where
       unstopped : (b : Bool) → stopped before ≡ b → b ≡ false
       unstopped true is = never (sym live ∙ settled.over is h)
       unstopped false is = refl
 
-  sent_can : (e : ℕ) → AllByRecursion (CanLose now) (lost_sent before s e)
-  sent_can e = refused_can now e (ids_at e (forwarding_of s before).open_requests) (named_all before e (forwarding_of s before).open_requests (forwarded s))
+  sent_can : (e : ℕ) → AllByRecursion (CanLose now) (lost_sent settings before s e)
+  sent_can e = refused_can now e (ids_at e (forwarding_of settings s before).open_requests) (named_all before e (forwarding_of settings s before).open_requests (forwarded s))
 
   -- lists are kept of documents whose URIs are UTF-8
   emptied_can : (e : ℕ) → AllByRecursion (CanLose now) (emptied before e (lists_of s before))
@@ -192,8 +192,8 @@ module _ (settings : Settings) (before : List Event) (cause : Cause) (s : ℕ) (
       (all_join P (cancelled e asks) (Unregistered e ∷ emptied before e (lists_of s before)) (cancelled_can now e asks (small_numbers (IsAsked s before) (λ (a : Ask). a.number) _ (λ a k. k.small) (asks_of settings s before) (known.asks s).asked)) last))
 
   lost_can : AllByRecursion (CanLose now) (lost_at settings before s h)
-  lost_can = all_join (CanLose now) (flat_map (lost_sent before s) (members_in settings h before)) _
-      (all_flat (CanLose now) (λ e. Unit {0}) (lost_sent before s) (λ e u. sent_can e) (members_in settings h before) (any_of (members_in settings h before)))
+  lost_can = all_join (CanLose now) (flat_map (lost_sent settings before s) (members_in settings h before)) _
+      (all_flat (CanLose now) (λ e. Unit {0}) (lost_sent settings before s) (λ e u. sent_can e) (members_in settings h before) (any_of (members_in settings h before)))
       (by_stage (is_ready (life_of s before).stage))
     where
       by_stage : (b : Bool) → AllByRecursion (CanLose now) (if b then flat_map (lost_start settings before s) (running_in settings h before) else [])
@@ -218,15 +218,15 @@ module _ (settings : Settings) (before : List Event) (cause : Cause) (s : ℕ) (
       home = λ i less. exit.home _ ∙ all_at_home settings before h p.members.items is.members i less;
     }
 
-    row_sends : not (begins_again settings before s) ≡ true → outs (row_of settings before cause) now ≡ outs (parting_row p) now
+    row_sends : not (begins_again settings before s) ≡ true → outs (row_of settings before cause) now ≡ outs (parting_row settings h p) now
     row_sends last =
         let over : ends_group settings before s ≡ true = ends_live settings before s last h home live in
         let k : EndsGroup settings before s = ends_parts settings before s over in
         exit.row ∙ (lost_outs settings before s now k ∙ (ap (λ g. outs (group_row g) now) (same_item (sym k.home ∙ home)) ∙ (parting_alike settings before s h p is).sends now))
       where
         group_row : ℕ → Row
-        group_row g = each (lose_sent before s) (members_in settings g before)
-            ⨾ (choose (is_ready (life_of s before).stage) (each (lose_start settings before s) (running_in settings g before)) nothing ⨾ each turn_out (members_in settings g before))
+        group_row g = each (lose_sent settings before s) (members_in settings g before)
+            ⨾ (choose (is_ready (life_of s before).stage) (each (lose_start settings before s) (running_in settings g before)) nothing ⨾ each (turn_out settings g) (members_in settings g before))
 
     row_renews : begins_again settings before s ≡ true → outs (row_of settings before cause) now ≡ outs (renewing_row h p) now
     row_renews again = exit.row ∙ (goes_on ∙ (ap (λ g. outs (group_row g) now) (same_item (sym k.home ∙ home)) ∙ (losing_alike settings before s h (spawn h) p is).sends now))
@@ -235,7 +235,7 @@ module _ (settings : Settings) (before : List Event) (cause : Cause) (s : ℕ) (
         k = renews_parts settings before s again
 
         group_row : ℕ → Row
-        group_row g = each (lose_sent before s) (members_in settings g before)
+        group_row g = each (lose_sent settings before s) (members_in settings g before)
             ⨾ (choose (is_ready (life_of s before).stage) (each (lose_start settings before s) (running_in settings g before)) nothing ⨾ spawn g)
 
         goes_on : outs (lost_row settings before s) now ≡ outs (group_row k.group) now
@@ -275,9 +275,9 @@ module _ (settings : Settings) (before : List Event) (cause : Cause) (s : ℕ) (
       entry_renewed u xs ys on first ds says = entry_by (renewing_row h p) t u xs ys (row_renews (goes_again on)) first (st, ds) says
 
       pub entry_done : (u : Tables) (xs ys : List Out) → lives_at h t.groups.groups ≡ false → xs ≡ [] → DocumentsStand settings nothing_owed t now
-          → (CanPart settings (behind now xs) h p → Does (λ k events. AllStand settings k events) (parting_row p) now (t, nothing_owed) xs (u, nothing_owed) ys)
+          → (CanPart settings (behind now xs) h p → Does (λ k events. AllStand settings k events) (parting_row settings h p) now (t, nothing_owed) xs (u, nothing_owed) ys)
           → Done (λ k events. AllStand settings k events) (row_of settings before cause) now [] (u, nothing_owed) ys
-      entry_done u xs ys off first ds says = entry_by (parting_row p) t u xs ys (row_sends (ends_now off)) first (st, ds) says
+      entry_done u xs ys off first ds says = entry_by (parting_row settings h p) t u xs ys (row_sends (ends_now off)) first (st, ds) says
 
 -- A start whose group lives no more
 

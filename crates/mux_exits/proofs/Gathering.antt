@@ -14,7 +14,7 @@ use Rattle.group_rows.specs.ExitRows.{is_full}
 use Rattle.group_words.specs.Houses.{home_of, is_home}
 use Rattle.mux_exits.specs.declared.losses.Loss.{Loss}
 use Rattle.mux_exits.specs.declared.losses.Loss.TheVariants.{Emptied, Told}
-use Rattle.mux_exits.specs.Losses.{IsInside, Runs, emptied, emptied_at}
+use Rattle.mux_exits.specs.Losses.{IsInside, Runs, emptied, emptied_at, refused}
 use Rattle.mux_starts.specs.mux_facts.proofs.Lists.{all_filtered}
 
 -- one more of a list that is mapped, and the last
@@ -94,6 +94,13 @@ all_told n e text (x ∷ items) = (tt, all_told n e text items)
 
 pub told_inside : {A : Type 0} (n e : ℕ) (text : A → List ℕ) (items : List A) (xs ys : List Loss) → ys ≡ xs ++ map (λ a. Told e (text a)) items → AllByRecursion (IsInside n) xs → AllByRecursion (IsInside n) ys
 told_inside n e text items xs ys is h = subst (AllByRecursion (IsInside n)) (sym is) (all_join (IsInside n) xs (map (λ a. Told e (text a)) items) h (all_told n e text items))
+
+all_refused : (n e : ℕ) (ids : List (List ℕ)) → AllByRecursion (IsInside n) (refused e ids)
+all_refused n e [] = tt
+all_refused n e (id ∷ ids) = (tt, all_refused n e ids)
+
+pub refused_inside : (n e : ℕ) (ids : List (List ℕ)) (xs ys : List Loss) → ys ≡ xs ++ refused e ids → AllByRecursion (IsInside n) xs → AllByRecursion (IsInside n) ys
+refused_inside n e ids xs ys is h = subst (AllByRecursion (IsInside n)) (sym is) (all_join (IsInside n) xs (refused e ids) h (all_refused n e ids))
 
 pub one_inside : (n : ℕ) (l : Loss) (xs ys : List Loss) → ys ≡ xs ++ l ∷ [] → IsInside n l → AllByRecursion (IsInside n) xs → AllByRecursion (IsInside n) ys
 one_inside n l xs ys is k h = subst (AllByRecursion (IsInside n)) (sym is) (all_join (IsInside n) xs (l ∷ []) h (k, tt))

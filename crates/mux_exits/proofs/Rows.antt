@@ -20,7 +20,7 @@ use Rattle.group_rows.specs.Live.{live_of}
 use Rattle.group_rows.specs.LiveRows.{unregister_any}
 use Rattle.group_rows.specs.registrations.specs.declared.registration.Registration.{Registration}
 use Rattle.mux_exits.specs.declared.losses.Loss.{Loss}
-use Rattle.mux_exits.specs.declared.losses.Loss.TheVariants.{Emptied, Told, Unregistered}
+use Rattle.mux_exits.specs.declared.losses.Loss.TheVariants.{Emptied, Refused, Told, Unregistered}
 use Rattle.mux_exits.specs.declared.partings.Parting.{Parting}
 use Rattle.mux_exits.specs.Losses.{cancelled, emptied, ended, live_at, loss_row, lost_at, lost_sent, lost_start}
 use Rattle.mux_exits.specs.Partings.{IsParting, parting_row}
@@ -59,10 +59,10 @@ each_flat row losing f one (x ∷ xs) = alike_then (after_alike (one x) (each_fl
 
 -- X1
 
-sent_alike : (before : List Event) (live : List Registration) (s e : ℕ) → Alike (lose_sent before s e) (each (loss_row live) (lost_sent before s e))
-sent_alike before live s e =
-    let ids = ids_at e (forwarding_of s before).open_requests in
-    alike_then (own_rows e (forwarding_of s before).open_requests) (alike (sym (each_map (loss_row live) (λ id. Told e (error_text id request_failed)) ids)))
+sent_alike : (settings : Settings) (before : List Event) (live : List Registration) (s e : ℕ) → Alike (lose_sent settings before s e) (each (loss_row live) (lost_sent settings before s e))
+sent_alike settings before live s e =
+    let ids = ids_at e (forwarding_of settings s before).open_requests in
+    alike_then (own_rows e (forwarding_of settings s before).open_requests) (alike (sym (each_map (loss_row live) (λ id. Refused e id) ids)))
 
 -- X2
 
@@ -128,35 +128,35 @@ module _ (settings : Settings) (before : List Event) (s : ℕ) where
 
   module _ (g : ℕ) where
     abbrev sent : List Loss
-    sent = flat_map (lost_sent before s) (members_in settings g before)
+    sent = flat_map (lost_sent settings before s) (members_in settings g before)
 
     abbrev started : List Loss
     started = flat_map (lost_start settings before s) (running_in settings g before)
 
     -- before what becomes of the group
     module _ (last : Row) where
-      by_stage : (b : Bool) → Alike (each (lose_sent before s) (members_in settings g before) ⨾ (choose b (each (lose_start settings before s) (running_in settings g before)) nothing ⨾ last))
+      by_stage : (b : Bool) → Alike (each (lose_sent settings before s) (members_in settings g before) ⨾ (choose b (each (lose_start settings before s) (running_in settings g before)) nothing ⨾ last))
           (each (loss_row (if b then live else [])) (sent ++ (if b then started else [])) ⨾ last)
-      by_stage true = alike_then (after_alike (each_flat (lose_sent before s) (loss_row live) (lost_sent before s) (sent_alike before live s) (members_in settings g before))
+      by_stage true = alike_then (after_alike (each_flat (lose_sent settings before s) (loss_row live) (lost_sent settings before s) (sent_alike settings before live s) (members_in settings g before))
           (after_alike (alike_then alike_true (each_flat (lose_start settings before s) (loss_row live) (lost_start settings before s) start_alike (running_in settings g before))) (alike {r = last} refl)))
           (alike_then (alike_back after_joined) (after_alike (alike_back (each_join (loss_row live) sent started)) (alike {r = last} refl)))
-      by_stage false = alike_then (after_alike (each_flat (lose_sent before s) (loss_row []) (lost_sent before s) (sent_alike before [] s) (members_in settings g before))
+      by_stage false = alike_then (after_alike (each_flat (lose_sent settings before s) (loss_row []) (lost_sent settings before s) (sent_alike settings before [] s) (members_in settings g before))
           (after_alike (alike_then alike_false (alike {r = nothing} refl)) (alike {r = last} refl)))
           (alike_then (alike_back after_joined) (after_alike (alike_back (each_join (loss_row []) sent [])) (alike {r = last} refl)))
 
       pub losing_alike : (p : Parting) → IsParting settings before g s p
-          → Alike (each (lose_sent before s) (members_in settings g before) ⨾ (choose (is_ready (life_of s before).stage) (each (lose_start settings before s) (running_in settings g before)) nothing ⨾ last)) (each (loss_row p.live.items) p.losses.items ⨾ last)
+          → Alike (each (lose_sent settings before s) (members_in settings g before) ⨾ (choose (is_ready (life_of s before).stage) (each (lose_start settings before s) (running_in settings g before)) nothing ⨾ last)) (each (loss_row p.live.items) p.losses.items ⨾ last)
       losing_alike p is = alike_then (by_stage (is_ready (life_of s before).stage)) (alike (ap₂ (λ l ls. each (loss_row l) ls ⨾ last) (sym is.live) (sym is.losses)))
 
     pub parting_alike : (p : Parting) → IsParting settings before g s p
-        → Alike (each (lose_sent before s) (members_in settings g before) ⨾ (choose (is_ready (life_of s before).stage) (each (lose_start settings before s) (running_in settings g before)) nothing ⨾ each turn_out (members_in settings g before))) (parting_row p)
-    parting_alike p is = alike_then (losing_alike (each turn_out (members_in settings g before)) p is) (alike (ap (λ ms. each (loss_row p.live.items) p.losses.items ⨾ each turn_out ms) (sym is.members)))
+        → Alike (each (lose_sent settings before s) (members_in settings g before) ⨾ (choose (is_ready (life_of s before).stage) (each (lose_start settings before s) (running_in settings g before)) nothing ⨾ each (turn_out settings g) (members_in settings g before))) (parting_row settings g p)
+    parting_alike p is = alike_then (losing_alike (each (turn_out settings g) (members_in settings g before)) p is) (alike (ap (λ ms. each (loss_row p.live.items) p.losses.items ⨾ each (turn_out settings g) ms) (sym is.members)))
 
 -- What is gathered, by where the start stands
 
-module _ (settings : Settings) (before : List Event) (s g : ℕ) (members : List ℕ) (first xs : List Loss) (those : members ≡ members_in settings g before) (none : first ≡ []) (is : xs ≡ first ++ flat_map (lost_sent before s) members) where
+module _ (settings : Settings) (before : List Event) (s g : ℕ) (members : List ℕ) (first xs : List Loss) (those : members ≡ members_in settings g before) (none : first ≡ []) (is : xs ≡ first ++ flat_map (lost_sent settings before s) members) where
   gathered : xs ≡ sent settings before s g
-  gathered = is ∙ ap₂ (λ ws es. ws ++ flat_map (lost_sent before s) es) none those
+  gathered = is ∙ ap₂ (λ ws es. ws ++ flat_map (lost_sent settings before s) es) none those
 
   pub parts_unready : is_ready (life_of s before).stage ≡ false → xs ≡ lost_at settings before s g
   parts_unready off = gathered ∙ (sym (append-nil (sent settings before s g)) ∙ ap (λ b. sent settings before s g ++ (if b then started settings before s g else [])) (sym off))

@@ -1,14 +1,17 @@
 -- X1 and X2: what editors are told in turn, and what that leaves as it is.
-use Rattle.std.proofs.Common.{◌≡◌, ℕ, Bool, true, false, not, List, [], ◌∷◌, ◌++◌, IsUtf8, Some, codes, length, nat_eq, if◌then◌else◌, refl, ap, sym, subst, ◌∙◌, arith}
+use Rattle.std.proofs.Common.{◌≡◌, ℕ, Bool, true, false, not, List, [], ◌∷◌, ◌++◌, IsUtf8, None, Some, codes, length, nat_eq, if◌then◌else◌, refl, ap, sym, subst, ◌∙◌, arith}
 use Rattle.std.specs.List.{AllByRecursion}
 use Rattle.lsp_method.specs.Class.{server_notification}
 use Rattle.mux_history.specs.declared.out.Out.{Out}
 use Rattle.mux_history.specs.declared.out.Out.TheVariants.{ToEditor}
 use Rattle.rpc_message.specs.Message.{Message, error, message_of, notification}
+use Rattle.rpc_message.specs.Texts.{error_text, request_failed}
+use Rattle.rpc_message.proofs.Fixed.{error_law, id_as_response}
 use Rattle.event_model.specs.declared.phase.Phase.{Phase}
 use Rattle.event_model.specs.Does.{Does}
 use Rattle.event_model.specs.Event.{Event, behind, did, said}
 use Rattle.event_model.specs.Phases.{Desk, desk_behind, desk_of, is_running, phase_told}
+use Rattle.event_model.specs.Requests.{answered_id}
 use Rattle.event_model.specs.Row.{each, outs, send}
 use Rattle.event_model.specs.Settings.{Settings}
 use Rattle.event_model.proofs.Frames.{never, one_more}
@@ -21,8 +24,8 @@ use Rattle.group_rows.specs.registrations.specs.declared.registration.Registrati
 use Rattle.group_rows.proofs.ExitTexts.{empty_published, empty_says, empty_tree}
 use Rattle.group_words.proofs.Frames.{home_more}
 use Rattle.mux_exits.specs.declared.losses.Loss.{Loss}
-use Rattle.mux_exits.specs.declared.losses.Loss.TheVariants.{Emptied, Told, Unregistered}
-use Rattle.mux_exits.specs.Losses.{CanLose, is_mild, loss_row}
+use Rattle.mux_exits.specs.declared.losses.Loss.TheVariants.{Emptied, Refused, Told, Unregistered}
+use Rattle.mux_exits.specs.Losses.{CanLose, is_mild, is_notice, loss_row}
 use Rattle.mux_tables.specs.declared.tables.Tables.{Tables}
 use Rattle.mux_tables.specs.Documents.{AllStand, DocumentsStand, nothing_owed}
 use Rattle.mux_tables.specs.Stands.{IsListOf, Keeps, Stands}
@@ -30,7 +33,8 @@ use Rattle.mux_tables.proofs.Asking.{asking_more}
 use Rattle.mux_tables.proofs.DocumentOwed.{all_does}
 use Rattle.mux_turns.specs.Calls.{IsCall}
 use Rattle.mux_turns.proofs.Called.{Quiet, after_quiet, any_quiet, quiet_none, runs_on}
-use Rattle.mux_turns.proofs.Keeping.{error_told, keeps_error, keeps_notice, notice_told}
+use Rattle.mux_turns.specs.Initials.{IsNamed, refuse_id}
+use Rattle.mux_turns.proofs.Keeping.{error_told, keeps_notice, notice_told}
 use Rattle.mux_turns.proofs.Listed.{noted_quiet}
 
 -- A body that is neither a request, nor a result, nor a list of diagnostics
@@ -40,16 +44,25 @@ mild_told p i (error id x) h = error_told p i id x
 mild_told p i (notification method params) h = notice_told p i method params
 mild_told p i other h = never (sym h)
 
-keeps_mild : (e : ℕ) (text : List ℕ) (events : List Event) → is_mild (message_of text) ≡ true → Keeps e text events
-keeps_mild e text events mild = go (message_of text) refl mild
+-- a notice is, and so is an error
+
+notice_mild : (m : Message) → is_notice m ≡ true → is_mild m ≡ true
+notice_mild (notification method params) h = h
+notice_mild other h = never (sym h)
+
+refused_mild : (id : List ℕ) → IsNamed id → is_mild (message_of (error_text id request_failed)) ≡ true
+refused_mild id h = ap is_mild (error_law (Some h.0) id request_failed (id_as_response h.0 id h.1))
+
+-- a notice leaves its editor in its phase, and answers nothing
+keeps_told : (e : ℕ) (text : List ℕ) (events : List Event) → is_notice (message_of text) ≡ true → Keeps e text events × (answered_id (message_of text) ≡ None)
+keeps_told e text events notice = go (message_of text) refl notice
   where
     plain : (b : Bool) → not b ≡ true → b ≡ false
     plain true h = never (sym h)
     plain false h = refl
 
-    go : (m : Message) → message_of text ≡ m → is_mild m ≡ true → Keeps e text events
-    go (error id x) says h = keeps_error e text events id x says
-    go (notification method params) says h = keeps_notice e text events method params (plain (is_publishing method) h) says
+    go : (m : Message) → message_of text ≡ m → is_notice m ≡ true → Keeps e text events × (answered_id (message_of text) ≡ None)
+    go (notification method params) says h = (keeps_notice e text events method params (plain (is_publishing method) h) says, ap answered_id says)
     go other says h = never (sym h)
 
 module _ (settings : Settings) where
@@ -76,18 +89,21 @@ module _ (settings : Settings) where
   -- Several, one after the other
 
   abbrev IsMild : Loss → Type 0
+  IsMild (Refused e id) = is_mild (message_of (error_text id request_failed)) ≡ true
   IsMild (Told e text) = is_mild (message_of text) ≡ true
   IsMild (Unregistered e) = Unit {0}
   IsMild (Emptied e uri) = IsUtf8 uri
 
   pub milds : (now : List Event) (losses : List Loss) → AllByRecursion (CanLose now) losses → AllByRecursion IsMild losses
   milds now [] h = tt
-  milds now (Told e text ∷ losses) h = (h.0, milds now losses h.1)
+  milds now (Refused e id ∷ losses) h = (refused_mild id h.0, milds now losses h.1)
+  milds now (Told e text ∷ losses) h = (notice_mild (message_of text) h.0, milds now losses h.1)
   milds now (Unregistered e ∷ losses) h = (tt, milds now losses h.1)
   milds now (Emptied e uri ∷ losses) h = (h.0, milds now losses h.1)
 
   module _ (live : List Registration) (call : IsCall (unregister_text live)) where
     loss_quiet : (l : Loss) (events : List Event) → IsMild l → Quiet settings events (behind events (outs (loss_row live l) events))
+    loss_quiet (Refused e id) events mild = quiet_mild e (error_text id request_failed) events mild
     loss_quiet (Told e text) events mild = quiet_mild e text events mild
     loss_quiet (Unregistered e) events mild = any_quiet settings (unregister_text live) call (has_some live) e events
     loss_quiet (Emptied e uri) events mild = quiet_empty e uri events mild
@@ -98,6 +114,7 @@ module _ (settings : Settings) where
 
   -- who may be told, may be told later
   pub can_on : (old new : List Event) → Quiet settings old new → (l : Loss) → CanLose old l → CanLose new l
+  can_on old new q (Refused e id) h = h
   can_on old new q (Told e text) h = h
   can_on old new q (Unregistered e) h = runs_on settings old new q e h
   can_on old new q (Emptied e uri) h = h
@@ -123,11 +140,18 @@ empty_list uri spelt =
     }
 
 module _ (settings : Settings) (t u : Tables) (base : List Event) (xs ys : List Out) (live : List Registration) (loss : Loss) (can : CanLose (behind base xs) loss) where
-  pub tells_text : (e : ℕ) (text : List ℕ) → loss ≡ Told e text → (Keeps e text (behind base xs) → Does (λ t events. Stands settings t events) (send (ToEditor e text)) base t xs t ys)
+  pub tells_refused : (e : ℕ) (id own : List ℕ) → loss ≡ Refused e id → own ≡ id → (IsNamed own → Does (λ t events. Stands settings t events) (refuse_id e own) base t xs u ys)
+      → (DocumentsStand settings nothing_owed t (behind base xs) → DocumentsStand settings nothing_owed u (behind base ys)) → Does (λ k events. AllStand settings k events) (loss_row live loss) base (t, nothing_owed) xs (u, nothing_owed) ys
+  tells_refused e id own is same tells docs =
+      let named : IsNamed id = subst (CanLose (behind base xs)) is can in
+      subst (λ l. Does (λ k events. AllStand settings k events) (loss_row live l) base (t, nothing_owed) xs (u, nothing_owed) ys) (sym is)
+      (all_does settings t u nothing_owed nothing_owed base xs ys (subst (λ w. Does (λ t events. Stands settings t events) (refuse_id e w) base t xs u ys) same (tells (subst IsNamed (sym same) named))) (λ _ d. docs d))
+
+  pub tells_text : (e : ℕ) (text : List ℕ) → loss ≡ Told e text → (Keeps e text (behind base xs) → answered_id (message_of text) ≡ None → Does (λ t events. Stands settings t events) (send (ToEditor e text)) base t xs t ys)
       → (DocumentsStand settings nothing_owed t (behind base xs) → DocumentsStand settings nothing_owed t (behind base ys)) → Does (λ k events. AllStand settings k events) (loss_row live loss) base (t, nothing_owed) xs (t, nothing_owed) ys
   tells_text e text is tells docs =
       subst (λ l. Does (λ k events. AllStand settings k events) (loss_row live l) base (t, nothing_owed) xs (t, nothing_owed) ys) (sym is)
-      (all_does settings t t nothing_owed nothing_owed base xs ys (tells (keeps_mild e text (behind base xs) (subst (CanLose (behind base xs)) is can))) (λ _ d. docs d))
+      (let k = keeps_told e text (behind base xs) (subst (CanLose (behind base xs)) is can) in all_does settings t t nothing_owed nothing_owed base xs ys (tells k.0 k.1) (λ _ d. docs d))
 
   pub tells_call : (e : ℕ) → loss ≡ Unregistered e → (is_running (desk_of e (behind base xs)).phase ≡ true → Does (λ k events. AllStand settings k events) (unregister_any live e) base (t, nothing_owed) xs (u, nothing_owed) ys)
       → Does (λ k events. AllStand settings k events) (loss_row live loss) base (t, nothing_owed) xs (u, nothing_owed) ys

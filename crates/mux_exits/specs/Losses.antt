@@ -20,17 +20,18 @@ use Rattle.group_rows.specs.Live.{live_of}
 use Rattle.group_rows.specs.LiveRows.{unregister_any}
 use Rattle.group_rows.specs.registrations.specs.declared.registration.Registration.{Registration}
 use Rattle.mux_exits.specs.declared.losses.Loss.{Loss}
-use Rattle.mux_exits.specs.declared.losses.Loss.TheVariants.{Emptied, Told, Unregistered}
+use Rattle.mux_exits.specs.declared.losses.Loss.TheVariants.{Emptied, Refused, Told, Unregistered}
 use Rattle.mux_tables.specs.Losses.{open_asks}
 use Rattle.mux_tables.specs.Halts.{ids_at}
 use Rattle.mux_tables.specs.mux_tokens.specs.Ends.{begun_tokens, unanswered_takes}
+use Rattle.mux_turns.specs.Initials.{IsNamed}
 
 -- X1: the requests of these ids fail at the editor
 abbrev pub refused : ℕ → List (List ℕ) → List Loss
-refused e ids = map (λ id. Told e (error_text id request_failed)) ids
+refused e ids = map (λ id. Refused e id) ids
 
-abbrev pub lost_sent : List Event → ℕ → ℕ → List Loss
-lost_sent before s e = refused e (ids_at e (forwarding_of s before).open_requests)
+abbrev pub lost_sent : Settings → List Event → ℕ → ℕ → List Loss
+lost_sent settings before s e = refused e (ids_at e (forwarding_of settings s before).open_requests)
 
 -- X2: tokens of start s end there, by their numbers
 abbrev pub ended : ℕ → ℕ → List ℕ → List Loss
@@ -56,7 +57,7 @@ lost_start settings before s e = ended s e (begun_tokens e (created_of settings 
 
 -- X1 and X2: the editors of a group, rising; and where the start is ready those that run
 abbrev pub lost_at : Settings → List Event → ℕ → ℕ → List Loss
-lost_at settings before s g = flat_map (lost_sent before s) (members_in settings g before)
+lost_at settings before s g = flat_map (lost_sent settings before s) (members_in settings g before)
     ++ (if is_ready (life_of s before).stage then flat_map (lost_start settings before s) (running_in settings g before) else [])
 
 -- what is registered at a start that is ready
@@ -65,9 +66,15 @@ live_at settings before s = if is_ready (life_of s before).stage then live_of se
 
 -- an editor is told so, while these are what is registered
 abbrev pub loss_row : List Registration → Loss → Row
+loss_row live (Refused e id) = send (ToEditor e (error_text id request_failed))
 loss_row live (Told e text) = send (ToEditor e text)
 loss_row live (Unregistered e) = unregister_any live e
 loss_row live (Emptied e uri) = send (ToEditor e (empty_text uri))
+
+-- a notification that lists no diagnostics
+abbrev pub is_notice : Message → Bool
+is_notice (notification method params) = not (is_publishing method)
+is_notice other = false
 
 -- neither a request, nor a result, nor a list of diagnostics
 abbrev pub is_mild : Message → Bool
@@ -81,12 +88,14 @@ Runs events e = is_running (desk_of e events).phase ≡ true
 
 -- an editor may be told so
 abbrev pub CanLose : List Event → Loss → Type 0
-CanLose now (Told e text) = is_mild (message_of text) ≡ true
+CanLose now (Refused e id) = IsNamed id
+CanLose now (Told e text) = is_notice (message_of text) ≡ true
 CanLose now (Unregistered e) = Runs now e
 CanLose now (Emptied e uri) = IsUtf8 uri
 
 -- one of which more is kept than where it stands is among the first so many
 abbrev pub IsInside : ℕ → Loss → Type 0
+IsInside n (Refused e id) = Unit {0}
 IsInside n (Told e text) = Unit {0}
 IsInside n (Unregistered e) = e < n
 IsInside n (Emptied e uri) = e < n

@@ -24,8 +24,8 @@ pub record IsParting (settings : Settings) (before : List Event) (g s : ℕ) (p 
   pub live : p.live.items ≡ live_at settings before s
 
 -- the row of it
-abbrev pub parting_row : Parting → Row
-parting_row p = each (loss_row p.live.items) p.losses.items ⨾ each turn_out p.members.items
+abbrev pub parting_row : Settings → ℕ → Parting → Row
+parting_row settings g p = each (loss_row p.live.items) p.losses.items ⨾ each (turn_out settings g) p.members.items
 
 -- the same where the group goes on
 abbrev pub renewing_row : ℕ → Parting → Row

@@ -52,12 +52,13 @@ fn is_counted(tables: &Tables, h: u64) -> bool
     }
 }
 
-// What was gathered is said, and nothing is kept of the group.
+// What was gathered is said, and nothing is kept of the group in this place, which has this number.
 fn part(
     tables: &mut Tables,
     alloc: Global,
     outs: &mut Outs,
     g: usize,
+    group: u64,
     parting: Parting,
 ) -> Result<(), Memory>
     requires group { g < length tables.old.lasts.items }
@@ -65,10 +66,10 @@ fn part(
     requires inside { AllByRecursion (IsInside (length tables.old.editors)) parting.losses.items }
     ensures requests { tables.new.requests ≡ tables.old.requests }
     ensures versions { tables.new.versions ≡ tables.old.versions }
-    ensures does { (settings : Settings) (base : List Event) (h : ℕ) → IsOver g tables.old.lasts.items → IsUnready h tables.old.lasts.items
-        → CanPart settings (behind base outs.old) h parting
+    ensures does { (settings : Settings) (base : List Event) → IsOver g tables.old.lasts.items → IsUnready group tables.old.lasts.items
+        → CanPart settings (behind base outs.old) group parting
         → OnOk result (Does (λ k events. AllStand settings k events)
-        (parting_row parting) base (tables.old, nothing_owed) outs.old (tables.new, nothing_owed) outs.new) }
+        (parting_row settings group parting) base (tables.old, nothing_owed) outs.old (tables.new, nothing_owed) outs.new) }
 {
     let Parting {
         members,
@@ -76,7 +77,7 @@ fn part(
         live,
     } = parting;
     tell_losses(tables, alloc, outs, losses, &live)?;
-    turn_out_all(tables, alloc, outs, &members)?;
+    turn_out_all(tables, alloc, outs, group, &members)?;
     tables.forget(g);
     Ok(())
 }
@@ -134,11 +135,12 @@ fn exit_group(
     }
     let parting = gather(tables, alloc, g)?;
     tables.hear_exit(alloc, restarts, g)?;
-    if lives(tables, tables.group_number(g)) {
+    let group = tables.group_number(g);
+    if lives(tables, group) {
         renew(tables, alloc, outs, g, parting)?;
         Ok(())
     } else {
-        part(tables, alloc, outs, g, parting)?;
+        part(tables, alloc, outs, g, group, parting)?;
         Ok(())
     }
 }
@@ -171,11 +173,12 @@ fn fail_group(
     }
     let parting = gather(tables, alloc, g)?;
     tables.hear_failure(alloc, restarts, g)?;
-    if lives(tables, tables.group_number(g)) {
+    let group = tables.group_number(g);
+    if lives(tables, group) {
         renew(tables, alloc, outs, g, parting)?;
         Ok(())
     } else {
-        part(tables, alloc, outs, g, parting)?;
+        part(tables, alloc, outs, g, group, parting)?;
         Ok(())
     }
 }

@@ -14,13 +14,15 @@ ghost use Rattle.mux_tables.specs.Stands.{Stands, number_in};
 use message_body::{Body, Memory};
 use mux_tables::Tables;
 use mux_turns::{cancel_request, created_text};
-use rpc_message::{ErrorCode, error_answer, notification};
+use rpc_message::notification;
 use std::alloc::Global;
 
 /// What an editor is told.
 #[derive(Drop)]
 pub enum Loss {
-    /// This body, which is neither a request, nor a result, nor a list of diagnostics.
+    /// That its request of this id fails.
+    Refused(u64, Body),
+    /// This body, a notification that lists no diagnostics.
     Told(u64, Body),
     /// That what the start registered is taken back, where there is any.
     Unregistered(u64),
@@ -45,8 +47,8 @@ fn refuse_each(alloc: Global, losses: &mut Vec<Loss>, e: u64, ids: &[Body]) -> R
     ensures { OnOk result (losses.new.items ≡ losses.old.items ++ refused e ids.now) }
 {
     for id in ids {
-        let text = error_answer(alloc, id.bytes(), ErrorCode::RequestFailed)?;
-        losses.push(Loss::Told(e, text))?;
+        let own = id.copy(alloc)?;
+        losses.push(Loss::Refused(e, own))?;
     }
     Ok(())
 }
@@ -95,7 +97,7 @@ fn lose_requests(
     requires { g < length tables.now.lasts.items }
     ensures inside { (n : ℕ) → AllByRecursion (IsInside n) losses.old.items → OnOk result (AllByRecursion (IsInside n) losses.new.items) }
     ensures lost { (settings : Settings) (before : List Event) (s : ℕ) → slice_get (map number_in tables.now.lasts.items) g ≡ Some s
-        → Stands settings tables.now before → OnOk result (losses.new.items ≡ losses.old.items ++ lost_sent before s e) }
+        → Stands settings tables.now before → OnOk result (losses.new.items ≡ losses.old.items ++ lost_sent settings before s e) }
 {
     let ids = tables.ids_of(alloc, g, e)?;
     refuse_each(alloc, losses, e, &ids)?;
@@ -190,7 +192,7 @@ pub fn lose_all_requests(
     requires { g < length tables.now.lasts.items }
     ensures inside { (n : ℕ) → AllByRecursion (IsInside n) losses.old.items → OnOk result (AllByRecursion (IsInside n) losses.new.items) }
     ensures lost { (settings : Settings) (before : List Event) (s : ℕ) → slice_get (map number_in tables.now.lasts.items) g ≡ Some s
-        → Stands settings tables.now before → OnOk result (losses.new.items ≡ losses.old.items ++ flat_map (lost_sent before s) editors.now) }
+        → Stands settings tables.now before → OnOk result (losses.new.items ≡ losses.old.items ++ flat_map (lost_sent settings before s) editors.now) }
 {
     for e in editors {
         lose_requests(tables, alloc, losses, g, *e)?;

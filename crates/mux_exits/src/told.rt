@@ -17,7 +17,7 @@ use group_rows::registrations::Registration;
 use message_body::{Body, Memory};
 use mux_history::Outs;
 use mux_tables::Tables;
-use mux_turns::{call_unregistered_any, quoted};
+use mux_turns::{call_unregistered_any, quoted, refuse_id};
 use rpc_message::notification;
 use std::alloc::Global;
 
@@ -56,6 +56,10 @@ fn tell_loss(
         (loss_row live.now loss) base (tables.old, nothing_owed) outs.old (tables.new, nothing_owed) outs.new) }
 {
     match loss {
+        Loss::Refused(e, id) => {
+            refuse_id(tables, alloc, outs, e, id.bytes())?;
+            Ok(())
+        }
         Loss::Told(e, text) => {
             tables.tell(outs, e, text)?;
             Ok(())

@@ -15,25 +15,31 @@ ghost use Rattle.mux_turns.specs.Welcomes.{AllAsking};
 
 use message_body::Memory;
 use mux_history::Outs;
-use mux_starts::put_out;
+use mux_starts::part;
 use mux_tables::Tables;
 use mux_turns::refuse_initialize;
 use std::alloc::Global;
 
-// The `initialize` of an editor fails where it waits, and its link is to be ended.
-fn turn_out(tables: &mut Tables, alloc: Global, outs: &mut Outs, e: u64) -> Result<(), Memory>
+// The `initialize` of an editor of the group of this number fails where it waits, what waits of it is refused, and its link is to be ended.
+fn turn_out(
+    tables: &mut Tables,
+    alloc: Global,
+    outs: &mut Outs,
+    g: u64,
+    e: u64,
+) -> Result<(), Memory>
     requires { e < length tables.old.editors }
     ensures requests { tables.new.requests ≡ tables.old.requests }
     ensures versions { tables.new.versions ≡ tables.old.versions }
     ensures lasts { tables.new.lasts ≡ tables.old.lasts }
     ensures count { OnOk result (length tables.new.editors ≡ length tables.old.editors) }
-    ensures does { (settings : Settings) (base : List Event) (g : ℕ) → IsUnready g tables.old.lasts.items
+    ensures does { (settings : Settings) (base : List Event) → IsUnready g tables.old.lasts.items
         → AllAsking (behind base outs.old) → AllHoused settings (behind base outs.old) → home_of settings e (behind base outs.old) ≡ Some g
         → OnOk result (Does (λ k events. AllStand settings k events)
-        (turn_out e) base (tables.old, nothing_owed) outs.old (tables.new, nothing_owed) outs.new) }
+        (turn_out settings g e) base (tables.old, nothing_owed) outs.old (tables.new, nothing_owed) outs.new) }
 {
     refuse_initialize(tables, alloc, outs, e)?;
-    put_out(tables, alloc, outs, e)?;
+    part(tables, alloc, outs, g, e)?;
     Ok(())
 }
 
@@ -42,19 +48,20 @@ pub fn turn_out_all(
     tables: &mut Tables,
     alloc: Global,
     outs: &mut Outs,
+    g: u64,
     editors: &[u64],
 ) -> Result<(), Memory>
     requires { All (λ e. e < length tables.old.editors) editors.now }
     ensures requests { tables.new.requests ≡ tables.old.requests }
     ensures versions { tables.new.versions ≡ tables.old.versions }
     ensures lasts { tables.new.lasts ≡ tables.old.lasts }
-    ensures does { (settings : Settings) (base : List Event) (g : ℕ) → IsUnready g tables.old.lasts.items
+    ensures does { (settings : Settings) (base : List Event) → IsUnready g tables.old.lasts.items
         → AllAsking (behind base outs.old) → AllHoused settings (behind base outs.old) → AreHome settings (behind base outs.old) g editors.now
         → OnOk result (Does (λ k events. AllStand settings k events)
-        (each turn_out editors.now) base (tables.old, nothing_owed) outs.old (tables.new, nothing_owed) outs.new) }
+        (each (turn_out settings g) editors.now) base (tables.old, nothing_owed) outs.old (tables.new, nothing_owed) outs.new) }
 {
     for e in editors {
-        turn_out(tables, alloc, outs, *e)?;
+        turn_out(tables, alloc, outs, g, *e)?;
     }
     Ok(())
 }

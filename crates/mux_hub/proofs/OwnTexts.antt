@@ -1,9 +1,9 @@
 -- Behind one more entry each message that went on behind a sync stood on its editor's own texts.
-use Rattle.std.proofs.Common.{◌≡◌, ℕ, ◌<◌, ◌^◌, true, List, [], ◌∷◌, ◌++◌, flat_map, map, fold, refl, sym, ◌∙◌, ap, subst, append-nil, append_assoc}
+use Rattle.std.proofs.Common.{◌≡◌, ℕ, ◌<◌, ◌^◌, true, List, [], ◌∷◌, ◌++◌, flat_map, map, fold, refl, sym, ◌∙◌, ap, subst, append-nil, append_assoc, ap₂, Bool, false}
 use Rattle.std.specs.Prelude.{Option, Some, None, slice_get}
 use Rattle.std.specs.List.{AllByRecursion}
 use Rattle.mux_history.specs.declared.cause.Cause.{Cause}
-use Rattle.mux_history.specs.declared.cause.Cause.TheVariants.{FromEditor, FromServer}
+use Rattle.mux_history.specs.declared.cause.Cause.TheVariants.{FromEditor, FromServer, Joined, EditorGone, Started, StartFailed, ServerGone, Drained, Tick}
 use Rattle.mux_history.specs.declared.entry.Entry.{Entry}
 use Rattle.mux_history.specs.declared.out.Out.{Out}
 use Rattle.mux_history.specs.declared.out.Out.TheVariants.{ToEditor, ToServer, Spawn, CloseEditor, EndServer}
@@ -30,10 +30,11 @@ use Rattle.mux_facts.proofs.Keeps.{behind_both}
 use Rattle.mux_model.specs.Documents.{held_at}
 use Rattle.group_sessions.specs.group_rows.specs.Rows.{sync_bodies}
 use Rattle.group_sessions.specs.group_rows.proofs.Frames.{texts_more}
-use Rattle.group_sessions.specs.group_rows.specs.Texts.{is_synced, texts_of, worker_behind, worker_of}
+use Rattle.group_sessions.specs.group_rows.specs.Texts.{is_synced, texts_of, toucher, toucher_of}
+use Rattle.group_sessions.specs.group_rows.specs.Waiting.{worker_behind, worker_of, first_waiting}
 use Rattle.group_sessions.specs.group_facts.specs.Legal.{Legal}
 use Rattle.group_sessions.specs.group_facts.specs.OwnTexts.{AllHaveHolders, AllOnOwnTexts, HasHolders, OnOwnTexts, OwnTexts, OwnTextsFrom, HasOwn}
-use Rattle.group_sessions.specs.group_facts.specs.Why.{AllSlow, AllWhy, HasParts, IsBehindSync, IsQuestion, ReasonsFrom, SlowOuts, Why, WhyToServer, begins, cancels, cancels_work, conveys, exits, forwarded, greets, notes, quitting, resolves, responds, shuts, tells}
+use Rattle.group_sessions.specs.group_facts.specs.Why.{AllSlow, AllWhy, HasParts, IsBehindSync, IsQuestion, ReasonsFrom, SlowOuts, Why, WhyToServer, begins, cancels, cancels_work, conveys, exits, forwarded, greets, notes, quitting, resolves, responds, shuts, tells, Going, at_once, had_waited}
 use Rattle.group_sessions.specs.group_facts.proofs.Asides.{answer_aside, spoken_aside, unsynced}
 use Rattle.group_sessions.specs.group_facts.proofs.Everywhere.{reasons_hold}
 use Rattle.group_sessions.specs.group_facts.proofs.Same.{IsBody, same_behind, same_held, same_questions}
@@ -48,7 +49,15 @@ use Rattle.mux_causes.specs.mux_tables.specs.Stands.{Stands, of_life}
 use Rattle.mux_causes.specs.mux_tables.proofs.DocumentMoves.{documents_at}
 use Rattle.mux_causes.specs.mux_tables.proofs.Homes.{kept_start}
 use Rattle.mux_causes.specs.mux_tables.proofs.Placed.{KeptAt}
-use Rattle.mux_hub.specs.Entries.{emits, entry_of}
+use Rattle.mux_hub.specs.Entries.{entry_of}
+use Rattle.mux_model.specs.Fits.{fits_behind}
+use Rattle.group_sessions.specs.group_facts.specs.SlowRows.{entry_outs}
+use Rattle.group_sessions.specs.group_facts.proofs.Facts.{Facts}
+use Rattle.group_sessions.specs.group_facts.proofs.Reached.{facts_at, reached}
+use Rattle.group_sessions.specs.ExitReplay.{gives_result}
+use Rattle.group_sessions.proofs.FirstTexts.{waited_gives}
+use Rattle.group_sessions.proofs.ListsLaw.{legal_parts}
+use Rattle.group_sessions.proofs.ReplayLaw.{entry_first}
 
 -- what an editor that is slow leaves behind goes behind no sync
 module _ (settings : Settings) where
@@ -124,9 +133,9 @@ module _ (settings : Settings) (t : Tables) (before : List Event) (st : Stands s
   texts_asked e g events (EndServer n ∷ xs) h = absurd h.0
 
   -- the editor's documents were told to the start of its group
-  behind_sync : (events : List Event) (s e : ℕ) (asked : List ℕ) → IsBehindSync settings before events s e asked → (w g : ℕ) → worker_of events ≡ Some w → group_of s events ≡ Some g
+  behind_sync : (events : List Event) (s e : ℕ) (asked body : List ℕ) → IsBehindSync settings before events s e asked → (w g : ℕ) → toucher_of settings s events (message_of body) ≡ Some w → group_of s events ≡ Some g
       → (u : List ℕ) (o : Open) → found w u (texts_of settings g events) ≡ Some o → HasOwn o (held_at s u events)
-  behind_sync events s e asked k w g works home u o is =
+  behind_sync events s e asked body k w g touches home u o is =
       let bodies : List (List ℕ) = sync_bodies settings.limits.versions (λ v. held_at s v before) e (texts_of settings k.group before).opens in
       let x = last_of k.group s k.start k.ready in
       let d = documents_at settings nothing_owed t before x.0.place x.0.last x.0.at ds in
@@ -137,7 +146,8 @@ module _ (settings : Settings) (t : Tables) (before : List Event) (st : Stands s
       let mid : List Event = behind now k.questions in
       let place : events ≡ behind mid (to s bodies) = k.place ∙ behind_both now k.questions (to s bodies) in
       let at_work : worker_of mid ≡ Some e = outs_more worker_behind None (Some e) now k.questions (one_more worker_behind None (worker_of before) before (heard (FromEditor e asked)) refl) ∙ worker_asked e k.questions (Some e) k.asks in
-      let worker : w ≡ e = same_item (sym works ∙ (ap worker_of place ∙ (outs_more worker_behind None (Some e) mid (to s bodies) at_work ∙ worker_told s bodies (Some e)))) in
+      let works : worker_of events ≡ Some e = ap worker_of place ∙ (outs_more worker_behind None (Some e) mid (to s bodies) at_work ∙ worker_told s bodies (Some e)) in
+      let worker : w ≡ e = same_item (sym touches ∙ ap (λ o. toucher o (message_of body) (first_waiting settings s events)) works) in
       let lived : group_of s before ≡ Some k.group = subst (λ n. group_of n before ≡ Some k.group) x.1 (subst (λ n. group_of x.0.last.life.start before ≡ Some n) x.0.group (st.lasts.each x.0.place x.0.last x.0.at).home) in
       let lives : group_of s mid ≡ Some k.group = outs_more (group_behind s) None (Some k.group) now k.questions (one_more (group_behind s) None (Some k.group) before (heard (FromEditor e asked)) lived) ∙ group_asked e s k.questions (Some k.group) k.asks in
       let group : g ≡ k.group = same_item (sym home ∙ (ap (group_of s) place ∙ (outs_more (group_behind s) None (Some k.group) mid (to s bodies) lives ∙ group_told s s bodies (Some k.group)))) in
@@ -154,29 +164,42 @@ module _ (settings : Settings) (t : Tables) (before : List Event) (st : Stands s
       agrees : (k : Option HeldText) (h : HeldText) → k ≡ Some h → Agrees o h → HasOwn o k
       agrees k h is same = subst (HasOwn o) (sym is) same
 
-  -- S2's configuration goes where no editor's message is at work
-  by_reason : (cause : Cause) (events : List Event) (s : ℕ) (body : List ℕ) → worker_of events ≡ worker_of (with_cause before cause) → WhyToServer settings before cause events s body → is_synced (message_of body) ≡ true → (w g : ℕ) → worker_of events ≡ Some w → group_of s events ≡ Some g
-      → (u : List ℕ) (o : Open) → found w u (texts_of settings g events) ≡ Some o → HasOwn o (held_at s u events)
-  by_reason cause events s body still (begins k) goes = unsynced body _ k.says refl goes
-  by_reason cause events s body still (greets k) goes = unsynced body _ k.says refl goes
-  by_reason cause events s body still (conveys k) goes = λ w g works home u o is.
-      let none : worker_of events ≡ None = still ∙ (ap (λ c. worker_of (with_cause before c)) k.from ∙ one_more worker_behind None (worker_of before) before (heard (FromServer s k.answer)) refl) in absurd (cc)
-  by_reason cause events s body still (forwarded k) goes = behind_sync events s k.sender.editor k.asked k.synced
-  by_reason cause events s body still (notes k) goes = behind_sync events s k.editor body k.synced
-  by_reason cause events s body still (tells k) goes = never (sym goes ∙ spoken_aside (message_of body) k.spoken)
-  by_reason cause events s body still (shuts k) goes = unsynced body _ k.says refl goes
-  by_reason cause events s body still (cancels k) goes = unsynced body _ k.says refl goes
-  by_reason cause events s body still (cancels_work k) goes = unsynced body _ k.says refl goes
-  by_reason cause events s body still (responds k) goes = never (sym goes ∙ answer_aside (message_of body) k.response)
-  by_reason cause events s body still (resolves k) goes = never (sym goes ∙ answer_aside (message_of body) k.response)
-  by_reason cause events s body still (exits k) goes = unsynced body _ k.says refl goes
+  -- no start gives its first result by it
+  abbrev Unheard : Cause → Type 0
+  Unheard cause = (s : ℕ) (body : List ℕ) → cause ≡ FromServer s body → gives_result s before body ≡ true → ⊥
 
-  by_why : (cause : Cause) (events : List Event) (out : Out) → worker_of events ≡ worker_of (with_cause before cause) → Why settings before cause events out → OnOwnTexts settings events out
-  by_why cause events (ToServer s body) still why = by_reason cause events s body still why
-  by_why cause events (ToEditor e body) still why = tt
-  by_why cause events (Spawn s g) still why = tt
-  by_why cause events (CloseEditor e) still why = tt
-  by_why cause events (EndServer s) still why = tt
+  -- so no request that waited goes
+  by_going : (cause : Cause) (events : List Event) (s e : ℕ) (asked body : List ℕ) → Unheard cause → (life_of s events).stage ≡ Ready → Going settings before cause events s e asked → (w g : ℕ) → toucher_of settings s events (message_of body) ≡ Some w → group_of s events ≡ Some g
+      → (u : List ℕ) (o : Open) → found w u (texts_of settings g events) ≡ Some o → HasOwn o (held_at s u events)
+  by_going cause events s e asked body unheard ready (at_once from sync) = behind_sync events s e asked body sync
+  by_going cause events s e asked body unheard ready (had_waited k) = absurd (unheard s k.answer k.from (waited_gives settings before cause events s e asked k ready))
+
+  -- S2's configuration goes where no editor's message is at work
+  by_reason : (cause : Cause) (events : List Event) (s : ℕ) (body : List ℕ) → Unheard cause → worker_of events ≡ worker_of (with_cause before cause) → WhyToServer settings before cause events s body → is_synced (message_of body) ≡ true → (w g : ℕ) → toucher_of settings s events (message_of body) ≡ Some w → group_of s events ≡ Some g
+      → (u : List ℕ) (o : Open) → found w u (texts_of settings g events) ≡ Some o → HasOwn o (held_at s u events)
+  by_reason cause events s body unheard still (begins k) goes = unsynced body _ k.says refl goes
+  by_reason cause events s body unheard still (greets k) goes = unsynced body _ k.says refl goes
+  by_reason cause events s body unheard still (conveys k) goes = λ w g touches home u o is. absurd (none w
+      (sym (ap₂ (λ a m. toucher a m (first_waiting settings s events)) (still ∙ (ap (λ c. worker_of (with_cause before c)) k.from ∙ one_more worker_behind None (worker_of before) before (heard (FromServer s k.answer)) refl)) k.says) ∙ touches))
+    where
+      none : (w : ℕ) → ◌≡◌ {A = Option ℕ} None (Some w) → ⊥
+      none w clash = absurd (cc)
+  by_reason cause events s body unheard still (forwarded k) goes = by_going cause events s k.sender.editor k.asked body unheard k.ready k.going
+  by_reason cause events s body unheard still (notes k) goes = behind_sync events s k.editor body body k.synced
+  by_reason cause events s body unheard still (tells k) goes = never (sym goes ∙ spoken_aside (message_of body) k.spoken)
+  by_reason cause events s body unheard still (shuts k) goes = unsynced body _ k.says refl goes
+  by_reason cause events s body unheard still (cancels k) goes = unsynced body _ k.says refl goes
+  by_reason cause events s body unheard still (cancels_work k) goes = unsynced body _ k.says refl goes
+  by_reason cause events s body unheard still (responds k) goes = never (sym goes ∙ answer_aside (message_of body) k.response)
+  by_reason cause events s body unheard still (resolves k) goes = never (sym goes ∙ answer_aside (message_of body) k.response)
+  by_reason cause events s body unheard still (exits k) goes = unsynced body _ k.says refl goes
+
+  by_why : (cause : Cause) (events : List Event) (out : Out) → Unheard cause → worker_of events ≡ worker_of (with_cause before cause) → Why settings before cause events out → OnOwnTexts settings events out
+  by_why cause events (ToServer s body) unheard still why = by_reason cause events s body unheard still why
+  by_why cause events (ToEditor e body) unheard still why = tt
+  by_why cause events (Spawn s g) unheard still why = tt
+  by_why cause events (CloseEditor e) unheard still why = tt
+  by_why cause events (EndServer s) unheard still why = tt
 
   worker_stays : (events : List Event) (out : Out) → worker_of (events ++ said out ∷ []) ≡ worker_of events
   worker_stays events (ToServer s body) = one_more worker_behind None (worker_of events) events (said (ToServer s body)) refl
@@ -185,14 +208,33 @@ module _ (settings : Settings) (t : Tables) (before : List Event) (st : Stands s
   worker_stays events (CloseEditor e) = one_more worker_behind None (worker_of events) events (said (CloseEditor e)) refl
   worker_stays events (EndServer s) = one_more worker_behind None (worker_of events) events (said (EndServer s)) refl
 
-  row_own : (cause : Cause) (events : List Event) (outs : List Out) → worker_of events ≡ worker_of (with_cause before cause) → AllWhy settings before cause events outs → AllOnOwnTexts settings events outs
-  row_own cause events [] still why = tt
-  row_own cause events (out ∷ outs) still why = (by_why cause events out still why.0, row_own cause (events ++ said out ∷ []) outs (worker_stays events out ∙ still) why.1)
+  row_own : (cause : Cause) (events : List Event) (outs : List Out) → Unheard cause → worker_of events ≡ worker_of (with_cause before cause) → AllWhy settings before cause events outs → AllOnOwnTexts settings events outs
+  row_own cause events [] unheard still why = tt
+  row_own cause events (out ∷ outs) unheard still why = (by_why cause events out unheard still why.0, row_own cause (events ++ said out ∷ []) outs unheard (worker_stays events out ∙ still) why.1)
 
   -- the outs of an entry, with those of the editors that are slow behind its row
-  pub entry_own : (cause : Cause) (outs : List Out) → HasParts settings before cause outs → AllOnOwnTexts settings (with_cause before cause) outs
-  entry_own cause outs h = subst (AllOnOwnTexts settings (with_cause before cause)) (sym h.parts)
-      (both_own settings (with_cause before cause) h.row (flat_map (λ (x : SlowOuts). x.outs) h.slow) (row_own cause (with_cause before cause) h.row refl h.why) (slow_own settings (behind (with_cause before cause) h.row) h.slow h.leave))
+  unheard_own : (cause : Cause) → Unheard cause → (outs : List Out) → HasParts settings before cause outs → AllOnOwnTexts settings (with_cause before cause) outs
+  unheard_own cause unheard outs h = subst (AllOnOwnTexts settings (with_cause before cause)) (sym h.parts)
+      (both_own settings (with_cause before cause) h.row (flat_map (λ (x : SlowOuts). x.outs) h.slow) (row_own cause (with_cause before cause) h.row unheard refl h.why) (slow_own settings (behind (with_cause before cause) h.row) h.slow h.leave))
+
+  -- S2's stand on them by its row
+  pub entry_own : InRange settings → Facts settings before → (cause : Cause) → fits_behind before cause ≡ true → HasParts settings before cause (entry_outs settings before cause) → AllOnOwnTexts settings (with_cause before cause) (entry_outs settings before cause)
+  entry_own range facts (FromServer s body) fits h = go (gives_result s before body) refl
+    where
+      same : (n : ℕ) (text : List ℕ) → FromServer s body ≡ FromServer n text → (s ≡ n) × (body ≡ text)
+      same n text is = (cc, cc)
+
+      go : (b : Bool) → gives_result s before body ≡ b → AllOnOwnTexts settings (with_cause before (FromServer s body)) (entry_outs settings before (FromServer s body))
+      go true gives = entry_first settings range before facts s body fits gives
+      go false other = unheard_own (FromServer s body) (λ n text from gives. let k = same n text from in never (sym gives ∙ (ap₂ (λ i t. gives_result i before t) (sym k.0) (sym k.1) ∙ other))) (entry_outs settings before (FromServer s body)) h
+  entry_own range facts (Joined e) fits h = unheard_own (Joined e) (λ n text from gives. absurd (cc)) (entry_outs settings before (Joined e)) h
+  entry_own range facts (FromEditor e body) fits h = unheard_own (FromEditor e body) (λ n text from gives. absurd (cc)) (entry_outs settings before (FromEditor e body)) h
+  entry_own range facts (EditorGone e why) fits h = unheard_own (EditorGone e why) (λ n text from gives. absurd (cc)) (entry_outs settings before (EditorGone e why)) h
+  entry_own range facts (Started s) fits h = unheard_own (Started s) (λ n text from gives. absurd (cc)) (entry_outs settings before (Started s)) h
+  entry_own range facts (StartFailed s) fits h = unheard_own (StartFailed s) (λ n text from gives. absurd (cc)) (entry_outs settings before (StartFailed s)) h
+  entry_own range facts (ServerGone s) fits h = unheard_own (ServerGone s) (λ n text from gives. absurd (cc)) (entry_outs settings before (ServerGone s)) h
+  entry_own range facts (Drained e k) fits h = unheard_own (Drained e k) (λ n text from gives. absurd (cc)) (entry_outs settings before (Drained e k)) h
+  entry_own range facts (Tick t) fits h = unheard_own (Tick t) (λ n text from gives. absurd (cc)) (entry_outs settings before (Tick t)) h
 
   -- what a ready start of a group has
   pub holders : AllHaveHolders settings before
@@ -230,6 +272,8 @@ pub own_more : (settings : Settings) → InRange settings → (t u : Tables) (hi
     → Stands settings u (events_of (history ++ entry_of settings history cause ∷ [])) → DocumentsStand settings nothing_owed u (events_of (history ++ entry_of settings history cause ∷ []))
     → OwnTexts settings history → OwnTexts settings (history ++ entry_of settings history cause ∷ [])
 own_more settings range t u history cause legal st ds now later own =
+    let parts = legal_parts settings [] history (entry_of settings history cause ∷ []) legal in
     own_from settings [] history (entry_of settings history cause) own
-    (entry_own settings t (events_of history) st ds cause (emits settings history cause) (last_parts settings [] history (entry_of settings history cause) (reasons_hold settings range (history ++ entry_of settings history cause ∷ []) legal)))
+    (entry_own settings t (events_of history) st ds range (facts_at settings range (events_of history) (reached settings history parts.0)) cause parts.1.0
+    (last_parts settings [] history (entry_of settings history cause) (reasons_hold settings range (history ++ entry_of settings history cause ∷ []) legal)))
     (holders settings u (events_of (history ++ entry_of settings history cause ∷ [])) now later)

@@ -37,3 +37,5 @@ mod tests;
 mod tokens;
 #[cfg(test)]
 mod versions;
+#[cfg(test)]
+mod waiting;

@@ -5,19 +5,14 @@ use crate::tests::{MOST, OPENING, TWO_EDITORS};
 use lspmux_program::{Refusal, Stop};
 use std::test::Fail;
 
-// The same exit, where a new start may come, which nothing of the gone one reaches: not what is asked of it, nor what answers it. An
-// editor that joins meanwhile waits.
-const RENEWED: [(&str, &str); 13] = [
+// The same exit, where a new start may come, which nothing reaches that answers the gone one. An editor that joins meanwhile waits.
+const RENEWED: [(&str, &str); 12] = [
     (
         "exit 0\n",
         ">ed 0 {\"jsonrpc\":\"2.0\",\"id\":1,\"error\":{\"code\":-32803,\"message\":\"Request failed\"}}\n>ed 0 {\"jsonrpc\":\"2.0\",\"id\":2,\"error\":{\"code\":-32803,\"message\":\"Request failed\"}}\n>ed 1 {\"jsonrpc\":\"2.0\",\"id\":7,\"error\":{\"code\":-32803,\"message\":\"Request failed\"}}\n>ed 3 {\"jsonrpc\":\"2.0\",\"id\":1,\"error\":{\"code\":-32803,\"message\":\"Request failed\"}}\n>ed 0 {\"jsonrpc\":\"2.0\",\"method\":\"$/progress\",\"params\":{\"token\":\"lspmux:0:1\",\"value\":{\"kind\":\"end\"}}}\n>ed 0 {\"jsonrpc\":\"2.0\",\"method\":\"$/cancelRequest\",\"params\":{\"id\":3}}\n>ed 0 {\"jsonrpc\":\"2.0\",\"id\":4,\"method\":\"client/unregisterCapability\",\"params\":{\"unregisterations\":[{\"id\":\"r\",\"method\":\"m\"}]}}\n>ed 0 {\"jsonrpc\":\"2.0\",\"method\":\"textDocument/publishDiagnostics\",\"params\":{\"uri\":\"file:///u\",\"diagnostics\":[]}}\n>ed 1 {\"jsonrpc\":\"2.0\",\"method\":\"$/cancelRequest\",\"params\":{\"id\":2}}\n>ed 1 {\"jsonrpc\":\"2.0\",\"id\":3,\"method\":\"client/unregisterCapability\",\"params\":{\"unregisterations\":[{\"id\":\"r\",\"method\":\"m\"}]}}\n>ed 1 {\"jsonrpc\":\"2.0\",\"method\":\"textDocument/publishDiagnostics\",\"params\":{\"uri\":\"file:///u\",\"diagnostics\":[]}}\n>spawn 1 0\n",
     ),
     ("ed 0 {\"jsonrpc\":\"2.0\",\"id\":3,\"result\":[]}\n", ""),
     ("ed 1 {\"jsonrpc\":\"2.0\",\"id\":2,\"result\":null}\n", ""),
-    (
-        "ed 1 {\"jsonrpc\":\"2.0\",\"id\":7,\"method\":\"textDocument/hover\",\"params\":{}}\n",
-        ">ed 1 {\"jsonrpc\":\"2.0\",\"id\":7,\"error\":{\"code\":-32803,\"message\":\"Request failed\"}}\n",
-    ),
     (
         "ed 2 {\"jsonrpc\":\"2.0\",\"method\":\"initialized\",\"params\":{}}\n",
         "",
@@ -82,6 +77,20 @@ const RENEWED_TO_THE_LIMIT: [(&str, &str); 11] = [
         "nostart 3\n",
         ">close 0\n>ed 1 {\"jsonrpc\":\"2.0\",\"id\":\"a\",\"error\":{\"code\":-32803,\"message\":\"Request failed\"}}\n>close 1\n",
     ),
+];
+
+// A second exit, where one new start is the limit.
+const RENEWED_ONCE: [(&str, &str); 4] = [
+    ("exit 0\n", ">spawn 1 0\n"),
+    (
+        "up 1\n",
+        ">sv 1 {\"jsonrpc\":\"2.0\",\"id\":1,\"method\":\"initialize\",\"params\":{\"processId\":null,\"clientInfo\":{\"name\":\"lspmux\"},\"rootUri\":\"file:///w\",\"capabilities\":{},\"trace\":\"off\"}}\n",
+    ),
+    (
+        "sv 1 {\"jsonrpc\":\"2.0\",\"id\":1,\"result\":{\"capabilities\":{}}}\n",
+        ">sv 1 {\"jsonrpc\":\"2.0\",\"method\":\"initialized\",\"params\":{}}\n",
+    ),
+    ("exit 1\n", ">close 0\n"),
 ];
 
 // The editor that ran is down, and another waits: a new start comes for that one, and none once it is gone.
@@ -280,7 +289,9 @@ fn new_starts_are_counted(rt: HostRuntime) -> Result<(), Fail> {
     let alloc = rt.alloc();
     let mut few = limits(MOST, MOST);
     few.restarts = 3;
-    play(&rt, alloc, few, &[&RENEWED_TO_THE_LIMIT], Ok(()))
+    play(&rt, alloc, few, &[&RENEWED_TO_THE_LIMIT], Ok(()))?;
+    few.restarts = 1;
+    play(&rt, alloc, few, &[&OPENING, &RENEWED_ONCE], Ok(()))
 }
 
 #[test]

@@ -348,6 +348,20 @@ const TURNED_AWAY: [(&str, &str); 5] = [
     ("ed 1 {\n", ""),
 ];
 
+// So is one of the same folders that lacks what the group declared.
+const LACKING: [(&str, &str); 4] = [
+    ("join 0\n", ""),
+    (
+        "ed 0 {\"jsonrpc\":\"2.0\",\"id\":0,\"method\":\"initialize\",\"params\":{\"rootUri\":\"file:///w\",\"capabilities\":{\"workspace\":{\"applyEdit\":true}}}}\n",
+        ">spawn 0 0\n",
+    ),
+    ("join 1\n", ""),
+    (
+        "ed 1 {\"jsonrpc\":\"2.0\",\"id\":0,\"method\":\"initialize\",\"params\":{\"rootUri\":\"file:///w\",\"capabilities\":{}}}\n",
+        ">ed 1 {\"jsonrpc\":\"2.0\",\"id\":0,\"error\":{\"code\":-32803,\"message\":\"Request failed\"}}\n>close 1\n",
+    ),
+];
+
 // Where one group is the limit, an idle group ends for another: its start answers `shutdown`, is sent `exit`, and its program ends.
 // The next one ends before its program begins, which then can't be run.
 const EVICTED: [(&str, &str); 14] = [
@@ -700,7 +714,8 @@ fn an_editor_too_many_is_turned_away(rt: HostRuntime) -> Result<(), Fail> {
     let alloc = rt.alloc();
     let mut few = limits(MOST, MOST);
     few.groups = 1;
-    play(&rt, alloc, few, &[&TURNED_AWAY], Ok(()))
+    play(&rt, alloc, few, &[&TURNED_AWAY], Ok(()))?;
+    play(&rt, alloc, few, &[&LACKING], Ok(()))
 }
 
 #[test]

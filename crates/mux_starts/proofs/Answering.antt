@@ -1,15 +1,15 @@
 -- The answer of a start, passed on.
-use Rattle.std.proofs.Common.{◌≡◌, ℕ, Bool, true, false, List, [], ◌∷◌, find, refl, ap, ap₂, sym, subst, ◌∙◌, append-nil}
-use Rattle.std.specs.Prelude.{Option, Some, None, Result, Ok, Err, IfOk, OnOk, MatchOption, option_copied}
+use Rattle.std.proofs.Common.{◌≡◌, ℕ, true, false, List, [], find, refl, ap, ap₂, sym, subst, ◌∙◌, append-nil}
+use Rattle.std.specs.Prelude.{Option, Some, None, Result, Ok, Err, IfOk, MatchOption, option_copied}
 use Rattle.std.specs.Option.{option_and_then}
 use Rattle.std.specs.Borrow.{Bor}
 use Rattle.mux_history.specs.declared.cause.Cause.TheVariants.{FromServer}
 use Rattle.mux_history.specs.declared.out.Out.{Out}
 use Rattle.mux_history.specs.declared.out.Out.TheVariants.{ToEditor}
 use Rattle.rpc_message.specs.Message.{Message, Id, message_of}
-use Rattle.mux_turns.specs.mux_facts.specs.Allowed.{is_response}
+use Rattle.rpc_message.specs.ValueTexts.{IsIdText}
 use Rattle.mux_turns.specs.mux_facts.proofs.Bodies.{IsResponseTo, is_error, is_result}
-use Rattle.mux_turns.specs.group_facts.proofs.AnswerRows.{answers_only}
+use Rattle.mux_turns.specs.group_facts.proofs.AnswerRows.{answers_only, response_is}
 use Rattle.mux_turns.specs.group_facts.specs.Facts.{Meant}
 use Rattle.mux_turns.specs.group_facts.proofs.Answered.{answer_says}
 use Rattle.group_rows.proofs.Versions.{own_flat}
@@ -20,7 +20,7 @@ use Rattle.event_model.specs.Does.{Alike, Does}
 use Rattle.event_model.specs.Event.{Event, behind, heard, said, with_cause}
 use Rattle.event_model.specs.Phases.{Desk, desk_behind, desk_of, is_there, phase_told}
 use Rattle.event_model.specs.Requests.{answered_id}
-use Rattle.event_model.specs.Row.{on, choose, nothing, outs, send}
+use Rattle.event_model.specs.Row.{on, nothing, send}
 use Rattle.event_model.specs.Settings.{Settings}
 use Rattle.event_model.proofs.Frames.{one_more}
 use Rattle.event_model.proofs.Turns.{alike, does_nothing}
@@ -32,9 +32,10 @@ use Rattle.response_route.specs.Versions.{stamp_of, version_now}
 use Rattle.mux_tables.specs.declared.tables.Tables.{Tables}
 use Rattle.mux_tables.specs.Notes.{IsNoted, has_left}
 use Rattle.mux_tables.specs.Stands.{Keeps, Stands, forwarded_as, is_traced}
+use Rattle.mux_tables.specs.mux_waits.specs.Stands.{AnswersId}
 use Rattle.mux_tables.proofs.Frames.{itself}
 use Rattle.mux_starts.specs.Answers.{IsAsked}
-use Rattle.mux_starts.specs.Replies.{reply_row}
+use Rattle.mux_starts.specs.Replies.{Answers, IsReply, reply_row}
 use Rattle.mux_starts.specs.declared.answers.Reply.{Reply}
 use Rattle.mux_turns.proofs.Rows.{is_first, is_second}
 
@@ -49,7 +50,7 @@ means_own settings before s n p now current nowhere noted u digits = go p.noted 
     go (Some v) h = ap₂ (λ a b. version_now digits a b) (current u) (h.2 u ∙ ap (option_and_then (λ moment. stamp_at held_version settings s p.editor moment u)) (sym h.1))
     go None left =
         let none = nowhere u left in
-        ap (λ a. version_now digits a None) (current u ∙ none) ∙ ap (λ a. version_now digits a (option_and_then (λ moment. stamp_at held_version settings s p.editor moment u) (moment_of s n before))) (sym none)
+        ap (λ a. version_now digits a None) (current u ∙ none) ∙ ap (λ a. version_now digits a (option_and_then (λ moment. stamp_at held_version settings s p.editor moment u) (moment_of settings s n before))) (sym none)
 
 -- what is read through references
 pub noted_read : (u : List ℕ) (o : Option (Bor (List (List ℕ × Stamp)))) (q : Option (List (List ℕ × Stamp))) → option_copied o ≡ q → option_and_then (λ x. stamp_of u x.now) o ≡ option_and_then (λ x. stamp_of u x) q
@@ -78,64 +79,47 @@ pub desk_still : (before : List Event) (s : ℕ) (body : List ℕ) (xs : List Ou
 desk_still before s body xs e first = ap (λ ys. (desk_of e (behind (with_cause before (FromServer s body)) ys)).phase) first
     ∙ (ap (λ es. (desk_of e es).phase) (append-nil (with_cause before (FromServer s body))) ∙ ap (λ (d : Desk). d.phase) (one_more (desk_behind e) _ _ before (heard (FromServer s body)) refl))
 
-abbrev pub Waits : List Event → Option Reply → Type 0
-Waits events r = MatchOption r (Unit {0}) (λ x. (desk_of x.editor events).phase ≡ Waiting → ⊥)
-
-pub waits_still : (before : List Event) (s : ℕ) (body : List ℕ) (xs : List Out) (r : Option Reply) → xs ≡ [] → Waits before r → Waits (behind (with_cause before (FromServer s body)) xs) r
-waits_still before s body xs None first h = tt
-waits_still before s body xs (Some x) first h = λ q. h (sym (desk_still before s body xs x.editor first) ∙ q)
-
-pub waits_of : (before : List Event) (e : ℕ) (r : Option Reply) → ((desk_of e before).phase ≡ Waiting → ⊥) → MatchOption r (Unit {0}) (λ x. x.editor ≡ e) → Waits before r
-waits_of before e None h k = tt
-waits_of before e (Some x) h k = λ q. h (ap (λ n. (desk_of n before).phase) (sym k) ∙ q)
-
 -- what goes to an editor is no request, and no list of diagnostics
 plain_response : (id : Id) (m : Message) → IsResponseTo id m → is_traced m ≡ false
 plain_response id m (is_result r e) = ap is_traced e
 plain_response id m (is_error x e) = ap is_traced e
 
 module _ (settings : Settings) (before : List Event) (s : ℕ) (body : List ℕ) (meant : Meant before) where
-  abbrev text_for : Forwarded → List ℕ
-  text_for f = answer_text (own_version settings before s f) body f.id
+  reply_says : (r : Reply) → IsReply settings before s body r → (is_traced (message_of r.body) ≡ false) × AnswersId r.id r.body
+  reply_says r k =
+      let f = k.asked in
+      let i = k.known.name in
+      let own = answer_text (own_version settings before s f) body f.id in
+      let to : IsResponseTo i (message_of own) = answer_says (own_version settings before s f) (own_flat settings before s f meant) body f.id i k.response k.known.text in
+      let is : message_of r.body ≡ message_of own = ap message_of k.answers.text in
+      (ap is_traced is ∙ plain_response i (message_of own) to, record { name = i; is = subst (λ w. IsIdText i w) (sym k.answers.id) k.known.text; says = ap answered_id is ∙ (response_is i (message_of own) to).1 })
 
-  plain_text : (f : Forwarded) (text : List ℕ) → is_response (message_of body) ≡ true → IsAsked before f → ◌≡◌ {A = List Out} (outs (hand_on settings before s body f) before) (ToEditor f.editor text ∷ []) → is_traced (message_of text) ≡ false
-  plain_text f text response asked sends = go (is_there (desk_of f.editor before).phase) sends
-    where
-      go : (b : Bool) → ◌≡◌ {A = List Out} (outs (choose b (send (ToEditor f.editor (text_for f))) nothing) before) (ToEditor f.editor text ∷ []) → is_traced (message_of text) ≡ false
-      go true e = let same : text_for f ≡ text = cc in ap (λ w. is_traced (message_of w)) (sym same) ∙ plain_response asked.name (message_of (text_for f)) (answer_says (own_version settings before s f) (own_flat settings before s f meant) body f.id asked.name response asked.text)
-      go false e = absurd (cc)
-
-  pub plain_reply : (r : Option Reply) → ((f : Forwarded) → find (answered_by (answered_id (message_of body))) (forwarding_of s before).open_requests ≡ Some f → IsAsked before f) → Alike (answer_row settings s before body (message_of body)) (reply_row r)
-      → MatchOption r (Unit {0}) (λ y. is_traced (message_of y.body) ≡ false)
-  plain_reply None known a = tt
-  plain_reply (Some x) known a = go (find (answered_by (answered_id (message_of body))) (forwarding_of s before).open_requests) refl
-    where
-      sends : (o : Option Forwarded) → find (answered_by (answered_id (message_of body))) (forwarding_of s before).open_requests ≡ o → ◌≡◌ {A = List Out} (outs (on o nothing (hand_on settings before s body)) before) (ToEditor x.editor x.body ∷ [])
-      sends o e = sym (ap (λ o. outs (on o nothing (hand_on settings before s body)) before) e) ∙ a.sends before
-
-      to_whom : (f : Forwarded) (b : Bool) → ◌≡◌ {A = List Out} (outs (choose b (send (ToEditor f.editor (text_for f))) nothing) before) (ToEditor x.editor x.body ∷ []) → x.editor ≡ f.editor
-      to_whom f true e = cc
-      to_whom f false e = absurd (cc)
-
-      go : (o : Option Forwarded) → find (answered_by (answered_id (message_of body))) (forwarding_of s before).open_requests ≡ o → is_traced (message_of x.body) ≡ false
-      go None e = let none : ◌≡◌ {A = List Out} [] (ToEditor x.editor x.body ∷ []) = sends None e in absurd (cc)
-      go (Some f) e =
-          let sent = sends (Some f) e in
-          plain_text f x.body (answers_only (message_of body) f (forwarding_of s before).open_requests e) (known f e) (sent ∙ ap (λ n. ToEditor n x.body ∷ []) (to_whom f (is_there (desk_of f.editor before).phase) sent))
+  pub reply_goes : (xs : List Out) (reply : Option Reply) → xs ≡ [] → MatchOption reply (Unit {0}) (IsReply settings before s body)
+      → MatchOption reply (Unit {0}) (λ r. Keeps r.editor r.body (behind (with_cause before (FromServer s body)) xs) × AnswersId r.id r.body)
+  reply_goes xs None first k = tt
+  reply_goes xs (Some r) first k =
+      let says = reply_says r k in
+      (keeps_late r.editor r.body (behind (with_cause before (FromServer s body)) xs) (λ q. k.known.answered (ap (λ n. (desk_of n before).phase) (sym k.answers.editor) ∙ (sym (desk_still before s body xs r.editor first) ∙ q))) says.0, says.1)
 
 -- the reply to a request
 module _ (settings : Settings) (before : List Event) (body : List ℕ) (s n : ℕ) (p : Pending) where
   pub reply_gone : is_there (desk_of p.editor before).phase ≡ false → Alike (hand_on settings before s body (forwarded_as n p)) (reply_row None)
   reply_gone gone = is_second refl gone
 
-  pub reply_given : (text : List ℕ) → is_there (desk_of p.editor before).phase ≡ true → text ≡ answer_text (own_version settings before s (forwarded_as n p)) body p.id
-      → Alike (hand_on settings before s body (forwarded_as n p)) (reply_row (Some (record { editor = p.editor; body = text })))
-  reply_given text here is = subst (λ w. Alike (hand_on settings before s body (forwarded_as n p)) (send (ToEditor p.editor w))) (sym is) (is_first refl here)
+  pub reply_given : (id text : List ℕ) → is_there (desk_of p.editor before).phase ≡ true → text ≡ answer_text (own_version settings before s (forwarded_as n p)) body p.id
+      → Alike (hand_on settings before s body (forwarded_as n p)) (reply_row (Some (record { editor = p.editor; id = id; body = text })))
+  reply_given id text here is = subst (λ w. Alike (hand_on settings before s body (forwarded_as n p)) (send (ToEditor p.editor w))) (sym is) (is_first refl here)
+
+-- it answers the request that is found
+answers_it : (settings : Settings) (before : List Event) (s : ℕ) (body : List ℕ) (f : Forwarded) → find (answered_by (answered_id (message_of body))) (forwarding_of settings s before).open_requests ≡ Some f → IsAsked before f → (r : Option Reply) → Answers settings before s body f r
+    → MatchOption r (Unit {0}) (IsReply settings before s body)
+answers_it settings before s body f is known None k = tt
+answers_it settings before s body f is known (Some x) k = record { asked = f; known = known; response = answers_only (message_of body) f (forwarding_of settings s before).open_requests is; answers = k }
 
 -- and to a message
 module _ (settings : Settings) (before : List Event) (body : List ℕ) (s : ℕ) where
   abbrev found : Option Forwarded
-  found = find (answered_by (answered_id (message_of body))) (forwarding_of s before).open_requests
+  found = find (answered_by (answered_id (message_of body))) (forwarding_of settings s before).open_requests
 
   pub unasked : found ≡ None → Alike (answer_row settings s before body (message_of body)) (reply_row None)
   unasked none = alike (ap (λ o. on o nothing (hand_on settings before s body)) none)
@@ -143,19 +127,17 @@ module _ (settings : Settings) (before : List Event) (body : List ℕ) (s : ℕ)
   asked_by : (f : Forwarded) (r : Option Reply) → found ≡ Some f → Alike (hand_on settings before s body f) (reply_row r) → Alike (answer_row settings s before body (message_of body)) (reply_row r)
   asked_by f r is h = subst (λ o. Alike (on o nothing (hand_on settings before s body)) (reply_row r)) (sym is) h
 
-  pub replied : (f : Forwarded) {E : Type 0} (result : Result (Option Reply) E) → found ≡ Some f → IsAsked before f → IfOk result (λ r. Alike (hand_on settings before s body f) (reply_row r) × MatchOption r (Unit {0}) (λ x. x.editor ≡ f.editor))
-      → IfOk result (λ r. Alike (answer_row settings s before body (message_of body)) (reply_row r) × Waits before r)
-  replied f (Ok r) is known h = (asked_by f r is h.0, waits_of before f.editor r known.answered h.1)
+  pub replied : (f : Forwarded) {E : Type 0} (result : Result (Option Reply) E) → found ≡ Some f → IsAsked before f → IfOk result (λ r. Alike (hand_on settings before s body f) (reply_row r) × Answers settings before s body f r)
+      → IfOk result (λ r. Alike (answer_row settings s before body (message_of body)) (reply_row r) × MatchOption r (Unit {0}) (IsReply settings before s body))
+  replied f (Ok r) is known h = (asked_by f r is h.0, answers_it settings before s body f is known r h.1)
   replied f (Err e) is known h = tt
 
 -- it goes out
 pub handed_none : (settings : Settings) (t : Tables) (base : List Event) (xs : List Out) (r : Option Reply) → r ≡ None → Does (λ t events. Stands settings t events) (reply_row r) base t xs t xs
 handed_none settings t base xs r is = subst (λ o. Does (λ t events. Stands settings t events) (reply_row o) base t xs t xs) (sym is) does_nothing
 
-pub handed_some : {A E : Type 0} (settings : Settings) (t : Tables) (base : List Event) (xs ys : List Out) (result : Result A E) (r : Option Reply) (x : Reply) → r ≡ Some x → Waits (behind base xs) r → MatchOption r (Unit {0}) (λ y. is_traced (message_of y.body) ≡ false)
-    → (Keeps x.editor x.body (behind base xs) → OnOk result (Does (λ t events. Stands settings t events) (send (ToEditor x.editor x.body)) base t xs t ys)) → OnOk result (Does (λ t events. Stands settings t events) (reply_row r) base t xs t ys)
-handed_some settings t base xs ys (Ok done) r x is h plain go =
-    let late : Waits (behind base xs) (Some x) = subst (Waits (behind base xs)) is h in
-    let silent : is_traced (message_of x.body) ≡ false = subst (λ (o : Option Reply). MatchOption o (Unit {0}) (λ y. is_traced (message_of y.body) ≡ false)) is plain in
-    subst (λ o. Does (λ t events. Stands settings t events) (reply_row o) base t xs t ys) (sym is) (go (keeps_late x.editor x.body (behind base xs) late silent))
-handed_some settings t base xs ys (Err e) r x is h plain go = tt
+pub handed_some : (settings : Settings) (t u : Tables) (base : List Event) (xs ys : List Out) (r : Option Reply) (x : Reply) → r ≡ Some x → MatchOption r (Unit {0}) (λ y. Keeps y.editor y.body (behind base xs) × AnswersId y.id y.body)
+    → (Keeps x.editor x.body (behind base xs) → AnswersId x.id x.body → Does (λ t events. Stands settings t events) (send (ToEditor x.editor x.body)) base t xs u ys) → Does (λ t events. Stands settings t events) (reply_row r) base t xs u ys
+handed_some settings t u base xs ys r x is h go =
+    let k : Keeps x.editor x.body (behind base xs) × AnswersId x.id x.body = subst (λ (o : Option Reply). MatchOption o (Unit {0}) (λ y. Keeps y.editor y.body (behind base xs) × AnswersId y.id y.body)) is h in
+    subst (λ o. Does (λ t events. Stands settings t events) (reply_row o) base t xs u ys) (sym is) (go k.0 k.1)

@@ -14,7 +14,7 @@ use Rattle.event_model.proofs.Frames.{never}
 use Rattle.group_rows.specs.Asks.{running_in}
 use Rattle.group_rows.specs.Created.{Created, Token, created_token, if_new, may_create, named_token, token_called, token_of}
 use Rattle.group_rows.specs.Forwarded.{token_in}
-use Rattle.group_rows.specs.Tokens.{is_reserved}
+use Rattle.group_rows.specs.Reserved.{is_reserved}
 use Rattle.group_words.specs.Houses.{home_of, is_home}
 use Rattle.mux_starts.specs.Creates.{AreApart, Creates}
 

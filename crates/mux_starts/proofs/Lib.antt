@@ -19,3 +19,4 @@ pub mod Recalls
 pub mod Registering
 pub mod Parting
 pub mod Resulting
+pub mod Passing

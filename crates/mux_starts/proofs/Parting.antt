@@ -1,29 +1,33 @@
 -- S2, of a start that isn't its group's first: with whom it parts.
-use Rattle.std.proofs.Common.{◌≡◌, ℕ, ◌<◌, Bool, true, false, ◌&&◌, List, [], ◌∷◌, ◌++◌, filter, get_or, length, nat_eq, refl, ap, sym, subst, ◌∙◌, append-nil, arith, if◌then◌else◌}
-use Rattle.std.specs.Prelude.{Some}
+use Rattle.std.proofs.Common.{◌≡◌, ℕ, ◌+◌, ◌<◌, ◌≤◌, Bool, true, false, ◌&&◌, List, [], ◌∷◌, ◌++◌, filter, get_or, length, nat_eq, refl, ap, sym, subst, ◌∙◌, append-nil, append_assoc, arith, take, if◌then◌else◌}
+use Rattle.std.specs.Prelude.{None, Some}
 use Rattle.std.specs.List.{All, AllByRecursion, range_with_len}
 use Rattle.std.proofs.lemmas.Bool.Decides.{nat_tests}
+use Rattle.std.proofs.lemmas.List.{take_all, take_more}
 use Rattle.std.proofs.lemmas.List.Elements.{All-append, All-cons, All-get_or, All-nil}
 use Rattle.mux_history.specs.declared.out.Out.{Out}
-use Rattle.mux_history.specs.declared.out.Out.TheVariants.{CloseEditor}
+use Rattle.mux_history.specs.declared.out.Out.TheVariants.{CloseEditor, EndServer, Spawn, ToEditor, ToServer}
+use Rattle.rpc_message.specs.Message.{Message, error, message_of, not_json, not_message, notification, request, result}
 use Rattle.event_model.specs.declared.phase.Phase.{Phase}
 use Rattle.event_model.specs.declared.phase.Phase.TheVariants.{Absent, New, Waiting, Answered, Running, Down, Closed, Gone}
 use Rattle.event_model.specs.Does.{Alike, Does}
 use Rattle.event_model.specs.Event.{Event, behind, said}
-use Rattle.event_model.specs.Phases.{Desk, desk_behind, desk_of, editors_of, is_begun, is_running, phase_closed}
-use Rattle.event_model.specs.Row.{Row, choose, nothing, send}
+use Rattle.event_model.specs.Phases.{Desk, desk_behind, desk_of, editors_of, has_id, is_begun, is_running, phase_closed, phase_told}
+use Rattle.event_model.specs.Row.{Row, choose, each, nothing, send}
 use Rattle.event_model.specs.Settings.{Settings}
-use Rattle.event_model.proofs.Frames.{one_more}
-use Rattle.event_model.proofs.Turns.{behind_more}
+use Rattle.event_model.proofs.Frames.{never, one_more}
+use Rattle.event_model.proofs.Turns.{behind_more, does_next, does_nothing, does_then}
 use Rattle.group_rows.specs.Asks.{members_in}
 use Rattle.group_rows.specs.Earlier.{differs, given_of, part_row, shown_in, was_shown}
-use Rattle.group_rows.specs.StopRows.{close_each}
+use Rattle.group_rows.specs.Waiting.{part, refuse_held}
 use Rattle.group_words.specs.Houses.{home_of, is_home}
 use Rattle.mux_tables.specs.declared.tables.Tables.{Tables}
-use Rattle.mux_tables.specs.Documents.{AheadStand, AllStand, DocumentsStand, Owed, closes}
+use Rattle.mux_tables.specs.Documents.{AheadStand, AllStand, DocumentsStand, Owed, Parts}
+use Rattle.mux_tables.proofs.DocumentSaid.{ahead_stays}
 use Rattle.mux_tables.specs.Stands.{Stands}
 use Rattle.mux_turns.proofs.Welcoming.{home_there}
-use Rattle.mux_starts.specs.Parted.{parted}
+use Rattle.mux_turns.specs.Welcomes.{Informs, IsToEditor}
+use Rattle.mux_starts.specs.Parted.{PartedBy, parted}
 
 -- Who was shown a result
 
@@ -81,10 +85,10 @@ parted_home settings before body g = go (differs (given_of g before) body)
     go true = at_home_all settings before g (λ e. was_shown (desk_of e before).phase) (range_with_len 0 (editors_of before))
     go false = tt
 
-pub parted_alike : (settings : Settings) (before : List Event) (body : List ℕ) (g : ℕ) (es : List ℕ) → es ≡ parted settings before body g → Alike (part_row settings before body g) (close_each es)
-parted_alike settings before body g es is = subst (λ ns. Alike (part_row settings before body g) (close_each ns)) (sym is) (go (differs (given_of g before) body))
+pub parted_alike : (settings : Settings) (before : List Event) (body : List ℕ) (g : ℕ) (es : List ℕ) → es ≡ parted settings before body g → Alike (part_row settings before body g) (each (part settings g) es)
+parted_alike settings before body g es is = subst (λ ns. Alike (part_row settings before body g) (each (part settings g) ns)) (sym is) (go (differs (given_of g before) body))
   where
-    go : (b : Bool) → Alike (choose b (close_each (shown_in settings g before)) nothing) (close_each (if b then shown_in settings g before else []))
+    go : (b : Bool) → Alike (choose b (each (part settings g) (shown_in settings g before)) nothing) (each (part settings g) (if b then shown_in settings g before else []))
     go true = record { sends = λ events. refl }
     go false = record { sends = λ events. refl }
 
@@ -100,13 +104,46 @@ closed_off Down = refl
 closed_off Closed = refl
 closed_off Gone = refl
 
--- one that doesn't run stays so
-shut_one : (e x : ℕ) (events : List Event) → is_running (desk_of e events).phase ≡ false → is_running (desk_of e (events ++ said (CloseEditor x) ∷ [])).phase ≡ false
-shut_one e x events off = ap (λ (d : Desk). is_running d.phase) (one_more (desk_behind e) _ _ events (said (CloseEditor x)) refl) ∙ go (nat_eq x e)
+told_off : (phase : Phase) (i : List ℕ) (m : Message) → is_running phase ≡ false → is_running (phase_told phase i m) ≡ false
+told_off Absent i m h = refl
+told_off New i m h = refl
+told_off Waiting i (result (Some id) r) h = go (has_id id (message_of i))
   where
-    go : (b : Bool) → is_running (if b then record { phase = phase_closed (desk_of e events).phase; initialize = (desk_of e events).initialize } else desk_of e events).phase ≡ false
-    go true = closed_off (desk_of e events).phase
+    go : (b : Bool) → is_running (if b then Answered else Waiting) ≡ false
+    go true = refl
+    go false = refl
+told_off Waiting i (result None r) h = refl
+told_off Waiting i (error id r) h = refl
+told_off Waiting i (request id method ps) h = refl
+told_off Waiting i (notification method ps) h = refl
+told_off Waiting i not_json h = refl
+told_off Waiting i not_message h = refl
+told_off Answered i m h = refl
+told_off Running i m h = never h
+told_off Down i m h = refl
+told_off Closed i m h = refl
+told_off Gone i m h = refl
+
+-- one that doesn't run stays so
+off_by : (e : ℕ) (d : Desk) (x : Out) → is_running d.phase ≡ false → is_running (desk_behind e d (said x)).phase ≡ false
+off_by e d (ToEditor n body) off = go (nat_eq n e)
+  where
+    go : (b : Bool) → is_running (if b then record { phase = phase_told d.phase d.initialize (message_of body); initialize = d.initialize } else d).phase ≡ false
+    go true = told_off d.phase d.initialize (message_of body) off
     go false = off
+off_by e d (CloseEditor n) off = go (nat_eq n e)
+  where
+    go : (b : Bool) → is_running (if b then record { phase = phase_closed d.phase; initialize = d.initialize } else d).phase ≡ false
+    go true = closed_off d.phase
+    go false = off
+off_by e d (ToServer s body) off = off
+off_by e d (Spawn s g) off = off
+off_by e d (EndServer s) off = off
+
+off_all : (e : ℕ) (xs : List Out) (events : List Event) → is_running (desk_of e events).phase ≡ false → is_running (desk_of e (behind events xs)).phase ≡ false
+off_all e [] events off = ap (λ ws. is_running (desk_of e ws).phase) (append-nil events) ∙ off
+off_all e (x ∷ xs) events off = ap (λ ws. is_running (desk_of e ws).phase) (behind_more events (x ∷ []) xs)
+    ∙ off_all e xs (events ++ said x ∷ []) (ap (λ (d : Desk). is_running d.phase) (one_more (desk_behind e) _ _ events (said x) refl) ∙ off_by e (desk_of e events) x off)
 
 shut_here : (e : ℕ) (events : List Event) → is_running (desk_of e (events ++ said (CloseEditor e) ∷ [])).phase ≡ false
 shut_here e events =
@@ -114,18 +151,75 @@ shut_here e events =
     ap (λ (d : Desk). is_running d.phase) (one_more (desk_behind e) _ _ events (said (CloseEditor e)) refl)
     ∙ (ap (λ (b : Bool). is_running (if b then record { phase = phase_closed (desk_of e events).phase; initialize = (desk_of e events).initialize } else desk_of e events).phase) own ∙ closed_off (desk_of e events).phase)
 
-shut_all : (e : ℕ) (es : List ℕ) (events : List Event) → is_running (desk_of e events).phase ≡ false → is_running (desk_of e (behind events (closes es))).phase ≡ false
-shut_all e [] events off = ap (λ ws. is_running (desk_of e ws).phase) (append-nil events) ∙ off
-shut_all e (x ∷ es) events off = ap (λ ws. is_running (desk_of e ws).phase) (behind_more events (CloseEditor x ∷ []) (closes es)) ∙ shut_all e es (events ++ said (CloseEditor x) ∷ []) (shut_one e x events off)
+shut_first : (e : ℕ) (rest : List Out) (events : List Event) → is_running (desk_of e (behind events (CloseEditor e ∷ rest))).phase ≡ false
+shut_first e rest events = ap (λ ws. is_running (desk_of e ws).phase) (behind_more events (CloseEditor e ∷ []) rest) ∙ off_all e rest (events ++ said (CloseEditor e) ∷ []) (shut_here e events)
 
-shut_first : (e : ℕ) (es : List ℕ) (events : List Event) → is_running (desk_of e (behind events (CloseEditor e ∷ closes es))).phase ≡ false
-shut_first e es events = ap (λ ws. is_running (desk_of e ws).phase) (behind_more events (CloseEditor e ∷ []) (closes es)) ∙ shut_all e es (events ++ said (CloseEditor e) ∷ []) (shut_here e events)
+-- What is said as editors are parted with
 
--- the documents are ahead of the events by one end of a link less
-pub closes_next : (settings : Settings) (owed : Owed) (t u : Tables) (base : List Event) (xs ys : List Out) (e : ℕ) (es : List ℕ) → Does (λ t events. Stands settings t events) (send (CloseEditor e)) base t xs u ys
-    → (is_running (desk_of e (behind (behind base xs) (CloseEditor e ∷ closes es))).phase ≡ false → DocumentsStand settings owed t (behind (behind base xs) (CloseEditor e ∷ closes es)) → DocumentsStand settings owed u (behind (behind base ys) (closes es)))
-    → Does (λ k events. AheadStand settings k events) (send (CloseEditor e)) base (t, (owed, closes (e ∷ es))) xs (u, (owed, closes es)) ys
-closes_next settings owed t u base xs ys e es d docs = record { done = λ k. let one = d.done k.0 in record { outs = one.outs; stands = (one.stands, docs (shut_first e es (behind base xs)) k.1) } }
+informs_parts : (xs ys : List Out) (es : List ℕ) → AllByRecursion IsToEditor xs → Parts ys es → Parts (xs ++ ys) es
+informs_parts [] ys es h k = k
+informs_parts (ToEditor n body ∷ xs) ys es h k = informs_parts xs ys es h.1 k
+informs_parts (ToServer s body ∷ xs) ys es h k = absurd h.0
+informs_parts (Spawn s g ∷ xs) ys es h k = absurd h.0
+informs_parts (CloseEditor n ∷ xs) ys es h k = absurd h.0
+informs_parts (EndServer s ∷ xs) ys es h k = absurd h.0
+
+parts_join : (xs ys : List Out) (es fs : List ℕ) → Parts xs es → Parts ys fs → Parts (xs ++ ys) (es ++ fs)
+parts_join [] ys [] fs h k = k
+parts_join [] ys (e ∷ es) fs h k = absurd h
+parts_join (ToEditor n body ∷ xs) ys es fs h k = parts_join xs ys es fs h k
+parts_join (CloseEditor n ∷ xs) ys [] fs h k = absurd h
+parts_join (CloseEditor n ∷ xs) ys (e ∷ es) fs h k = (h.0, parts_join xs ys es fs h.1 k)
+parts_join (ToServer s body ∷ xs) ys es fs h k = absurd h
+parts_join (Spawn s g ∷ xs) ys es fs h k = absurd h
+parts_join (EndServer s ∷ xs) ys es fs h k = absurd h
+
+pub parts_none : (t : Tables) (xs : List Out) (g : ℕ) → PartedBy (λ settings. each (part settings g) []) [] t t xs xs
+parts_none t xs g = record { said = []; is = sym (append-nil xs); parts = tt; does = λ settings owed base rest. does_nothing }
+
+-- The documents are ahead of the events by what is said of one editor less
+
+module _ (t v u : Tables) (xs ys zs : List Out) (g e : ℕ) (lasts : v.lasts ≡ t.lasts) (documents : v.documents ≡ t.documents) (versions : v.versions ≡ t.versions) (told : Informs xs ys) (ends : zs ≡ ys ++ CloseEditor e ∷ [])
+    (refuses : (settings : Settings) (base : List Event) → Does (λ t events. Stands settings t events) (refuse_held settings g e) base t xs v ys) (closes : (settings : Settings) (base : List Event) → Does (λ t events. Stands settings t events) (send (CloseEditor e)) base v ys u zs)
+    (ahead : (settings : Settings) (owed : Owed) (base : List Event) (more : List Out) → is_running (desk_of e (behind (behind base ys) (CloseEditor e ∷ more))).phase ≡ false → DocumentsStand settings owed v (behind (behind base ys) (CloseEditor e ∷ more)) → DocumentsStand settings owed u (behind (behind base zs) more)) where
+  refused_ahead : (settings : Settings) (owed : Owed) (base : List Event) (rest : List Out) → Does (λ k events. AheadStand settings k events) (refuse_held settings g e) base (t, (owed, told.more ++ CloseEditor e ∷ rest)) xs (v, (owed, CloseEditor e ∷ rest)) ys
+  refused_ahead settings owed base rest = record {
+    done = λ k.
+        let one = (refuses settings base).done k.0 in
+        record { outs = one.outs; stands = (one.stands, ahead_stays settings owed t v base xs ys told.more (CloseEditor e ∷ rest) lasts documents versions told.is k.1) };
+  }
+
+  closed_ahead : (settings : Settings) (owed : Owed) (base : List Event) (rest : List Out) → Does (λ k events. AheadStand settings k events) (send (CloseEditor e)) base (v, (owed, CloseEditor e ∷ rest)) ys (u, (owed, rest)) zs
+  closed_ahead settings owed base rest = record {
+    done = λ k.
+        let one = (closes settings base).done k.0 in
+        record { outs = one.outs; stands = (one.stands, ahead settings owed base rest (shut_first e rest (behind base ys)) k.1) };
+  }
+
+  pub parts_one : PartedBy (λ settings. part settings g e) (e ∷ []) t u xs zs
+  parts_one = record {
+    said = told.more ++ CloseEditor e ∷ [];
+    is = ends ∙ (ap (λ ws. ws ++ CloseEditor e ∷ []) told.is ∙ append_assoc xs told.more (CloseEditor e ∷ []));
+    parts = informs_parts told.more (CloseEditor e ∷ []) (e ∷ []) told.all (refl, tt);
+    does = λ settings owed base rest.
+        subst (λ os. Does (λ k events. AheadStand settings k events) (part settings g e) base (t, (owed, os)) xs (u, (owed, rest)) zs) (sym (append_assoc told.more (CloseEditor e ∷ []) rest))
+        (does_then (refused_ahead settings owed base rest) (closed_ahead settings owed base rest));
+  }
+
+-- one more of a list, and all of it
+pub parts_next : (t u v : Tables) (xs ys zs : List Out) (g : ℕ) (items : List ℕ) (i : ℕ) → i < length items → PartedBy (λ settings. each (part settings g) (take i items)) (take i items) t u xs ys
+    → PartedBy (λ settings. part settings g (get_or items i 0)) (get_or items i 0 ∷ []) u v ys zs → PartedBy (λ settings. each (part settings g) (take (i + 1) items)) (take (i + 1) items) t v xs zs
+parts_next t u v xs ys zs g items i less p q = record {
+  said = p.said ++ q.said;
+  is = q.is ∙ (ap (λ ws. ws ++ q.said) p.is ∙ append_assoc xs p.said q.said);
+  parts = subst (Parts (p.said ++ q.said)) (sym (take_more items i 0 less)) (parts_join p.said q.said (take i items) (get_or items i 0 ∷ []) p.parts q.parts);
+  does = λ settings owed base rest.
+      subst (λ os. Does (λ k events. AheadStand settings k events) (each (part settings g) (take (i + 1) items)) base (t, (owed, os)) xs (v, (owed, rest)) zs) (sym (append_assoc p.said q.said rest))
+      (does_next (part settings g) items i 0 less (p.does settings owed base (q.said ++ rest)) (q.does settings owed base rest));
+}
+
+pub parts_all : (t u : Tables) (xs ys : List Out) (g : ℕ) (items : List ℕ) (i : ℕ) → length items ≤ i → PartedBy (λ settings. each (part settings g) (take i items)) (take i items) t u xs ys → PartedBy (λ settings. each (part settings g) items) items t u xs ys
+parts_all t u xs ys g items i over p = subst (λ ns. PartedBy (λ settings. each (part settings g) ns) ns t u xs ys) (take_all i items over) p
 
 -- Documents that are ahead by nothing
 

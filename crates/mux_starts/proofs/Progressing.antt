@@ -49,13 +49,13 @@ module _ (settings : Settings) (s : ℕ) (before : List Event) (body method : Li
   abbrev token : Option Json
   token = named_of (codes "token") params
 
-  pub passes_nothing : find (is_told before token) (forwarding_of s before).open_requests ≡ None → Passes settings s before body method params None
+  pub passes_nothing : find (is_told before token) (forwarding_of settings s before).open_requests ≡ None → Passes settings s before body method params None
   passes_nothing none = alike (ap (λ o. on o (created_row settings s before body params) (tell_progress body token)) none)
 
-  pub passes_one : (x : Telling) (own : List ℕ) → IsTold before token (forwarding_of s before).open_requests x.editor own → message_of body ≡ notification method params → x.text ≡ marked_text own body → Passes settings s before body method params (Some x)
+  pub passes_one : (x : Telling) (own : List ℕ) → IsTold before token (forwarding_of settings s before).open_requests x.editor own → message_of body ≡ notification method params → x.text ≡ marked_text own body → Passes settings s before body method params (Some x)
   passes_one x own told says is =
       let f = told.request in
-      let text = own_text token f own (found_has HasTokens (is_told before token) (forwarding_of s before).open_requests f (tokens_kept s before) told.found) told.own in
+      let text = own_text token f own (found_has HasTokens (is_told before token) (forwarding_of settings s before).open_requests f (tokens_kept settings s before) told.found) told.own in
       let new = marked_says own body method params text says in
       let row = ap (λ o. on o (created_row settings s before body params) (tell_progress body token)) told.found ∙ ap (λ o. on o nothing (λ w. send (ToEditor f.editor (marked_text w body)))) told.own in
       ((new.0, ap message_of is ∙ new.1), alike_then (alike row) (alike (ap (λ n. send (ToEditor n (marked_text own body))) told.asker ∙ ap (λ w. send (ToEditor x.editor w)) (sym is))))

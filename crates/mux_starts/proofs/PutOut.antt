@@ -8,13 +8,15 @@ use Rattle.std.proofs.lemmas.List.Elements.{All-get_or, filter_passes}
 use Rattle.mux_history.specs.declared.cause.Cause.TheVariants.{FromServer}
 use Rattle.mux_history.specs.declared.out.Out.{Out}
 use Rattle.mux_history.specs.declared.out.Out.TheVariants.{ToEditor, ToServer, Spawn, CloseEditor, EndServer}
-use Rattle.rpc_message.specs.Message.{id_bytes, message_of}
+use Rattle.rpc_message.specs.Message.{error, id_bytes, message_of}
 use Rattle.rpc_message.specs.Texts.{with_id_text}
+use Rattle.rpc_message.specs.ValueTexts.{IsIdText}
 use Rattle.rpc_message.proofs.Fixed.{id_as_response}
 use Rattle.rpc_message.proofs.Ids.{error_with_id, request_id_bytes}
 use Rattle.event_model.specs.declared.stage.Stage.TheVariants.{Initializing}
 use Rattle.event_model.specs.Does.{Does, Done}
 use Rattle.event_model.specs.Event.{Event, behind, said, with_cause}
+use Rattle.event_model.specs.Requests.{answered_id}
 use Rattle.event_model.specs.Phases.{Desk, desk_behind, desk_of, editors_of, is_begun, is_waiting}
 use Rattle.event_model.specs.Row.{each, look, nothing, on, send}
 use Rattle.event_model.specs.Settings.{Settings}
@@ -28,8 +30,9 @@ use Rattle.editor_session.specs.declared.session.Session.{Session}
 use Rattle.group_words.specs.Houses.{home_of, is_first_error, is_home}
 use Rattle.group_rows.specs.Leaves.{leave_bodies}
 use Rattle.group_rows.specs.Asks.{members_in}
-use Rattle.group_rows.specs.Rows.{close_all, refusal, refused_in, refused_row, waiting_in}
+use Rattle.group_rows.specs.Rows.{refusal, refused_in, refused_row, waiting_in}
 use Rattle.group_rows.specs.Texts.{texts_of}
+use Rattle.group_rows.specs.Waiting.{part, refuse_held}
 use Rattle.mux_turns.specs.group_facts.proofs.PutOut.{homes_stay}
 use Rattle.mux_turns.specs.group_facts.proofs.RefusedRow.{IsError, error_is}
 use Rattle.mux_model.specs.Documents.{held_at}
@@ -38,10 +41,11 @@ use Rattle.mux_tables.specs.declared.tables.Tables.{Tables}
 use Rattle.mux_tables.specs.Documents.{AllStand, DocumentsStand, Leaves, nothing_owed, owes}
 use Rattle.mux_tables.specs.Names.{NamesStand, id_in}
 use Rattle.mux_tables.specs.Stands.{Keeps, Rise, Stands, of_life, stage_in, start_for}
+use Rattle.mux_tables.specs.mux_waits.specs.Stands.{AnswersId}
 use Rattle.mux_tables.proofs.DocumentOwed.{all_does, owes_nothing}
 use Rattle.mux_tables.proofs.Placed.{groups_apart}
 use Rattle.mux_starts.specs.Refusing.{Adds, IsUnready}
-use Rattle.mux_turns.specs.Welcomes.{AllAsking, IsAsking}
+use Rattle.mux_turns.specs.Welcomes.{AllAsking, Informs, IsAsking}
 use Rattle.mux_turns.proofs.Departing.{mapped_is, mapped_on}
 use Rattle.mux_turns.proofs.Keeping.{keeps_error}
 use Rattle.mux_turns.proofs.Matched.{whole_entry}
@@ -131,22 +135,42 @@ adds_one xs ys x is = record { more = x ∷ []; is = is }
 pub adds_then : (xs ys zs : List Out) → Adds xs ys → Adds ys zs → Adds xs zs
 adds_then xs ys zs p q = record { more = p.more ++ q.more; is = q.is ∙ (ap (λ ws. ws ++ q.more) p.is ∙ append_assoc xs p.more q.more) }
 
+pub adds_told : (xs ys : List Out) → Informs xs ys → Adds xs ys
+adds_told xs ys k = record { more = k.more; is = k.is }
+
+-- What waits of it is refused first
+
+pub parts : (settings : Settings) (t v u : Tables) (base : List Event) (xs ys zs : List Out) (g e : ℕ) → IsUnready g t.lasts.items → home_of settings e (behind base xs) ≡ Some g → v.lasts ≡ t.lasts → Informs xs ys
+    → Does (λ t events. Stands settings t events) (refuse_held settings g e) base t xs v ys → (DocumentsStand settings nothing_owed t (behind base xs) → DocumentsStand settings nothing_owed v (behind base ys))
+    → (IsUnready g v.lasts.items → home_of settings e (behind base ys) ≡ Some g → Does (λ k events. AllStand settings k events) (send (CloseEditor e)) base (v, nothing_owed) ys (u, nothing_owed) zs)
+    → Does (λ k events. AllStand settings k events) (part settings g e) base (t, nothing_owed) xs (u, nothing_owed) zs
+parts settings t v u base xs ys zs g e unready home kept told refuses docs closes = does_then (all_does settings t v nothing_owed nothing_owed base xs ys refuses (λ _ ds. docs ds))
+    (closes (subst (λ ls. IsUnready g ls.items) (sym kept) unready) (same_home base xs ys (adds_told xs ys told) settings e ∙ home))
+
 -- An editor that waits gets the error
 
-module _ (settings : Settings) (t u : Tables) (base : List Event) (xs ys zs : List Out) (e g : ℕ) (body text : List ℕ) (first : is_first_error (message_of body) ≡ true) (asks : IsAsking (behind base xs) e) (is : text ≡ with_id_text body (id_bytes (desk_of e (behind base xs)).initialize)) where
-  keeps : Keeps e text (behind base xs)
-  keeps =
-      let f : IsError (message_of body) = error_is (message_of body) first in
-      let i = (desk_of e (behind base xs)).initialize in
-      keeps_error e text (behind base xs) (Some asks.name) f.x
-      (ap message_of is ∙ error_with_id body (id_bytes i) f.id (Some asks.name) f.x f.is (id_as_response asks.name (id_bytes i) (request_id_bytes i asks.name asks.method asks.params asks.says)))
+module _ (settings : Settings) (t v u : Tables) (base : List Event) (xs ys zs : List Out) (e g : ℕ) (body text : List ℕ) (first : is_first_error (message_of body) ≡ true) (asks : IsAsking (behind base xs) e) (is : text ≡ with_id_text body (id_bytes (desk_of e (behind base xs)).initialize)) where
+  own_id : IsIdText asks.name (id_bytes (desk_of e (behind base xs)).initialize)
+  own_id = request_id_bytes (desk_of e (behind base xs)).initialize asks.name asks.method asks.params asks.says
 
-  pub refuses : (Keeps e text (behind base xs) → Does (λ t events. Stands settings t events) (send (ToEditor e text)) base t xs t ys)
-      → (DocumentsStand settings nothing_owed t (behind base xs) → DocumentsStand settings nothing_owed t (behind base ys)) → Does (λ k events. AllStand settings k events) (send (CloseEditor e)) base (t, nothing_owed) ys (u, nothing_owed) zs
+  fails : IsError (message_of body)
+  fails = error_is (message_of body) first
+
+  text_says : message_of text ≡ error (Some asks.name) fails.x
+  text_says = ap message_of is ∙ error_with_id body (id_bytes (desk_of e (behind base xs)).initialize) fails.id (Some asks.name) fails.x fails.is (id_as_response asks.name (id_bytes (desk_of e (behind base xs)).initialize) own_id)
+
+  keeps : Keeps e text (behind base xs)
+  keeps = keeps_error e text (behind base xs) (Some asks.name) fails.x text_says
+
+  answers : AnswersId (id_bytes (desk_of e (behind base xs)).initialize) text
+  answers = record { name = asks.name; is = own_id; says = ap answered_id text_says }
+
+  pub refuses : (Keeps e text (behind base xs) → AnswersId (id_bytes (desk_of e (behind base xs)).initialize) text → Does (λ t events. Stands settings t events) (send (ToEditor e text)) base t xs v ys)
+      → (DocumentsStand settings nothing_owed t (behind base xs) → DocumentsStand settings nothing_owed v (behind base ys)) → Does (λ k events. AllStand settings k events) (send (CloseEditor e)) base (v, nothing_owed) ys (u, nothing_owed) zs
       → Does (λ k events. AllStand settings k events) (refusal body e) base (t, nothing_owed) xs (u, nothing_owed) zs
   refuses tells docs closes = does_then (does_look (λ _. refl)
-      (subst (λ w. Does (λ k events. AllStand settings k events) (send (ToEditor e w)) base (t, nothing_owed) xs (t, nothing_owed) ys) is
-      (all_does settings t t nothing_owed nothing_owed base xs ys (tells keeps) (λ _ ds. docs ds)))) closes
+      (subst (λ w. Does (λ k events. AllStand settings k events) (send (ToEditor e w)) base (t, nothing_owed) xs (v, nothing_owed) ys) is
+      (all_does settings t v nothing_owed nothing_owed base xs ys (tells keeps answers) (λ _ ds. docs ds)))) closes
 
 -- The editors of a group, before the first is put out
 
@@ -181,7 +205,7 @@ all_wait settings sessions events g numbers are asking named i l =
 
 pub refused_entry : (settings : Settings) (before : List Event) (s g : ℕ) (body : List ℕ) (t u v w : Tables) (xs ys zs ws : List Out) → group_of s before ≡ Some g → xs ≡ [] → AllStand settings (t, nothing_owed) (with_cause before (FromServer s body))
     → Does (λ k events. AllStand settings k events) (look (λ events. each (refusal body) (waiting_in settings g events))) (with_cause before (FromServer s body)) (t, nothing_owed) xs (u, nothing_owed) ys
-    → Does (λ k events. AllStand settings k events) (look (λ events. close_all (members_in settings g events))) (with_cause before (FromServer s body)) (u, nothing_owed) ys (v, nothing_owed) zs
+    → Does (λ k events. AllStand settings k events) (look (λ events. each (part settings g) (members_in settings g events))) (with_cause before (FromServer s body)) (u, nothing_owed) ys (v, nothing_owed) zs
     → Does (λ k events. AllStand settings k events) (send (EndServer s)) (with_cause before (FromServer s body)) (v, nothing_owed) zs (w, nothing_owed) ws
     → Done (λ k events. AllStand settings k events) (refused_row settings before s body) (with_cause before (FromServer s body)) [] (w, nothing_owed) ws
 refused_entry settings before s g body t u v w xs ys zs ws home first all refusals closes ends =

@@ -15,7 +15,7 @@ use Rattle.event_model.proofs.Turns.{alike, alike_then}
 use Rattle.rpc_message.specs.Message.{Id}
 use Rattle.group_rows.specs.AskRows.{cancel_ask, cancelled_row}
 use Rattle.group_rows.specs.Asks.{Ask, asks_of, is_under}
-use Rattle.group_rows.specs.Cancelling.{named_id}
+use Rattle.group_rows.specs.Waiting.{named_id}
 use Rattle.group_rows.specs.Leaves.{cancel_text}
 use Rattle.mux_tables.specs.Refusals.{seat_from}
 use Rattle.mux_tables.specs.Stands.{WasAsked}

@@ -1,7 +1,6 @@
 -- S2: a start's first result: with whom it parts, what the start is told, and the whole entry.
-use Rattle.std.proofs.Common.{◌≡◌, ℕ, ◌+◌, ◌<◌, ◌≤◌, Bool, true, false, ◌&&◌, List, [], ◌∷◌, ◌++◌, append_assoc, append-nil, codes, drop, get_or, length, take, nat_eq, refl, ap, ap₂, sym, if◌then◌else◌, subst, ◌∙◌}
+use Rattle.std.proofs.Common.{◌≡◌, ℕ, Bool, true, false, ◌&&◌, List, [], ◌∷◌, ◌++◌, append-nil, codes, nat_eq, refl, ap, ap₂, sym, if◌then◌else◌, subst, ◌∙◌}
 use Rattle.std.specs.Prelude.{Option, Some, None, option_map, slice_get}
-use Rattle.std.proofs.lemmas.List.{drop_all, take_all, take_more}
 use Rattle.json_text.specs.Json.{Json}
 use Rattle.mux_history.specs.declared.cause.Cause.TheVariants.{FromServer}
 use Rattle.mux_history.specs.declared.out.Out.{Out}
@@ -15,7 +14,7 @@ use Rattle.event_model.specs.declared.phase.Phase.TheVariants.{Waiting}
 use Rattle.event_model.specs.Does.{Does, Done}
 use Rattle.event_model.specs.Event.{Event, behind, heard, notifies, requests, said, with_cause}
 use Rattle.event_model.specs.Phases.{desk_of}
-use Rattle.event_model.specs.Row.{each, look, on, send, ◌⨾◌}
+use Rattle.event_model.specs.Row.{Row, each, look, on, send, ◌⨾◌}
 use Rattle.event_model.specs.Row.{nothing as none_sent}
 use Rattle.event_model.specs.Settings.{Settings}
 use Rattle.event_model.specs.Spawns.{group_of, start_of}
@@ -28,16 +27,15 @@ use Rattle.mux_starts.specs.group_facts.specs.Settled.{Settled}
 use Rattle.mux_starts.specs.group_facts.proofs.Configured.{configured, configures_by}
 use Rattle.group_rows.specs.Earlier.{configuration_of, configure, differs, given_next, given_of}
 use Rattle.group_rows.specs.Forwarded.{moves_ids}
-use Rattle.group_rows.specs.Rows.{first_result, replay, replay_bodies, result_in, waiting_in, welcome}
-use Rattle.group_rows.specs.StopRows.{close_each}
-use Rattle.group_rows.specs.Texts.{worker_behind, worker_of}
+use Rattle.group_rows.specs.Rows.{first_result, replay, replay_bodies, result_in, send_held, waiting_in, welcome}
+use Rattle.group_rows.specs.Waiting.{part, worker_behind, worker_of}
 use Rattle.group_rows.proofs.Versions.{AllMeant}
 use Rattle.group_words.specs.Houses.{groups_of, is_home}
 use Rattle.group_words.specs.Rows.{shown_of}
 use Rattle.mux_model.specs.Rows.{to_start}
 use Rattle.mux_tables.specs.declared.tables.Start.{Start}
 use Rattle.mux_tables.specs.declared.tables.Tables.{Tables}
-use Rattle.mux_tables.specs.Documents.{AheadStand, AllStand, DocumentsStand, Owed, closes, nothing_owed, owes, replaying}
+use Rattle.mux_tables.specs.Documents.{AheadStand, AllStand, DocumentsStand, Owed, nothing_owed, owes, replaying}
 use Rattle.mux_tables.specs.Stands.{Stands, is_answer}
 use Rattle.mux_tables.proofs.DocumentMoves.{documents_at}
 use Rattle.mux_tables.proofs.DocumentOwed.{all_does}
@@ -59,26 +57,6 @@ differs_so settings carries before g body shown stand live is = ap (differs_show
     go : (o : Option (List ℕ)) → differs_shown (option_map shown_text o) (shown_text body) ≡ differs o body
     go None = refl
     go (Some earlier) = refl
-
--- The links of a list are to be ended
-
-closes_join : (ms ns : List ℕ) → closes (ms ++ ns) ≡ closes ms ++ closes ns
-closes_join [] ns = refl
-closes_join (m ∷ ms) ns = ap (λ ws. CloseEditor m ∷ ws) (closes_join ms ns)
-
-pub closes_more : (items : List ℕ) (i : ℕ) (xs ys zs : List Out) → i < length items → ys ≡ xs ++ closes (take i items) → zs ≡ ys ++ CloseEditor (get_or items i 0) ∷ [] → zs ≡ xs ++ closes (take (i + 1) items)
-closes_more items i xs ys zs less so is =
-    let e = get_or items i 0 in
-    is ∙ (ap (λ ws. ws ++ CloseEditor e ∷ []) so ∙ (append_assoc xs (closes (take i items)) (CloseEditor e ∷ [])
-    ∙ ap (λ ws. xs ++ ws) (sym (closes_join (take i items) (e ∷ [])) ∙ ap closes (sym (take_more items i 0 less)))))
-
-pub closes_all : (items : List ℕ) (i : ℕ) (xs ys : List Out) → length items ≤ i → ys ≡ xs ++ closes (take i items) → ys ≡ xs ++ closes items
-closes_all items i xs ys over so = so ∙ ap (λ ns. xs ++ closes ns) (take_all i items over)
-
-pub none_more : (settings : Settings) (owed : Owed) (t u : Tables) (items : List ℕ) (i : ℕ) (base : List Event) (xs ys : List Out) → length items ≤ i
-    → Does (λ k events. AheadStand settings k events) (close_each items) base (t, (owed, closes items)) xs (u, (owed, closes (drop i items))) ys
-    → Does (λ k events. AheadStand settings k events) (close_each items) base (t, (owed, closes items)) xs (u, (owed, [])) ys
-none_more settings owed t u items i base xs ys over d = subst (λ ns. Does (λ k events. AheadStand settings k events) (close_each items) base (t, (owed, closes items)) xs (u, (owed, closes ns)) ys) (drop_all i items over) d
 
 -- The start is told of the configuration
 
@@ -152,8 +130,8 @@ replays_same settings owed u a b i x at first later =
     let d = documents_at settings owed u a i x at first in
     ap (λ (y : Texts). replay_bodies [] y.opens y.opens) ((later.each i x d.0 at d.1).texts.texts ∙ sym (first.each i x d.0 at d.1).texts.texts)
 
-module _ (settings : Settings) (before : List Event) (s g : ℕ) (body : List ℕ) (es : List ℕ) (bodies : List (List ℕ)) (u : Tables) (i : ℕ) (x : Start) (home : group_of s before ≡ Some g) (those : es ≡ parted settings before body g)
-    (are : bodies ≡ replaying settings (behind (base before s body) (closes es)) g) (at : slice_get u.lasts.items i ≡ Some x) (mine : x.life.group ≡ g) where
+module _ (settings : Settings) (before : List Event) (s g : ℕ) (body : List ℕ) (es : List ℕ) (outs : List Out) (bodies : List (List ℕ)) (u : Tables) (i : ℕ) (x : Start) (home : group_of s before ≡ Some g) (those : es ≡ parted settings before body g)
+    (are : bodies ≡ replaying settings (behind (base before s body) outs) g) (at : slice_get u.lasts.items i ≡ Some x) (mine : x.life.group ≡ g) where
   abbrev now : List Event
   now = base before s body
 
@@ -166,24 +144,27 @@ module _ (settings : Settings) (before : List Event) (s g : ℕ) (body : List �
   abbrev due : Owed
   due = owes g bodies
 
-  -- behind the links that are to be ended
-  told : (w : Tables) (ys zs ws us vs : List Out) → ys ≡ closes es → Does All (send (ToServer s initialized_text)) now (u, due) ys (u, due) zs → Does All (configured_row s (configuration_of settings g before)) now (u, due) zs (u, due) ws
-      → Does All (to_start s bodies) now (u, due) ws (u, nothing_owed) us → Does All (look (λ events. each (welcome body) (waiting_in settings g events))) now (u, nothing_owed) us (w, nothing_owed) vs
-      → Does All (send (ToServer s initialized_text) ⨾ (configure settings before s g ⨾ (replay settings s g ⨾ look (λ events. each (welcome body) (waiting_in settings g events))))) now (u, due) ys (w, nothing_owed) vs
-  told w ys zs ws us vs first begins configures pays greets = does_knowing (λ k.
+  abbrev greeting : Row
+  greeting = look (λ events. each (welcome body) (waiting_in settings g events))
+
+  -- behind those that are parted with
+  told : (w z : Tables) (ys zs ws us vs os : List Out) → ys ≡ outs → Does All (send (ToServer s initialized_text)) now (u, due) ys (u, due) zs → Does All (configured_row s (configuration_of settings g before)) now (u, due) zs (u, due) ws
+      → Does All (to_start s bodies) now (u, due) ws (u, nothing_owed) us → Does All greeting now (u, nothing_owed) us (w, nothing_owed) vs → Does All (send_held settings s g) now (w, nothing_owed) vs (z, nothing_owed) os
+      → Does All (send (ToServer s initialized_text) ⨾ (configure settings before s g ⨾ (replay settings s g ⨾ (greeting ⨾ send_held settings s g)))) now (u, due) ys (z, nothing_owed) os
+  told w z ys zs ws us vs os first begins configures pays greets sends = does_knowing (λ k.
       let same : DocumentsStand settings due u (behind now ws) → replaying settings (behind now ws) g ≡ bodies = λ m.
       subst (λ n. replaying settings (behind now ws) n ≡ replaying settings (behind now ys) n) mine (replays_same settings due u (behind now ys) (behind now ws) i x at k.1 m)
       ∙ (ap (λ os. replaying settings (behind now os) g) first ∙ sym are) in
       let replays : Does All (replay settings s g) now (u, due) ws (u, nothing_owed) us = does_look (λ m. ap (to_start s) (same m.1)) pays in
-      does_then begins (does_then configures (does_then replays greets)))
+      does_then begins (does_then configures (does_then replays (does_then greets sends))))
 
-  pub result_entry : (t w : Tables) (xs ys zs ws us vs : List Out) → xs ≡ [] → ys ≡ xs ++ closes es → AheadStand settings (t, (due, closes es)) now
-      → Does Ahead (close_each es) now (t, (due, closes es)) xs (u, (due, [])) ys → Does All (send (ToServer s initialized_text)) now (u, due) ys (u, due) zs → Does All (configured_row s (configuration_of settings g before)) now (u, due) zs (u, due) ws
-      → Does All (to_start s bodies) now (u, due) ws (u, nothing_owed) us → Does All (look (λ events. each (welcome body) (waiting_in settings g events))) now (u, nothing_owed) us (w, nothing_owed) vs
-      → Done All (first_result settings before s body) now [] (w, nothing_owed) vs
-  result_entry t w xs ys zs ws us vs first those_closed all parts begins configures pays greets =
-      let rest = told w ys zs ws us vs (those_closed ∙ ap (λ os. os ++ closes es) first) begins configures pays greets in
-      let ahead = ahead_does settings u w due nothing_owed now ys vs rest in
-      let done = whole_entry Ahead (first_result settings before s body) now (t, (due, closes es)) (w, (nothing_owed, [])) xs vs first all
+  pub result_entry : (t w z : Tables) (xs ys zs ws us vs os : List Out) → xs ≡ [] → ys ≡ xs ++ outs → AheadStand settings (t, (due, outs)) now
+      → Does Ahead (each (part settings g) es) now (t, (due, outs)) xs (u, (due, [])) ys → Does All (send (ToServer s initialized_text)) now (u, due) ys (u, due) zs → Does All (configured_row s (configuration_of settings g before)) now (u, due) zs (u, due) ws
+      → Does All (to_start s bodies) now (u, due) ws (u, nothing_owed) us → Does All greeting now (u, nothing_owed) us (w, nothing_owed) vs → Does All (send_held settings s g) now (w, nothing_owed) vs (z, nothing_owed) os
+      → Done All (first_result settings before s body) now [] (z, nothing_owed) os
+  result_entry t w z xs ys zs ws us vs os first those_parted all parts begins configures pays greets sends =
+      let rest = told w z ys zs ws us vs os (those_parted ∙ ap (λ qs. qs ++ outs) first) begins configures pays greets sends in
+      let ahead = ahead_does settings u z due nothing_owed now ys os rest in
+      let done = whole_entry Ahead (first_result settings before s body) now (t, (due, outs)) (z, (nothing_owed, [])) xs os first all
       (does_alike (λ _. alike (ap (λ o. on o none_sent (result_in settings before s body)) home)) (does_then (does_alike (λ _. parted_alike settings before body g es those) parts) ahead)) in
-      record { outs = done.outs; stands = none_ahead settings w nothing_owed (behind now vs) done.stands }
+      record { outs = done.outs; stands = none_ahead settings z nothing_owed (behind now os) done.stands }

@@ -105,9 +105,9 @@ exits_by settings t u base xs ys zs s text is sends aside ends after =
     (all_does settings t u nothing_owed nothing_owed base ys zs ends (λ _ ds. after ds))
 
 -- the number of `shutdown` is that which comes next by the requests of editors
-module _ (settings : Settings) (t : Tables) (before : List Event) (g s : ℕ) (x : Start) (here : slice_get t.lasts.items g ≡ Some x) (at : slice_get (map number_in t.lasts.items) g ≡ Some s) (counted : next_number s before ≡ (forwarding_of s before).next + 1) (st : Stands settings t before) where
+module _ (settings : Settings) (t : Tables) (before : List Event) (g s : ℕ) (x : Start) (here : slice_get t.lasts.items g ≡ Some x) (at : slice_get (map number_in t.lasts.items) g ≡ Some s) (counted : next_number s before ≡ (forwarding_of settings s before).next + 1) (st : Stands settings t before) where
   last_is : last_number s before ≡ x.ids.next
-  last_is = omega (arith, counted) ∙ (ap (λ n. (forwarding_of n before).next) (sym (start_at_place t.lasts.items g s x here at)) ∙ ((st.lasts.each g x here).parts of_ids).next)
+  last_is = omega (arith, counted) ∙ (ap (λ n. (forwarding_of settings n before).next) (sym (start_at_place t.lasts.items g s x here at)) ∙ ((st.lasts.each g x here).parts of_ids).next)
 
   low : x.ids.next < 2 ^ 32
   low = let ids = (st.lasts.each g x here).parts of_ids in

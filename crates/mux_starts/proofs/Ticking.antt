@@ -74,12 +74,12 @@ module _ (settings : Settings) (before : List Event) (now : ℕ) (known : Known 
   range = subst (λ n. n < 2 ^ 32) (sym st.requests) st.range
 
   pub ticks : (t u v : Tables) (xs ys zs : List Out) (due late : List ℕ) → xs ≡ [] → Stands settings t E → DocumentsStand settings nothing_owed t E → due ≡ due_of settings before now → late ≡ overdue_of settings before now
-      → (Numbered (behind E xs) → Does (λ k events. AllStand settings k events) (each end_group due) E (t, nothing_owed) xs (u, nothing_owed) ys)
+      → (Numbered settings (behind E xs) → Does (λ k events. AllStand settings k events) (each end_group due) E (t, nothing_owed) xs (u, nothing_owed) ys)
       → (AreStopping (behind E ys) late → Does (λ k events. AllStand settings k events) (each (λ s. send (EndServer s)) late) E (u, nothing_owed) ys (v, nothing_owed) zs)
       → Done (λ k events. AllStand settings k events) (tick_row settings before now) E [] (v, nothing_owed) zs
   ticks t u v xs ys zs due late first stands documents ends over groups programs =
       let none : behind E xs ≡ E = ap (behind E) first ∙ append-nil E in
-      let d = groups (subst Numbered (sym none) (numbered_ticked before now known.numbered)) in
+      let d = groups (subst (Numbered settings) (sym none) (numbered_ticked settings before now known.numbered)) in
       let one = d.done (subst (λ es. AllStand settings (t, nothing_owed) es) (sym none) (stands, documents)) in
       let sent : ys ≡ outs (each end_group (due_of settings before now)) E = one.outs ∙ ap (λ ws. ws ++ outs (each end_group due) (behind E xs)) first ∙ ap (outs (each end_group due)) none ∙ ap (λ gs. outs (each end_group gs) E) ends in
       let why : Because IsAwaited (behind E (outs (each end_group (due_of settings before now)) E)) (each (λ s. send (EndServer s)) (overdue_of settings before now)) = programs_stop settings range before known.bounded now IsAwaited (λ s places at. at) in

@@ -1,5 +1,6 @@
 pub mod Answers
 pub mod Creates
+pub mod Held
 pub mod Lists
 pub mod Openings
 pub mod Parted

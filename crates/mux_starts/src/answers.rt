@@ -1,10 +1,8 @@
 //! S5: the answer of a start to an editor's request.
 ghost use Rattle.std.specs.Prelude.{◌≡◌, ◌<◌, ℕ, List, [], false, Option, Some, IfOk, OnOk, MatchOption, find, length, map, slice_get};
-ghost use Rattle.event_model.specs.declared.phase.Phase.TheVariants.{Waiting};
 ghost use Rattle.event_model.specs.declared.stage.Stage.TheVariants.{Ready};
 ghost use Rattle.event_model.specs.Does.{Alike, Does, Done};
 ghost use Rattle.event_model.specs.Event.{Event, behind, heard, with_cause};
-ghost use Rattle.event_model.specs.Phases.{desk_of};
 ghost use Rattle.event_model.specs.Requests.{answered_id};
 ghost use Rattle.event_model.specs.Settings.{Settings};
 ghost use Rattle.mux_turns.specs.group_facts.specs.Facts.{Meant};
@@ -12,12 +10,13 @@ ghost use Rattle.group_rows.specs.Answers.{answer_row, hand_on, own_version};
 ghost use Rattle.group_rows.specs.Forwarded.{Forwarded, answered_by, forwarding_of};
 ghost use Rattle.mux_history.specs.declared.cause.Cause.TheVariants.{FromServer};
 ghost use Rattle.mux_starts.specs.Answers.{IsAsked};
-ghost use Rattle.mux_starts.specs.Replies.{reply_row};
+ghost use Rattle.mux_starts.specs.Replies.{Answers, IsReply, reply_row};
 ghost use Rattle.mux_tables.specs.declared.tables.Start.{Start};
 ghost use Rattle.mux_tables.specs.Documents.{AllStand, DocumentsStand, Owed, nothing_owed};
 ghost use Rattle.mux_tables.specs.Notes.{IsNoted};
 ghost use Rattle.mux_tables.specs.mux_tokens.specs.Stands.{CreatedStay};
-ghost use Rattle.mux_tables.specs.Stands.{ListsStay, NamesAt, Stands, forwarded_as, is_request, is_traced, number_in};
+ghost use Rattle.mux_tables.specs.mux_waits.specs.Stands.{AnswersId};
+ghost use Rattle.mux_tables.specs.Stands.{Keeps, ListsStay, NamesAt, Stands, forwarded_as, is_request, number_in};
 ghost use Rattle.response_route.specs.Answers.{answer_text};
 ghost use Rattle.rpc_message.specs.Message.{message_of};
 ghost use Rattle.rpc_message.specs.Parsed.{IsRead};
@@ -35,6 +34,7 @@ use std::alloc::Global;
 #[derive(Drop)]
 struct Reply {
     editor: u64,
+    id: Body,
     body: Body,
 }
 
@@ -75,14 +75,16 @@ fn reply_of(
         → Stands settings tables.now before → DocumentsStand settings nothing_owed tables.now before
         → IsNoted settings s n pending.now.editor before pending.now.noted
         → IfOk result (λ reply. Alike (hand_on settings before s body (forwarded_as n pending.now)) (reply_row reply)
-        × MatchOption reply (Unit {0}) (λ r. r.editor ≡ pending.now.editor)) }
+        × Answers settings before s body (forwarded_as n pending.now) reply) }
 {
     if !tables.phase(pending.editor).is_there() {
         return Ok(None);
     }
     let body = answered(tables, alloc, g, pending, message)?;
+    let id = pending.id.copy(alloc)?;
     Ok(Some(Reply {
         editor: pending.editor,
+        id,
         body,
     }))
 }
@@ -99,10 +101,10 @@ fn reply_under(
     ensures { (settings : Settings) (before : List Event) (body : List ℕ) (s : ℕ) (x : Start) → IsRead message.now body
         → NamesAt (answered_id (message_of body)) (Some n)
         → slice_get tables.now.lasts.items g ≡ Some x → x.life.stage ≡ Ready → slice_get (map number_in tables.now.lasts.items) g ≡ Some s
-        → ((f : Forwarded) → find (answered_by (answered_id (message_of body))) (forwarding_of s before).open_requests ≡ Some f → IsAsked before f)
+        → ((f : Forwarded) → find (answered_by (answered_id (message_of body))) (forwarding_of settings s before).open_requests ≡ Some f → IsAsked before f)
         → Stands settings tables.now before → DocumentsStand settings nothing_owed tables.now before
         → IfOk result (λ reply. Alike (answer_row settings s before body (message_of body)) (reply_row reply)
-        × MatchOption reply (Unit {0}) (λ r. (desk_of r.editor before).phase ≡ Waiting → ⊥)) }
+        × MatchOption reply (Unit {0}) (IsReply settings before s body)) }
 {
     match tables.request(g, n) {
         None => Ok(None),
@@ -122,10 +124,10 @@ fn reply_to(
     ensures { (settings : Settings) (before : List Event) (body : List ℕ) (s : ℕ) (x : Start) → IsRead message.now body
         → NamesAt (answered_id (message_of body)) n
         → slice_get tables.now.lasts.items g ≡ Some x → x.life.stage ≡ Ready → slice_get (map number_in tables.now.lasts.items) g ≡ Some s
-        → ((f : Forwarded) → find (answered_by (answered_id (message_of body))) (forwarding_of s before).open_requests ≡ Some f → IsAsked before f)
+        → ((f : Forwarded) → find (answered_by (answered_id (message_of body))) (forwarding_of settings s before).open_requests ≡ Some f → IsAsked before f)
         → Stands settings tables.now before → DocumentsStand settings nothing_owed tables.now before
         → IfOk result (λ reply. Alike (answer_row settings s before body (message_of body)) (reply_row reply)
-        × MatchOption reply (Unit {0}) (λ r. (desk_of r.editor before).phase ≡ Waiting → ⊥)) }
+        × MatchOption reply (Unit {0}) (IsReply settings before s body)) }
 {
     match n {
         None => Ok(None),
@@ -134,17 +136,22 @@ fn reply_to(
 }
 
 // It goes there.
-fn hand_out(tables: &Tables, outs: &mut Outs, reply: Option<Reply>) -> Result<(), Memory>
+fn hand_out(tables: &mut Tables, outs: &mut Outs, reply: Option<Reply>) -> Result<(), Memory>
+    ensures requests { tables.new.requests ≡ tables.old.requests }
+    ensures versions { tables.new.versions ≡ tables.old.versions }
     ensures does { (settings : Settings) (base : List Event)
-        → MatchOption reply (Unit {0}) (λ r. (desk_of r.editor (behind base outs.old)).phase ≡ Waiting → ⊥)
-        → MatchOption reply (Unit {0}) (λ r. is_traced (message_of r.body) ≡ false)
-        → OnOk result (Does (λ t events. Stands settings t events) (reply_row reply) base tables.now outs.old tables.now outs.new) }
-    ensures documents { (settings : Settings) (owed : Owed) (base : List Event) → DocumentsStand settings owed tables.now (behind base outs.old)
-        → OnOk result (DocumentsStand settings owed tables.now (behind base outs.new)) }
+        → MatchOption reply (Unit {0}) (λ r. Keeps r.editor r.body (behind base outs.old) × AnswersId r.id r.body)
+        → OnOk result (Does (λ t events. Stands settings t events) (reply_row reply) base tables.old outs.old tables.new outs.new) }
+    ensures documents { (settings : Settings) (owed : Owed) (base : List Event) → DocumentsStand settings owed tables.old (behind base outs.old)
+        → OnOk result (DocumentsStand settings owed tables.new (behind base outs.new)) }
 {
     match reply {
         None => Ok(()),
-        Some(reply) => tables.tell(outs, reply.editor, reply.body),
+        Some(reply) => {
+            let Reply { editor, id, body } = reply;
+            tables.answer(outs, editor, id.bytes(), body)?;
+            Ok(())
+        }
     }
 }
 
@@ -163,7 +170,7 @@ pub fn take_answer(
     ensures does { (settings : Settings) (before : List Event) (body : List ℕ) (s : ℕ) (x : Start) → IsRead message.now body → is_request (message_of body) ≡ false
         → CreatedStay settings s before (heard (FromServer s body)) → ListsStay s before (heard (FromServer s body)) → outs.old ≡ []
         → slice_get tables.old.lasts.items g ≡ Some x → x.life.stage ≡ Ready → slice_get (map number_in tables.old.lasts.items) g ≡ Some s
-        → ((f : Forwarded) → find (answered_by (answered_id (message_of body))) (forwarding_of s before).open_requests ≡ Some f → IsAsked before f)
+        → ((f : Forwarded) → find (answered_by (answered_id (message_of body))) (forwarding_of settings s before).open_requests ≡ Some f → IsAsked before f)
         → Meant before → Stands settings tables.old before → DocumentsStand settings nothing_owed tables.old before
         → OnOk result (Done (λ k events. AllStand settings k events) (answer_row settings s before body (message_of body))
         (with_cause before (FromServer s body)) [] (tables.new, nothing_owed) outs.new) }

@@ -46,7 +46,7 @@ fn next_at(tables: &Tables, g: usize) -> u32
 fn answers_shutdown(tables: &Tables, g: usize, n: Option<u32>) -> bool
     requires { g < length tables.now.lasts.items }
     ensures { (settings : Settings) (before : List Event) (s : ℕ) (m : message) → slice_get (map number_in tables.now.lasts.items) g ≡ Some s
-        → next_number s before ≡ (forwarding_of s before).next + 1 → NamesAt (answered_id m) n → Stands settings tables.now before
+        → next_number s before ≡ (forwarding_of settings s before).next + 1 → NamesAt (answered_id m) n → Stands settings tables.now before
         → result ≡ answers_shutdown s before m }
 {
     match n {
@@ -85,7 +85,7 @@ pub fn take_stopping(
     ensures requests { tables.new.requests ≡ tables.old.requests }
     ensures versions { tables.new.versions ≡ tables.old.versions }
     ensures does { (settings : Settings) (before : List Event) (body : List ℕ) (s : ℕ) → IsRead message.now body → outs.old ≡ []
-        → slice_get (map number_in tables.old.lasts.items) g ≡ Some s → next_number s before ≡ (forwarding_of s before).next + 1
+        → slice_get (map number_in tables.old.lasts.items) g ≡ Some s → next_number s before ≡ (forwarding_of settings s before).next + 1
         → Stands settings tables.old before → DocumentsStand settings nothing_owed tables.old before
         → OnOk result (Done (λ k events. AllStand settings k events) (stopping_row s before (message_of body))
         (with_cause before (FromServer s body)) [] (tables.new, nothing_owed) outs.new) }

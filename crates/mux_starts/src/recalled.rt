@@ -11,7 +11,7 @@ ghost use Rattle.event_model.specs.Settings.{Settings};
 ghost use Rattle.group_rows.specs.Created.{is_progress};
 ghost use Rattle.group_rows.specs.AskRows.{cancelled_row};
 ghost use Rattle.group_rows.specs.Asks.{Ask, asks_of, is_under};
-ghost use Rattle.group_rows.specs.Cancelling.{named_id};
+ghost use Rattle.group_rows.specs.Waiting.{named_id};
 ghost use Rattle.group_rows.specs.Leaves.{cancel_text};
 ghost use Rattle.group_rows.specs.Lists.{is_publishing};
 ghost use Rattle.json_text.specs.Json.{Json};

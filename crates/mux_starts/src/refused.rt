@@ -7,7 +7,8 @@ ghost use Rattle.event_model.specs.Phases.{desk_of};
 ghost use Rattle.event_model.specs.Row.{each, look, send};
 ghost use Rattle.event_model.specs.Settings.{Settings};
 ghost use Rattle.group_rows.specs.Asks.{members_in};
-ghost use Rattle.group_rows.specs.Rows.{close_all, refusal, refused_row, waiting_in};
+ghost use Rattle.group_rows.specs.Rows.{refusal, refused_row, waiting_in};
+ghost use Rattle.group_rows.specs.Waiting.{part};
 ghost use Rattle.group_words.specs.Houses.{home_of, is_first_error};
 ghost use Rattle.mux_history.specs.declared.cause.Cause.TheVariants.{FromServer};
 ghost use Rattle.mux_history.specs.declared.out.Out.TheVariants.{CloseEditor};
@@ -23,12 +24,12 @@ ghost use Rattle.rpc_message.specs.Parsed.{IsRead};
 use message_body::Memory;
 use mux_history::Outs;
 use mux_tables::Tables;
-use mux_turns::answered_number;
+use mux_turns::{answered_number, refuse_held};
 use rpc_message::Message;
 use std::alloc::Global;
 
-/// S3 and X3: the link of an editor is to be ended, whose group's last start isn't ready.
-pub fn put_out(tables: &mut Tables, alloc: Global, outs: &mut Outs, e: u64) -> Result<(), Memory>
+// The link of an editor is to be ended, whose group's last start isn't ready.
+fn put_out(tables: &mut Tables, alloc: Global, outs: &mut Outs, e: u64) -> Result<(), Memory>
     requires { e < length tables.old.editors }
     ensures requests { tables.new.requests ≡ tables.old.requests }
     ensures versions { tables.new.versions ≡ tables.old.versions }
@@ -43,6 +44,31 @@ pub fn put_out(tables: &mut Tables, alloc: Global, outs: &mut Outs, e: u64) -> R
 {
     // Such a start is owed no word of the editor's documents.
     tables.close(alloc, outs, e)?;
+    Ok(())
+}
+
+/// S3 and X3: each request of an editor that waits in the group of this number is refused, and its link is to be ended; the group's
+/// last start isn't ready.
+pub fn part(
+    tables: &mut Tables,
+    alloc: Global,
+    outs: &mut Outs,
+    g: u64,
+    e: u64,
+) -> Result<(), Memory>
+    requires { e < length tables.old.editors }
+    ensures requests { tables.new.requests ≡ tables.old.requests }
+    ensures versions { tables.new.versions ≡ tables.old.versions }
+    ensures lasts { tables.new.lasts ≡ tables.old.lasts }
+    ensures count { OnOk result (length tables.new.editors ≡ length tables.old.editors) }
+    ensures adds { OnOk result (Adds outs.old outs.new) }
+    ensures does { (settings : Settings) (base : List Event) → IsUnready g tables.old.lasts.items
+        → home_of settings e (behind base outs.old) ≡ Some g
+        → OnOk result (Does (λ k events. AllStand settings k events)
+        (part settings g e) base (tables.old, nothing_owed) outs.old (tables.new, nothing_owed) outs.new) }
+{
+    refuse_held(tables, alloc, outs, g, e)?;
+    put_out(tables, alloc, outs, e)?;
     Ok(())
 }
 
@@ -70,8 +96,9 @@ fn refuse_one(
     match tables.initialize_id(e) {
         None => Ok(()),
         Some(id) => {
-            let text = message.with_id(alloc, id.bytes())?;
-            tables.tell(outs, e, text)?;
+            let own = id.copy(alloc)?;
+            let text = message.with_id(alloc, own.bytes())?;
+            tables.answer(outs, e, own.bytes(), text)?;
             put_out(tables, alloc, outs, e)?;
             Ok(())
         }
@@ -101,18 +128,18 @@ fn refuse_all(
     Ok(())
 }
 
-// The links of a group's editors are to be ended, rising.
-fn close_all(tables: &mut Tables, alloc: Global, outs: &mut Outs, g: u64) -> Result<(), Memory>
+// Each editor of a group is parted with, rising.
+fn part_all(tables: &mut Tables, alloc: Global, outs: &mut Outs, g: u64) -> Result<(), Memory>
     ensures requests { tables.new.requests ≡ tables.old.requests }
     ensures versions { tables.new.versions ≡ tables.old.versions }
     ensures lasts { tables.new.lasts ≡ tables.old.lasts }
     ensures does { (settings : Settings) (base : List Event) → IsUnready g tables.old.lasts.items
-        → OnOk result (Does (λ k events. AllStand settings k events) (look (λ events. close_all
+        → OnOk result (Does (λ k events. AllStand settings k events) (look (λ events. each (part settings g)
         (members_in settings g events))) base (tables.old, nothing_owed) outs.old (tables.new, nothing_owed) outs.new) }
 {
     let numbers = tables.members(g)?;
     for e in &numbers {
-        put_out(tables, alloc, outs, *e)?;
+        part(tables, alloc, outs, g, *e)?;
     }
     Ok(())
 }
@@ -139,7 +166,7 @@ pub fn take_refused(
     let group = tables.group_number(g);
     tables.hear_refusal(g, answered_number(message));
     refuse_all(tables, alloc, outs, group, message)?;
-    close_all(tables, alloc, outs, group)?;
+    part_all(tables, alloc, outs, group)?;
     tables.end(outs, g)?;
     Ok(())
 }

@@ -1,5 +1,5 @@
 //! S2: the first result of a start.
-ghost use Rattle.std.specs.Prelude.{◌≡◌, ◌<◌, ◌++◌, ℕ, List, [], None, Option, Some, true, length, map, filter, option_copied, IfOk, OnOk, slice_get};
+ghost use Rattle.std.specs.Prelude.{◌≡◌, ◌<◌, ◌∷◌, ℕ, List, [], None, Option, Some, true, length, map, filter, option_copied, IfOk, OnOk, slice_get};
 ghost use Rattle.std.specs.List.{All};
 ghost use Rattle.event_model.specs.declared.stage.Stage.TheVariants.{Initializing};
 ghost use Rattle.event_model.specs.Does.{Does, Done};
@@ -10,18 +10,17 @@ ghost use Rattle.event_model.specs.Settings.{Settings};
 ghost use Rattle.event_model.specs.Stages.{is_first_result};
 ghost use Rattle.group_rows.specs.Earlier.{shown_in, was_shown};
 ghost use Rattle.group_rows.specs.Rows.{first_result, waiting_in, welcome};
-ghost use Rattle.group_rows.specs.StopRows.{close_each};
-ghost use Rattle.group_rows.specs.Texts.{worker_of};
+ghost use Rattle.group_rows.specs.Waiting.{part, worker_of};
 ghost use Rattle.group_words.specs.Houses.{groups_of};
 ghost use Rattle.group_words.specs.Rows.{shown_of};
 ghost use Rattle.json_text.specs.Json.{Json};
 ghost use Rattle.mux_history.specs.declared.cause.Cause.TheVariants.{FromServer};
-ghost use Rattle.mux_starts.specs.Parted.{IsConfigured, configured_row, parted};
+ghost use Rattle.mux_starts.specs.Parted.{IsConfigured, PartedBy, configured_row, parted};
 ghost use Rattle.mux_starts.specs.group_facts.specs.Facts.{Known};
 ghost use Rattle.mux_starts.specs.group_facts.specs.Lively.{lives_at};
 ghost use Rattle.mux_starts.specs.group_facts.specs.Settled.{Settled};
 ghost use Rattle.mux_tables.specs.declared.tables.Start.{Start};
-ghost use Rattle.mux_tables.specs.Documents.{AheadStand, AllStand, DocumentsStand, Owed, closes, nothing_owed};
+ghost use Rattle.mux_tables.specs.Documents.{AllStand, DocumentsStand, Owed, nothing_owed};
 ghost use Rattle.mux_tables.specs.Names.{id_in};
 ghost use Rattle.mux_tables.specs.Stands.{Stands, number_in};
 ghost use Rattle.mux_turns.specs.Carried.{CarriedStand};
@@ -29,12 +28,13 @@ ghost use Rattle.mux_turns.specs.Welcomes.{AllAsking, IsGreeted, IsShown, Tells}
 ghost use Rattle.rpc_message.specs.Message.{Id, id_bytes, message_of, result as outcome, result_bytes};
 ghost use Rattle.rpc_message.specs.Parsed.{IsRead};
 
+use crate::held::send_held;
 use event_model::Phase;
 use message_body::{Body, Memory};
 use mux_history::Outs;
 use mux_members::encoding;
 use mux_tables::Tables;
-use mux_turns::{Carries, answered_number, shown_of};
+use mux_turns::{Carries, answered_number, refuse_held, shown_of};
 use rpc_message::{Message, initialized, ok_reply};
 use std::alloc::Global;
 
@@ -56,6 +56,7 @@ fn greet(
     requires { e < length tables.old.editors }
     ensures requests { tables.new.requests ≡ tables.old.requests }
     ensures versions { tables.new.versions ≡ tables.old.versions }
+    ensures lasts { tables.new.lasts ≡ tables.old.lasts }
     ensures count { OnOk result (length tables.new.editors ≡ length tables.old.editors) }
     ensures ids { OnOk result ((n : ℕ) → id_in (slice_get tables.new.editors n) ≡ id_in (slice_get tables.old.editors n)) }
     ensures told { OnOk result (Tells outs.old outs.new) }
@@ -67,8 +68,9 @@ fn greet(
     match tables.initialize_id(e) {
         None => Ok(()),
         Some(id) => {
-            let text = ok_reply(alloc, id.bytes(), shown)?;
-            tables.welcome(outs, e, text)?;
+            let own = id.copy(alloc)?;
+            let text = ok_reply(alloc, own.bytes(), shown)?;
+            tables.welcome(outs, e, own.bytes(), text)?;
             Ok(())
         }
     }
@@ -84,6 +86,7 @@ fn greet_all(
 ) -> Result<(), Memory>
     ensures requests { tables.new.requests ≡ tables.old.requests }
     ensures versions { tables.new.versions ≡ tables.old.versions }
+    ensures lasts { tables.new.lasts ≡ tables.old.lasts }
     ensures does { (settings : Settings) (base : List Event) (body : List ℕ) → shown.now ≡ shown_of (result_bytes body) → IsShown body
         → AllAsking (behind base outs.old)
         → OnOk result (Does (λ k events. AllStand settings k events) (look (λ events. each (welcome body)
@@ -146,24 +149,42 @@ fn parted_in(
     }
 }
 
-// The links of these editors are to be ended, of which the documents are closed already.
+// S2: an editor of the group of this number is parted with: what waits of it is refused, and its link is to be ended.
+fn part_one(
+    tables: &mut Tables,
+    alloc: Global,
+    outs: &mut Outs,
+    g: u64,
+    e: u64,
+) -> Result<(), Memory>
+    requires { e < length tables.old.editors }
+    ensures requests { tables.new.requests ≡ tables.old.requests }
+    ensures versions { tables.new.versions ≡ tables.old.versions }
+    ensures lasts { tables.new.lasts ≡ tables.old.lasts }
+    ensures count { OnOk result (length tables.new.editors ≡ length tables.old.editors) }
+    ensures parted { OnOk result (PartedBy (λ settings. part settings g e) (e ∷ []) tables.old tables.new outs.old outs.new) }
+{
+    refuse_held(tables, alloc, outs, g, e)?;
+    tables.close(alloc, outs, e)?;
+    Ok(())
+}
+
+// S2: so is each of these editors.
 fn part_each(
     tables: &mut Tables,
     alloc: Global,
     outs: &mut Outs,
+    g: u64,
     editors: &[u64],
 ) -> Result<(), Memory>
     requires { All (λ e. e < length tables.old.editors) editors.now }
     ensures requests { tables.new.requests ≡ tables.old.requests }
     ensures versions { tables.new.versions ≡ tables.old.versions }
     ensures lasts { tables.new.lasts ≡ tables.old.lasts }
-    ensures outs { OnOk result (outs.new ≡ outs.old ++ closes editors.now) }
-    ensures does { (settings : Settings) (owed : Owed) (base : List Event)
-        → OnOk result (Does (λ k events. AheadStand settings k events)
-        (close_each editors.now) base (tables.old, (owed, closes editors.now)) outs.old (tables.new, (owed, [])) outs.new) }
+    ensures parted { OnOk result (PartedBy (λ settings. each (part settings g) editors.now) editors.now tables.old tables.new outs.old outs.new) }
 {
     for e in editors {
-        tables.close(alloc, outs, *e)?;
+        part_one(tables, alloc, outs, g, *e)?;
     }
     Ok(())
 }
@@ -193,8 +214,8 @@ fn configure(
 }
 
 /// S2: the group's last start gives the result of its `initialize`: where by it editors are shown other capabilities than of an earlier start
-/// of the group, the links of those that were shown a result are to be ended; it is told that the session begins, of the group's configuration,
-/// and of each document that is open; and the editors of the group that wait are answered, rising.
+/// of the group, those that were shown a result are parted with; it is told that the session begins, of the group's configuration, and of each
+/// document that is open; the editors of the group that wait are answered, rising; and what waits of the others goes to it.
 pub fn take_result(
     tables: &mut Tables,
     carries: &mut Carries,
@@ -227,12 +248,13 @@ pub fn take_result(
     let parted = parted_in(tables, carries, alloc, group, told.bytes())?;
     let kept = told.copy(alloc)?;
     let owed = tables.hear_result(alloc, g, n, encoding(message), kept, &parted)?;
-    part_each(tables, alloc, outs, &parted)?;
+    part_each(tables, alloc, outs, group, &parted)?;
     let text = initialized(alloc)?;
     tables.notify(outs, g, text)?;
     configure(tables, alloc, outs, g, carries.configuration(group))?;
     tables.pay(outs, owed)?;
     greet_all(tables, alloc, outs, group, told.bytes())?;
+    send_held(tables, alloc, outs, g, group)?;
     carries.give(tables, group, told)?;
     Ok(())
 }

@@ -102,7 +102,7 @@ fn in_focus(tables: &Tables, g: usize) -> Result<Option<u64>, Memory>
     ensures inside { IfOk result (λ o. IfSome o (λ e. e < length tables.now.editors)) }
     ensures focus { (settings : Settings) (before : List Event) (s : ℕ) (x : Start) → slice_get tables.now.lasts.items g ≡ Some x
         → slice_get (map number_in tables.now.lasts.items) g ≡ Some s → Stands settings tables.now before
-        → IfOk result (λ o. o ≡ in_focus (running_in settings x.life.group before) (forwarding_of s before).open_requests) }
+        → IfOk result (λ o. o ≡ in_focus (running_in settings x.life.group before) (forwarding_of settings s before).open_requests) }
 {
     let group = tables.group_number(g);
     let numbers = tables.running(group)?;

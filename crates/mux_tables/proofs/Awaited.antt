@@ -92,8 +92,8 @@ pub told_same : (stage : Stage) (m : Message) → requests (codes "shutdown") m 
 told_same Ready m h = ap (λ b. is_stopping (if b then Stopping else Ready)) h
 told_same other m h = refl
 
-pub told_stops : (t u : Tables) (events : List Event) (s : ℕ) (body : List ℕ) → u.origins ≡ t.origins → requests (codes "shutdown") (message_of body) ≡ false → StopsMove t u events (said (ToServer s body))
-told_stops t u events s body os quiet = stops_kept t u events (said (ToServer s body)) (ap (λ v. v.stopping) os) refl
+pub told_stops : (t u : Tables) (events : List Event) (s : ℕ) (body : List ℕ) → u.origins.stopping ≡ t.origins.stopping → requests (codes "shutdown") (message_of body) ≡ false → StopsMove t u events (said (ToServer s body))
+told_stops t u events s body os quiet = stops_kept t u events (said (ToServer s body)) os refl
     (λ n. same_either (nat_eq s n) (record { stage = stage_told (life_of n events).stage (message_of body); started = (life_of n events).started }) (life_of n events) (told_same (life_of n events).stage (message_of body) quiet))
 
 -- A start is sent `shutdown`

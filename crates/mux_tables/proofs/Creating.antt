@@ -41,7 +41,7 @@ use Rattle.mux_tokens.proofs.Standing.{answer_moves as reply_tokens, asked_moves
 use Rattle.mux_tables.specs.declared.tables.Start.{Start}
 use Rattle.mux_tables.specs.declared.tables.Tables.{Tables}
 use Rattle.mux_tables.specs.Stands.{NamesAsk, Stands, is_early, is_request, number_in, of_life}
-use Rattle.mux_tables.proofs.TokenMoves.{OriginsMove}
+use Rattle.mux_tables.proofs.TokenMoves.{OriginsMove, WaitsStay, same_waits}
 use Rattle.mux_tables.proofs.Frames.{asks_stay, live_stay}
 use Rattle.mux_tables.proofs.Moves.{house_moves}
 use Rattle.mux_tables.proofs.Parking.{impatient_stay}
@@ -53,6 +53,7 @@ use Rattle.mux_tables.proofs.Said.{does_send, told_house}
 use Rattle.mux_tables.proofs.Sent.{same_set}
 use Rattle.mux_tables.proofs.Served.{answer_moves}
 use Rattle.mux_tables.proofs.Starts.{read_here, read_same, start_at_place}
+use Rattle.mux_waits.proofs.Moves.{quiet_waits, silent_waits}
 
 -- what creates doesn't wait, and registers nothing
 creating_waits : (c : Class) → names_create c ≡ true → may_wait c ≡ false
@@ -70,7 +71,7 @@ creates_apart : (method : List ℕ) → is_creating method ≡ true → is_regis
 creates_apart method h = creating_live (class_of method Server false) h
 
 module _ (settings : Settings) (t u : Tables) (events : List Event) (g s n : ℕ) (x z : Start) (is : slice_get t.lasts.items g ≡ Some x) (at : slice_get (map number_in t.lasts.items) g ≡ Some s) (within : g < length t.lasts.items) (read : z ≡ get_or t.lasts.items g z) (ready : x.life.stage ≡ Ready) (start : n ≡ z.life.start)
-    (ls : u.lasts ≡ t.lasts) (es : u.editors ≡ t.editors) (gs : u.groups ≡ t.groups) (now : u.course ≡ t.course) (og : u.origins.groups ≡ t.origins.groups) (sk : u.origins.stopping ≡ t.origins.stopping) (r : u.requests ≡ t.requests) (st : Stands settings t events) where
+    (ls : u.lasts ≡ t.lasts) (es : u.editors ≡ t.editors) (gs : u.groups ≡ t.groups) (now : u.course ≡ t.course) (og : u.origins.groups ≡ t.origins.groups) (sk : u.origins.stopping ≡ t.origins.stopping) (wt : u.origins.waiting ≡ t.origins.waiting) (r : u.requests ≡ t.requests) (st : Stands settings t events) where
   here : slice_get t.lasts.items g ≡ Some z
   here = read_here t.lasts.items g z within read
 
@@ -97,6 +98,7 @@ module _ (settings : Settings) (t u : Tables) (events : List Event) (g s n : ℕ
         stopping = sk;
         created = λ h. subst (λ (rows : Rows). CreatedStand settings rows (events ++ took (FromServer s body) (message_of body) ∷ [])) (sym (cr ∙ (ap (λ k. changed k (created token) t.origins.created) own ∙ ap (λ w. changed s (created w) t.origins.created) text)))
             (create_moves settings t.origins.created events s body method (message_of body) id params new says creates heard makes next.0 next.1 h);
+        waiting = same_waits settings t.origins u.origins events (took (FromServer s body) (message_of body)) wt (λ rows. quiet_waits settings rows events (took (FromServer s body) (message_of body)) refl);
       }) r st
 
   -- S13
@@ -113,13 +115,14 @@ module _ (settings : Settings) (t u : Tables) (events : List Event) (g s n : ℕ
         created = λ h. subst (λ (rows : Rows). CreatedStand settings rows (events ++ took (FromServer s body) (message_of body) ∷ [])) (sym (cr ∙ ap (λ k. edited k (table.taken token body kind) t.origins.created) own))
             (told_moves settings t.origins.created events s body method (message_of body) params kind token (token_called (named_token params) x_now) says tells (ap is_ready stage) refl
             (number_seen settings t.origins.created events h s i token text ∙ ap (λ o. option_map (λ (w : Token). w.number) (token_called o x_now)) (sym names_it)) begun ends h);
+        waiting = same_waits settings t.origins u.origins events (took (FromServer s body) (message_of body)) wt (λ rows. quiet_waits settings rows events (took (FromServer s body) (message_of body)) refl);
       }) r st
 
 -- S8 and L2
 pub offer_does : (settings : Settings) (t u : Tables) (base : List Event) (xs ys : List Out) (s e k n m : ℕ) (text : List ℕ) → e < length t.editors → is_running (desk_of e (behind base xs)).phase ≡ true → IsOffer settings s e k (behind base xs) text → ((j : ℕ) → (asking_of settings j (behind base xs)).asker ≡ None)
     → Some n ≡ sessions.next_ask (session_of t.editors e) → m ≡ s → u.editors ≡ with_session t.editors e (unless_gone sessions.asked (session_of t.editors e)) → u.groups ≡ t.groups → u.course ≡ t.course → u.lasts ≡ t.lasts → u.origins.groups ≡ t.origins.groups → u.origins.stopping ≡ t.origins.stopping
-    → u.origins.created ≡ changed m (put_to k e n) t.origins.created → u.requests ≡ t.requests → ys ≡ xs ++ ToEditor e text ∷ [] → Does (λ t events. Stands settings t events) (send (ToEditor e text)) base t xs u ys
-offer_does settings t u base xs ys s e k n m text l runs offer none is own set gs now ls og sk cr r said_so = does_knowing {Stands = λ t events. Stands settings t events} (λ st.
+    → u.origins.created ≡ changed m (put_to k e n) t.origins.created → u.origins.waiting ≡ t.origins.waiting → u.requests ≡ t.requests → ys ≡ xs ++ ToEditor e text ∷ [] → Does (λ t events. Stands settings t events) (send (ToEditor e text)) base t xs u ys
+offer_does settings t u base xs ys s e k n m text l runs offer none is own set gs now ls og sk cr wt r said_so = does_knowing {Stands = λ t events. Stands settings t events} (λ st.
     let before : List Event = behind base xs in
     let left = one_left settings t.editors before e l runs st.house.editors n is in
     does_send settings (ToEditor e text) base t u xs ys said_so
@@ -131,6 +134,7 @@ offer_does settings t u base xs ys s e k n m text l runs offer none is own set g
           (sym (cr ∙ (ap (λ j. changed j (put_to k e n) t.origins.created) own ∙ (ap (λ j. changed s (put_to k e j) t.origins.created) left.0 ∙ ap (λ j. changed s (put_to j e (next_ask e before)) t.origins.created) (sym offer.number)))))
           (asked_moves settings t.origins.created before s e text offer.method (message_of text) _ offer.params offer.token offer.says offer.creates offer.marked
           (ap (λ j. find (is_numbered j) (created_of settings s before).tokens) offer.number ∙ offer.live) offer.others (below (next_ask e before) left.1) (subst (λ j. AreFresh e (next_ask e before) j (created_of settings s before).takings) (sym offer.number) offer.fresh) h);
+      waiting = same_waits settings t.origins u.origins before (said (ToEditor e text)) wt (λ rows. silent_waits settings before e text (message_of text) rows (ap answered_id offer.says));
     }) r
     (λ h. told_house settings before e text t u (asked_so settings t.editors before e l runs h.editors u.editors text n is (ap is_request offer.says) set) gs now h)))
 
@@ -149,18 +153,20 @@ some_number None = refl
 some_number (Some t) = refl
 
 -- E19: what an editor answers of what the last start of its group asked of it
-pub reply_moves : (settings : Settings) (t u : Tables) (events : List Event) (s m e : ℕ) (n : Option ℕ) (takes : Bool) (body : List ℕ) → m ≡ s → u.origins.groups ≡ t.origins.groups → u.origins.stopping ≡ t.origins.stopping
+pub reply_moves : (settings : Settings) (t u : Tables) (events : List Event) (s m e : ℕ) (n : Option ℕ) (takes : Bool) (body : List ℕ) → m ≡ s → u.origins.groups ≡ t.origins.groups → u.origins.stopping ≡ t.origins.stopping → u.origins.waiting ≡ t.origins.waiting → WaitsStay settings events (heard (FromEditor e body))
     → MatchOption n (u.origins.created ≡ t.origins.created) (λ k. u.origins.created ≡ edited m (table.answered e k takes) t.origins.created) → NamesAsk (answered_id (message_of body)) n → takes ≡ fold.accepts (message_of body) → requests (codes "shutdown") (message_of body) ≡ false
     → TakesOne settings s e (message_of body) events → OriginsMove settings t.origins u.origins events (heard (FromEditor e body))
-reply_moves settings t u events s m e None takes body same og sk cr named accepted runs others = record {
+reply_moves settings t u events s m e None takes body same og sk wt waits cr named accepted runs others = record {
   groups = og;
   stopping = sk;
+  waiting = same_waits settings t.origins u.origins events (heard (FromEditor e body)) wt waits;
   created = λ h. subst (λ (rows : Rows). CreatedStand settings rows (events ++ heard (FromEditor e body) ∷ [])) (sym cr)
       (stay_stands settings t.origins.created events (heard (FromEditor e body)) (λ j. ap (λ b. if b then fold.left e (created_of settings j events) else fold.answered e (message_of body) (created_of settings j events)) runs ∙ unnamed_answers settings t.origins.created events j e (message_of body) named h) h);
 }
-reply_moves settings t u events s m e (Some k) takes body same og sk cr named accepted runs others = record {
+reply_moves settings t u events s m e (Some k) takes body same og sk wt waits cr named accepted runs others = record {
   groups = og;
   stopping = sk;
+  waiting = same_waits settings t.origins u.origins events (heard (FromEditor e body)) wt waits;
   created = λ h. subst (λ (rows : Rows). CreatedStand settings rows (events ++ heard (FromEditor e body) ∷ [])) (sym (cr ∙ ap (λ j. edited j (table.answered e k takes) t.origins.created) same))
       (reply_tokens settings t.origins.created events s e k body (message_of body) takes runs named accepted others h);
 }

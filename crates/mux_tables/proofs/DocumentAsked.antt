@@ -2,6 +2,7 @@
 use Rattle.std.proofs.Common.{◌≡◌, ℕ, ◌≤◌, ◌<◌, ◌^◌, ◌+◌, Bool, true, false, not, ◌||◌, List, [], ◌∷◌, ◌++◌, length, map, find, fold, get_or, nat_eq, codes, refl, sym, ap, ap₂, subst, ◌∙◌, append-nil, append_assoc, arith, if◌then◌else◌}
 use Rattle.std.specs.Prelude.{Option, Some, None, option_map, bytes_eq, slice_get, slice_set}
 use Rattle.std.specs.List.{AllByRecursion}
+use Rattle.std.specs.Option.{option_and_then}
 use Rattle.std.proofs.lemmas.Bool.{ne_eqb}
 use Rattle.std.proofs.lemmas.Option.{slice_get_within}
 use Rattle.json_text.specs.Json.{Json}
@@ -23,7 +24,7 @@ use Rattle.event_model.specs.Phases.{desk_of, is_running}
 use Rattle.event_model.specs.Row.{look, send, ◌⨾◌}
 use Rattle.event_model.specs.Settings.{Settings}
 use Rattle.event_model.specs.Spawns.{group_of, start_behind, start_of, starts_behind, starts_of}
-use Rattle.event_model.proofs.Frames.{never, one_more, outs_more, outs_still}
+use Rattle.event_model.proofs.Frames.{never, outs_more, outs_still}
 use Rattle.event_model.proofs.Turns.{behind_more, does_entry}
 use Rattle.event_model.proofs.Places.{get_set_same}
 use Rattle.focus_switch.specs.Documents.{Documents, version_held}
@@ -35,10 +36,11 @@ use Rattle.group_laws.specs.mux_model.proofs.DocumentFolds.{outs_to_start, sent_
 use Rattle.group_words.specs.Houses.{home_of, is_home}
 use Rattle.id_rewrite.specs.response_route.specs.declared.versions.Stamp.{Stamp}
 use Rattle.group_laws.specs.group_rows.specs.Answers.{held_version, stamp_at, stamped}
-use Rattle.group_laws.specs.group_rows.specs.Forwarded.{Forwarding, cancelled_by, forwarding_behind, forwarding_of, forwards, moves_ids}
+use Rattle.group_laws.specs.group_rows.specs.Forwarded.{Forwarding, Sender, cancelled_by, first_sender, forwarding_of, forwards, moves_ids, sender_or, sender_waiting}
 use Rattle.group_laws.specs.group_rows.specs.Rows as rows
-use Rattle.group_laws.specs.group_rows.specs.Texts.{is_aside, is_synced, texts_of, touch_all, touched_at, worker_behind, worker_of}
-use Rattle.group_laws.specs.group_rows.proofs.Frames.{encoding_stays, texts_apart, texts_more}
+use Rattle.group_laws.specs.group_rows.specs.Texts.{is_aside, is_synced, texts_of, touch_all, touched_at, toucher, toucher_of}
+use Rattle.group_laws.specs.group_rows.specs.Waiting.{first_waiting, worker_behind, worker_of}
+use Rattle.group_laws.specs.group_rows.proofs.Frames.{encoding_stays, forwarding_more, texts_apart, texts_more}
 use Rattle.group_laws.specs.Stands.{CountsStand, HeldStands}
 use Rattle.group_laws.proofs.Asking.{spelt_touched, sync_speaks, touch_orderly}
 use Rattle.group_laws.proofs.Counting.{sync_counted}
@@ -67,6 +69,9 @@ use Rattle.mux_tables.proofs.Noting.{below_next, left_stays, left_told, moment_a
 use Rattle.mux_tables.proofs.Sent.{forward_does, unmoved_does}
 use Rattle.mux_tables.proofs.Stamping.{noted_stamps, touched_stamps}
 use Rattle.mux_tables.proofs.Starts.{read_here, start_at_place}
+use Rattle.mux_tables.proofs.TokenMoves.{WaitsMove, same_waits}
+use Rattle.mux_waits.specs.Stands.{is_passed}
+use Rattle.mux_waits.proofs.Moves.{first_told, passed_waits}
 
 -- bodies to a start leave whose message is at work, and what other groups have
 still_at_work : (w : Option ℕ) (x : Out) → worker_behind w (said x) ≡ w
@@ -76,7 +81,7 @@ still_at_work w (Spawn s g) = refl
 still_at_work w (CloseEditor e) = refl
 still_at_work w (EndServer s) = refl
 
-worker_stays : (events : List Event) (xs : List Out) → worker_of (behind events xs) ≡ worker_of events
+pub worker_stays : (events : List Event) (xs : List Out) → worker_of (behind events xs) ≡ worker_of events
 worker_stays events xs = outs_more worker_behind None (worker_of events) events xs refl ∙ outs_still worker_behind (worker_of events) xs (still_at_work (worker_of events))
 
 beside_all : (settings : Settings) (owed : List (List ℕ)) (j n s : ℕ) (stage : Stage) (c : Documents) (bodies : List (List ℕ)) (events : List Event) → AllTell bodies → nat_eq s n ≡ false → SharedStands settings events owed j n stage c → SharedStands settings (behind events (to s bodies)) owed j n stage c
@@ -115,23 +120,40 @@ touched_owned P e turn (o ∷ os) f h = (go (nat_eq o.editor e), touched_owned P
     go true = f o (record o { touched = turn }) refl h.0
     go false = h.0
 
+-- what tells of a document is no editor's request
+told_passed : (m : Message) → speaks (saying_of m) ≡ true → is_passed m ≡ false
+told_passed (notification method ps) h = refl
+told_passed other h = never (sym h)
+
+first_stays : (settings : Settings) (n s : ℕ) (bodies : List (List ℕ)) (events : List Event) → AllTell bodies → first_waiting settings n (behind events (to s bodies)) ≡ first_waiting settings n events
+first_stays settings n s [] events h = ap (first_waiting settings n) (append-nil events)
+first_stays settings n s (body ∷ bodies) events h = ap (first_waiting settings n) (first_behind events (ToServer s body) (to s bodies))
+    ∙ (first_stays settings n s bodies (events ++ said (ToServer s body) ∷ []) h.1 ∙ first_told settings n s body (message_of body) events (told_passed (message_of body) h.0))
+
 -- whose request is at work, behind bodies that tell of documents
-sender_told : (n s : ℕ) (bodies : List (List ℕ)) (events : List Event) (e : ℕ) (id : List ℕ) (work partial : Option (List ℕ)) → AllTell bodies → Sends n e id work partial events → Sends n e id work partial (behind events (to s bodies))
-sender_told n s [] events e id work partial h k = subst (λ es. Sends n e id work partial es) (sym (append-nil events)) k
-sender_told n s (body ∷ bodies) events e id work partial h k = subst (λ es. Sends n e id work partial es) (sym (first_behind events (ToServer s body) (to s bodies)))
-    (sender_told n s bodies (events ++ said (ToServer s body) ∷ []) e id work partial h.1 (ap (λ (x : Forwarding). x.sender) (one_more (forwarding_behind n) _ _ events (said (ToServer s body)) refl) ∙ (keeps (nat_eq s n) (forwarding_of n events) (message_of body) h.0 ∙ k)))
+sender_told : (settings : Settings) (n s : ℕ) (bodies : List (List ℕ)) (events : List Event) (e : ℕ) (id : List ℕ) (work partial : Option (List ℕ)) → AllTell bodies → Sends settings n e id work partial events → Sends settings n e id work partial (behind events (to s bodies))
+sender_told settings n s [] events e id work partial h k = subst (λ es. Sends settings n e id work partial es) (sym (append-nil events)) k
+sender_told settings n s (body ∷ bodies) events e id work partial h k = subst (λ es. Sends settings n e id work partial es) (sym (first_behind events (ToServer s body) (to s bodies)))
+    (sender_told settings n s bodies (events ++ said (ToServer s body) ∷ []) e id work partial h.1
+    (ap₂ sender_or (ap (λ (x : Forwarding). x.sender) (forwarding_more settings n events (said (ToServer s body))) ∙ keeps (nat_eq s n) (first_sender settings n events) (forwarding_of settings n events) (message_of body) h.0)
+    (ap (option_and_then sender_waiting) (first_told settings n s body (message_of body) events (told_passed (message_of body) h.0))) ∙ k))
   where
-    sent_by : (x : Forwarding) (m : Message) → speaks (saying_of m) ≡ true → (forwards x m).sender ≡ x.sender
-    sent_by x (notification method ps) h = go (bytes_eq method (codes "$/cancelRequest"))
+    sent_by : (first : Option Sender) (x : Forwarding) (m : Message) → speaks (saying_of m) ≡ true → (forwards first x m).sender ≡ x.sender
+    sent_by first x (notification method ps) h = go (bytes_eq method (codes "$/cancelRequest"))
       where
         go : (b : Bool) → (if b then record { sender = x.sender; next = x.next; open_requests = map (cancelled_by (named_of (codes "id") ps)) x.open_requests } else x).sender ≡ x.sender
         go true = refl
         go false = refl
-    sent_by x other h = never (sym h)
+    sent_by first x other h = never (sym h)
 
-    keeps : (b : Bool) (x : Forwarding) (m : Message) → speaks (saying_of m) ≡ true → (if b then forwards x m else x).sender ≡ x.sender
-    keeps true x m h = sent_by x m h
-    keeps false x m h = refl
+    keeps : (b : Bool) (first : Option Sender) (x : Forwarding) (m : Message) → speaks (saying_of m) ≡ true → (if b then forwards first x m else x).sender ≡ x.sender
+    keeps true first x m h = sent_by first x m h
+    keeps false first x m h = refl
+
+-- the message of an editor goes on, and so nothing that waits does
+pub passed_on : (settings : Settings) (t u : Tables) (now : List Event) (e s : ℕ) (text : List ℕ) (bodies : List (List ℕ)) → u.origins.waiting ≡ t.origins.waiting → worker_of now ≡ Some e → WaitsMove settings t.origins u.origins (behind now (to s bodies)) (said (ToServer s text))
+passed_on settings t u now e s text bodies same works = same_waits settings t.origins u.origins (behind now (to s bodies)) (said (ToServer s text)) same
+    (λ rows. passed_waits settings (behind now (to s bodies)) s text (message_of text) rows e (worker_stays now (to s bodies) ∙ works))
 
 -- a notification that goes on behind a sync speaks of no document, and cancels nothing
 plain_notice : (method : List ℕ) (ps : Option Json) → is_synced (notification method ps) ≡ true → (saying_by method ps ≡ nothing) × (bytes_eq method (codes "$/cancelRequest") ≡ false)
@@ -146,7 +168,7 @@ plain_notice method ps h = (quiet (saying_by method ps) (is_aside method) h, kep
     kept false other = refl
 
 module _ (settings : Settings) (t : Tables) (now : List Event) (i e : ℕ) (z : Start) (d : Documents) (text : List ℕ) (at : slice_get t.lasts.items i ≡ Some z) (has : slice_get t.documents.items i ≡ Some d) (ready : z.life.stage ≡ Ready)
-    (silent : saying_of (message_of text) ≡ nothing) (synced : is_synced (message_of text) ≡ true) (works : worker_of now ≡ Some e) (st : Stands settings t now) (ds : DocumentsStand settings nothing_owed t now) where
+    (silent : saying_of (message_of text) ≡ nothing) (synced : is_synced (message_of text) ≡ true) (works : toucher_of settings z.life.start now (message_of text) ≡ Some e) (st : Stands settings t now) (ds : DocumentsStand settings nothing_owed t now) where
   abbrev s : ℕ
   s = z.life.start
 
@@ -186,8 +208,11 @@ module _ (settings : Settings) (t : Tables) (now : List Event) (i e : ℕ) (z : 
   here : group_of s mid ≡ Some g
   here = (mid_stands.lasts.each i z at).home
 
+  last_toucher : toucher_of settings s mid (message_of text) ≡ Some e
+  last_toucher = ap₂ (λ w o. toucher w (message_of text) o) (worker_stays now (to s bodies)) (first_stays settings s s bodies now tell) ∙ works
+
   last_texts : texts_of settings g last ≡ texts_in (sync_row e d).after
-  last_texts = texts_more settings g mid (said (ToServer s text)) ∙ (rw (here, itself g, synced, worker_stays now (to s bodies) ∙ works) (ap (touch_all (Some e)) (texts_told settings g s now bodies tell ∙ was.texts.texts)) ∙ sym (sync_texts e d))
+  last_texts = texts_more settings g mid (said (ToServer s text)) ∙ (rw (last_toucher, here, itself g, synced) (ap (touch_all (Some e)) (texts_told settings g s now bodies tell ∙ was.texts.texts)) ∙ sym (sync_texts e d))
 
   mid_sent : (u : List ℕ) → sent_of s u mid ≡ record { encoding = Some was.start.code; held = told_outs (Some was.start.code) u (held_at s u now) (to s bodies) }
   mid_sent u = all_told s u was.start.code (held_at s u now) bodies now (known_sent s u was.start.code now holds.given)
@@ -249,7 +274,7 @@ module _ (settings : Settings) (t : Tables) (now : List Event) (i e : ℕ) (z : 
         moments = λ j x n p there asked.
             let ids = (mid_stands.lasts.each j x there).parts of_ids in
             let low : n < x.ids.next = below_next n 2 x.ids.next x.ids.requests p ids.order.rising asked in
-            moment_apart x.life.start n s mid text (message_of text) (ap (λ k. nat_eq k n) ids.next ∙ ne_eqb x.ids.next n (λ q. absurd (omega (arith, q, low)))) ∙ moment_told x.life.start n s bodies now tell;
+            moment_apart settings x.life.start n s mid text (message_of text) (ap (λ k. nat_eq k n) ids.next ∙ ne_eqb x.ids.next n (λ q. absurd (omega (arith, q, low)))) ∙ moment_told settings x.life.start n s bodies now tell;
         left = λ n h. left_stays mid (said (ToServer s text)) refl n (left_told s bodies now n h);
       }
     where
@@ -271,7 +296,7 @@ module _ (settings : Settings) (t : Tables) (now : List Event) (i e : ℕ) (z : 
   -- what was noted of the request itself
   pub asked_noted : (name : Id) (method : List ℕ) (ps : Option Json) (noted : List (List ℕ × Stamp)) → message_of text ≡ request name method ps → is_own method ≡ false → StampsAt noted (versions_of e) (Some (sync_row e d).after)
       → IsNoted settings s z.ids.next e last (Some noted)
-  asked_noted name method ps noted says own stamps = (mid, moment_here s z.ids.next mid text (message_of text) name method ps says own ((mid_stands.lasts.each i z at).parts of_ids).next, λ u. stamps u ∙ mid_noted u)
+  asked_noted name method ps noted says own stamps = (mid, moment_here settings s z.ids.next mid text (message_of text) name method ps says own ((mid_stands.lasts.each i z at).parts of_ids).next, λ u. stamps u ∙ mid_noted u)
 
   -- all tables, where those of editors and starts stand behind the body itself
   module _ (u : Tables) (ids : Table) (put : u.lasts.items ≡ slice_set t.lasts.items i (record z { ids = ids })) (vs : u.versions ≡ t.versions) (set : u.documents.items ≡ slice_set t.documents.items i (sync_row e d).after) (stands : Stands settings t mid → Stands settings u last)
@@ -313,13 +338,14 @@ synced_does settings t u xs ys told base i s start e z text here number ran does
 
 -- a request
 pub asked_does : (settings : Settings) (t u : Tables) (xs ys told : List Out) (base : List Event) (g s start e : ℕ) (z : Start) (ids : Table) (pending : Pending) (noted : List (List ℕ × Stamp)) (text id : List ℕ) (work partial : Option (List ℕ)) (method : List ℕ) (name : Id) (ps : Option Json) → slice_get (map number_in t.lasts.items) g ≡ Some s → g < length t.lasts.items → z ≡ get_or t.lasts.items g z
-    → z.life.stage ≡ Ready → message_of text ≡ request name method ps → is_own method ≡ false → Sends s e id work partial (behind base xs) → worker_of (behind base xs) ≡ Some e → forwarded_of (record { number = z.ids.next; pending = pending }) ≡ sent_as (record { editor = e; id = id; work = work; partial = partial }) z.ids.next
+    → z.life.stage ≡ Ready → message_of text ≡ request name method ps → is_own method ≡ false → Sends settings s e id work partial (behind base xs) → toucher_of settings z.life.start (behind base xs) (message_of text) ≡ Some e → forwarded_of (record { number = z.ids.next; pending = pending }) ≡ sent_as (record { editor = e; id = id; work = work; partial = partial }) z.ids.next
     → ids.requests ≡ z.ids.requests ++ record { number = z.ids.next; pending = pending } ∷ [] → ids.next ≡ z.ids.next + 1 → ids.limit ≡ z.ids.limit → IsInOrder ids
-    → u.lasts.items ≡ slice_set t.lasts.items g (record z { ids = ids }) → u.editors ≡ t.editors → u.groups ≡ t.groups → u.course ≡ t.course → u.origins ≡ t.origins → u.requests ≡ t.requests → u.versions ≡ t.versions
+    → u.lasts.items ≡ slice_set t.lasts.items g (record z { ids = ids }) → u.editors ≡ t.editors → u.groups ≡ t.groups → u.course ≡ t.course → u.origins.groups ≡ t.origins.groups → u.origins.stopping ≡ t.origins.stopping → u.origins.created ≡ t.origins.created
+    → ((bodies : List (List ℕ)) → Stands settings t (behind (behind base xs) (to z.life.start bodies)) → WaitsMove settings t.origins u.origins (behind (behind base xs) (to z.life.start bodies)) (said (ToServer z.life.start text))) → u.requests ≡ t.requests → u.versions ≡ t.versions
     → StepAt (sync_row e) g (slice_get t.documents.items g) t.documents.items told u.documents.items → pending.editor ≡ e → pending.noted ≡ Some noted → StampsAt noted (versions_of e) (slice_get u.documents.items g)
     → start ≡ z.life.start → ys ≡ (xs ++ told) ++ ToServer start text ∷ [] → (h : ℕ) → z.life.group ≡ h
     → Does (λ k events. AllStand settings k events) (look (λ now. to_start s (syncing settings now h s e) ⨾ send (ToServer s text))) base (t, nothing_owed) xs (u, nothing_owed) ys
-asked_does settings t u xs ys told base g s start e z ids pending noted text id work partial method name ps at within read ready says own sends works kept put next limit order set es gs time os r vs does asker notes stamps is said_so h mine =
+asked_does settings t u xs ys told base g s start e z ids pending noted text id work partial method name ps at within read ready says own sends works kept put next limit order set es gs time og sk cr waits r vs does asker notes stamps is said_so h mine =
     subst (λ g. Does (λ k events. AllStand settings k events) (look (λ now. to_start s (syncing settings now g s e) ⨾ send (ToServer s text))) base (t, nothing_owed) xs (u, nothing_owed) ys) mine
     (synced_does settings t u xs ys told base g s start e z text here number (λ d has docs st ds. all_last settings t now g e z d text here has ready silent synced works st ds u ids set vs docs (stands d has st ds)
     (notes_more settings z.life.start z.ids.next pending ids.requests z.ids.requests
@@ -354,9 +380,10 @@ asked_does settings t u xs ys told base g s start e z ids pending noted text id 
     stands d has st ds mid_st =
         let bodies = rows.sync_bodies d.versions (λ u. held_at z.life.start u now) e d.opens in
         let mid = behind now (to z.life.start bodies) in
-        let sends_on : Sends z.life.start e id work partial mid = sender_told z.life.start z.life.start bodies now e id work partial (tell settings t now g e z d text here has ready silent synced works st ds) (subst (λ n. Sends n e id work partial now) (sym number) sends) in
+        let sends_on : Sends settings z.life.start e id work partial mid = sender_told settings z.life.start z.life.start bodies now e id work partial (tell settings t now g e z d text here has ready silent synced works st ds) (subst (λ n. Sends settings n e id work partial now) (sym number) sends) in
         (does_entry mid_st (forward_does settings t u [] (ToServer z.life.start text ∷ []) mid g z.life.start z.life.start e z ids pending text id work partial method name ps (subst (λ n. slice_get (map number_in t.lasts.items) g ≡ Some n) (sym number) at) within read says own
-        (subst (λ es. Sends z.life.start e id work partial es) (sym (append-nil mid)) sends_on) kept put next limit order set es gs time os r refl refl)).stands
+        (subst (λ es. Sends settings z.life.start e id work partial es) (sym (append-nil mid)) sends_on) kept put next limit order set es gs time og sk cr
+        (subst (λ es. WaitsMove settings t.origins u.origins es (said (ToServer z.life.start text))) (sym (append-nil mid)) (waits bodies mid_st)) r refl refl)).stands
 
 -- a notification
 pub passed_does : (settings : Settings) (t u : Tables) (xs ys told : List Out) (base : List Event) (g s start e : ℕ) (z : Start) (text method : List ℕ) (ps : Option Json) → slice_get (map number_in t.lasts.items) g ≡ Some s → g < length t.lasts.items → z ≡ get_or t.lasts.items g z
@@ -366,7 +393,7 @@ pub passed_does : (settings : Settings) (t u : Tables) (xs ys told : List Out) (
     → Does (λ k events. AllStand settings k events) (look (λ now. to_start s (syncing settings now h s e) ⨾ send (ToServer s text))) base (t, nothing_owed) xs (u, nothing_owed) ys
 passed_does settings t u xs ys told base g s start e z text method ps at within read ready says synced works ls es gs time os r vs does is said_so h mine =
     subst (λ g. Does (λ k events. AllStand settings k events) (look (λ now. to_start s (syncing settings now g s e) ⨾ send (ToServer s text))) base (t, nothing_owed) xs (u, nothing_owed) ys) mine
-    (synced_does settings t u xs ys told base g s start e z text here number (λ d has docs st ds. all_last settings t now g e z d text here has ready silent synced works st ds u z.ids put vs docs (stands d) (λ k. k) s number) does is said_so)
+    (synced_does settings t u xs ys told base g s start e z text here number (λ d has docs st ds. all_last settings t now g e z d text here has ready silent synced (ap (λ w. toucher w (message_of text) (first_waiting settings z.life.start now)) works) st ds u z.ids put vs docs (stands d) (λ k. k) s number) does is said_so)
   where
     now : List Event
     now = behind base xs

@@ -60,7 +60,7 @@ rest_heard settings t events e body m q = record {
   founds = founds_kept events (took (FromEditor e body) m) refl;
   starts = starts_kept events (took (FromEditor e body) m) refl;
   sent = λ s l. sent_stays s events (took (FromEditor e body) m) refl;
-  moments = λ g x n p at there. moment_stays x.life.start n events (took (FromEditor e body) m) refl;
+  moments = λ g x n p at there. moment_stays settings x.life.start n events (took (FromEditor e body) m) refl;
   left = left_stays events (took (FromEditor e body) m) refl;
 }
 
@@ -139,7 +139,7 @@ rest_from settings t events n body m later old = record {
   founds = founds_kept events (took (FromServer n body) m) refl;
   starts = starts_kept events (took (FromServer n body) m) refl;
   sent = λ s l. sent_unheard s n body m events (ne_eqb n s (λ q. absurd (omega (arith, q, l, old))));
-  moments = λ g x k p at there. moment_stays x.life.start k events (took (FromServer n body) m) refl;
+  moments = λ g x k p at there. moment_stays settings x.life.start k events (took (FromServer n body) m) refl;
   left = left_stays events (took (FromServer n body) m) refl;
 }
 

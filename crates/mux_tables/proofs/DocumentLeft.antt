@@ -242,7 +242,7 @@ module _ (settings : Settings) (t u : Tables) (events : List Event) (ev : Event)
     founds = founds_kept events ev spawn;
     starts = starts_kept events ev spawn;
     sent = λ s l. sent_stays s events ev sends;
-    moments = λ g x n p at there. moment_stays x.life.start n events ev (asks_unsent ev sends);
+    moments = λ g x n p at there. moment_stays settings x.life.start n events ev (asks_unsent ev sends);
     left = left_stays events ev quits;
   }
 
@@ -319,7 +319,7 @@ closed_rest settings t events e = record {
   founds = founds_kept events (said (CloseEditor e)) refl;
   starts = starts_kept events (said (CloseEditor e)) refl;
   sent = λ s l. sent_stays s events (said (CloseEditor e)) refl;
-  moments = λ g x n p at there. moment_stays x.life.start n events (said (CloseEditor e)) refl;
+  moments = λ g x n p at there. moment_stays settings x.life.start n events (said (CloseEditor e)) refl;
   left = left_stays events (said (CloseEditor e)) refl;
 }
 
@@ -382,7 +382,7 @@ module _ (settings : Settings) (t u : Tables) (events : List Event) (e : ℕ) (b
     founds = founds_kept events (took (FromEditor e body) m) refl;
     starts = starts_kept events (took (FromEditor e body) m) refl;
     sent = λ s l. sent_stays s events (took (FromEditor e body) m) refl;
-    moments = λ g x n p at there. moment_stays x.life.start n events (took (FromEditor e body) m) refl;
+    moments = λ g x n p at there. moment_stays settings x.life.start n events (took (FromEditor e body) m) refl;
     left = left_stays events (took (FromEditor e body) m) refl;
   }
     where

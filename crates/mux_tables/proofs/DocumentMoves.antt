@@ -37,7 +37,7 @@ pub record Rest (settings : Settings) (t : Tables) (events later : List Event) :
   pub starts : (s : ℕ) → starts_of later ≤ s → starts_of events ≤ s
   pub sent : (s : ℕ) → starts_of events ≤ s → SentSame s events later
   -- and of what was noted of the open requests
-  pub moments : (g : ℕ) (x : Start) (n : ℕ) (p : Pending) → slice_get t.lasts.items g ≡ Some x → pending_of n x.ids.requests ≡ Some p → moment_of x.life.start n later ≡ moment_of x.life.start n events
+  pub moments : (g : ℕ) (x : Start) (n : ℕ) (p : Pending) → slice_get t.lasts.items g ≡ Some x → pending_of n x.ids.requests ≡ Some p → moment_of settings x.life.start n later ≡ moment_of settings x.life.start n events
   pub left : (e : ℕ) → has_left (desk_of e events).phase ≡ true → has_left (desk_of e later).phase ≡ true
 
 -- no event
@@ -111,7 +111,7 @@ rest_quiet settings t events ev q k l = record {
   founds = founds_kept events ev k;
   starts = starts_kept events ev k;
   sent = λ s l. sent_stays s events ev (sent_untouched ev q);
-  moments = λ g x n p at there. moment_stays x.life.start n events ev (asks_untouched ev q);
+  moments = λ g x n p at there. moment_stays settings x.life.start n events ev (asks_untouched ev q);
   left = l;
 }
 

@@ -243,7 +243,7 @@ module _ (settings : Settings) (events : List Event) (g s e : ℕ) (body method 
     founds = founds_kept events (heard (FromEditor e body)) refl;
     starts = starts_kept events (heard (FromEditor e body)) refl;
     sent = λ n l. sent_stays n events (heard (FromEditor e body)) refl;
-    moments = λ j x n p at there. moment_stays x.life.start n events (heard (FromEditor e body)) refl;
+    moments = λ j x n p at there. moment_stays settings x.life.start n events (heard (FromEditor e body)) refl;
     left = left_stays events (heard (FromEditor e body)) refl;
   }
     where

@@ -111,7 +111,7 @@ module _ (settings : Settings) (t : Tables) (i : ℕ) (x : Start) (at : slice_ge
     founds = founds_kept events (said (ToServer s body)) refl;
     starts = starts_kept events (said (ToServer s body)) refl;
     sent = λ n l. sent_apart n s body (message_of body) events (ne_eqb s n (λ q. let old = known settings t.requests t.origins.groups.items events g x st.origins (st.lasts.each i x at) in absurd (omega (arith, q, l, old))));
-    moments = λ j z n p there asked. moment_stays z.life.start n events (said (ToServer s body)) (asks_told s body (message_of body) h);
+    moments = λ j z n p there asked. moment_stays settings z.life.start n events (said (ToServer s body)) (asks_told s body (message_of body) h);
     left = left_stays events (said (ToServer s body)) refl;
   }
 

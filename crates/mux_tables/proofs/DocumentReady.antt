@@ -5,7 +5,7 @@ use Rattle.std.specs.List.{AllByRecursion}
 use Rattle.std.proofs.lemmas.Bool.{ne_eqb}
 use Rattle.mux_history.specs.declared.cause.Cause.TheVariants.{FromServer}
 use Rattle.mux_history.specs.declared.out.Out.{Out}
-use Rattle.mux_history.specs.declared.out.Out.TheVariants.{CloseEditor}
+use Rattle.mux_history.specs.declared.out.Out.TheVariants.{CloseEditor, EndServer, Spawn, ToEditor, ToServer}
 use Rattle.rpc_message.specs.Message.{Message}
 use Rattle.position_codec.specs.declared.Encoding.{Encoding}
 use Rattle.document_model.specs.Orderly.{AllSpelt, Orderly}
@@ -36,12 +36,12 @@ use Rattle.group_laws.proofs.Leaving.{leave_orderly, leave_spelt, leave_stays, l
 use Rattle.group_laws.proofs.ReplayHeld.{ready_held}
 use Rattle.group_laws.proofs.Replaying.{ready_outs, ready_stays, ready_texts}
 use Rattle.group_words.specs.Houses.{home_of, is_home}
-use Rattle.group_words.proofs.Frames.{home_more}
+use Rattle.group_words.proofs.Frames.{home_stays, names_home}
 use Rattle.restart_replay.specs.Standings.{Standing, moved}
 use Rattle.id_rewrite.specs.Tables.{without}
 use Rattle.mux_tables.specs.declared.tables.Start.{Start}
 use Rattle.mux_tables.specs.declared.tables.Tables.{Tables}
-use Rattle.mux_tables.specs.Documents.{DocumentsStand, IsOwned, SharedStands, StepAt, Told, closes, left_all, nothing_owed, owes, replaying, to}
+use Rattle.mux_tables.specs.Documents.{DocumentsStand, IsOwned, SharedStands, StepAt, Parts, Told, left_all, nothing_owed, owes, replaying, to}
 use Rattle.mux_tables.specs.Notes.{NotesStand}
 use Rattle.mux_tables.specs.Stands.{LastStands, Stands, number_in, of_life}
 use Rattle.mux_tables.proofs.DocumentFrames.{all_owned, owner_stays, sent_stays, sent_then, sent_unheard, shared_stays, start_stays}
@@ -53,6 +53,7 @@ use Rattle.mux_tables.proofs.DocumentOwed.{owes_here, owes_there}
 use Rattle.mux_tables.proofs.Frames.{itself}
 use Rattle.mux_tables.proofs.Lasts.{apart, known}
 use Rattle.mux_tables.proofs.Starts.{read_here, read_same, start_at_place}
+use Rattle.mux_tables.proofs.DocumentEvents.{shared_quiet}
 
 -- a group whose start gave its result, and was told nothing yet
 pub record Awaits (settings : Settings) (g s : ℕ) (code : Encoding) (d : Documents) (events : List Event) : Type 0 where
@@ -79,9 +80,29 @@ module _ (settings : Settings) (g s : ℕ) (code : Encoding) where
     unsaid = parts.same.counts.sayings ∙ h.unsaid;
   }
 
-  awaits_all : (es : List ℕ) (d : Documents) (events : List Event) → Awaits settings g s code d events → Awaits settings g s code (left_all es d) (behind events (closes es))
-  awaits_all [] d events h = subst (Awaits settings g s code d) (sym (append-nil events)) h
-  awaits_all (e ∷ es) d events h = subst (Awaits settings g s code (left_all es (leave_row e d).after)) (sym (behind_more events (CloseEditor e ∷ []) (closes es))) (awaits_all es (leave_row e d).after (events ++ said (CloseEditor e) ∷ []) (awaits_left e d events h))
+  -- a request of one is answered
+  awaits_told : (n : ℕ) (body : List ℕ) (d : Documents) (events : List Event) → Awaits settings g s code d events → Awaits settings g s code d (events ++ said (ToEditor n body) ∷ [])
+  awaits_told n body d events h = let same = sent_stays s events (said (ToEditor n body)) refl in record {
+    texts = texts_stay settings g events (said (ToEditor n body)) refl ∙ h.texts;
+    given = encoding_stays g events (said (ToEditor n body)) refl ∙ h.given;
+    orderly = h.orderly;
+    spelt = h.spelt;
+    versions = h.versions;
+    owned = all_owned (IsOwned settings events g) (IsOwned settings (events ++ said (ToEditor n body) ∷ []) g) d.opens (λ o k. owner_stays settings events g o (said (ToEditor n body)) refl k) h.owned;
+    heard = λ u. same.sent u ∙ h.heard u;
+    unsaid = same.counts.sayings ∙ h.unsaid;
+  }
+
+  awaits_all : (xs : List Out) (es : List ℕ) (d : Documents) (events : List Event) → Parts xs es → Awaits settings g s code d events → Awaits settings g s code (left_all es d) (behind events xs)
+  awaits_all [] [] d events p h = subst (Awaits settings g s code d) (sym (append-nil events)) h
+  awaits_all [] (e ∷ es) d events p h = absurd p
+  awaits_all (ToEditor n body ∷ xs) es d events p h = subst (Awaits settings g s code (left_all es d)) (sym (behind_more events (ToEditor n body ∷ []) xs)) (awaits_all xs es d (events ++ said (ToEditor n body) ∷ []) p (awaits_told n body d events h))
+  awaits_all (CloseEditor n ∷ xs) [] d events p h = absurd p
+  awaits_all (CloseEditor n ∷ xs) (e ∷ es) d events p h = subst (Awaits settings g s code (left_all es (leave_row e d).after)) (sym (behind_more events (CloseEditor n ∷ []) xs))
+      (awaits_all xs es (leave_row e d).after (events ++ said (CloseEditor n) ∷ []) p.1 (subst (λ k. Awaits settings g s code (leave_row e d).after (events ++ said (CloseEditor k) ∷ [])) (sym p.0) (awaits_left e d events h)))
+  awaits_all (ToServer n body ∷ xs) es d events p h = absurd p
+  awaits_all (Spawn n k ∷ xs) es d events p h = absurd p
+  awaits_all (EndServer n ∷ xs) es d events p h = absurd p
 
   -- it is told of what is open then
   module _ (d : Documents) (later : List Event) (h : Awaits settings g s code d later) where
@@ -130,12 +151,12 @@ module _ (settings : Settings) (g s : ℕ) (code : Encoding) where
     ready_bodies : replaying settings later g ≡ bodies
     ready_bodies = ap (λ (x : Texts). rows.replay_bodies [] x.opens x.opens) h.texts
 
-module _ (settings : Settings) (events : List Event) (g s : ℕ) (code : Encoding) (body : List ℕ) (m : Message) (home : group_of s events ≡ Some g) (begins : (life_of s events).stage ≡ Initializing) (gives : encoding_by m ≡ Some code) (es : List ℕ) (mine : AllByRecursion (λ e. home_of settings e events ≡ Some g) es) where
+module _ (settings : Settings) (events : List Event) (g s : ℕ) (code : Encoding) (body : List ℕ) (m : Message) (home : group_of s events ≡ Some g) (begins : (life_of s events).stage ≡ Initializing) (gives : encoding_by m ≡ Some code) (xs : List Out) (es : List ℕ) (parts : Parts xs es) (mine : AllByRecursion (λ e. home_of settings e events ≡ Some g) es) where
   abbrev given_there : List Event
   given_there = events ++ took (FromServer s body) m ∷ []
 
   abbrev later_there : List Event
-  later_there = behind given_there (closes es)
+  later_there = behind given_there xs
 
   -- its group
   awaits_first : (d : Documents) → SharedStands settings events [] g s Initializing d → Awaits settings g s code d given_there
@@ -151,7 +172,7 @@ module _ (settings : Settings) (events : List Event) (g s : ℕ) (code : Encodin
   }
 
   pub awaits_last : (d : Documents) → SharedStands settings events [] g s Initializing d → Awaits settings g s code (left_all es d) later_there
-  awaits_last d h = awaits_all settings g s code es d given_there (awaits_first d h)
+  awaits_last d h = awaits_all settings g s code xs es d given_there parts (awaits_first d h)
 
   -- the others
   other_encoding : (j : ℕ) → nat_eq g j ≡ false → encoding_of j given_there ≡ encoding_of j events
@@ -161,21 +182,25 @@ module _ (settings : Settings) (events : List Event) (g s : ℕ) (code : Encodin
   other_first owed j n stage c off apart h = shared_stays settings events given_there owed j n stage c (texts_stay settings j events (took (FromServer s body) m) refl) (other_encoding j off)
       (start_stays n owed c events given_there (sent_unheard n s body m events apart) stage) (λ k. all_owned (IsOwned settings events j) (IsOwned settings given_there j) c.opens (λ o q. owner_stays settings events j o (took (FromServer s body) m) refl q) k) h
 
-  other_closed : (owed : List (List ℕ)) (j n : ℕ) (stage : Stage) (c : Documents) → nat_eq g j ≡ false → (ns : List ℕ) (now : List Event) → AllByRecursion (λ e. home_of settings e now ≡ Some g) ns → SharedStands settings now owed j n stage c → SharedStands settings (behind now (closes ns)) owed j n stage c
-  other_closed owed j n stage c off [] now homes h = subst (λ z. SharedStands settings z owed j n stage c) (sym (append-nil now)) h
-  other_closed owed j n stage c off (e ∷ ns) now homes h = subst (λ z. SharedStands settings z owed j n stage c) (sym (behind_more now (CloseEditor e ∷ []) (closes ns)))
-      (other_closed owed j n stage c off ns (now ++ said (CloseEditor e) ∷ []) (homes_on ns homes.1) (closed_elsewhere settings now e owed j n stage c (ap (is_home j) homes.0 ∙ off) h))
-    where
-      homes_on : (ks : List ℕ) → AllByRecursion (λ k. home_of settings k now ≡ Some g) ks → AllByRecursion (λ k. home_of settings k (now ++ said (CloseEditor e) ∷ []) ≡ Some g) ks
-      homes_on [] hs = tt
-      homes_on (k ∷ ks) hs = (home_more settings k now (said (CloseEditor e)) ∙ hs.0, homes_on ks hs.1)
+  homes_on : (ev : Event) (ks : List ℕ) (now : List Event) → ((k : ℕ) → names_home k ev ≡ false) → AllByRecursion (λ k. home_of settings k now ≡ Some g) ks → AllByRecursion (λ k. home_of settings k (now ++ ev ∷ []) ≡ Some g) ks
+  homes_on ev [] now stays hs = tt
+  homes_on ev (k ∷ ks) now stays hs = (home_stays settings k now ev (stays k) ∙ hs.0, homes_on ev ks now stays hs.1)
 
-  homes_given : (ks : List ℕ) → AllByRecursion (λ k. home_of settings k events ≡ Some g) ks → AllByRecursion (λ k. home_of settings k given_there ≡ Some g) ks
-  homes_given [] hs = tt
-  homes_given (k ∷ ks) hs = (home_more settings k events (took (FromServer s body) m) ∙ hs.0, homes_given ks hs.1)
+  other_parted : (owed : List (List ℕ)) (j n : ℕ) (stage : Stage) (c : Documents) → nat_eq g j ≡ false → (ys : List Out) (ns : List ℕ) (now : List Event) → Parts ys ns → AllByRecursion (λ e. home_of settings e now ≡ Some g) ns
+      → SharedStands settings now owed j n stage c → SharedStands settings (behind now ys) owed j n stage c
+  other_parted owed j n stage c off [] ns now p homes h = subst (λ z. SharedStands settings z owed j n stage c) (sym (append-nil now)) h
+  other_parted owed j n stage c off (ToEditor k body ∷ ys) ns now p homes h = subst (λ z. SharedStands settings z owed j n stage c) (sym (behind_more now (ToEditor k body ∷ []) ys))
+      (other_parted owed j n stage c off ys ns (now ++ said (ToEditor k body) ∷ []) p (homes_on (said (ToEditor k body)) ns now (λ i. refl) homes) (shared_quiet settings now owed j n stage c (said (ToEditor k body)) refl (λ o own. refl) h))
+  other_parted owed j n stage c off (CloseEditor k ∷ ys) [] now p homes h = absurd p
+  other_parted owed j n stage c off (CloseEditor k ∷ ys) (e ∷ ns) now p homes h = subst (λ z. SharedStands settings z owed j n stage c) (sym (behind_more now (CloseEditor k ∷ []) ys))
+      (other_parted owed j n stage c off ys ns (now ++ said (CloseEditor k) ∷ []) p.1 (homes_on (said (CloseEditor k)) ns now (λ i. refl) homes.1)
+      (closed_elsewhere settings now k owed j n stage c (ap (λ i. is_home j (home_of settings i now)) p.0 ∙ (ap (is_home j) homes.0 ∙ off)) h))
+  other_parted owed j n stage c off (ToServer k body ∷ ys) ns now p homes h = absurd p
+  other_parted owed j n stage c off (Spawn k i ∷ ys) ns now p homes h = absurd p
+  other_parted owed j n stage c off (EndServer k ∷ ys) ns now p homes h = absurd p
 
   pub ready_other : (owed : List (List ℕ)) (j n : ℕ) (stage : Stage) (c : Documents) → nat_eq g j ≡ false → nat_eq s n ≡ false → SharedStands settings events owed j n stage c → SharedStands settings later_there owed j n stage c
-  ready_other owed j n stage c off apart h = other_closed owed j n stage c off es given_there (homes_given es mine) (other_first owed j n stage c off apart h)
+  ready_other owed j n stage c off apart h = other_parted owed j n stage c off xs es given_there parts (homes_on (took (FromServer s body) m) es events (λ k. refl) mine) (other_first owed j n stage c off apart h)
 
   rest_first : (t : Tables) → start_of g events ≡ Some s → ((n : ℕ) → starts_of events ≤ n → nat_eq s n ≡ false) → Rest settings t events given_there
   rest_first t starts fresh = record {
@@ -184,7 +209,7 @@ module _ (settings : Settings) (events : List Event) (g s : ℕ) (code : Encodin
     founds = founds_kept events (took (FromServer s body) m) refl;
     starts = starts_kept events (took (FromServer s body) m) refl;
     sent = λ n l. sent_unheard n s body m events (fresh n l);
-    moments = λ j x n p at there. moment_stays x.life.start n events (took (FromServer s body) m) refl;
+    moments = λ j x n p at there. moment_stays settings x.life.start n events (took (FromServer s body) m) refl;
     left = left_stays events (took (FromServer s body) m) refl;
   }
     where
@@ -192,24 +217,37 @@ module _ (settings : Settings) (events : List Event) (g s : ℕ) (code : Encodin
       some_none e = cc
 
   -- what is said of links leaves what is said of groups and starts that there weren't yet
-  rest_closed : (t : Tables) (ns : List ℕ) (now : List Event) → Rest settings t events now → Rest settings t events (behind now (closes ns))
-  rest_closed t [] now h = subst (Rest settings t events) (sym (append-nil now)) h
-  rest_closed t (e ∷ ns) now h = subst (Rest settings t events) (sym (behind_more now (CloseEditor e ∷ []) (closes ns))) (rest_closed t ns (now ++ said (CloseEditor e) ∷ []) (record {
+  rest_parted : (t : Tables) (ys : List Out) (ns : List ℕ) (now : List Event) → Parts ys ns → Rest settings t events now → Rest settings t events (behind now ys)
+  rest_parted t [] ns now p h = subst (Rest settings t events) (sym (append-nil now)) h
+  rest_parted t (ToEditor e text ∷ ys) ns now p h = subst (Rest settings t events) (sym (behind_more now (ToEditor e text ∷ []) ys)) (rest_parted t ys ns (now ++ said (ToEditor e text) ∷ []) p (record {
+    texts = λ j l k. texts_stay settings j now (said (ToEditor e text)) refl ∙ h.texts j l k;
+    encoding = λ j l. encoding_stays j now (said (ToEditor e text)) refl ∙ h.encoding j l;
+    founds = λ j k. h.founds j (founds_kept now (said (ToEditor e text)) refl j k);
+    starts = λ n l. h.starts n (starts_kept now (said (ToEditor e text)) refl n l);
+    sent = λ n l. sent_then n events now (now ++ said (ToEditor e text) ∷ []) (h.sent n l) (sent_stays n now (said (ToEditor e text)) refl);
+    moments = λ j x n q at there. moment_stays settings x.life.start n now (said (ToEditor e text)) refl ∙ h.moments j x n q at there;
+    left = λ k l. left_stays now (said (ToEditor e text)) refl k (h.left k l);
+  }))
+  rest_parted t (CloseEditor e ∷ ys) [] now p h = absurd p
+  rest_parted t (CloseEditor e ∷ ys) (k ∷ ns) now p h = subst (Rest settings t events) (sym (behind_more now (CloseEditor e ∷ []) ys)) (rest_parted t ys ns (now ++ said (CloseEditor e) ∷ []) p.1 (record {
     texts = λ j l k. texts_more settings j now (said (CloseEditor e)) ∙ ap (without_editor e) (h.texts j l k);
     encoding = λ j l. encoding_stays j now (said (CloseEditor e)) refl ∙ h.encoding j l;
     founds = λ j k. h.founds j (founds_kept now (said (CloseEditor e)) refl j k);
     starts = λ n l. h.starts n (starts_kept now (said (CloseEditor e)) refl n l);
     sent = λ n l. sent_then n events now (now ++ said (CloseEditor e) ∷ []) (h.sent n l) (sent_stays n now (said (CloseEditor e)) refl);
-    moments = λ j x n p at there. moment_stays x.life.start n now (said (CloseEditor e)) refl ∙ h.moments j x n p at there;
+    moments = λ j x n q at there. moment_stays settings x.life.start n now (said (CloseEditor e)) refl ∙ h.moments j x n q at there;
     left = λ k l. left_stays now (said (CloseEditor e)) refl k (h.left k l);
   }))
+  rest_parted t (ToServer e text ∷ ys) ns now p h = absurd p
+  rest_parted t (Spawn e k ∷ ys) ns now p h = absurd p
+  rest_parted t (EndServer e ∷ ys) ns now p h = absurd p
 
   pub ready_rest : (t : Tables) → start_of g events ≡ Some s → ((n : ℕ) → starts_of events ≤ n → nat_eq s n ≡ false) → Rest settings t events later_there
-  ready_rest t starts fresh = rest_closed t es given_there (rest_first t starts fresh)
+  ready_rest t starts fresh = rest_parted t xs es given_there parts (rest_first t starts fresh)
 
-module _ (settings : Settings) (t u : Tables) (events : List Event) (i s start : ℕ) (code : Encoding) (z y : Start) (body : List ℕ) (m : Message) (k : Option ℕ) (es : List ℕ) (outs : List Out) where
+module _ (settings : Settings) (t u : Tables) (events : List Event) (i s start : ℕ) (code : Encoding) (z y : Start) (body : List ℕ) (m : Message) (k : Option ℕ) (xs : List Out) (es : List ℕ) (parts : Parts xs es) (outs : List Out) where
   abbrev told_there : ℕ → List Event
-  told_there n = behind (events ++ took (FromServer n body) m ∷ []) (closes es)
+  told_there n = behind (events ++ took (FromServer n body) m ∷ []) xs
 
   ready_documents : slice_get (map number_in t.lasts.items) i ≡ Some s → i < length t.lasts.items → z ≡ get_or t.lasts.items i z → z.life.stage ≡ Initializing
       → encoding_by m ≡ Some code → y.life ≡ moved Ready z.life → MatchOption k (y.ids.requests ≡ z.ids.requests) (λ n. y.ids.requests ≡ without n z.ids.requests) → start ≡ y.life.start → u.lasts.items ≡ slice_set t.lasts.items i y → u.versions ≡ t.versions
@@ -230,17 +268,17 @@ module _ (settings : Settings) (t u : Tables) (events : List Event) (i s start :
       let made : StepAt (λ d. ready_row start code (left_all es d)) i (Some d.0) t.documents.items outs u.documents.items = subst (λ o. StepAt (λ d. ready_row start code (left_all es d)) i o t.documents.items outs u.documents.items) d.1 does in
       let later = told_there n in
       let b = replaying settings later g in
-      let awaits : Awaits settings g n code (left_all es d.0) later = awaits_last settings events g n code body m last.home begins gives es mine d.0 was in
+      let awaits : Awaits settings g n code (left_all es d.0) later = awaits_last settings events g n code body m last.home begins gives xs es parts mine d.0 was in
       let now : SharedStands settings later (owes g b z.life.group) z.life.group n Ready (ready_row n code (left_all es d.0)).after =
       subst (λ w. SharedStands settings later w g n Ready (ready_row n code (left_all es d.0)).after) (sym (ready_bodies settings g n code (left_all es d.0) later awaits) ∙ sym (owes_here g b)) (ready_shared settings g n code (left_all es d.0) later awaits) in
       subst (λ k. (outs ≡ to k (replaying settings (told_there k) g)) × DocumentsStand settings (owes g (replaying settings (told_there k) g)) u (told_there k)) is (
         made.0 ∙ (ap (λ k. (ready_row k code (left_all es d.0)).outs) own ∙ ready_said settings g n code (left_all es d.0) later awaits),
-        documents_set settings nothing_owed (owes g b) t u events later (ready_rest settings events g n code body m last.home begins gives es mine t last.start (λ k l. ne_eqb n k (λ q. absurd (omega (arith, q, l, old))))) vs
+        documents_set settings nothing_owed (owes g b) t u events later (ready_rest settings events g n code body m last.home begins gives xs es parts mine t last.start (λ k l. ne_eqb n k (λ q. absurd (omega (arith, q, l, old))))) vs
             i z y d.0 (ready_row n code (left_all es d.0)).after here d.1 set (made.1 ∙ ap (λ k. slice_set t.documents.items i (ready_row k code (left_all es d.0)).after) own)
             (λ h. subst (λ k. NotesStand settings k y.ids.requests later) (sym (ap (λ (l : Standing). l.start) life)) (notes_answered settings n k y.ids.requests z.ids.requests later taken h))
             (λ _. subst (λ (l : Standing). SharedStands settings later (owes g b l.group) l.group l.start l.stage (ready_row n code (left_all es d.0)).after) (sym life) now)
             (λ j w c off there h. let far = groups_apart t.lasts.items i j z w st.lasts.rise here there off in subst (λ q. SharedStands settings later q w.life.group w.life.start w.life.stage c) (sym (owes_there g w.life.group b far))
-            (ready_other settings events g n code body m last.home begins gives es mine [] w.life.group w.life.start w.life.stage c (ne_eqb g w.life.group (λ q. far (sym q))) (apart settings t.requests events g w.life.group z w far last (st.lasts.each j w there)) h)) ds,
+            (ready_other settings events g n code body m last.home begins gives xs es parts mine [] w.life.group w.life.start w.life.stage c (ne_eqb g w.life.group (λ q. far (sym q))) (apart settings t.requests events g w.life.group z w far last (st.lasts.each j w there)) h)) ds,
       )
 
   pub ready_documents_by : (x : Start) → slice_get t.lasts.items i ≡ Some x → slice_get (map number_in t.lasts.items) i ≡ Some s → i < length t.lasts.items → z ≡ get_or t.lasts.items i z → z.life.stage ≡ Initializing

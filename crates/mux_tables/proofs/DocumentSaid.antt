@@ -17,7 +17,8 @@ use Rattle.focus_switch.specs.Documents.{Documents}
 use Rattle.focus_switch.specs.Rows.{unready_row}
 use Rattle.event_model.specs.Spawns.{group_of}
 use Rattle.group_words.specs.Houses.{is_home}
-use Rattle.group_laws.specs.group_rows.specs.Texts.{is_synced, texts_of, touch_all, worker_of}
+use Rattle.group_laws.specs.group_rows.specs.Texts.{is_synced, texts_of, touch_all, toucher, toucher_of}
+use Rattle.group_laws.specs.group_rows.specs.Waiting.{first_waiting, worker_of}
 use Rattle.group_laws.specs.group_rows.proofs.Frames.{encoding_stays, texts_more, texts_stay}
 use Rattle.restart_replay.specs.Standings.{Standing, moved, stopped}
 use Rattle.id_rewrite.specs.Tables.{with_cancelled}
@@ -28,7 +29,7 @@ use Rattle.mux_tables.specs.Notes.{NotesStand}
 use Rattle.mux_tables.specs.Stands.{Exits}
 use Rattle.mux_tables.proofs.DocumentEvents.{shared_notified, shared_quiet}
 use Rattle.mux_tables.proofs.DocumentFrames.{all_owned, owner_stays, sent_silent, shared_stays, start_stays}
-use Rattle.mux_tables.proofs.DocumentMoves.{Rest, documents_all, documents_at, documents_last, documents_set, founds_kept, quiet_documents, rest_quiet, starts_kept}
+use Rattle.mux_tables.proofs.DocumentMoves.{Rest, documents_all, documents_at, documents_last, documents_set, founds_kept, quiet_documents, rest_none, rest_quiet, starts_kept}
 use Rattle.mux_tables.proofs.Noting.{asks_aside, asks_on, left_stays, moment_stays, notes_cancelled, notes_gone}
 use Rattle.mux_tables.proofs.Starts.{read_here}
 
@@ -43,6 +44,16 @@ pub told_documents : (settings : Settings) (owed : Owed) (t u : Tables) (base : 
 told_documents settings owed t u base xs ys e body ls ds vs is = documents_said settings owed owed t u (ToEditor e body) base xs ys is
     (quiet_documents settings owed t u (behind base xs) (said (ToEditor e body)) refl refl (ap (λ v. v.items) ls) (ap (λ v. v.items) ds) vs (λ g o k. refl) (left_stays (behind base xs) (said (ToEditor e body)) refl))
 
+-- outs that change no documents, where these are ahead of the events by them already
+pub ahead_stays : (settings : Settings) (owed : Owed) (t u : Tables) (base : List Event) (xs ys zs more : List Out) → u.lasts ≡ t.lasts → u.documents ≡ t.documents → u.versions ≡ t.versions → ys ≡ xs ++ zs
+    → DocumentsStand settings owed t (behind (behind base xs) (zs ++ more)) → DocumentsStand settings owed u (behind (behind base ys) more)
+ahead_stays settings owed t u base xs ys zs more ls ds vs is s =
+    subst (DocumentsStand settings owed u) (behind_more (behind base xs) zs more ∙ ap (λ es. behind es more) (sym (ap (behind base) is ∙ behind_more base xs zs)))
+    (documents_all settings owed owed t u later later (rest_none settings t later) vs (ap (λ v. v.items) ls) (ap (λ v. v.items) ds) (λ g x d at h. h) s)
+  where
+    later : List Event
+    later = behind (behind base xs) (zs ++ more)
+
 -- a body to a start that tells of no document, and goes on without a sync
 pub rest_notified : (settings : Settings) (t : Tables) (events : List Event) (n : ℕ) (body : List ℕ) (m : Message) → saying_of m ≡ nothing → is_synced m ≡ false → Rest settings t events (events ++ did (ToServer n body) m ∷ [])
 rest_notified settings t events n body m silent aside = record {
@@ -51,7 +62,7 @@ rest_notified settings t events n body m silent aside = record {
   founds = founds_kept events (did (ToServer n body) m) refl;
   starts = starts_kept events (did (ToServer n body) m) refl;
   sent = λ s l. sent_silent s n body m events silent;
-  moments = λ g x k p at there. moment_stays x.life.start k events (did (ToServer n body) m) (asks_aside n body m aside);
+  moments = λ g x k p at there. moment_stays settings x.life.start k events (did (ToServer n body) m) (asks_aside n body m aside);
   left = left_stays events (did (ToServer n body) m) refl;
 }
 
@@ -67,9 +78,12 @@ module _ (settings : Settings) (events : List Event) (n : ℕ) (body : List ℕ)
   abbrev idle_later : List Event
   idle_later = events ++ did (ToServer n body) m ∷ []
 
+  idle_toucher : toucher_of settings n events m ≡ None
+  idle_toucher = ap (λ w. toucher w m (first_waiting settings n events)) idle ∙ ap (λ k. toucher None k (first_waiting settings n events)) says
+
   idle_texts : (g : ℕ) → texts_of settings g idle_later ≡ texts_of settings g events
   idle_texts g = texts_more settings g events (did (ToServer n body) m)
-      ∙ (ap (λ w. if is_home g (group_of n events) && is_synced m then touch_all w (texts_of settings g events) else texts_of settings g events) idle ∙ either (is_home g (group_of n events) && is_synced m))
+      ∙ (ap (λ w. if is_home g (group_of n events) && is_synced m then touch_all w (texts_of settings g events) else texts_of settings g events) idle_toucher ∙ either (is_home g (group_of n events) && is_synced m))
     where
       either : (b : Bool) → (if b then texts_of settings g events else texts_of settings g events) ≡ texts_of settings g events
       either true = refl
@@ -82,7 +96,7 @@ module _ (settings : Settings) (events : List Event) (n : ℕ) (body : List ℕ)
     founds = founds_kept events (did (ToServer n body) m) refl;
     starts = starts_kept events (did (ToServer n body) m) refl;
     sent = λ s l. sent_silent s n body m events silent;
-    moments = λ g x k p at there. moment_stays x.life.start k events (did (ToServer n body) m) (ap (λ w. asks_on (did (ToServer n body) w)) says);
+    moments = λ g x k p at there. moment_stays settings x.life.start k events (did (ToServer n body) m) (ap (λ w. asks_on (did (ToServer n body) w)) says);
     left = left_stays events (did (ToServer n body) m) refl;
   }
 

@@ -42,7 +42,7 @@ module _ (settings : Settings) (owed : Owed) (t u : Tables) (events : List Event
     founds = λ j k. founded (nat_eq g j) (start_of j events) (sym (one_more (start_behind j) _ _ events ev refl) ∙ k);
     starts = λ s l. let long : starts_of later ≡ starts_of events + 1 = one_more starts_behind _ _ events ev refl in omega (arith, l, long);
     sent = λ s l. sent_stays s events ev refl;
-    moments = λ j x n p at there. moment_stays x.life.start n events ev refl;
+    moments = λ j x n p at there. moment_stays settings x.life.start n events ev refl;
     left = left_stays events ev refl;
   }
     where

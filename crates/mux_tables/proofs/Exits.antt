@@ -83,8 +83,8 @@ module _ (restarts exits : ℕ) (wanted : Bool) (t : Table) (g : ℕ) (counts : 
 
 -- what becomes of the tables where it ended, and its group lives no more
 pub left_exits : (restarts : ℕ) (t u : Tables) (g : ℕ) (z start : Start) → ((x : Kept) → slice_get t.groups.groups z.life.group ≡ Some x → x.live ≡ false) → u.groups ≡ t.groups → u.lasts.items ≡ slice_set t.lasts.items g start → start.life ≡ moved Ended z.life → start.started ≡ z.started
-    → start.ids.requests ≡ [] → start.ids.next ≡ 2 → start.ids.limit ≡ t.requests → IsInOrder start.ids → u.editors ≡ t.editors → u.course ≡ t.course → u.origins.groups ≡ t.origins.groups → u.origins.stopping.items ≡ unstopped z.life.start t.origins.stopping.items → u.origins.created ≡ less z.life.start t.origins.created → u.requests ≡ t.requests → Exits restarts t g z u
-left_exits restarts t u g z start dead groups lasts life started gone next limit order editors time origins stopping created requests = record {
+    → start.ids.requests ≡ [] → start.ids.next ≡ 2 → start.ids.limit ≡ t.requests → IsInOrder start.ids → u.editors ≡ t.editors → u.course ≡ t.course → u.origins.groups ≡ t.origins.groups → u.origins.stopping.items ≡ unstopped z.life.start t.origins.stopping.items → u.origins.created ≡ less z.life.start t.origins.created → u.origins.waiting ≡ t.origins.waiting → u.requests ≡ t.requests → Exits restarts t g z u
+left_exits restarts t u g z start dead groups lasts life started gone next limit order editors time origins stopping created waits requests = record {
   groups = lose_dead restarts (any_in needs_server t.editors z.life.group) t.groups u.groups z.life.group dead groups;
   start = start;
   lasts = lasts;
@@ -99,5 +99,6 @@ left_exits restarts t u g z start dead groups lasts life started gone next limit
   origins = origins;
   stopping = stopping;
   created = created;
+  waiting = waits;
   requests = requests;
 }

@@ -25,7 +25,8 @@ use Rattle.id_rewrite.specs.Tables.{Table}
 use Rattle.mux_tokens.proofs.Stays.{is_notification, passes_by}
 use Rattle.mux_tables.specs.declared.tables.Start.{Start}
 use Rattle.group_laws.specs.group_rows.specs.Asks.{Asking, asked_behind, asker_of, asking_next, asking_of, idle_asking, next_ask, parks}
-use Rattle.group_laws.specs.group_rows.specs.Forwarded.{Forwarding, forwarding_behind, forwarding_of, forwards, moves_ids, numbered}
+use Rattle.group_laws.specs.group_rows.specs.Forwarded.{Forwarding, Sender, first_sender, forwarding_next, forwarding_of, forwards, moves_ids, numbered, sender_or}
+use Rattle.group_laws.specs.group_rows.proofs.Frames.{forwarding_more, touches_waiting}
 use Rattle.mux_tables.specs.Stands.{EditorsStand, GroupsStand, OriginsStand, IdsAt, IdsStand, Part, of_life, of_ids, of_shown, PartStands, LastStands, ShownAt, of_stop, StopAt, of_asks, of_parked, of_live, of_lists, AsksStay, ListsStay, LiveStay, OpenStay, is_answer, is_request}
 use Rattle.mux_tables.proofs.Asking.{asks_by, parked_by, told_asking, unanswered, unhanded, unwaited}
 use Rattle.group_laws.specs.group_rows.specs.ExitRows.{full_behind, is_full}
@@ -68,6 +69,15 @@ spawns other = false
 abbrev pub ticks : Event → Bool
 ticks (took (Tick t) m) = true
 ticks other = false
+
+-- what names no start and no editor leaves what waits
+pub waits_quiet : (ev : Event) → names_editor ev ≡ false → ((n : ℕ) → names_start n ev ≡ false) → touches_waiting ev ≡ false
+waits_quiet (took (FromEditor e body) m) h k = never h
+waits_quiet (took (EditorGone e why) m) h k = never h
+waits_quiet (did (ToEditor e body) m) h k = never h
+waits_quiet (did (ToServer n body) m) h k = never (sym (itself n) ∙ k n)
+waits_quiet (did (CloseEditor e) m) h k = never h
+waits_quiet other h k = refl
 
 -- what speaks of no editor and not of this start leaves what it created
 pub passes_quiet : (s : ℕ) (ev : Event) → names_editor ev ≡ false → names_start s ev ≡ false → passes_by s ev ≡ true
@@ -158,12 +168,12 @@ pub record SameForwarding (a b : Forwarding) : Type 0 where
   pub next : a.next ≡ b.next
   pub open_requests : a.open_requests ≡ b.open_requests
 
-pub forwarding_alone : (s : ℕ) (x : Forwarding) (ev : Event) → names_start s ev ≡ false → SameForwarding (forwarding_behind s x ev) x
-forwarding_alone s x (took (FromServer n body) m) h = rw h (record { next = refl; open_requests = refl })
-forwarding_alone s x (took (StartFailed n) m) h = rw h (record { next = refl; open_requests = refl })
-forwarding_alone s x (took (ServerGone n) m) h = rw h (record { next = refl; open_requests = refl })
-forwarding_alone s x (did (ToServer n body) m) h = rw h (record { next = refl; open_requests = refl })
-forwarding_alone s x other h = record { next = refl; open_requests = refl }
+pub forwarding_alone : (settings : Settings) (s : ℕ) (before : List Event) (x : Forwarding) (ev : Event) → names_start s ev ≡ false → SameForwarding (forwarding_next settings s before x ev) x
+forwarding_alone settings s before x (took (FromServer n body) m) h = rw h (record { next = refl; open_requests = refl })
+forwarding_alone settings s before x (took (StartFailed n) m) h = rw h (record { next = refl; open_requests = refl })
+forwarding_alone settings s before x (took (ServerGone n) m) h = rw h (record { next = refl; open_requests = refl })
+forwarding_alone settings s before x (did (ToServer n body) m) h = rw h (record { next = refl; open_requests = refl })
+forwarding_alone settings s before x other h = record { next = refl; open_requests = refl }
 
 -- the tables of which there is one
 pub editors_stand : (settings : Settings) (t : List Session) (events : List Event) (ev : Event) → names_editor ev ≡ false → EditorsStand settings t events → EditorsStand settings t (events ++ ev ∷ [])
@@ -249,22 +259,22 @@ life_quiet s x (did (Spawn n g) m) h = never h
 life_quiet s x (did (EndServer n) m) h = never h
 life_quiet s x other h = refl
 
-forwards_quiet : (b : Bool) (x : Forwarding) (m : Message) → moves_ids m ≡ false → SameForwarding (if b then forwards x m else x) x
-forwards_quiet false x m h = record { next = refl; open_requests = refl }
-forwards_quiet true x (request id method ps) h = go (is_own method) h
+forwards_quiet : (b : Bool) (first : Option Sender) (x : Forwarding) (m : Message) → moves_ids m ≡ false → SameForwarding (if b then forwards first x m else x) x
+forwards_quiet false first x m h = record { next = refl; open_requests = refl }
+forwards_quiet true first x (request id method ps) h = go (is_own method) h
   where
-    go : (b : Bool) → not b ≡ false → SameForwarding (if b then x else record { sender = x.sender; next = x.next + 1; open_requests = x.open_requests ++ numbered x.sender x.next }) x
+    go : (b : Bool) → not b ≡ false → SameForwarding (if b then x else record { sender = x.sender; next = x.next + 1; open_requests = x.open_requests ++ numbered (sender_or x.sender first) x.next }) x
     go true h = record { next = refl; open_requests = refl }
     go false h = never h
-forwards_quiet true x (notification method ps) h = rw h (record { next = refl; open_requests = refl })
-forwards_quiet true x other h = record { next = refl; open_requests = refl }
+forwards_quiet true first x (notification method ps) h = rw h (record { next = refl; open_requests = refl })
+forwards_quiet true first x other h = record { next = refl; open_requests = refl }
 
-forwarding_quiet : (s : ℕ) (x : Forwarding) (ev : Event) → touches of_ids ev ≡ false → SameForwarding (forwarding_behind s x ev) x
-forwarding_quiet s x (took (FromServer n body) m) h = never h
-forwarding_quiet s x (took (StartFailed n) m) h = never h
-forwarding_quiet s x (took (ServerGone n) m) h = never h
-forwarding_quiet s x (did (ToServer n body) m) h = forwards_quiet (nat_eq n s) x m h
-forwarding_quiet s x other h = record { next = refl; open_requests = refl }
+forwarding_quiet : (settings : Settings) (s : ℕ) (before : List Event) (x : Forwarding) (ev : Event) → touches of_ids ev ≡ false → SameForwarding (forwarding_next settings s before x ev) x
+forwarding_quiet settings s before x (took (FromServer n body) m) h = never h
+forwarding_quiet settings s before x (took (StartFailed n) m) h = never h
+forwarding_quiet settings s before x (took (ServerGone n) m) h = never h
+forwarding_quiet settings s before x (did (ToServer n body) m) h = forwards_quiet (nat_eq n s) (first_sender settings s before) x m h
+forwarding_quiet settings s before x other h = record { next = refl; open_requests = refl }
 
 -- the result of its `initialize`
 result_alone : (s : ℕ) (o : Option (List ℕ)) (ev : Event) → names_start s ev ≡ false → result_behind s o ev ≡ o
@@ -412,15 +422,15 @@ pub lists_stay : (s : ℕ) (events : List Event) (ev : Event) → touches of_lis
 lists_stay s events ev h = lists_quiet s events (lists_of s events) ev h
 
 -- an event of another start, and an event of another kind
-ids_by : (limit s : ℕ) (t : Table) (events : List Event) (ev : Event) → SameForwarding (forwarding_behind s (forwarding_of s events) ev) (forwarding_of s events) → IdsStand limit s t events → IdsStand limit s t (events ++ ev ∷ [])
-ids_by limit s t events ev same i = subst (λ x. IdsAt limit x t) (sym (one_more (forwarding_behind s) _ _ events ev refl)) (record { next = same.next ∙ i.next; open_requests = same.open_requests ∙ i.open_requests; ends = i.ends; order = i.order })
+ids_by : (settings : Settings) (limit s : ℕ) (t : Table) (events : List Event) (ev : Event) → SameForwarding (forwarding_next settings s events (forwarding_of settings s events) ev) (forwarding_of settings s events) → IdsStand settings limit s t events → IdsStand settings limit s t (events ++ ev ∷ [])
+ids_by settings limit s t events ev same i = subst (λ x. IdsAt limit x t) (sym (forwarding_more settings s events ev)) (record { next = same.next ∙ i.next; open_requests = same.open_requests ∙ i.open_requests; ends = i.ends; order = i.order })
 
 shown_by : (settings : Settings) (limit : ℕ) (x : Start) (events : List Event) (ev : Event) → result_behind x.life.start (result_of x.life.start events) ev ≡ result_of x.life.start events → PartStands of_shown settings limit x events → PartStands of_shown settings limit x (events ++ ev ∷ [])
 shown_by settings limit x events ev same s = subst (λ o. ShownAt x.life.stage x.shown o) (sym (one_more (result_behind x.life.start) _ _ events ev refl ∙ same)) s
 
 pub part_apart : (p : Part) (settings : Settings) (limit : ℕ) (x : Start) (events : List Event) (ev : Event) → names_start x.life.start ev ≡ false → AsksStay settings x.life.start events ev → PartStands p settings limit x events → PartStands p settings limit x (events ++ ev ∷ [])
 part_apart of_life settings limit x events ev h a s = one_more (life_behind x.life.start) _ _ events ev s ∙ life_alone x.life.start _ ev h
-part_apart of_ids settings limit x events ev h a s = ids_by limit x.life.start x.ids events ev (forwarding_alone x.life.start (forwarding_of x.life.start events) ev h) s
+part_apart of_ids settings limit x events ev h a s = ids_by settings limit x.life.start x.ids events ev (forwarding_alone settings x.life.start events (forwarding_of settings x.life.start events) ev h) s
 part_apart of_shown settings limit x events ev h a s = shown_by settings limit x events ev (result_alone x.life.start (result_of x.life.start events) ev h) s
 part_apart of_stop settings limit x events ev h a s = stop_by settings limit x events ev (stop_alone x.life.start events (stop_of x.life.start events) ev h) s
 part_apart of_asks settings limit x events ev h a s = asks_by settings limit x events ev a.asks s
@@ -430,7 +440,7 @@ part_apart of_lists settings limit x events ev h a s = lists_by_stay settings li
 
 pub part_quiet : (p : Part) (settings : Settings) (limit : ℕ) (x : Start) (events : List Event) (ev : Event) → touches p ev ≡ false → PartStands p settings limit x events → PartStands p settings limit x (events ++ ev ∷ [])
 part_quiet of_life settings limit x events ev h s = one_more (life_behind x.life.start) _ _ events ev s ∙ life_quiet x.life.start _ ev h
-part_quiet of_ids settings limit x events ev h s = ids_by limit x.life.start x.ids events ev (forwarding_quiet x.life.start (forwarding_of x.life.start events) ev h) s
+part_quiet of_ids settings limit x events ev h s = ids_by settings limit x.life.start x.ids events ev (forwarding_quiet settings x.life.start events (forwarding_of settings x.life.start events) ev h) s
 part_quiet of_shown settings limit x events ev h s = shown_by settings limit x events ev (result_quiet x.life.start (result_of x.life.start events) ev h) s
 part_quiet of_stop settings limit x events ev h s = stop_by settings limit x events ev (stop_quiet x.life.start events (stop_of x.life.start events) ev h) s
 part_quiet of_asks settings limit x events ev h s = asks_by settings limit x events ev (open_stay settings x.life.start events ev h) s

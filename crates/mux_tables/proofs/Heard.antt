@@ -1,6 +1,6 @@
 -- What the tables do when a cause about an editor comes, as the code has it.
 use Rattle.std.proofs.Common.{◌≡◌, ℕ, ◌<◌, Bool, true, false, arith, List, [], ◌∷◌, ◌++◌, length, max, refl, ap, sym, subst, ◌∙◌, ◌&&◌, not, nat_eq, codes, bytes_eq, if◌then◌else◌}
-use Rattle.std.specs.Prelude.{Option, Some, None, slice_get, slice_set}
+use Rattle.std.specs.Prelude.{filter, Option, Some, None, slice_get, slice_set}
 use Rattle.std.proofs.lemmas.Bool.{and_parts, ne_eqb}
 use Rattle.std.proofs.lemmas.Slice.Eq.{bytes_eq-Decides}
 use Rattle.std.proofs.lemmas.Option.{slice_get-get_or, slice_get_past}
@@ -51,6 +51,12 @@ use Rattle.mux_tables.proofs.Fulls.{full_more, full_same, full_set}
 use Rattle.mux_tables.proofs.Named.{Goes, goes_heard, goes_so, goes_then, meant_by, named_by, named_new}
 use Rattle.mux_tables.proofs.Phased.{heard_plain, heard_same, phased}
 use Rattle.mux_tables.proofs.Seated.{Seated, initialize_heard}
+use Rattle.mux_waits.specs.Rows.{BecomesAt}
+use Rattle.mux_waits.specs.held_requests.specs.Tables.{is_of as is_waiting_of}
+use Rattle.mux_waits.specs.Stands.{Unheld}
+use Rattle.mux_waits.proofs.Moves.{gone_waits, quiet_waits}
+use Rattle.mux_waits.proofs.Unheld.{unheld_initialize, unheld_open, unheld_stop}
+use Rattle.mux_tables.proofs.HeldMoves.{heard_stay, home_kept}
 
 and_off : (a : Bool) → (a && false) ≡ false
 and_off true = refl
@@ -122,7 +128,7 @@ joined_editors settings t u events e last is s = record {
 
 pub joined_moves : (settings : Settings) (t u : Tables) (events : List Event) (e : ℕ) → e ≡ length t.editors → u.editors ≡ t.editors ++ joined ∷ [] → u.groups ≡ t.groups → u.course ≡ t.course → u.lasts ≡ t.lasts → u.origins ≡ t.origins → u.requests ≡ t.requests
     → Stands settings t events → Stands settings u (events ++ took (Joined e) not_message ∷ [])
-joined_moves settings t u events e last is gs now ls os r s = house_moves settings t u events (took (Joined e) not_message) (λ n. refl) (λ n. record { asks = refl; parked = refl }) refl (ap (λ v. v.items) ls) (origins_stay settings t.origins u.origins events (took (Joined e) not_message) os (λ m. refl)) r (λ h. record {
+joined_moves settings t u events e last is gs now ls os r s = house_moves settings t u events (took (Joined e) not_message) (λ n. refl) (λ n. record { asks = refl; parked = refl }) refl (ap (λ v. v.items) ls) (origins_stay settings t.origins u.origins events (took (Joined e) not_message) os (λ m. refl) (λ rows. quiet_waits settings rows events (took (Joined e) not_message) refl)) r (λ h. record {
   editors = joined_editors settings t.editors u.editors events e last is h.editors;
   groups = subst (λ g. GroupsStand settings g (events ++ took (Joined e) not_message ∷ [])) (sym gs) (groups_stand settings t.groups events (took (Joined e) not_message) refl h.groups);
   now = one_more time_behind _ _ events (took (Joined e) not_message) h.now ∙ ap (λ (c : Course). c.time) (sym now);
@@ -246,6 +252,9 @@ stop_silent settings events e m h = answers_none settings e m events (asks_silen
 pub stop_takes : (settings : Settings) (events : List Event) (e : ℕ) (m : Message) → stops events e m ≡ true → TakesNone settings e m events
 stop_takes settings events e m h = request_takes settings e (codes "lspmux/stop") m events refl (and_parts (requests (codes "lspmux/stop") m) _ h).0
 
+pub stop_unheld : (settings : Settings) (events : List Event) (e : ℕ) (body : List ℕ) (m : Message) → stops events e m ≡ true → Unheld settings e body m events
+stop_unheld settings events e body m h = unheld_stop settings e body m events (and_parts (requests (codes "lspmux/stop") m) _ h).0
+
 -- one that stops all is no `lspmux/open`
 stops_asks : (events : List Event) (e : ℕ) (servers : List Server) (m : Message) → stops events e m ≡ true → is_first_open servers events e m ≡ false
 stops_asks events e servers m h = ap (λ b. is_new (desk_of e events).phase && (b && not (meant_of servers e events).opened)) (unnamed m (and_parts (requests (codes "lspmux/stop") m) _ h).0) ∙ and_off (is_new (desk_of e events).phase)
@@ -311,7 +320,7 @@ module _ (settings : Settings) (t u : Tables) (events : List Event) (e : ℕ) (b
 
   pub open_moves : u.groups ≡ t.groups → Stands settings t events → Stands settings u (events ++ heard (FromEditor e body) ∷ [])
   open_moves gs s = heard_moves settings t u events e body (record seen { opened = true; server = o }) l
-      (set ∙ ap (λ p. with_session t.editors e (if is_gone p then seen else record seen { opened = true; server = o })) (stands_new s.house.editors)) (ap (λ (c : Course). c.time) now) ls (origins_stay settings t.origins u.origins events (heard (FromEditor e body)) os (request_takes settings e (codes "lspmux/open") (message_of body) events refl asks)) r
+      (set ∙ ap (λ p. with_session t.editors e (if is_gone p then seen else record seen { opened = true; server = o })) (stands_new s.house.editors)) (ap (λ (c : Course). c.time) now) ls (origins_stay settings t.origins u.origins events (heard (FromEditor e body)) os (request_takes settings e (codes "lspmux/open") (message_of body) events refl asks) (heard_stay settings t.editors events e body s.house.editors (unheld_open settings e body (message_of body) events asks))) r
       (ap (λ b. is_new (desk_of e events).phase && b) (no_first (message_of body) asks) ∙ and_off (is_new (desk_of e events).phase))
       (now_new ∙ sym (stands_new s.house.editors))
       refl refl refl refl (λ w. meant_first settings t.editors events e body l o is first) (answers_none settings e (message_of body) events (asks_silent (codes "lspmux/open") (message_of body) asks))
@@ -325,11 +334,12 @@ drained_moves settings t events e k s = quiet_moves settings t events (heard (Dr
 pub gone_heard : (settings : Settings) (t u : Tables) (events : List Event) (e : ℕ) (why : Why) (mid : List Session) (p : Phase) (home : Option ℕ) (was : Bool) → e < length t.editors
     → p ≡ (session_of t.editors e).phase → home ≡ (session_of t.editors e).group → was ≡ is_begun p
     → mid ≡ with_session t.editors e gone → u.editors ≡ mid → u.course ≡ t.course → u.lasts ≡ t.lasts → u.origins.groups ≡ t.origins.groups → u.origins.stopping ≡ t.origins.stopping → u.origins.created ≡ left_each e (keys_of t.origins.created) t.origins.created → IsStrictlySortedBy nat_cmp (keys_of t.origins.created) → u.requests ≡ t.requests
-    → u.groups ≡ with_groups (emptied home was (stays_in mid) t.course.time t.groups.groups) t.groups
+    → u.groups ≡ with_groups (emptied home was (stays_in mid) t.course.time t.groups.groups) t.groups → BecomesAt home (filter (λ q. not (is_waiting_of e q))) t.origins.waiting u.origins.waiting
     → Stands settings t events → Stands settings u (events ++ took (EditorGone e why) not_message ∷ [])
-gone_heard settings t u events e why mid p home was l phases homes begun set es now ls og sk cr sorted r gs =
-    house_moves settings t u events (took (EditorGone e why) not_message) (λ n. refl) (λ n. record { asks = refl; parked = refl }) refl (ap (λ v. v.items) ls) (origins_left settings t.origins u.origins events (took (EditorGone e why) not_message) e og sk cr sorted (λ s. refl)) r
-    (gone_by settings events e why not_message t u mid p home was l phases homes begun set es now gs)
+gone_heard settings t u events e why mid p home was l phases homes begun set es now ls og sk cr sorted r gs waits st =
+    house_moves settings t u events (took (EditorGone e why) not_message) (λ n. refl) (λ n. record { asks = refl; parked = refl }) refl (ap (λ v. v.items) ls) (origins_left settings t.origins u.origins events (took (EditorGone e why) not_message) e og sk cr sorted (λ s. refl)
+    (gone_waits settings events e t.origins.waiting u.origins.waiting home (sym (home_kept settings t.editors events e home l homes st.house.editors)) waits why)) r
+    (gone_by settings events e why not_message t u mid p home was l phases homes begun set es now gs) st
 
 -- E7
 pub initialized_moves : (settings : Settings) (before : List Event) (e : ℕ) (body : List ℕ) (t u : Tables) (mid : Table) (x : Session) (p : Placed) (key : Common) (given id : List ℕ) → requests (codes "initialize") (message_of body) ≡ true → slice_get t.editors e ≡ Some x → x.phase ≡ New → id ≡ id_bytes body
@@ -338,10 +348,10 @@ pub initialized_moves : (settings : Settings) (before : List Event) (e : ℕ) (b
     → (p ≡ placed_for settings before e body (groups_of settings before)) × Stands settings u (before ++ took (FromEditor e body) (message_of body) ∷ [])
 initialized_moves settings before e body t u mid x p key given id first at new own k d chosen placed busy sits now ls os r s =
     let h = initialize_heard settings before e body (message_of body) t u mid x p key given id first at new own k d chosen placed busy sits now s.house in
-    (h.0, house_moves settings t u before (took (FromEditor e body) (message_of body)) (λ n. refl) (λ n. none_answered settings e n body (message_of body) before (answers_all settings e (message_of body) before (asks_silent (codes "initialize") (message_of body) first) n)) refl (ap (λ v. v.items) ls) (origins_stay settings t.origins u.origins before (took (FromEditor e body) (message_of body)) os (request_takes settings e (codes "initialize") (message_of body) before refl first)) r (λ _. h.1) s)
+    (h.0, house_moves settings t u before (took (FromEditor e body) (message_of body)) (λ n. refl) (λ n. none_answered settings e n body (message_of body) before (answers_all settings e (message_of body) before (asks_silent (codes "initialize") (message_of body) first) n)) refl (ap (λ v. v.items) ls) (origins_stay settings t.origins u.origins before (took (FromEditor e body) (message_of body)) os (request_takes settings e (codes "initialize") (message_of body) before refl first) (heard_stay settings t.editors before e body s.house.editors (unheld_initialize settings e body (message_of body) before first))) r (λ _. h.1) s)
 
 -- X7
 pub ticked_moves : (settings : Settings) (t u : Tables) (events : List Event) (now later : ℕ) (ns : List ℕ) → later ≡ max t.course.time now → u.editors ≡ t.editors → u.course ≡ record t.course { time = later } → ns ≡ all_from 0 (is_due t.groups.idle later) t.groups.groups
     → u.groups ≡ with_groups (ends ns t.groups.groups) t.groups → u.lasts ≡ t.lasts → u.origins ≡ t.origins → u.requests ≡ t.requests → Stands settings t events → Stands settings u (events ++ took (Tick now) not_message ∷ [])
 ticked_moves settings t u events now later ns l es k n gs ls os r =
-    house_moves settings t u events (took (Tick now) not_message) (λ n. refl) (λ n. record { asks = refl; parked = refl }) refl (ap (λ v. v.items) ls) (origins_stay settings t.origins u.origins events (took (Tick now) not_message) os (λ m. refl)) r (tick_heard settings events now later not_message t u ns l es k n gs)
+    house_moves settings t u events (took (Tick now) not_message) (λ n. refl) (λ n. record { asks = refl; parked = refl }) refl (ap (λ v. v.items) ls) (origins_stay settings t.origins u.origins events (took (Tick now) not_message) os (λ m. refl) (λ rows. quiet_waits settings rows events (took (Tick now) not_message) refl)) r (tick_heard settings events now later not_message t u ns l es k n gs)

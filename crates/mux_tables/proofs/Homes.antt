@@ -115,10 +115,10 @@ module _ (settings : Settings) (t : Tables) (events : List Event) (g s : ℕ) (z
   pub asks_at : (z_asks : Bool) → z_asks ≡ (is_ready z.life.stage && nat_lt z.ids.next z.ids.limit) → z_asks ≡ can_ask settings s events
   asks_at b is =
       let ids = (st.lasts.each g z here).parts of_ids in
-      is ∙ ap₂ (λ x y. x && y) (ap is_ready (sym stage_at)) (ap₂ nat_lt (sym ids.next ∙ ap (λ n. (forwarding_of n events).next) own) (ids.ends ∙ sym st.requests))
+      is ∙ ap₂ (λ x y. x && y) (ap is_ready (sym stage_at)) (ap₂ nat_lt (sym ids.next ∙ ap (λ n. (forwarding_of settings n events).next) own) (ids.ends ∙ sym st.requests))
 
-  pub open_at : (e : ℕ) (ns : List ℕ) → (IsInOrder z.ids → ns ≡ uncancelled_of e (map forwarded_of z.ids.requests)) → ns ≡ uncancelled_of e (forwarding_of s events).open_requests
-  open_at e ns is = is ((st.lasts.each g z here).parts of_ids).order ∙ ap (uncancelled_of e) (sym ((st.lasts.each g z here).parts of_ids).open_requests ∙ ap (λ n. (forwarding_of n events).open_requests) own)
+  pub open_at : (e : ℕ) (ns : List ℕ) → (IsInOrder z.ids → ns ≡ uncancelled_of e (map forwarded_of z.ids.requests)) → ns ≡ uncancelled_of e (forwarding_of settings s events).open_requests
+  open_at e ns is = is ((st.lasts.each g z here).parts of_ids).order ∙ ap (uncancelled_of e) (sym ((st.lasts.each g z here).parts of_ids).open_requests ∙ ap (λ n. (forwarding_of settings n events).open_requests) own)
 
   pub shown_at : is_ready (life_of s events).stage ≡ true → (given : List ℕ) × (result_of s events ≡ Some given) × (z.shown ≡ Some (shown_of (result_bytes given)))
   shown_at ready =

@@ -9,13 +9,14 @@ use Rattle.mux_history.specs.declared.out.Out.TheVariants.{ToServer}
 use Rattle.rpc_message.specs.Message.{Message, request, notification, Id}
 use Rattle.event_model.specs.Event.{Event, took, did}
 use Rattle.event_model.specs.Requests.{answered_id, is_own}
-use Rattle.event_model.proofs.Frames.{one_more}
 use Rattle.event_model.specs.Members.{named_of}
+use Rattle.event_model.specs.Settings.{Settings}
 use Rattle.id_rewrite.specs.declared.pending.Pending.{Pending}
 use Rattle.id_rewrite.specs.declared.pending.Numbered.{Numbered}
 use Rattle.id_rewrite.specs.Tables as tables
 use Rattle.id_rewrite.specs.Tables.{Table, IsInOrder, RiseWithin}
-use Rattle.group_laws.specs.group_rows.specs.Forwarded.{Sender, Forwarded, Forwarding, forwarding_behind, forwarding_of, answered_by, cancelled_by, is_written, is_under, is_of, numbers_of}
+use Rattle.group_laws.specs.group_rows.specs.Forwarded.{Sender, Forwarded, Forwarding, first_sender, forwarding_next, forwarding_of, answered_by, cancelled_by, is_written, is_under, is_of, numbers_of, sender_or}
+use Rattle.group_laws.specs.group_rows.proofs.Frames.{forwarding_more}
 use Rattle.mux_tables.specs.Stands.{IdsAt, IdsStand, Names, NamesAt, forwarded_of, forwarded_as}
 use Rattle.mux_tables.proofs.Frames.{itself}
 
@@ -59,12 +60,12 @@ abbrev pub sent_as : Sender → ℕ → Forwarded
 sent_as a k = record { number = k; editor = a.editor; id = a.id; work = a.work; partial = a.partial; cancelled = false }
 
 -- one event more, by what it does to the word's value
-pub ids_more : (limit s : ℕ) (t u : Table) (events : List Event) (ev : Event) → (IdsAt limit (forwarding_of s events) t → IdsAt limit (forwarding_behind s (forwarding_of s events) ev) u) → IdsStand limit s t events → IdsStand limit s u (events ++ ev ∷ [])
-ids_more limit s t u events ev go i = subst (λ a. IdsAt limit a u) (sym (one_more (forwarding_behind s) _ _ events ev refl)) (go i)
+pub ids_more : (settings : Settings) (limit s : ℕ) (t u : Table) (events : List Event) (ev : Event) → (IdsAt limit (forwarding_of settings s events) t → IdsAt limit (forwarding_next settings s events (forwarding_of settings s events) ev) u) → IdsStand settings limit s t events → IdsStand settings limit s u (events ++ ev ∷ [])
+ids_more settings limit s t u events ev go i = subst (λ a. IdsAt limit a u) (sym (forwarding_more settings s events ev)) (go i)
 
-pub sent_ids : (limit s : ℕ) (t u : Table) (x : Forwarding) (body method : List ℕ) (m : Message) (id : Id) (ps : Option Json) (r : Numbered) (a : Sender) → m ≡ request id method ps → is_own method ≡ false → x.sender ≡ Some a → forwarded_of r ≡ sent_as a t.next
-    → u.requests ≡ t.requests ++ r ∷ [] → u.next ≡ t.next + 1 → u.limit ≡ t.limit → IsInOrder u → IdsAt limit x t → IdsAt limit (forwarding_behind s x (did (ToServer s body) m)) u
-sent_ids limit s t u x body method m id ps r a says own asks is put next same order i = rw (itself s, says, own) (record {
+pub sent_ids : (settings : Settings) (before : List Event) (limit s : ℕ) (t u : Table) (x : Forwarding) (body method : List ℕ) (m : Message) (id : Id) (ps : Option Json) (r : Numbered) (a : Sender) → m ≡ request id method ps → is_own method ≡ false → sender_or x.sender (first_sender settings s before) ≡ Some a → forwarded_of r ≡ sent_as a t.next
+    → u.requests ≡ t.requests ++ r ∷ [] → u.next ≡ t.next + 1 → u.limit ≡ t.limit → IsInOrder u → IdsAt limit x t → IdsAt limit (forwarding_next settings s before x (did (ToServer s body) m)) u
+sent_ids settings before limit s t u x body method m id ps r a says own asks is put next same order i = rw (itself s, says, own) (record {
   next = ap (λ n. n + 1) i.next ∙ sym next;
   open_requests = rw (asks, i.next, i.open_requests) (ap (λ x. map forwarded_of t.requests ++ x ∷ []) (sym is) ∙ (sym (map-append forwarded_of t.requests (r ∷ [])) ∙ ap (map forwarded_of) (sym put)));
   ends = same ∙ i.ends;
@@ -74,9 +75,9 @@ sent_ids limit s t u x body method m id ps r a says own asks is put next same or
 below_limit : (limit : ℕ) (t : Table) (n : ℕ) → limit < 2 ^ 32 → t.limit ≡ limit → IsInOrder t → n < t.next → n < 2 ^ 32
 below_limit limit t n h e o l = let k = o.within in omega (arith, e)
 
-pub answered_ids : (limit s : ℕ) (t u : Table) (x : Forwarding) (body : List ℕ) (m : Message) (k : ℕ) → limit < 2 ^ 32 → Names (answered_id m) k → u.requests ≡ tables.without k t.requests → u.next ≡ t.next → u.limit ≡ t.limit → IsInOrder u → IsInOrder t
-    → IdsAt limit x t → IdsAt limit (forwarding_behind s x (took (FromServer s body) m)) u
-answered_ids limit s t u x body m k h named taken next same order was i = rw (itself s) (record {
+pub answered_ids : (settings : Settings) (before : List Event) (limit s : ℕ) (t u : Table) (x : Forwarding) (body : List ℕ) (m : Message) (k : ℕ) → limit < 2 ^ 32 → Names (answered_id m) k → u.requests ≡ tables.without k t.requests → u.next ≡ t.next → u.limit ≡ t.limit → IsInOrder u → IsInOrder t
+    → IdsAt limit x t → IdsAt limit (forwarding_next settings s before x (took (FromServer s body) m)) u
+answered_ids settings before limit s t u x body m k h named taken next same order was i = rw (itself s) (record {
   next = i.next ∙ sym next;
   open_requests = ap (filter (λ f. not (answered_by (answered_id m) f))) i.open_requests ∙ (filter_mapped forwarded_of (λ f. not (answered_by (answered_id m) f)) t.requests
       ∙ (ap (map forwarded_of) (filter_below (λ r. not (answered_by (answered_id m) (forwarded_of r))) (λ r. not (tables.has_number k r)) t.next (λ r l. ap not (named r.number (below_limit limit t r.number h i.ends was l))) 2 t.requests was.rising)
@@ -89,8 +90,8 @@ filter_all : (rs : List Numbered) → filter (λ r. true) rs ≡ rs
 filter_all [] = refl
 filter_all (r ∷ rs) = ap (λ ys. r ∷ ys) (filter_all rs)
 
-pub unanswered_ids : (limit s : ℕ) (t : Table) (x : Forwarding) (body : List ℕ) (m : Message) → limit < 2 ^ 32 → NamesAt (answered_id m) None → IdsAt limit x t → IdsAt limit (forwarding_behind s x (took (FromServer s body) m)) t
-unanswered_ids limit s t x body m h named i = rw (itself s) (record {
+pub unanswered_ids : (settings : Settings) (before : List Event) (limit s : ℕ) (t : Table) (x : Forwarding) (body : List ℕ) (m : Message) → limit < 2 ^ 32 → NamesAt (answered_id m) None → IdsAt limit x t → IdsAt limit (forwarding_next settings s before x (took (FromServer s body) m)) t
+unanswered_ids settings before limit s t x body m h named i = rw (itself s) (record {
   next = i.next;
   open_requests = ap (filter (λ f. not (answered_by (answered_id m) f))) i.open_requests ∙ (filter_mapped forwarded_of (λ f. not (answered_by (answered_id m) f)) t.requests
       ∙ ap (map forwarded_of) (filter_below (λ r. not (answered_by (answered_id m) (forwarded_of r))) (λ r. true) t.next (λ r l. ap not (named r.number (below_limit limit t r.number h i.ends i.order l))) 2 t.requests i.order.rising ∙ filter_all t.requests));
@@ -114,9 +115,9 @@ map_both : (g : Forwarded → Forwarded) (rs : List Numbered) → map g (map for
 map_both g [] = refl
 map_both g (r ∷ rs) = ap (λ ys. g (forwarded_of r) ∷ ys) (map_both g rs)
 
-pub cancelled_ids : (limit s : ℕ) (t u : Table) (x : Forwarding) (body method : List ℕ) (m : Message) (ps : Option Json) (k : ℕ) → limit < 2 ^ 32 → m ≡ notification method ps → bytes_eq method (codes "$/cancelRequest") ≡ true → Writes (named_of (codes "id") ps) k
-    → u.requests ≡ tables.with_cancelled k t.requests → u.next ≡ t.next → u.limit ≡ t.limit → IsInOrder u → IdsAt limit x t → IdsAt limit (forwarding_behind s x (did (ToServer s body) m)) u
-cancelled_ids limit s t u x body method m ps k h says cancels written is next same order i = rw (itself s, says, cancels) (record {
+pub cancelled_ids : (settings : Settings) (before : List Event) (limit s : ℕ) (t u : Table) (x : Forwarding) (body method : List ℕ) (m : Message) (ps : Option Json) (k : ℕ) → limit < 2 ^ 32 → m ≡ notification method ps → bytes_eq method (codes "$/cancelRequest") ≡ true → Writes (named_of (codes "id") ps) k
+    → u.requests ≡ tables.with_cancelled k t.requests → u.next ≡ t.next → u.limit ≡ t.limit → IsInOrder u → IdsAt limit x t → IdsAt limit (forwarding_next settings s before x (did (ToServer s body) m)) u
+cancelled_ids settings before limit s t u x body method m ps k h says cancels written is next same order i = rw (itself s, says, cancels) (record {
   next = i.next ∙ sym next;
   open_requests = ap (map (cancelled_by (named_of (codes "id") ps))) i.open_requests ∙ (map_both (cancelled_by (named_of (codes "id") ps)) t.requests
       ∙ (map_below (λ r. cancelled_by (named_of (codes "id") ps) (forwarded_of r)) (λ r. forwarded_of (cond (tables.has_number k r) (tables.cancelled r) r)) t.next one 2 t.requests i.order.rising
@@ -132,11 +133,11 @@ cancelled_ids limit s t u x body method m ps k h says cancels written is next sa
 abbrev pub Emptied : ℕ → Table → Type 0
 Emptied limit u = (u.requests ≡ []) × (u.next ≡ 2) × (u.limit ≡ limit) × IsInOrder u
 
-pub ended_ids : (limit s : ℕ) (u : Table) (x : Forwarding) (m : Message) → Emptied limit u → IdsAt limit (forwarding_behind s x (took (ServerGone s) m)) u
-ended_ids limit s u x m e = rw (itself s) (record { next = sym e.1; open_requests = ap (map forwarded_of) (sym e.0); ends = e.2; order = e.3 })
+pub ended_ids : (settings : Settings) (before : List Event) (limit s : ℕ) (u : Table) (x : Forwarding) (m : Message) → Emptied limit u → IdsAt limit (forwarding_next settings s before x (took (ServerGone s) m)) u
+ended_ids settings before limit s u x m e = rw (itself s) (record { next = sym e.1; open_requests = ap (map forwarded_of) (sym e.0); ends = e.2; order = e.3 })
 
-pub failed_ids : (limit s : ℕ) (u : Table) (x : Forwarding) (m : Message) → Emptied limit u → IdsAt limit (forwarding_behind s x (took (StartFailed s) m)) u
-failed_ids limit s u x m e = rw (itself s) (record { next = sym e.1; open_requests = ap (map forwarded_of) (sym e.0); ends = e.2; order = e.3 })
+pub failed_ids : (settings : Settings) (before : List Event) (limit s : ℕ) (u : Table) (x : Forwarding) (m : Message) → Emptied limit u → IdsAt limit (forwarding_next settings s before x (took (StartFailed s) m)) u
+failed_ids settings before limit s u x m e = rw (itself s) (record { next = sym e.1; open_requests = ap (map forwarded_of) (sym e.0); ends = e.2; order = e.3 })
 
 -- what the table tells of an open request
 pub unmarked : (k : ℕ) (rs : List Numbered) → tables.pending_of k rs ≡ None → tables.with_cancelled k rs ≡ rs
@@ -159,8 +160,8 @@ found_under k (r ∷ rs) = go (nat_eq r.number k) refl (found_under k rs)
     go true h rest = let e : r.number ≡ k = grind (arith, nat_tests) in ap (λ n. Some (forwarded_of (record { number = n; pending = r.pending }))) e
     go false h rest = rest
 
-pub found_seen : (limit s : ℕ) (t : Table) (events : List Event) (k : ℕ) (o : Option Pending) → o ≡ tables.pending_of k t.requests → IdsStand limit s t events → find (is_under k) (forwarding_of s events).open_requests ≡ option_map (forwarded_as k) o
-found_seen limit s t events k o is i = ap (find (is_under k)) i.open_requests ∙ (found_under k t.requests ∙ ap (option_map (forwarded_as k)) (sym is))
+pub found_seen : (settings : Settings) (limit s : ℕ) (t : Table) (events : List Event) (k : ℕ) (o : Option Pending) → o ≡ tables.pending_of k t.requests → IdsStand settings limit s t events → find (is_under k) (forwarding_of settings s events).open_requests ≡ option_map (forwarded_as k) o
+found_seen settings limit s t events k o is i = ap (find (is_under k)) i.open_requests ∙ (found_under k t.requests ∙ ap (option_map (forwarded_as k)) (sym is))
 
 pub numbers_mapped : (e : ℕ) (rs : List Numbered) → numbers_of e (map forwarded_of rs) ≡ tables.numbers_of e rs
 numbers_mapped e rs = ap (map (λ (f : Forwarded). f.number)) (filter_mapped forwarded_of (is_of e) rs) ∙ maps (filter (tables.is_of e) rs)

@@ -53,8 +53,8 @@ module _ (settings : Settings) (limit g s : ℕ) (events : List Event) (l : Lost
   pub lost_ended : (life_of s events).stage ≡ Ended
   lost_ended = subst (λ n. (life_of n events).stage ≡ Ended) l.number (ap (λ (x : Life). x.stage) (l.stands.parts of_life) ∙ l.ended)
 
-  pub lost_answered : (forwarding_of s events).open_requests ≡ []
-  lost_answered = subst (λ n. (forwarding_of n events).open_requests ≡ []) l.number ((l.stands.parts of_ids).open_requests ∙ ap (map forwarded_of) l.answered)
+  pub lost_answered : (forwarding_of settings s events).open_requests ≡ []
+  lost_answered = subst (λ n. (forwarding_of settings n events).open_requests ≡ []) l.number ((l.stands.parts of_ids).open_requests ∙ ap (map forwarded_of) l.answered)
 
 -- the event names no start
 pub lasts_stand : (settings : Settings) (limit : ℕ) (lasts : List Start) (events : List Event) (ev : Event) → ((n : ℕ) → names_start n ev ≡ false) → ((n : ℕ) → AsksStay settings n events ev) → spawns ev ≡ false → LastsStand settings limit lasts events → LastsStand settings limit lasts (events ++ ev ∷ [])

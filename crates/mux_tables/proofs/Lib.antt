@@ -4,6 +4,7 @@ pub mod Putting
 pub mod Searched
 pub mod Apart
 pub mod TokenMoves
+pub mod HeldMoves
 pub mod Asking
 pub mod Counted
 pub mod Awaited
@@ -71,3 +72,4 @@ pub mod Resuming
 pub mod DocumentResumed
 pub mod Working
 pub mod Marks
+pub mod Held

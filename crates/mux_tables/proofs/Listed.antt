@@ -32,6 +32,7 @@ use Rattle.mux_tables.proofs.Registering.{live_by_stay}
 use Rattle.mux_tables.proofs.Served.{hears_answer, later_shown, server_moves}
 use Rattle.mux_tables.proofs.Starts.{read_here, read_same, start_at_place}
 use Rattle.mux_tables.proofs.TokenMoves.{heard_all, origins_stay}
+use Rattle.mux_waits.proofs.Moves.{quiet_waits}
 
 -- what is kept of a start that is ready
 pub lists_seen : (settings : Settings) (t : Tables) (events : List Event) (g : ℕ) (x z : Start) → slice_get t.lasts.items g ≡ Some x → g < length t.lasts.items → z ≡ get_or t.lasts.items g z → x.life.stage ≡ Ready → Stands settings t events → z.lists ≡ lists_of x.life.start events
@@ -76,7 +77,7 @@ module _ (settings : Settings) (t u : Tables) (events : List Event) (g s : ℕ) 
       (λ st h. parked_by settings t.requests z events ev (asks_stay settings z.life.start events ev (ap is_request says)) h)
       (λ st h. live_by_stay settings t.requests z events ev (live_stay settings z.life.start events ev (ap is_request says)) h)
       (λ st h. publishes st) refl refl (hears_answer z.life.stage (message_of body) (no_result (is_initializing z.life.stage))) (no_failure (is_initializing z.life.stage))
-      (subst (λ m. NamesAt (answered_id m) None) (sym says) (λ n small. refl)) refl refl refl (λ o. o) set es gs now (origins_stay settings t.origins u.origins events (took (FromServer s body) (message_of body)) os (heard_all settings s events body (message_of body) untold)) r st
+      (subst (λ m. NamesAt (answered_id m) None) (sym says) (λ n small. refl)) refl refl refl (λ o. o) set es gs now (origins_stay settings t.origins u.origins events (took (FromServer s body) (message_of body)) os (heard_all settings s events body (message_of body) untold) (λ rows. quiet_waits settings rows events (took (FromServer s body) (message_of body)) refl)) r st
 
 -- E12: the list of a document is that of its number
 

@@ -58,9 +58,9 @@ counted p q h (r ∷ rs) = go (q r.pending.editor) (p r.pending.editor) (h r.pen
     go false true e k = absurd (cc)
 
 pub asked_so : (settings : Settings) (t : Tables) (events : List Event) (g s n : ℕ) (z : Start) → slice_get (map number_in t.lasts.items) g ≡ Some s → g < length t.lasts.items → z ≡ get_or t.lasts.items g z
-    → n ≡ length (filter (λ e. is_there (phase_in (slice_get t.editors e))) (editors_of z.ids.requests)) → Stands settings t events → n ≡ asked_at events s
+    → n ≡ length (filter (λ e. is_there (phase_in (slice_get t.editors e))) (editors_of z.ids.requests)) → Stands settings t events → n ≡ asked_at settings events s
 asked_so settings t events g s n z at within read is st =
     let here = read_here t.lasts.items g z within read in
-    subst (λ k. n ≡ asked_at events k) (start_at_place t.lasts.items g s z here at)
+    subst (λ k. n ≡ asked_at settings events k) (start_at_place t.lasts.items g s z here at)
     (is ∙ counted (λ e. is_there (desk_of e events).phase) (λ e. is_there (phase_in (slice_get t.editors e))) (λ e. ap is_there (st.house.editors.phase e)) z.ids.requests
     ∙ ap (λ fs. length (filter (λ (f : Forwarded). is_there (desk_of f.editor events).phase) fs)) (sym ((st.lasts.each g z here).parts of_ids).open_requests))

@@ -106,8 +106,8 @@ first_of false b h = never (sym h)
 
 -- S13: the group's last start
 module _ (settings : Settings) (t : Tables) (before : List Event) (g s : ℕ) (z : Start) (token : Option Json) (at : slice_get (map number_in t.lasts.items) g ≡ Some s) (here : slice_get t.lasts.items g ≡ Some z) (st : Stands settings t before) where
-  opened : (forwarding_of s before).open_requests ≡ map forwarded_of z.ids.requests
-  opened = ap (λ n. (forwarding_of n before).open_requests) (sym (start_at_place t.lasts.items g s z here at)) ∙ ((st.lasts.each g z here).parts of_ids).open_requests
+  opened : (forwarding_of settings s before).open_requests ≡ map forwarded_of z.ids.requests
+  opened = ap (λ n. (forwarding_of settings n before).open_requests) (sym (start_at_place t.lasts.items g s z here at)) ∙ ((st.lasts.each g z here).parts of_ids).open_requests
 
   ends : z.ids.next < 2 ^ 32
   ends =
@@ -121,7 +121,7 @@ module _ (settings : Settings) (t : Tables) (before : List Event) (g s : ℕ) (z
   rising = ((st.lasts.each g z here).parts of_ids).order.rising
 
   -- it is none of the daemon's tokens
-  pub unmarked : MarksAt token None → find (is_told before token) (forwarding_of s before).open_requests ≡ None
+  pub unmarked : MarksAt token None → find (is_told before token) (forwarding_of settings s before).open_requests ≡ None
   unmarked marks = ap (find (is_told before token)) opened ∙ none_above (is_told before token) 0 z.ids.next only 2 z.ids.requests rising (omega arith)
     where
       only : (r : Numbered) → r.number < z.ids.next → is_told before token (forwarded_of r) ≡ true → r.number ≡ 0
@@ -134,14 +134,14 @@ module _ (settings : Settings) (t : Tables) (before : List Event) (g s : ℕ) (z
         let e = ends in
         own_off k r (own_token token (forwarded_of r)) (sym (own_so token k r marks (omega arith))) (first_of (is_some (own_token token (forwarded_of r))) (listens (desk_of r.pending.editor before).phase) is)
 
-    found_so : (o : Option Pending) → o ≡ tables.pending_of (k / 2) z.ids.requests → find (is_told before token) (forwarding_of s before).open_requests ≡ passed (is_told before token) (k / 2) z.ids.next only_own o
+    found_so : (o : Option Pending) → o ≡ tables.pending_of (k / 2) z.ids.requests → find (is_told before token) (forwarding_of settings s before).open_requests ≡ passed (is_told before token) (k / 2) z.ids.next only_own o
     found_so o is = ap (find (is_told before token)) opened ∙ (found_only (is_told before token) (k / 2) z.ids.next only_own 2 z.ids.requests rising ∙ ap (passed (is_told before token) (k / 2) z.ids.next only_own) (sym is))
 
-    pub unopened : (n : ℕ) → n ≡ k / 2 → None ≡ tables.pending_of n z.ids.requests → find (is_told before token) (forwarding_of s before).open_requests ≡ None
+    pub unopened : (n : ℕ) → n ≡ k / 2 → None ≡ tables.pending_of n z.ids.requests → find (is_told before token) (forwarding_of settings s before).open_requests ≡ None
     unopened n same is = found_so None (is ∙ ap (λ m. tables.pending_of m z.ids.requests) same)
 
     -- the number is past those that are given
-    pub past : 2 ^ 32 ≤ k / 2 → find (is_told before token) (forwarding_of s before).open_requests ≡ None
+    pub past : 2 ^ 32 ≤ k / 2 → find (is_told before token) (forwarding_of settings s before).open_requests ≡ None
     past l = found_so (tables.pending_of (k / 2) z.ids.requests) refl ∙ ap (passed (is_told before token) (k / 2) z.ids.next only_own) (go (tables.pending_of (k / 2) z.ids.requests) refl)
       where
         go : (o : Option Pending) → tables.pending_of (k / 2) z.ids.requests ≡ o → o ≡ None
@@ -156,16 +156,16 @@ module _ (settings : Settings) (t : Tables) (before : List Event) (g s : ℕ) (z
           let low = below_next n 2 z.ids.next z.ids.requests p rising (sym is) in
           own_so token k (record { number = k / 2; pending = p }) marks (omega arith) ∙ own_here k (k / 2) p refl
 
-      told_by : find (is_told before token) (forwarding_of s before).open_requests ≡ (if is_some (own_of k p) && listens (desk_of p.editor before).phase then Some (forwarded_as (k / 2) p) else None)
+      told_by : find (is_told before token) (forwarding_of settings s before).open_requests ≡ (if is_some (own_of k p) && listens (desk_of p.editor before).phase then Some (forwarded_as (k / 2) p) else None)
       told_by = found_so (Some p) (is ∙ ap (λ m. tables.pending_of m z.ids.requests) same) ∙ ap (λ o. if is_some o && listens (desk_of p.editor before).phase then Some (forwarded_as (k / 2) p) else None) own_is
 
-      pub unowned : None ≡ own_of k p → find (is_told before token) (forwarding_of s before).open_requests ≡ None
+      pub unowned : None ≡ own_of k p → find (is_told before token) (forwarding_of settings s before).open_requests ≡ None
       unowned none = told_by ∙ ap (λ o. if is_some o && listens (desk_of p.editor before).phase then Some (forwarded_as (k / 2) p) else None) (sym none)
 
-      pub away : (text : List ℕ) → Some text ≡ own_of k p → listens (desk_of p.editor before).phase ≡ false → find (is_told before token) (forwarding_of s before).open_requests ≡ None
+      pub away : (text : List ℕ) → Some text ≡ own_of k p → listens (desk_of p.editor before).phase ≡ false → find (is_told before token) (forwarding_of settings s before).open_requests ≡ None
       away text own off = told_by ∙ ap₂ (λ o b. if is_some o && b then Some (forwarded_as (k / 2) p) else None) (sym own) off
 
-      pub told : (text : List ℕ) → Some text ≡ own_of k p → listens (desk_of p.editor before).phase ≡ true → IsTold before token (forwarding_of s before).open_requests p.editor text
+      pub told : (text : List ℕ) → Some text ≡ own_of k p → listens (desk_of p.editor before).phase ≡ true → IsTold before token (forwarding_of settings s before).open_requests p.editor text
       told text own on = record {
         request = forwarded_as (k / 2) p;
         found = told_by ∙ ap₂ (λ o b. if is_some o && b then Some (forwarded_as (k / 2) p) else None) (sym own) on;
@@ -237,15 +237,15 @@ module _ (e : ℕ) (id : Id) (w : List ℕ) (named : Option Json) (is_text : IsI
 
   pub worked_seen : (settings : Settings) (t : Tables) (events : List Event) (g s : ℕ) (z : Start) (n : Option ℕ) → slice_get (map number_in t.lasts.items) g ≡ Some s → g < length t.lasts.items → z ≡ get_or t.lasts.items g z
       → n ≡ find (λ k. works w (tables.pending_of k z.ids.requests)) (tables.numbers_of e z.ids.requests) → Stands settings t events
-      → n ≡ option_map (λ (f : Forwarded). f.number) (find (is_worked e named) (forwarding_of s events).open_requests)
+      → n ≡ option_map (λ (f : Forwarded). f.number) (find (is_worked e named) (forwarding_of settings s events).open_requests)
   worked_seen settings t events g s z n at within read is st =
       let o = opened settings t events g s z named at (read_here t.lasts.items g z within read) st in
       let tests : Own (works w) (λ k. works w (tables.pending_of k z.ids.requests)) z.ids.requests = own_tests (works w) (λ k. works w (tables.pending_of k z.ids.requests)) 2 z.ids.next z.ids.requests (rising settings t events g s z named at (read_here t.lasts.items g z within read) st) (λ k l. refl) in
       is ∙ (found_filtered e (works w) (λ k. works w (tables.pending_of k z.ids.requests)) z.ids.requests tests
-      ∙ (sym (worked_is z.ids.requests (subst (AllByRecursion HasTokens) o (tokens_kept s events))) ∙ ap (λ fs. option_map (λ (f : Forwarded). f.number) (find (is_worked e named) fs)) (sym o)))
+      ∙ (sym (worked_is z.ids.requests (subst (AllByRecursion HasTokens) o (tokens_kept settings s events))) ∙ ap (λ fs. option_map (λ (f : Forwarded). f.number) (find (is_worked e named) fs)) (sym o)))
 
   pub worked_ok : {E : Type 0} (settings : Settings) (t : Tables) (events : List Event) (g s : ℕ) (z : Start) (result : Result (Option ℕ) E) → slice_get (map number_in t.lasts.items) g ≡ Some s → g < length t.lasts.items → z ≡ get_or t.lasts.items g z
       → IfOk result (λ n. n ≡ find (λ k. works w (tables.pending_of k z.ids.requests)) (tables.numbers_of e z.ids.requests)) → Stands settings t events
-      → IfOk result (λ n. n ≡ option_map (λ (f : Forwarded). f.number) (find (is_worked e named) (forwarding_of s events).open_requests))
+      → IfOk result (λ n. n ≡ option_map (λ (f : Forwarded). f.number) (find (is_worked e named) (forwarding_of settings s events).open_requests))
   worked_ok settings t events g s z (Ok n) at within read is st = worked_seen settings t events g s z n at within read is st
   worked_ok settings t events g s z (Err f) at within read is st = tt

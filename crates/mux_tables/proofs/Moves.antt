@@ -20,10 +20,12 @@ use Rattle.group_laws.specs.group_rows.specs.Created.{created_of}
 use Rattle.mux_tokens.specs.Stands.{CreatedStand}
 use Rattle.mux_tokens.proofs.Standing.{stay_stands}
 use Rattle.mux_tokens.proofs.Stays.{passes_stay}
-use Rattle.mux_tables.proofs.TokenMoves.{CreatedMove, OriginsMove}
-use Rattle.mux_tables.proofs.Frames.{passes_quiet, asks_alone, names_start, names_editor, spawns, ticks, editors_stand, groups_stand, origins_stand, start_alone, group_alone, life_alone, time_alone}
+use Rattle.mux_tables.proofs.TokenMoves.{KeptMove, OriginsMove}
+use Rattle.mux_tables.proofs.Frames.{passes_quiet, waits_quiet, asks_alone, names_start, names_editor, spawns, ticks, editors_stand, groups_stand, origins_stand, start_alone, group_alone, life_alone, time_alone}
 use Rattle.mux_tables.proofs.Lasts.{last_forgotten, lasts_stand, one_last}
 use Rattle.mux_tables.proofs.Awaited.{StopsMove, stopping_more, stops_kept}
+use Rattle.mux_waits.specs.Stands.{WaitingStand}
+use Rattle.mux_waits.proofs.Moves.{quiet_waits}
 
 module _ (settings : Settings) where
   -- an event that editors, groups and the time don't speak of
@@ -42,6 +44,7 @@ module _ (settings : Settings) where
     origins = origins_stand t.origins.groups.items events ev k s.origins;
     stopping = stopping_more events ev k (λ m. ap (λ (l : Life). is_stopping l.stage) (life_alone m (life_of m events) ev (n m))) ∙ s.stopping;
     created = stay_stands settings t.origins.created events ev (λ m. passes_stay settings m events (created_of settings m events) ev (passes_quiet m ev e (n m))) s.created;
+    waiting = quiet_waits settings t.origins.waiting events ev (waits_quiet ev e n) s.waiting;
     lasts = lasts_stand settings t.requests t.lasts.items events ev n (λ m. asks_alone settings m events ev e (n m)) k s.lasts;
     requests = s.requests;
     range = s.range;
@@ -56,6 +59,7 @@ module _ (settings : Settings) where
     origins = subst (λ v. OriginsStand v.items (events ++ ev ∷ [])) (sym os.groups) (origins_stand t.origins.groups.items events ev k s.origins);
     stopping = stops_kept t u events ev os.stopping k (λ m. ap (λ (l : Life). is_stopping l.stage) (life_alone m (life_of m events) ev (n m))) s.stopping;
     created = os.created s.created;
+    waiting = os.waiting s.waiting;
     lasts = subst (λ m. LastsStand settings m u.lasts.items (events ++ ev ∷ [])) (sym r) (ls s.origins s.lasts);
     requests = s.requests ∙ sym r;
     range = subst (λ n. n < 2 ^ 32) (sym r) s.range;
@@ -69,6 +73,7 @@ module _ (settings : Settings) where
     origins = subst (λ v. OriginsStand v.items (events ++ ev ∷ [])) (sym os.groups) (origins_stand t.origins.groups.items events ev k s.origins);
     stopping = stops_kept t u events ev os.stopping k (λ m. ap (λ (l : Life). is_stopping l.stage) (life_alone m (life_of m events) ev (n m))) s.stopping;
     created = os.created s.created;
+    waiting = os.waiting s.waiting;
     lasts = rw (ls, r) (lasts_stand settings t.requests t.lasts.items events ev n a k s.lasts);
     requests = s.requests ∙ sym r;
     range = subst (λ n. n < 2 ^ 32) (sym r) s.range;
@@ -76,13 +81,14 @@ module _ (settings : Settings) where
 
   -- what moves is the last start of one group
   module _ (t u : Tables) (events : List Event) (ev : Event) (i : ℕ) (x : Start) (e : names_editor ev ≡ false) (g : GroupsStand settings t.groups events → GroupsStand settings u.groups (events ++ ev ∷ [])) (w : ticks ev ≡ false) (k : spawns ev ≡ false) (n : (m : ℕ) → names_start m ev ≡ nat_eq x.life.start m)
-      (at : slice_get t.lasts.items i ≡ Some x) (es : u.editors ≡ t.editors) (now : u.course ≡ t.course) (os : u.origins.groups ≡ t.origins.groups) (sk : StopsMove t u events ev) (cm : CreatedMove settings t u events ev) (r : u.requests ≡ t.requests) where
+      (at : slice_get t.lasts.items i ≡ Some x) (es : u.editors ≡ t.editors) (now : u.course ≡ t.course) (os : u.origins.groups ≡ t.origins.groups) (sk : StopsMove t u events ev) (cm : KeptMove settings t u events ev) (r : u.requests ≡ t.requests) where
     last_moves : (y : Start) → y.life.group ≡ x.life.group → u.lasts.items ≡ slice_set t.lasts.items i y → (LastStands settings t.requests events x.life.group x → LastStands settings t.requests (events ++ ev ∷ []) x.life.group y) → Stands settings t events → Stands settings u (events ++ ev ∷ [])
     last_moves y group is go s = record {
       house = house_stands t u events ev e g w es now s.house;
       origins = subst (λ v. OriginsStand v.items (events ++ ev ∷ [])) (sym os) (origins_stand t.origins.groups.items events ev k s.origins);
       stopping = sk s.stopping;
-      created = cm s.created;
+      created = cm.created s.created;
+      waiting = cm.waiting s.waiting;
       lasts = subst (λ m. LastsStand settings m u.lasts.items (events ++ ev ∷ [])) (sym r) (one_last settings t.requests t.origins.groups.items t.lasts.items u.lasts.items events ev i x y n e k at is group s.origins go s.lasts);
       requests = s.requests ∙ sym r;
       range = subst (λ n. n < 2 ^ 32) (sym r) s.range;
@@ -111,6 +117,7 @@ forgotten settings t u events i x at ended answered ls es gs now os r s = record
   origins = subst (λ v. OriginsStand v.groups.items events) (sym os) s.origins;
   stopping = s.stopping ∙ ap (λ v. v.stopping.items) (sym os);
   created = subst (λ v. CreatedStand settings v.created events) (sym os) s.created;
+  waiting = subst (λ v. WaitingStand settings v.waiting events) (sym os) s.waiting;
   lasts = subst (λ m. LastsStand settings m u.lasts.items events) (sym r) (last_forgotten settings t.requests t.lasts.items u.lasts.items events i x at ls ended answered s.lasts);
   requests = s.requests ∙ sym r;
   range = subst (λ n. n < 2 ^ 32) (sym r) s.range;

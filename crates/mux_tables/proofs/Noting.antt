@@ -33,18 +33,18 @@ abbrev pub asks_on : Event → Bool
 asks_on (did (ToServer s body) (request id method ps)) = not (is_own method)
 asks_on other = false
 
-next_still : (s n : ℕ) (before : List Event) (o : Option (List Event)) (ev : Event) → asks_on ev ≡ false → moment_next s n before o ev ≡ o
-next_still s n before o (did (ToServer k body) (request id method ps)) h = go (nat_eq k s) (not (is_own method)) (nat_eq (forwarding_of s before).next n) h
+next_still : (settings : Settings) (s n : ℕ) (before : List Event) (o : Option (List Event)) (ev : Event) → asks_on ev ≡ false → moment_next settings s n before o ev ≡ o
+next_still settings s n before o (did (ToServer k body) (request id method ps)) h = go (nat_eq k s) (not (is_own method)) (nat_eq (forwarding_of settings s before).next n) h
   where
     go : (a b c : Bool) → b ≡ false → (if a && (b && c) then Some before else o) ≡ o
     go true false c h = refl
     go true true c h = never h
     go false b c h = refl
-next_still s n before o other h = refl
+next_still settings s n before o other h = refl
 
 -- the moment of a request that went on
-pub moment_stays : (s n : ℕ) (events : List Event) (ev : Event) → asks_on ev ≡ false → moment_of s n (events ++ ev ∷ []) ≡ moment_of s n events
-moment_stays s n events ev h = past_more (moment_next s n) [] None events ev ∙ next_still s n events (moment_of s n events) ev h
+pub moment_stays : (settings : Settings) (s n : ℕ) (events : List Event) (ev : Event) → asks_on ev ≡ false → moment_of settings s n (events ++ ev ∷ []) ≡ moment_of settings s n events
+moment_stays settings s n events ev h = past_more (moment_next settings s n) [] None events ev ∙ next_still settings s n events (moment_of settings s n events) ev h
 
 pub asks_aside : (s : ℕ) (body : List ℕ) (m : Message) → is_synced m ≡ false → asks_on (did (ToServer s body) m) ≡ false
 asks_aside s body (request id method ps) h = h
@@ -54,10 +54,10 @@ pub asks_told : (s : ℕ) (body : List ℕ) (m : Message) → speaks (saying_of 
 asks_told s body (request id method ps) h = never (sym h)
 asks_told s body other h = refl
 
-pub moment_told : (s n k : ℕ) (bodies : List (List ℕ)) (events : List Event) → AllTell bodies → moment_of s n (behind events (to k bodies)) ≡ moment_of s n events
-moment_told s n k [] events h = ap (moment_of s n) (append-nil events)
-moment_told s n k (body ∷ bodies) events h = ap (moment_of s n) (first_behind events (ToServer k body) (to k bodies))
-    ∙ (moment_told s n k bodies (events ++ said (ToServer k body) ∷ []) h.1 ∙ moment_stays s n events (said (ToServer k body)) (asks_told k body (message_of body) h.0))
+pub moment_told : (settings : Settings) (s n k : ℕ) (bodies : List (List ℕ)) (events : List Event) → AllTell bodies → moment_of settings s n (behind events (to k bodies)) ≡ moment_of settings s n events
+moment_told settings s n k [] events h = ap (moment_of settings s n) (append-nil events)
+moment_told settings s n k (body ∷ bodies) events h = ap (moment_of settings s n) (first_behind events (ToServer k body) (to k bodies))
+    ∙ (moment_told settings s n k bodies (events ++ said (ToServer k body) ∷ []) h.1 ∙ moment_stays settings s n events (said (ToServer k body)) (asks_told k body (message_of body) h.0))
 
 -- an editor that left
 abbrev pub joins : Event → Bool
@@ -118,20 +118,20 @@ none_some {A} {B} {a} e = absurd (clash a e)
     clash a e = cc
 
 -- a request that goes on, and what others see of it
-sent_apart : (s n k : ℕ) (before : List Event) (body : List ℕ) (m : Message) → nat_eq (forwarding_of s before).next n ≡ false → sends_on s n before (did (ToServer k body) m) ≡ false
-sent_apart s n k before body (request id method ps) h = go (nat_eq k s) (not (is_own method)) (nat_eq (forwarding_of s before).next n) h
+sent_apart : (settings : Settings) (s n k : ℕ) (before : List Event) (body : List ℕ) (m : Message) → nat_eq (forwarding_of settings s before).next n ≡ false → sends_on settings s n before (did (ToServer k body) m) ≡ false
+sent_apart settings s n k before body (request id method ps) h = go (nat_eq k s) (not (is_own method)) (nat_eq (forwarding_of settings s before).next n) h
   where
     go : (a b c : Bool) → c ≡ false → (a && (b && c)) ≡ false
     go false b c h = refl
     go true false c h = refl
     go true true c h = h
-sent_apart s n k before body other h = refl
+sent_apart settings s n k before body other h = refl
 
-pub moment_apart : (s n k : ℕ) (before : List Event) (body : List ℕ) (m : Message) → nat_eq (forwarding_of s before).next n ≡ false → moment_of s n (before ++ did (ToServer k body) m ∷ []) ≡ moment_of s n before
-moment_apart s n k before body m h = past_more (moment_next s n) [] None before (did (ToServer k body) m) ∙ ap (λ b. if b then Some before else moment_of s n before) (sent_apart s n k before body m h)
+pub moment_apart : (settings : Settings) (s n k : ℕ) (before : List Event) (body : List ℕ) (m : Message) → nat_eq (forwarding_of settings s before).next n ≡ false → moment_of settings s n (before ++ did (ToServer k body) m ∷ []) ≡ moment_of settings s n before
+moment_apart settings s n k before body m h = past_more (moment_next settings s n) [] None before (did (ToServer k body) m) ∙ ap (λ b. if b then Some before else moment_of settings s n before) (sent_apart settings s n k before body m h)
 
-pub moment_here : (s n : ℕ) (before : List Event) (body : List ℕ) (m : Message) (name : Id) (method : List ℕ) (ps : Option Json) → m ≡ request name method ps → is_own method ≡ false → (forwarding_of s before).next ≡ n → moment_of s n (before ++ did (ToServer s body) m ∷ []) ≡ Some before
-moment_here s n before body m name method ps says own next = past_more (moment_next s n) [] None before (did (ToServer s body) m) ∙ rw (says, itself s, own, next, itself n) refl
+pub moment_here : (settings : Settings) (s n : ℕ) (before : List Event) (body : List ℕ) (m : Message) (name : Id) (method : List ℕ) (ps : Option Json) → m ≡ request name method ps → is_own method ≡ false → (forwarding_of settings s before).next ≡ n → moment_of settings s n (before ++ did (ToServer s body) m ∷ []) ≡ Some before
+moment_here settings s n before body m name method ps says own next = past_more (moment_next settings s n) [] None before (did (ToServer s body) m) ∙ rw (says, itself s, own, next, itself n) refl
 
 -- the numbers of open requests are below the next
 pub below_next : (n from to : ℕ) (rs : List Numbered) (p : Pending) → RiseWithin from to rs → pending_of n rs ≡ Some p → n < to
@@ -143,7 +143,7 @@ below_next n from to (r ∷ rs) p h there = go (has_number n r) refl there (belo
     go false is t rest = rest t
 
 -- one request's
-pub noted_stays : (settings : Settings) (s n e : ℕ) (events later : List Event) (noted : Option (List (List ℕ × Stamp))) → moment_of s n later ≡ moment_of s n events → (has_left (desk_of e events).phase ≡ true → has_left (desk_of e later).phase ≡ true)
+pub noted_stays : (settings : Settings) (s n e : ℕ) (events later : List Event) (noted : Option (List (List ℕ × Stamp))) → moment_of settings s n later ≡ moment_of settings s n events → (has_left (desk_of e events).phase ≡ true → has_left (desk_of e later).phase ≡ true)
     → IsNoted settings s n e events noted → IsNoted settings s n e later noted
 noted_stays settings s n e events later (Some noted) same left h = (h.0, same ∙ h.1, h.2)
 noted_stays settings s n e events later None same left h = left h

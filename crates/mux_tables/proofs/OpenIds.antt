@@ -47,10 +47,10 @@ module _ (settings : Settings) (t : Tables) (events : List Event) (g : ℕ) (z :
   pub ids_order : IsInOrder z.ids
   ids_order = ((st.lasts.each g z here).parts of_ids).order
 
-  pub ids_here : (s e : ℕ) (ids : List (List ℕ)) → slice_get (map number_in t.lasts.items) g ≡ Some s → ids ≡ ids_at e (map forwarded_of z.ids.requests) → ids ≡ ids_at e (forwarding_of s events).open_requests
+  pub ids_here : (s e : ℕ) (ids : List (List ℕ)) → slice_get (map number_in t.lasts.items) g ≡ Some s → ids ≡ ids_at e (map forwarded_of z.ids.requests) → ids ≡ ids_at e (forwarding_of settings s events).open_requests
   ids_here s e ids at is =
       let kept = (st.lasts.each g z here).parts of_ids in
-      is ∙ ap (ids_at e) (sym kept.open_requests ∙ ap (λ n. (forwarding_of n events).open_requests) (start_at_place t.lasts.items g s z here at))
+      is ∙ ap (ids_at e) (sym kept.open_requests ∙ ap (λ n. (forwarding_of settings n events).open_requests) (start_at_place t.lasts.items g s z here at))
 
 -- the step of the loop, and its end
 drop_one : (xs : List ℕ) (i d : ℕ) → i < length xs → drop i xs ≡ get_or xs i d ∷ drop (i + 1) xs

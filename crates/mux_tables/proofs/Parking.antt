@@ -31,6 +31,7 @@ use Rattle.mux_tables.proofs.Registering.{live_by_stay, other_live, patient_quie
 use Rattle.mux_tables.proofs.Served.{hears_answer, later_shown, server_moves}
 use Rattle.mux_tables.proofs.Starts.{read_here, read_same, start_at_place}
 use Rattle.mux_tables.proofs.Waiting.{all_so, all_then, none_any, none_either, ready_parked}
+use Rattle.mux_waits.proofs.Moves.{quiet_waits}
 
 -- a body of a start, by whether it is this one's
 abbrev pub heard_asking : Settings → ℕ → List Event → List ℕ → Message → Asking → Bool → Asking
@@ -112,7 +113,7 @@ module _ (settings : Settings) (t u : Tables) (events : List Event) (g s : ℕ) 
   park_moves st = server_moves settings t u events g s z body None z.life z.ids z.shown kept z.live z.lists at within read (λ h. h) (later_shown z.life.start z.life.stage z.shown _ body (message_of body) (no_result (is_early z.life.stage)))
       (λ later asked h. h) waits (λ st h. live_by_stay settings t.requests z events ev (other_live settings z.life.start z.life.start events body method (message_of body) id params says (patient_quiet method patient)) h)
       (λ st h. lists_by_stay settings t.requests z events ev (quiet_lists z.life.start z.life.start events body (message_of body) (ap is_notification says)) h) refl refl (hears_answer z.life.stage (message_of body) (no_result (is_initializing z.life.stage))) (no_failure (is_initializing z.life.stage))
-      (subst (λ m. NamesAt (answered_id m) None) (sym says) (λ n small. refl)) refl refl refl (λ o. o) set es gs now (origins_stay settings t.origins u.origins events (took (FromServer s body) (message_of body)) os (heard_all settings s events body (message_of body) stays_created)) r st
+      (subst (λ m. NamesAt (answered_id m) None) (sym says) (λ n small. refl)) refl refl refl (λ o. o) set es gs now (origins_stay settings t.origins u.origins events (took (FromServer s body) (message_of body)) os (heard_all settings s events body (message_of body) stays_created) (λ rows. quiet_waits settings rows events (took (FromServer s body) (message_of body)) refl)) r st
 
 -- the same, as the code has it
 pub park_by : (settings : Settings) (t u : Tables) (events : List Event) (g s : ℕ) (x z : Start) (body method : List ℕ) (id : Id) (params : Option Json) (kept : List route.Ask) → slice_get t.lasts.items g ≡ Some x → slice_get (map number_in t.lasts.items) g ≡ Some s → g < length t.lasts.items → z ≡ get_or t.lasts.items g z

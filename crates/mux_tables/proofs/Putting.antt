@@ -54,6 +54,8 @@ use Rattle.mux_tables.proofs.Noting.{left_stays}
 use Rattle.mux_tables.proofs.Refusing.{ready_asks, rest_same, same_does, same_stands}
 use Rattle.mux_tables.proofs.Said.{asked_editors, does_send, idle_stay, told_house}
 use Rattle.mux_tables.proofs.Waiting.{all_then, none_any, none_either, parked_beside, ready_parked}
+use Rattle.mux_waits.proofs.Moves.{silent_waits}
+use Rattle.event_model.specs.Requests.{answered_id}
 
 pub running_there : (p : Phase) → is_running p ≡ true → is_gone p ≡ false
 running_there Running h = refl
@@ -157,7 +159,7 @@ module _ (settings : Settings) (t u : Tables) (base : List Event) (xs : List Out
       → u.lasts ≡ t.lasts → ys ≡ xs ++ ToEditor e text ∷ [] → Does (λ t events. Stands settings t events) (ask body e) base t xs u ys
   question_does ys n text method id ps idle says creates is writes ls said_so = asked_does ys n text is writes said_so (λ next small.
       house_moves settings t u now (said (ToEditor e text)) (λ m. refl) (λ m. idle_stay settings m e now text (idle m)) refl (ap (λ v. v.items) ls)
-      (origins_stay settings t.origins u.origins now (said (ToEditor e text)) os (λ m. called_stays settings m e now (created_of settings m now) text method (message_of text) (integer (decimal n)) ps (text_says body text method id ps n small says writes) creates)) r
+      (origins_stay settings t.origins u.origins now (said (ToEditor e text)) os (λ m. called_stays settings m e now (created_of settings m now) text method (message_of text) (integer (decimal n)) ps (text_says body text method id ps n small says writes) creates) (λ rows. silent_waits settings now e text (message_of text) rows (ap answered_id (text_says body text method id ps n small says writes)))) r
       (λ h. told_house settings now e text t u (asked_so settings t.editors now e l runs h.editors u.editors text n is (ap is_request (text_says body text method id ps n small says writes)) set) gs time h))
 
 -- What is kept of it
@@ -265,7 +267,7 @@ module _ (settings : Settings) (t u : Tables) (base : List Event) (xs : List Out
       part of_lists h = part_quiet of_lists settings t.requests z before ev refl h
 
       moves : Some n ≡ sessions.next_ask (session_of t.editors e) → Stands settings t before → Stands settings u (before ++ ev ∷ [])
-      moves is st = house_and_lasts settings t u before ev (λ m. refl) refl (origins_stay settings t.origins u.origins before ev os (λ m. called_stays settings m e before (created_of settings m before) text method (message_of text) (integer (decimal n)) ps says_it creates)) r
+      moves is st = house_and_lasts settings t u before ev (λ m. refl) refl (origins_stay settings t.origins u.origins before ev os (λ m. called_stays settings m e before (created_of settings m before) text method (message_of text) (integer (decimal n)) ps says_it creates) (λ rows. silent_waits settings before e text (message_of text) rows (ap answered_id says_it))) r
           (λ origins ls. asked_last settings t.requests t.origins.groups.items t.lasts.items u.lasts.items before ev g z (record z { asks = kept }) (λ m. refl) (λ m away. idle_stay settings m e before text (work.others m away)) refl at lasts refl origins
           (λ s. record { start = one_more (start_behind z.life.group) _ _ before ev s.start; home = one_more (group_behind z.life.start) _ _ before ev s.home; own = s.own; parts = λ p. part p (s.parts p) }) ls)
           (λ h. told_house settings before e text t u (asked_so settings t.editors before e l runs h.editors u.editors text n is (ap is_request says_it) set) gs time h) st

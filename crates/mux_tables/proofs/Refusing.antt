@@ -40,7 +40,7 @@ use Rattle.mux_tables.proofs.DocumentSaid.{rest_notified}
 use Rattle.mux_tables.proofs.Frames.{itself, part_quiet}
 use Rattle.mux_tables.proofs.IdMoves.{filter_mapped}
 use Rattle.mux_tables.proofs.Seated.{set_set}
-use Rattle.mux_tables.proofs.Sent.{same_set, sent_does}
+use Rattle.mux_tables.proofs.Sent.{not_passed, same_set, sent_does, told_on}
 use Rattle.mux_tables.proofs.Starts.{read_back}
 use Rattle.mux_tables.proofs.Waiting.{parked_fewer, ready_parked, under_none}
 
@@ -76,7 +76,7 @@ module _ (settings : Settings) (t u : Tables) (base : List Event) (xs ys : List 
 
   pub handed_does : (Stands settings t here → (kept ≡ map kept_ask (filter (λ a. not (is_under (Some id) a)) (asks_of settings z.life.start here))) × AllByRecursion (λ (p : Parked). waits_under (Some id) p ≡ false) (parked_of settings z.life.start here)) → Does (λ t events. Stands settings t events) (send (ToServer z.life.start text)) base t xs u ys
   handed_does keeps = sent_does settings t u xs ys base g z.life.start z.life.start z y text (number_there t.lasts.items g z at) (slice_get_within t.lasts.items g z at) (read_back t.lasts.items g z at) set refl refl es gs now (ap (λ v. v.groups) os) (ap (λ v. v.created) os) r refl said_so
-      (λ st. told_stops t u here z.life.start text os runs) (λ st p h. part (keeps st).0 (keeps st).1 p h)
+      (λ st. told_stops t u here z.life.start text (ap (λ v. v.stopping) os) runs) (told_on settings t u here z.life.start text (ap (λ v. v.waiting) os) (not_passed (message_of text) counts)) (λ st p h. part (keeps st).0 (keeps st).1 p h)
     where
       stands : kept ≡ map kept_ask (filter (λ a. not (is_under (Some id) a)) (asks_of settings z.life.start here)) → AsksStand here (asks_of settings z.life.start here) z.asks → AsksStand (here ++ ev ∷ []) (asks_of settings z.life.start (here ++ ev ∷ [])) kept
       stands e s = subst (λ qs. AsksStand (here ++ ev ∷ []) qs kept) (sym (handed settings z.life.start here text id is))
@@ -112,6 +112,7 @@ same_stands settings t u events ls es gs now os r s = record {
   origins = rw os s.origins;
   stopping = rw os s.stopping;
   created = rw os s.created;
+  waiting = rw os s.waiting;
   lasts = rw (ls, r) s.lasts;
   requests = s.requests ∙ sym r;
   range = rw r s.range;

@@ -46,6 +46,7 @@ use Rattle.mux_tables.proofs.Registering.{heard_live, ready_live}
 use Rattle.mux_tables.proofs.Said.{does_send, told_house}
 use Rattle.mux_tables.proofs.Served.{hears_answer, later_shown, server_moves}
 use Rattle.mux_tables.proofs.Starts.{read_here, read_same, start_at_place}
+use Rattle.mux_waits.proofs.Moves.{quiet_waits, silent_waits}
 
 -- what is kept of a start that is ready
 pub live_seen : (settings : Settings) (t : Tables) (events : List Event) (g : ℕ) (x z : Start) → slice_get t.lasts.items g ≡ Some x → g < length t.lasts.items → z ≡ get_or t.lasts.items g z → x.life.stage ≡ Ready → Stands settings t events → z.live ≡ live_of settings x.life.start events
@@ -90,7 +91,7 @@ module _ (settings : Settings) (t u : Tables) (events : List Event) (g s : ℕ) 
       (λ later asked h. h)
       (λ st h. parked_by settings t.requests z events ev (record { asks = open_stay settings z.life.start events ev refl; parked = impatient_stay settings z.life.start events body method (message_of body) id params says quiet }) h)
       (λ st h. registers st) (λ st h. lists_by_stay settings t.requests z events ev (quiet_lists z.life.start z.life.start events body (message_of body) (ap is_notification says)) h) refl refl (hears_answer z.life.stage (message_of body) (no_result (is_initializing z.life.stage))) (no_failure (is_initializing z.life.stage))
-      (subst (λ m. NamesAt (answered_id m) None) (sym says) (λ n small. refl)) refl refl refl (λ o. o) set es gs now (origins_stay settings t.origins u.origins events (took (FromServer s body) (message_of body)) os (heard_all settings s events body (message_of body) stays)) r st
+      (subst (λ m. NamesAt (answered_id m) None) (sym says) (λ n small. refl)) refl refl refl (λ o. o) set es gs now (origins_stay settings t.origins u.origins events (took (FromServer s body) (message_of body)) os (heard_all settings s events body (message_of body) stays) (λ rows. quiet_waits settings rows events (took (FromServer s body) (message_of body)) refl)) r st
 
 -- S6
 pub register_by : (settings : Settings) (t u : Tables) (events : List Event) (g s : ℕ) (x z : Start) (body method : List ℕ) (id : Id) (params : Option Json) (kept items : List Registration) → slice_get t.lasts.items g ≡ Some x → slice_get (map number_in t.lasts.items) g ≡ Some s → g < length t.lasts.items → z ≡ get_or t.lasts.items g z
@@ -142,5 +143,5 @@ module _ (settings : Settings) (t u : Tables) (base : List Event) (xs : List Out
       → Does (λ t events. Stands settings t events) (send (ToEditor e text)) base t xs u ys
   call_does ys n quiet creates none is set gs time ls os r said_so = does_send settings (ToEditor e text) base t u xs ys said_so
       (house_moves settings t u (behind base xs) (said (ToEditor e text)) (λ m. refl) (λ m. called_stay settings m e (behind base xs) text method _ ps asks_next.says quiet (none m)) refl (ap (λ v. v.items) ls)
-      (origins_stay settings t.origins u.origins (behind base xs) (said (ToEditor e text)) os (λ m. called_stays settings m e (behind base xs) (created_of settings m (behind base xs)) text method (message_of text) _ ps asks_next.says creates)) r
+      (origins_stay settings t.origins u.origins (behind base xs) (said (ToEditor e text)) os (λ m. called_stays settings m e (behind base xs) (created_of settings m (behind base xs)) text method (message_of text) _ ps asks_next.says creates) (λ rows. silent_waits settings (behind base xs) e text (message_of text) rows (ap answered_id asks_next.says))) r
       (λ h. told_house settings (behind base xs) e text t u (asked_so settings t.editors (behind base xs) e l runs h.editors u.editors text n is (ap is_request asks_next.says) set) gs time h))

@@ -50,6 +50,8 @@ use Rattle.mux_tables.proofs.Said.{told_house}
 use Rattle.mux_tables.proofs.Seated.{set_set}
 use Rattle.mux_tables.proofs.Sent.{same_set}
 use Rattle.mux_tables.proofs.Waiting.{parked_beside, parked_text, ready_parked}
+use Rattle.mux_waits.proofs.Moves.{silent_waits}
+use Rattle.event_model.specs.Requests.{answered_id}
 
 -- The editor runs, is in this group, and its message is at work
 pub record IsFacing (settings : Settings) (e g : ℕ) (events : List Event) : Type 0 where
@@ -177,7 +179,7 @@ module _ (settings : Settings) (t u : Tables) (base : List Event) (xs : List Out
     part of_lists h = part_quiet of_lists settings t.requests z before ev refl h
 
     moves : Some n ≡ sessions.next_ask (session_of t.editors e) → Stands settings u (before ++ ev ∷ [])
-    moves is = house_and_lasts settings t u before ev (λ m. refl) refl (origins_stay settings t.origins u.origins before ev os (λ m. called_stays settings m e before (created_of settings m before) text may.0 (message_of text) (integer (decimal n)) may.1 says_it (patient_creates may.0 may.3))) r
+    moves is = house_and_lasts settings t u before ev (λ m. refl) refl (origins_stay settings t.origins u.origins before ev os (λ m. called_stays settings m e before (created_of settings m before) text may.0 (message_of text) (integer (decimal n)) may.1 says_it (patient_creates may.0 may.3)) (λ rows. silent_waits settings before e text (message_of text) rows (ap answered_id says_it))) r
         (λ origins ls. asked_last settings t.requests t.origins.groups.items t.lasts.items u.lasts.items before ev g z (record z { asks = kept; parked = left }) (λ m. refl) others refl at lasts refl origins
         (λ s. record { start = one_more (start_behind z.life.group) _ _ before ev s.start; home = one_more (group_behind z.life.start) _ _ before ev s.home; own = s.own; parts = λ q. part q (s.parts q) }) ls)
         (λ h. told_house settings before e text t u (asked_so settings t.editors before e l faces.running h.editors u.editors text n is (ap is_request says_it) set) gs time h) st

@@ -1,7 +1,8 @@
 -- What the tables do when an out about an editor is said, as the code has it.
-use Rattle.std.proofs.Common.{◌≡◌, ℕ, ◌+◌, ◌<◌, Bool, true, false, List, [], ◌∷◌, ◌++◌, length, refl, ap, sym, subst, ◌∙◌, nat_eq, if◌then◌else◌, ◌&&◌}
+use Rattle.std.proofs.Common.{◌≡◌, drop, ℕ, ◌+◌, ◌<◌, Bool, true, false, List, [], ◌∷◌, ◌++◌, length, refl, ap, sym, subst, ◌∙◌, nat_eq, if◌then◌else◌, ◌&&◌}
 use Rattle.std.specs.Prelude.{Option, Some, slice_get, slice_set}
-use Rattle.std.proofs.lemmas.Bool.{ne_eqb}
+use Rattle.std.proofs.lemmas.Bool.{eqb-true, ne_eqb}
+use Rattle.std.proofs.lemmas.Slice.Eq.{bytes_eq-Decides}
 use Rattle.std.proofs.lemmas.Option.{slice_get-get_or}
 use Rattle.std.proofs.lemmas.List.{length-set}
 use Rattle.mux_history.specs.declared.out.Out.{Out}
@@ -14,8 +15,8 @@ use Rattle.event_model.specs.Phases.{Desk, desk_of, desk_behind, editors_behind,
 use Rattle.event_model.specs.Row.{send}
 use Rattle.event_model.specs.Settings.{Settings}
 use Rattle.event_model.proofs.Frames.{one_more}
-use Rattle.event_model.proofs.Places.{Same, same, other, compare, get_set_same, get_set_other}
-use Rattle.event_model.proofs.Turns.{behind_more}
+use Rattle.event_model.proofs.Places.{Same, same, other, compare, get_set_same, get_set_other, same_item}
+use Rattle.event_model.proofs.Turns.{behind_more, does_knowing}
 use Rattle.editor_session.specs.declared.session.Session.{Session}
 use Rattle.editor_session.specs.Sessions.{absent, is_gone, session_of, with_session}
 use Rattle.group_table.specs.Tables.{with_groups}
@@ -29,18 +30,30 @@ use Rattle.mux_tables.specs.Stands.{AsksStay, CountStands, EditorsStand, FullSta
 use Rattle.mux_tables.proofs.Counted.{asked_apart, asked_more, asked_quiet, counted_same, counted_set, next_more}
 use Rattle.group_laws.specs.group_rows.specs.ExitRows.{is_full}
 use Rattle.mux_tables.proofs.Fulls.{asked_full, full_more, full_same, full_set, untraced_asks, untraced_full}
-use Rattle.mux_tables.proofs.Frames.{asks_stay, groups_stand}
+use Rattle.mux_tables.proofs.Frames.{asks_stay, groups_stand, itself}
 use Rattle.mux_tables.proofs.Leaves.{closed_by}
 use Rattle.std.specs.Map.{keys_of}
 use Rattle.std.specs.List.Sorted.{IsStrictlySortedBy}
 use Rattle.std.specs.Ordering.{nat_cmp}
 use Rattle.group_laws.specs.group_rows.specs.Created.{created_of}
 use Rattle.mux_tokens.specs.Rows.{left_each}
-use Rattle.mux_tables.proofs.TokenMoves.{origins_left, origins_stay, told_tokens}
+use Rattle.mux_tables.proofs.TokenMoves.{OriginsMove, WaitsMove, origins_left, origins_stay, same_created, told_tokens}
 use Rattle.mux_tables.proofs.Moves.{house_moves}
 use Rattle.mux_tables.proofs.Named.{Goes, goes_so, goes_then, goes_told, meant_by, named_by}
 use Rattle.mux_tables.proofs.Phased.{closed_gone, phased, plain, told_plain, told_same}
 use Rattle.mux_tables.proofs.Waits.{ids_kept, meant_kept}
+use Rattle.std.specs.Prelude.{None, filter, not}
+use Rattle.event_model.specs.Requests.{answered_id}
+use Rattle.group_words.specs.Houses.{home_of}
+use Rattle.mux_waits.specs.Rows.{Becomes, BecomesAt, Rows, held_of}
+use Rattle.mux_waits.specs.Stands.{AnswersId}
+use Rattle.id_rewrite.specs.Forms.{form, same_form}
+use Rattle.group_laws.specs.group_rows.specs.Waiting.{waiting_of}
+use Rattle.mux_waits.specs.held_requests.specs.declared.request.Request.{Request}
+use Rattle.mux_waits.specs.held_requests.specs.Tables.{is_of as is_waiting_of, is_under}
+use Rattle.mux_waits.specs.numbered_rows.specs.Rows.{less as without_first}
+use Rattle.mux_waits.proofs.Moves.{answered_waits, closed_waits, first_held, silent_waits}
+use Rattle.mux_tables.proofs.HeldMoves.{home_kept}
 
 -- one out, by what it does to the tables
 pub does_send : (settings : Settings) (out : Out) (base : List Event) (t u : Tables) (xs ys : List Out) → ys ≡ xs ++ out ∷ [] → (Stands settings t (behind base xs) → Stands settings u (behind base xs ++ said out ∷ [])) → Does (λ t events. Stands settings t events) (send out) base t xs u ys
@@ -148,20 +161,73 @@ idle_stay settings s e events body rest =
     let same = asked_idle settings s e events body (message_of body) rest in
     record { asks = ap (λ (x : Asking). x.asks) same; parked = ap (λ (x : Asking). x.parked) same }
 
-pub told_does : (settings : Settings) (t : Tables) (xs ys : List Out) (base : List Event) (e : ℕ) (body : List ℕ) → Keeps e body (behind base xs) → ys ≡ xs ++ ToEditor e body ∷ [] → Does (λ t events. Stands settings t events) (send (ToEditor e body)) base t xs t ys
-told_does settings t xs ys base e body k is = does_send settings (ToEditor e body) base t t xs ys is
-    (house_moves settings t t (behind base xs) (said (ToEditor e body)) (λ n. refl) (λ s. asks_stay settings s (behind base xs) (said (ToEditor e body)) (untraced_asks (message_of body) k.1)) refl refl (origins_stay settings t.origins t.origins (behind base xs) (said (ToEditor e body)) refl (λ s. told_tokens settings s e (behind base xs) (created_of settings s (behind base xs)) body (message_of body) (untraced_asks (message_of body) k.1))) refl (λ h. told_house settings (behind base xs) e body t t (kept_editors settings (behind base xs) e body t.editors k h.editors) refl refl h))
+pub told_does : (settings : Settings) (t : Tables) (xs ys : List Out) (base : List Event) (e : ℕ) (body : List ℕ) → Keeps e body (behind base xs) → answered_id (message_of body) ≡ None → ys ≡ xs ++ ToEditor e body ∷ [] → Does (λ t events. Stands settings t events) (send (ToEditor e body)) base t xs t ys
+told_does settings t xs ys base e body k none is = does_send settings (ToEditor e body) base t t xs ys is
+    (house_moves settings t t (behind base xs) (said (ToEditor e body)) (λ n. refl) (λ s. asks_stay settings s (behind base xs) (said (ToEditor e body)) (untraced_asks (message_of body) k.1)) refl refl (origins_stay settings t.origins t.origins (behind base xs) (said (ToEditor e body)) refl (λ s. told_tokens settings s e (behind base xs) (created_of settings s (behind base xs)) body (message_of body) (untraced_asks (message_of body) k.1)) (λ rows. silent_waits settings (behind base xs) e body (message_of body) rows none)) refl (λ h. told_house settings (behind base xs) e body t t (kept_editors settings (behind base xs) e body t.editors k h.editors) refl refl h))
+
+-- an answer changes nothing of what is kept of the starts, but what waits
+answered_origins : (settings : Settings) (t u : Tables) (events : List Event) (e : ℕ) (body : List ℕ) → u.origins.groups ≡ t.origins.groups → u.origins.stopping ≡ t.origins.stopping → u.origins.created ≡ t.origins.created → is_request (message_of body) ≡ false → WaitsMove settings t.origins u.origins events (said (ToEditor e body))
+    → OriginsMove settings t.origins u.origins events (said (ToEditor e body))
+answered_origins settings t u events e body og sk cr quiet waits = record {
+  groups = og;
+  stopping = sk;
+  created = same_created settings t u events (said (ToEditor e body)) cr (λ s. told_tokens settings s e events (created_of settings s events) body (message_of body) quiet);
+  waiting = waits;
+}
+
+-- the request under this id is answered
+pub answer_waits : (settings : Settings) (t u : Tables) (events : List Event) (e : ℕ) (id body : List ℕ) (home : Option ℕ) → AnswersId id body → home_of settings e events ≡ home → BecomesAt home (without_first (is_under e id)) t.origins.waiting u.origins.waiting → WaitsMove settings t.origins u.origins events (said (ToEditor e body))
+answer_waits settings t u events e id body home a own is = answered_waits settings events e body (message_of body) id a.name a.is a.says t.origins.waiting u.origins.waiting (subst (λ o. BecomesAt o (without_first (is_under e id)) t.origins.waiting u.origins.waiting) (sym own) is)
+
+pub answer_does : (settings : Settings) (t u : Tables) (xs ys : List Out) (base : List Event) (e : ℕ) (id body : List ℕ) (home : Option ℕ) → Keeps e body (behind base xs) → AnswersId id body → (Stands settings t (behind base xs) → home_of settings e (behind base xs) ≡ home)
+    → BecomesAt home (without_first (is_under e id)) t.origins.waiting u.origins.waiting → u.editors ≡ t.editors → u.groups ≡ t.groups → u.course ≡ t.course → u.lasts ≡ t.lasts → u.origins.groups ≡ t.origins.groups → u.origins.stopping ≡ t.origins.stopping → u.origins.created ≡ t.origins.created → u.requests ≡ t.requests
+    → ys ≡ xs ++ ToEditor e body ∷ [] → Does (λ t events. Stands settings t events) (send (ToEditor e body)) base t xs u ys
+answer_does settings t u xs ys base e id body home k a own waits es gs now ls og sk cr r is = does_send settings (ToEditor e body) base t u xs ys is (λ st.
+    house_moves settings t u (behind base xs) (said (ToEditor e body)) (λ n. refl) (λ s. asks_stay settings s (behind base xs) (said (ToEditor e body)) (untraced_asks (message_of body) k.1)) refl (ap (λ v. v.items) ls)
+    (answered_origins settings t u (behind base xs) e body og sk cr (untraced_asks (message_of body) k.1) (answer_waits settings t u (behind base xs) e id body home a (own st) waits)) r
+    (λ h. told_house settings (behind base xs) e body t u (subst (λ z. EditorsStand settings z (behind base xs ++ said (ToEditor e body) ∷ [])) (sym es) (kept_editors settings (behind base xs) e body t.editors k h.editors)) gs now h) st)
+
+-- so is the one that waits longest
+first_less : (r : Request) (rs : List Request) → slice_get rs 0 ≡ Some r → drop 1 rs ≡ without_first (is_under r.editor r.id) rs
+first_less r [] h = refl
+first_less r (q ∷ rs) h = sym (ap (λ b. if b then rs else q ∷ without_first (is_under r.editor r.id) rs) under)
+  where
+    own : q ≡ r
+    own = same_item h
+
+    alike : same_form r.id r.id ≡ true
+    alike = (bytes_eq-Decides (form r.id) (form r.id)).1 refl
+
+    under : is_under r.editor r.id q ≡ true
+    under = subst (λ (w : Request). is_under r.editor r.id w ≡ true) (sym own) (rw (itself r.editor) alike)
+
+first_becomes : (g : ℕ) (r : Request) (old new : Rows) → Becomes g (drop 1) old new → slice_get (held_of g old) 0 ≡ Some r → Becomes g (without_first (is_under r.editor r.id)) old new
+first_becomes g r old new is first n = is n ∙ go (nat_eq g n) refl
+  where
+    go : (b : Bool) → nat_eq g n ≡ b → (if b then drop 1 (held_of n old) else held_of n old) ≡ (if b then without_first (is_under r.editor r.id) (held_of n old) else held_of n old)
+    go true here = first_less r (held_of n old) (ap (λ k. slice_get (held_of k old) 0) (sym (eqb-true g n here)) ∙ first)
+    go false off = refl
+
+pub first_does : (settings : Settings) (t u : Tables) (xs ys : List Out) (base : List Event) (g e : ℕ) (body : List ℕ) (r : Request) → slice_get (waiting_of settings g (behind base xs)) 0 ≡ Some r → r.editor ≡ e → Keeps e body (behind base xs) → AnswersId r.id body
+    → Becomes g (drop 1) t.origins.waiting u.origins.waiting → u.editors ≡ t.editors → u.groups ≡ t.groups → u.course ≡ t.course → u.lasts ≡ t.lasts → u.origins.groups ≡ t.origins.groups → u.origins.stopping ≡ t.origins.stopping → u.origins.created ≡ t.origins.created → u.requests ≡ t.requests
+    → ys ≡ xs ++ ToEditor e body ∷ [] → Does (λ t events. Stands settings t events) (send (ToEditor e body)) base t xs u ys
+first_does settings t u xs ys base g e body r first mine k a waits es gs now ls og sk cr rq is = does_knowing (λ st.
+    let held = first_held settings t.origins.waiting g (behind base xs) r st.waiting first in
+    let here = first_becomes g r t.origins.waiting u.origins.waiting waits (ap (λ rs. slice_get rs 0) (st.waiting g).same ∙ first) in
+    answer_does settings t u xs ys base e r.id body (Some g) k a (λ _. ap (λ n. home_of settings n (behind base xs)) (sym mine) ∙ held.home)
+    (subst (λ n. Becomes g (without_first (is_under n r.id)) t.origins.waiting u.origins.waiting) mine here) es gs now ls og sk cr rq is)
 
 pub welcome_does : (settings : Settings) (t u : Tables) (xs ys : List Out) (base : List Event) (e : ℕ) (body : List ℕ) (p : Phase) → e < length t.editors → (desk_of e (behind base xs ++ said (ToEditor e body) ∷ [])).phase ≡ p → is_traced (message_of body) ≡ false → u.editors ≡ with_session t.editors e (phased t.editors e p)
-    → u.groups ≡ t.groups → u.course ≡ t.course → u.lasts ≡ t.lasts → u.origins ≡ t.origins → u.requests ≡ t.requests → ys ≡ xs ++ ToEditor e body ∷ [] → Does (λ t events. Stands settings t events) (send (ToEditor e body)) base t xs u ys
-welcome_does settings t u xs ys base e body p l k q es gs now ls os r is = does_send settings (ToEditor e body) base t u xs ys is
-    (house_moves settings t u (behind base xs) (said (ToEditor e body)) (λ n. refl) (λ s. asks_stay settings s (behind base xs) (said (ToEditor e body)) (untraced_asks (message_of body) q)) refl (ap (λ v. v.items) ls) (origins_stay settings t.origins u.origins (behind base xs) (said (ToEditor e body)) os (λ s. told_tokens settings s e (behind base xs) (created_of settings s (behind base xs)) body (message_of body) (untraced_asks (message_of body) q))) r
-    (λ h. told_house settings (behind base xs) e body t u (subst (λ z. EditorsStand settings z (behind base xs ++ said (ToEditor e body) ∷ [])) (sym (es ∙ told_plain settings t.editors (behind base xs) e p l h.editors body k)) (moved_editors settings (behind base xs) e body t.editors p l k q h.editors)) gs now h))
+    → u.groups ≡ t.groups → u.course ≡ t.course → u.lasts ≡ t.lasts → u.origins.groups ≡ t.origins.groups → u.origins.stopping ≡ t.origins.stopping → u.origins.created ≡ t.origins.created → (Stands settings t (behind base xs) → WaitsMove settings t.origins u.origins (behind base xs) (said (ToEditor e body))) → u.requests ≡ t.requests → ys ≡ xs ++ ToEditor e body ∷ [] → Does (λ t events. Stands settings t events) (send (ToEditor e body)) base t xs u ys
+welcome_does settings t u xs ys base e body p l k q es gs now ls og sk cr waits r is = does_send settings (ToEditor e body) base t u xs ys is (λ st.
+    house_moves settings t u (behind base xs) (said (ToEditor e body)) (λ n. refl) (λ s. asks_stay settings s (behind base xs) (said (ToEditor e body)) (untraced_asks (message_of body) q)) refl (ap (λ v. v.items) ls) (answered_origins settings t u (behind base xs) e body og sk cr (untraced_asks (message_of body) q) (waits st)) r
+    (λ h. told_house settings (behind base xs) e body t u (subst (λ z. EditorsStand settings z (behind base xs ++ said (ToEditor e body) ∷ [])) (sym (es ∙ told_plain settings t.editors (behind base xs) e p l h.editors body k)) (moved_editors settings (behind base xs) e body t.editors p l k q h.editors)) gs now h) st)
 
 pub close_does : (settings : Settings) (t u : Tables) (xs ys : List Out) (base : List Event) (e : ℕ) (mid : List Session) (before p : Phase) (home : Option ℕ) (was : Bool) → e < length t.editors
     → before ≡ (session_of t.editors e).phase → home ≡ (session_of t.editors e).group → p ≡ phase_closed before → was ≡ is_begun before
     → mid ≡ with_session t.editors e (phased t.editors e p) → u.editors ≡ mid → u.course ≡ t.course → u.lasts ≡ t.lasts → u.origins.groups ≡ t.origins.groups → u.origins.stopping ≡ t.origins.stopping → u.origins.created ≡ left_each e (keys_of t.origins.created) t.origins.created → IsStrictlySortedBy nat_cmp (keys_of t.origins.created) → u.requests ≡ t.requests
-    → u.groups ≡ with_groups (emptied home was (stays_in mid) t.course.time t.groups.groups) t.groups → ys ≡ xs ++ CloseEditor e ∷ [] → Does (λ t events. Stands settings t events) (send (CloseEditor e)) base t xs u ys
-close_does settings t u xs ys base e mid before p home was l phases homes closes begun set es now ls og sk cr sorted r gs is = does_send settings (CloseEditor e) base t u xs ys is
-    (house_moves settings t u (behind base xs) (said (CloseEditor e)) (λ n. refl) (λ n. record { asks = refl; parked = refl }) refl (ap (λ v. v.items) ls) (origins_left settings t.origins u.origins (behind base xs) (said (CloseEditor e)) e og sk cr sorted (λ s. refl)) r
-    (closed_by settings (behind base xs) e not_message t u mid before p home was l phases homes closes begun (set ∙ plain t.editors e p (ap is_gone closes ∙ (closed_gone before ∙ ap is_gone phases))) es now gs))
+    → u.groups ≡ with_groups (emptied home was (stays_in mid) t.course.time t.groups.groups) t.groups → BecomesAt home (filter (λ q. not (is_waiting_of e q))) t.origins.waiting u.origins.waiting → ys ≡ xs ++ CloseEditor e ∷ [] → Does (λ t events. Stands settings t events) (send (CloseEditor e)) base t xs u ys
+close_does settings t u xs ys base e mid before p home was l phases homes closes begun set es now ls og sk cr sorted r gs waits is = does_send settings (CloseEditor e) base t u xs ys is (λ st.
+    house_moves settings t u (behind base xs) (said (CloseEditor e)) (λ n. refl) (λ n. record { asks = refl; parked = refl }) refl (ap (λ v. v.items) ls) (origins_left settings t.origins u.origins (behind base xs) (said (CloseEditor e)) e og sk cr sorted (λ s. refl)
+    (closed_waits settings (behind base xs) e t.origins.waiting u.origins.waiting home (sym (home_kept settings t.editors (behind base xs) e home l homes st.house.editors)) waits)) r
+    (closed_by settings (behind base xs) e not_message t u mid before p home was l phases homes closes begun (set ∙ plain t.editors e p (ap is_gone closes ∙ (closed_gone before ∙ ap is_gone phases))) es now gs) st)

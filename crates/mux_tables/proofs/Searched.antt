@@ -112,8 +112,8 @@ last_same es rs = ap (λ fs. option_map (λ (f : Forwarded). f.editor) (last_or 
     ∙ (ap (option_map (λ (f : Forwarded). f.editor)) (last_mapped None (filter (tables.is_among es) rs)) ∙ editor_mapped (last_or None (filter (tables.is_among es) rs)))
 
 pub last_seen : (settings : Settings) (t : Tables) (events : List Event) (g s : ℕ) (es : List ℕ) (z : Start) (o : Option ℕ) → slice_get (map number_in t.lasts.items) g ≡ Some s → g < length t.lasts.items → z ≡ get_or t.lasts.items g z → o ≡ tables.last_editor es z.ids.requests → Stands settings t events
-    → o ≡ last_among es (forwarding_of s events).open_requests
+    → o ≡ last_among es (forwarding_of settings s events).open_requests
 last_seen settings t events g s es z o at within read is st =
     let here = read_here t.lasts.items g z within read in
     let own : z.life.start ≡ s = start_at_place t.lasts.items g s z here at in
-    is ∙ (sym (last_same es z.ids.requests) ∙ ap (last_among es) (sym ((st.lasts.each g z here).parts of_ids).open_requests ∙ ap (λ n. (forwarding_of n events).open_requests) own))
+    is ∙ (sym (last_same es z.ids.requests) ∙ ap (last_among es) (sym ((st.lasts.each g z here).parts of_ids).open_requests ∙ ap (λ n. (forwarding_of settings n events).open_requests) own))

@@ -143,8 +143,8 @@ running_so settings t events g ns s is = is ∙ (sym (runs_so t.editors g) ∙ s
 
 -- an editor's open requests
 pub requests_so : (settings : Settings) (t : Tables) (events : List Event) (g s e : ℕ) (z : Start) (ns : List ℕ) → slice_get (map number_in t.lasts.items) g ≡ Some s → g < length t.lasts.items → z ≡ get_or t.lasts.items g z → ns ≡ tables.numbers_of e z.ids.requests
-    → Stands settings t events → ns ≡ forwarded.numbers_of e (forwarding_of s events).open_requests
+    → Stands settings t events → ns ≡ forwarded.numbers_of e (forwarding_of settings s events).open_requests
 requests_so settings t events g s e z ns at within read is st =
     let here = read_here t.lasts.items g z within read in
-    subst (λ n. ns ≡ forwarded.numbers_of e (forwarding_of n events).open_requests) (start_at_place t.lasts.items g s z here at)
+    subst (λ n. ns ≡ forwarded.numbers_of e (forwarding_of settings n events).open_requests) (start_at_place t.lasts.items g s z here at)
     (is ∙ (sym (numbers_mapped e z.ids.requests) ∙ ap (forwarded.numbers_of e) (sym ((st.lasts.each g z here).parts of_ids).open_requests)))

@@ -6,7 +6,7 @@ use Rattle.std.proofs.lemmas.Slice.Eq.{bytes_eq-Decides}
 use Rattle.json_text.specs.Json.{Json}
 use Rattle.mux_history.specs.declared.out.Out.{Out}
 use Rattle.mux_history.specs.declared.out.Out.TheVariants.{ToServer, EndServer}
-use Rattle.rpc_message.specs.Message.{request, notification, not_message, Id, message_of}
+use Rattle.rpc_message.specs.Message.{Message, request, notification, not_message, Id, message_of}
 use Rattle.event_model.specs.declared.stage.Stage.{Stage}
 use Rattle.event_model.specs.declared.stage.Stage.TheVariants.{Ready, Ending, Ended}
 use Rattle.event_model.specs.Does.{Does}
@@ -36,8 +36,10 @@ use Rattle.mux_tables.proofs.IdMoves.{cancelled_ids, sent_as, sent_ids}
 use Rattle.mux_tables.proofs.Lasts.{known}
 use Rattle.mux_tables.proofs.Said.{does_send}
 use Rattle.mux_tables.proofs.Starts.{groups_kept, is_late, late_asks, late_lists, late_live, late_parked, late_shown, no_stop, part_ids, part_life, read_here, start_at_place, start_moves, still_asks, still_ids, still_life, still_lists, still_live, still_parked, still_shown, still_stop}
-use Rattle.mux_tables.proofs.TokenMoves.{same_created}
+use Rattle.mux_tables.proofs.TokenMoves.{WaitsMove, same_created, same_waits}
 use Rattle.mux_tables.proofs.Awaited.{Added, StopsMove, stop_added, stopping_less, told_stops}
+use Rattle.mux_waits.specs.Stands.{is_passed}
+use Rattle.mux_waits.proofs.Moves.{quiet_waits, told_waits}
 
 pub same_set : (xs : List Start) (g : ℕ) (z : Start) → slice_get xs g ≡ Some z → slice_set xs g z ≡ xs
 same_set [] g z h = refl
@@ -48,17 +50,17 @@ same_set (x ∷ xs) (suc g) z h = ap (λ ws. x ∷ ws) (same_set xs g z h)
 module _ (settings : Settings) (t u : Tables) (xs ys : List Out) (base : List Event) (g s start : ℕ) (z y : Start) (text : List ℕ) (at : slice_get (map number_in t.lasts.items) g ≡ Some s) (within : g < length t.lasts.items) (read : z ≡ get_or t.lasts.items g z)
     (set : u.lasts.items ≡ slice_set t.lasts.items g y) (own : y.life.start ≡ z.life.start) (group : y.life.group ≡ z.life.group) (es : u.editors ≡ t.editors) (gs : u.groups ≡ t.groups) (now : u.course ≡ t.course) (os : u.origins.groups ≡ t.origins.groups) (cr : u.origins.created ≡ t.origins.created) (r : u.requests ≡ t.requests)
     (is : start ≡ z.life.start) (said_so : ys ≡ xs ++ ToServer start text ∷ []) where
-  pub sent_does : (Stands settings t (behind base xs) → StopsMove t u (behind base xs) (said (ToServer s text))) → (Stands settings t (behind base xs) → (p : Part) → PartStands p settings t.requests z (behind base xs) → PartStands p settings t.requests y (behind base xs ++ said (ToServer z.life.start text) ∷ [])) → Does (λ t events. Stands settings t events) (send (ToServer s text)) base t xs u ys
-  sent_does stops parts =
+  pub sent_does : (Stands settings t (behind base xs) → StopsMove t u (behind base xs) (said (ToServer s text))) → WaitsMove settings t.origins u.origins (behind base xs) (said (ToServer s text)) → (Stands settings t (behind base xs) → (p : Part) → PartStands p settings t.requests z (behind base xs) → PartStands p settings t.requests y (behind base xs ++ said (ToServer z.life.start text) ∷ [])) → Does (λ t events. Stands settings t events) (send (ToServer s text)) base t xs u ys
+  sent_does stops waits parts =
       let here : z.life.start ≡ s = start_at_place t.lasts.items g s z (read_here t.lasts.items g z within read) at in
       does_send settings (ToServer s text) base t u xs ys (said_so ∙ ap (λ n. xs ++ ToServer n text ∷ []) (is ∙ here))
       (λ st. start_moves settings t u (behind base xs) (λ n. did (ToServer n text) (message_of text)) g s z y at within read set own group es now os r (λ n. refl) (λ n. refl) (λ n. refl) (λ n m. refl)
       (λ n _ h. groups_kept settings t.groups u.groups (behind base xs) (did (ToServer n text) (message_of text)) gs (groups_stand settings t.groups (behind base xs) (did (ToServer n text) (message_of text)) refl) h)
-      (λ n e. subst (λ k. StopsMove t u (behind base xs) (said (ToServer k text))) (sym e) (stops st)) (λ n e. same_created settings t u (behind base xs) (did (ToServer n text) (message_of text)) cr (λ m. refl)) (parts st) st)
+      (λ n e. subst (λ k. StopsMove t u (behind base xs) (said (ToServer k text))) (sym e) (stops st)) (λ n e. record { created = same_created settings t u (behind base xs) (did (ToServer n text) (message_of text)) cr (λ m. refl); waiting = subst (λ k. WaitsMove settings t.origins u.origins (behind base xs) (said (ToServer k text))) (sym e) waits }) (parts st) st)
 
 -- its program's end
 module _ (settings : Settings) (t u : Tables) (xs ys : List Out) (base : List Event) (g s start : ℕ) (z y : Start) (at : slice_get (map number_in t.lasts.items) g ≡ Some s) (within : g < length t.lasts.items) (read : z ≡ get_or t.lasts.items g z)
-    (set : u.lasts.items ≡ slice_set t.lasts.items g y) (own : y.life.start ≡ z.life.start) (group : y.life.group ≡ z.life.group) (es : u.editors ≡ t.editors) (gs : u.groups ≡ t.groups) (now : u.course ≡ t.course) (os : u.origins.groups ≡ t.origins.groups) (cr : u.origins.created ≡ t.origins.created) (r : u.requests ≡ t.requests)
+    (set : u.lasts.items ≡ slice_set t.lasts.items g y) (own : y.life.start ≡ z.life.start) (group : y.life.group ≡ z.life.group) (es : u.editors ≡ t.editors) (gs : u.groups ≡ t.groups) (now : u.course ≡ t.course) (os : u.origins.groups ≡ t.origins.groups) (cr : u.origins.created ≡ t.origins.created) (wt : u.origins.waiting ≡ t.origins.waiting) (r : u.requests ≡ t.requests)
     (is : start ≡ z.life.start) (said_so : ys ≡ xs ++ EndServer start ∷ []) where
   ended_with : StopsMove t u (behind base xs) (said (EndServer s)) → ((p : Part) → PartStands p settings t.requests z (behind base xs) → PartStands p settings t.requests y (behind base xs ++ said (EndServer z.life.start) ∷ [])) → Does (λ t events. Stands settings t events) (send (EndServer s)) base t xs u ys
   ended_with stops parts =
@@ -66,14 +68,22 @@ module _ (settings : Settings) (t u : Tables) (xs ys : List Out) (base : List Ev
       does_send settings (EndServer s) base t u xs ys (said_so ∙ ap (λ n. xs ++ EndServer n ∷ []) (is ∙ here))
       (λ st. start_moves settings t u (behind base xs) (λ n. did (EndServer n) not_message) g s z y at within read set own group es now os r (λ n. refl) (λ n. refl) (λ n. refl) (λ n m. refl)
       (λ n _ h. groups_kept settings t.groups u.groups (behind base xs) (did (EndServer n) not_message) gs (groups_stand settings t.groups (behind base xs) (did (EndServer n) not_message) refl) h)
-      (λ n e. subst (λ k. StopsMove t u (behind base xs) (said (EndServer k))) (sym e) stops) (λ n e. same_created settings t u (behind base xs) (did (EndServer n) not_message) cr (λ m. refl)) parts st)
+      (λ n e. subst (λ k. StopsMove t u (behind base xs) (said (EndServer k))) (sym e) stops) (λ n e. record { created = same_created settings t u (behind base xs) (did (EndServer n) not_message) cr (λ m. refl); waiting = same_waits settings t.origins u.origins (behind base xs) (did (EndServer n) not_message) wt (λ rows. quiet_waits settings rows (behind base xs) (did (EndServer n) not_message) refl) }) parts st)
+
+-- one that is no editor's request
+pub not_passed : (m : Message) → moves_ids m ≡ false → is_passed m ≡ false
+not_passed (request id method ps) h = h
+not_passed other h = refl
+
+pub told_on : (settings : Settings) (t u : Tables) (events : List Event) (s : ℕ) (text : List ℕ) → u.origins.waiting ≡ t.origins.waiting → is_passed (message_of text) ≡ false → WaitsMove settings t.origins u.origins events (said (ToServer s text))
+told_on settings t u events s text wt h = same_waits settings t.origins u.origins events (said (ToServer s text)) wt (λ rows. told_waits settings events s text (message_of text) rows h)
 
 -- one that moves no table of a start
 pub unmoved_does : (settings : Settings) (t u : Tables) (xs ys : List Out) (base : List Event) (g s start : ℕ) (z : Start) (text : List ℕ) → slice_get (map number_in t.lasts.items) g ≡ Some s → g < length t.lasts.items → z ≡ get_or t.lasts.items g z
     → requests (codes "shutdown") (message_of text) ≡ false → moves_ids (message_of text) ≡ false → (is_ready z.life.stage ≡ true → AsksStay settings z.life.start (behind base xs) (said (ToServer z.life.start text))) → u.lasts.items ≡ t.lasts.items → u.editors ≡ t.editors → u.groups ≡ t.groups → u.course ≡ t.course → u.origins ≡ t.origins → u.requests ≡ t.requests
     → start ≡ z.life.start → ys ≡ xs ++ ToServer start text ∷ [] → Does (λ t events. Stands settings t events) (send (ToServer s text)) base t xs u ys
 unmoved_does settings t u xs ys base g s start z text at within read runs counts silent ls es gs now os r is said_so =
-    sent_does settings t u xs ys base g s start z z text at within read (ls ∙ sym (same_set t.lasts.items g z (read_here t.lasts.items g z within read))) refl refl es gs now (ap (λ v. v.groups) os) (ap (λ v. v.created) os) r is said_so (λ st. told_stops t u (behind base xs) s text os runs) (λ st p h. part p h)
+    sent_does settings t u xs ys base g s start z z text at within read (ls ∙ sym (same_set t.lasts.items g z (read_here t.lasts.items g z within read))) refl refl es gs now (ap (λ v. v.groups) os) (ap (λ v. v.created) os) r is said_so (λ st. told_stops t u (behind base xs) s text (ap (λ v. v.stopping) os) runs) (told_on settings t u (behind base xs) s text (ap (λ v. v.waiting) os) (not_passed (message_of text) counts)) (λ st p h. part p h)
   where
     part : (p : Part) → PartStands p settings t.requests z (behind base xs) → PartStands p settings t.requests z (behind base xs ++ said (ToServer z.life.start text) ∷ [])
     part of_life h = part_quiet of_life settings t.requests z (behind base xs) (said (ToServer z.life.start text)) runs h
@@ -108,19 +118,19 @@ not_shutdown method h = go (bytes_eq (codes "shutdown") method) refl
 
 -- an editor's request
 pub forward_does : (settings : Settings) (t u : Tables) (xs ys : List Out) (base : List Event) (g s start e : ℕ) (z : Start) (ids : Table) (pending : Pending) (text id : List ℕ) (work partial : Option (List ℕ)) (method : List ℕ) (name : Id) (ps : Option Json) → slice_get (map number_in t.lasts.items) g ≡ Some s → g < length t.lasts.items → z ≡ get_or t.lasts.items g z
-    → message_of text ≡ request name method ps → is_own method ≡ false → Sends s e id work partial (behind base xs) → forwarded_of (record { number = z.ids.next; pending = pending }) ≡ sent_as (record { editor = e; id = id; work = work; partial = partial }) z.ids.next
+    → message_of text ≡ request name method ps → is_own method ≡ false → Sends settings s e id work partial (behind base xs) → forwarded_of (record { number = z.ids.next; pending = pending }) ≡ sent_as (record { editor = e; id = id; work = work; partial = partial }) z.ids.next
     → ids.requests ≡ z.ids.requests ++ record { number = z.ids.next; pending = pending } ∷ [] → ids.next ≡ z.ids.next + 1 → ids.limit ≡ z.ids.limit → IsInOrder ids
-    → u.lasts.items ≡ slice_set t.lasts.items g (record z { ids = ids }) → u.editors ≡ t.editors → u.groups ≡ t.groups → u.course ≡ t.course → u.origins ≡ t.origins → u.requests ≡ t.requests → start ≡ z.life.start → ys ≡ xs ++ ToServer start text ∷ []
+    → u.lasts.items ≡ slice_set t.lasts.items g (record z { ids = ids }) → u.editors ≡ t.editors → u.groups ≡ t.groups → u.course ≡ t.course → u.origins.groups ≡ t.origins.groups → u.origins.stopping ≡ t.origins.stopping → u.origins.created ≡ t.origins.created → WaitsMove settings t.origins u.origins (behind base xs) (said (ToServer s text)) → u.requests ≡ t.requests → start ≡ z.life.start → ys ≡ xs ++ ToServer start text ∷ []
     → Does (λ t events. Stands settings t events) (send (ToServer s text)) base t xs u ys
-forward_does settings t u xs ys base g s start e z ids pending text id work partial method name ps at within read says own sends kept put next limit order set es gs now os r is said_so =
+forward_does settings t u xs ys base g s start e z ids pending text id work partial method name ps at within read says own sends kept put next limit order set es gs now og sk cr waits r is said_so =
     let y : Start = record z { ids = ids } in
     let here : z.life.start ≡ s = start_at_place t.lasts.items g s z (read_here t.lasts.items g z within read) at in
-    sent_does settings t u xs ys base g s start z y text at within read set refl refl es gs now (ap (λ v. v.groups) os) (ap (λ v. v.created) os) r is said_so (λ st. told_stops t u (behind base xs) s text os (ap (requests (codes "shutdown")) says ∙ not_shutdown method own)) (λ st p h. part (subst (λ n. Sends n e id work partial (behind base xs)) (sym here) sends) p h)
+    sent_does settings t u xs ys base g s start z y text at within read set refl refl es gs now og cr r is said_so (λ st. told_stops t u (behind base xs) s text sk (ap (requests (codes "shutdown")) says ∙ not_shutdown method own)) waits (λ st p h. part (subst (λ n. Sends settings n e id work partial (behind base xs)) (sym here) sends) p h)
   where
-    part : Sends z.life.start e id work partial (behind base xs) → (p : Part) → PartStands p settings t.requests z (behind base xs) → PartStands p settings t.requests (record z { ids = ids }) (behind base xs ++ said (ToServer z.life.start text) ∷ [])
+    part : Sends settings z.life.start e id work partial (behind base xs) → (p : Part) → PartStands p settings t.requests z (behind base xs) → PartStands p settings t.requests (record z { ids = ids }) (behind base xs ++ said (ToServer z.life.start text) ∷ [])
     part sends of_life h = still_life settings t.requests (behind base xs) (said (ToServer z.life.start text)) z (record z { ids = ids }) refl refl (ap (requests (codes "shutdown")) says ∙ not_shutdown method own) h
     part sends of_ids h = part_ids settings t.requests (behind base xs) (said (ToServer z.life.start text)) z (record z { ids = ids }) refl
-        (sent_ids t.requests z.life.start z.ids ids (forwarding_of z.life.start (behind base xs)) text method (message_of text) name ps (record { number = z.ids.next; pending = pending }) (record { editor = e; id = id; work = work; partial = partial }) says own sends kept put next limit order) h
+        (sent_ids settings (behind base xs) t.requests z.life.start z.ids ids (forwarding_of settings z.life.start (behind base xs)) text method (message_of text) name ps (record { number = z.ids.next; pending = pending }) (record { editor = e; id = id; work = work; partial = partial }) says own sends kept put next limit order) h
     part sends of_shown h = still_shown settings t.requests (behind base xs) (said (ToServer z.life.start text)) z (record z { ids = ids }) refl refl refl h
     part sends of_stop h = still_stop settings t.requests (behind base xs) (said (ToServer z.life.start text)) z (record z { ids = ids }) refl (ap (requests (codes "shutdown")) says ∙ not_shutdown method own) h
     part sends of_asks h = still_asks settings t.requests (behind base xs) (said (ToServer z.life.start text)) z (record z { ids = ids }) refl refl (ap is_answer says) h
@@ -135,12 +145,12 @@ pub cancel_does : (settings : Settings) (t u : Tables) (xs ys : List Out) (base 
     → u.lasts.items ≡ slice_set t.lasts.items g (record z { ids = ids }) → u.editors ≡ t.editors → u.groups ≡ t.groups → u.course ≡ t.course → u.origins ≡ t.origins → u.requests ≡ t.requests → start ≡ z.life.start → ys ≡ xs ++ ToServer start text ∷ []
     → Does (λ t events. Stands settings t events) (send (ToServer s text)) base t xs u ys
 cancel_does settings t u xs ys base g s start n z ids text method ps at within read says cancels written put next limit order set es gs now os r is said_so =
-    sent_does settings t u xs ys base g s start z (record z { ids = ids }) text at within read set refl refl es gs now (ap (λ v. v.groups) os) (ap (λ v. v.created) os) r is said_so (λ st. told_stops t u (behind base xs) s text os (ap (requests (codes "shutdown")) says)) (λ st p h. part st p h)
+    sent_does settings t u xs ys base g s start z (record z { ids = ids }) text at within read set refl refl es gs now (ap (λ v. v.groups) os) (ap (λ v. v.created) os) r is said_so (λ st. told_stops t u (behind base xs) s text (ap (λ v. v.stopping) os) (ap (requests (codes "shutdown")) says)) (told_on settings t u (behind base xs) s text (ap (λ v. v.waiting) os) (ap is_passed says)) (λ st p h. part st p h)
   where
     part : Stands settings t (behind base xs) → (p : Part) → PartStands p settings t.requests z (behind base xs) → PartStands p settings t.requests (record z { ids = ids }) (behind base xs ++ said (ToServer z.life.start text) ∷ [])
     part st of_life h = still_life settings t.requests (behind base xs) (said (ToServer z.life.start text)) z (record z { ids = ids }) refl refl (ap (requests (codes "shutdown")) says) h
     part st of_ids h = part_ids settings t.requests (behind base xs) (said (ToServer z.life.start text)) z (record z { ids = ids }) refl
-        (cancelled_ids t.requests z.life.start z.ids ids (forwarding_of z.life.start (behind base xs)) text method (message_of text) ps n st.range says cancels written put next limit order) h
+        (cancelled_ids settings (behind base xs) t.requests z.life.start z.ids ids (forwarding_of settings z.life.start (behind base xs)) text method (message_of text) ps n st.range says cancels written put next limit order) h
     part st of_shown h = still_shown settings t.requests (behind base xs) (said (ToServer z.life.start text)) z (record z { ids = ids }) refl refl refl h
     part st of_stop h = still_stop settings t.requests (behind base xs) (said (ToServer z.life.start text)) z (record z { ids = ids }) refl (ap (requests (codes "shutdown")) says) h
     part st of_asks h = still_asks settings t.requests (behind base xs) (said (ToServer z.life.start text)) z (record z { ids = ids }) refl refl (ap is_answer says) h
@@ -155,10 +165,10 @@ Adds s t u = (low high : List ℕ) → t.origins.stopping.items ≡ low ++ high 
 -- the request `shutdown`
 pub shut_does : (settings : Settings) (t u : Tables) (xs ys : List Out) (base : List Event) (g s start n : ℕ) (z : Start) (life : Standing) (text : List ℕ) (name : Id) (ps : Option Json) → slice_get (map number_in t.lasts.items) g ≡ Some s → g < length t.lasts.items → z ≡ get_or t.lasts.items g z → z.life.stage ≡ Ready
     → message_of text ≡ request name (codes "shutdown") ps → life ≡ stopped n t.course.time z.life → Adds start t u
-    → u.lasts.items ≡ slice_set t.lasts.items g (record z { life = life; shown = None }) → u.editors ≡ t.editors → u.groups ≡ t.groups → u.course ≡ t.course → u.origins.groups ≡ t.origins.groups → u.origins.created ≡ t.origins.created → u.requests ≡ t.requests → start ≡ life.start → ys ≡ xs ++ ToServer start text ∷ []
+    → u.lasts.items ≡ slice_set t.lasts.items g (record z { life = life; shown = None }) → u.editors ≡ t.editors → u.groups ≡ t.groups → u.course ≡ t.course → u.origins.groups ≡ t.origins.groups → u.origins.created ≡ t.origins.created → u.origins.waiting ≡ t.origins.waiting → u.requests ≡ t.requests → start ≡ life.start → ys ≡ xs ++ ToServer start text ∷ []
     → Does (λ t events. Stands settings t events) (send (ToServer s text)) base t xs u ys
-shut_does settings t u xs ys base g s start n z life text name ps at within read ready says stops adds set es gs now os cr r is said_so =
-    sent_does settings t u xs ys base g s start z y text at within read set own (ap (λ (l : Standing). l.group) stops) es gs now os cr r (is ∙ own) said_so awaited (λ st p h. part st p h)
+shut_does settings t u xs ys base g s start n z life text name ps at within read ready says stops adds set es gs now os cr wt r is said_so =
+    sent_does settings t u xs ys base g s start z y text at within read set own (ap (λ (l : Standing). l.group) stops) es gs now os cr r (is ∙ own) said_so awaited (told_on settings t u (behind base xs) s text wt (ap is_passed says)) (λ st p h. part st p h)
   where
     y : Start
     y = record z { life = life; shown = None }
@@ -214,11 +224,11 @@ ending_over s l = ap (λ b. is_stopping (if b then record { stage = stage_ending
 
 -- its program is to be ended
 pub end_does : (settings : Settings) (t u : Tables) (xs ys : List Out) (base : List Event) (g s start : ℕ) (z : Start) (life : Standing) → slice_get (map number_in t.lasts.items) g ≡ Some s → g < length t.lasts.items → z ≡ get_or t.lasts.items g z → (z.life.stage ≡ Ended → ⊥) → life ≡ moved Ending z.life → u.origins.stopping.items ≡ unstopped start t.origins.stopping.items
-    → u.lasts.items ≡ slice_set t.lasts.items g (record z { life = life; shown = None }) → u.editors ≡ t.editors → u.groups ≡ t.groups → u.course ≡ t.course → u.origins.groups ≡ t.origins.groups → u.origins.created ≡ t.origins.created → u.requests ≡ t.requests → start ≡ life.start → ys ≡ xs ++ EndServer start ∷ []
+    → u.lasts.items ≡ slice_set t.lasts.items g (record z { life = life; shown = None }) → u.editors ≡ t.editors → u.groups ≡ t.groups → u.course ≡ t.course → u.origins.groups ≡ t.origins.groups → u.origins.created ≡ t.origins.created → u.origins.waiting ≡ t.origins.waiting → u.requests ≡ t.requests → start ≡ life.start → ys ≡ xs ++ EndServer start ∷ []
     → Does (λ t events. Stands settings t events) (send (EndServer s)) base t xs u ys
-end_does settings t u xs ys base g s start z life at within read runs ends ceases set es gs now os cr r is said_so =
+end_does settings t u xs ys base g s start z life at within read runs ends ceases set es gs now os cr wt r is said_so =
     let own : life.start ≡ z.life.start = ap (λ (l : Standing). l.start) ends in
-    ended_with settings t u xs ys base g s start z (record z { life = life; shown = None }) at within read set own (ap (λ (l : Standing). l.group) ends) es gs now os cr r (is ∙ own) said_so (over (is ∙ own ∙ start_at_place t.lasts.items g s z (read_here t.lasts.items g z within read) at)) (λ p h. part own p h)
+    ended_with settings t u xs ys base g s start z (record z { life = life; shown = None }) at within read set own (ap (λ (l : Standing). l.group) ends) es gs now os cr wt r (is ∙ own) said_so (over (is ∙ own ∙ start_at_place t.lasts.items g s z (read_here t.lasts.items g z within read) at)) (λ p h. part own p h)
   where
     over : start ≡ s → StopsMove t u (behind base xs) (said (EndServer s))
     over same h = stopping_less (behind base xs) (said (EndServer s)) s refl (λ m. refl) (ending_over s (life_of s (behind base xs)))

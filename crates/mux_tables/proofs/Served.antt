@@ -24,7 +24,7 @@ use Rattle.group_laws.specs.group_rows.specs.Ticks.{is_stopping, stop_of}
 use Rattle.mux_tables.specs.declared.tables.Start.{Start}
 use Rattle.mux_tables.specs.declared.tables.Tables.{Tables}
 use Rattle.ask_route.specs.declared.ask.Ask as route
-use Rattle.group_laws.specs.group_rows.specs.Forwarded.{Forwarding, forwarding_behind, forwarding_of, is_under}
+use Rattle.group_laws.specs.group_rows.specs.Forwarded.{Forwarding, forwarding_next, forwarding_of, is_under}
 use Rattle.group_laws.specs.group_rows.specs.Asks.{Ask, asks_of, parked_of}
 use Rattle.diagnostics_route.specs.declared.last_list.LastList.{LastList}
 use Rattle.group_laws.specs.group_rows.specs.Lists.{lists_of}
@@ -42,11 +42,13 @@ use Rattle.mux_tokens.proofs.Rows.{num_back}
 use Rattle.mux_tokens.proofs.Standing.{over_moves as ended_tokens}
 use Rattle.mux_tokens.proofs.Stays.{passes_by, passes_stay}
 use Rattle.group_laws.specs.group_rows.specs.Created.{Created, created_next, created_of, no_created}
-use Rattle.mux_tables.proofs.TokenMoves.{CreatedMove, OriginsMove, first_error_tokens, first_result_tokens, origins_stay, same_created}
+use Rattle.mux_tables.proofs.TokenMoves.{CreatedMove, KeptMove, OriginsMove, first_error_tokens, first_result_tokens, origins_stay, same_created, same_waits}
 use Rattle.mux_tables.proofs.Publishing.{begun_lists, error_tells, first_lists, lists_by_stay, result_tells}
 use Rattle.mux_tables.proofs.Registering.{begun_live, first_live, live_by_stay}
 use Rattle.mux_tables.proofs.Starts.{groups_kept, is_late, late_asks, late_lists, late_live, late_parked, late_shown, no_stop, not_refused, part_ids, part_life, part_shown, read_back, read_here, start_at_place, start_moves, still_asks, still_ids, still_lists, still_live, still_parked, still_shown, still_stop}
 use Rattle.mux_tables.proofs.Awaited.{StopsMove, hears_same, same_either, started_same, stopping_less, stops_kept}
+use Rattle.mux_waits.proofs.Moves.{quiet_waits}
+use Rattle.group_laws.specs.group_rows.proofs.Frames.{touches_waiting}
 
 -- the program runs
 pub begun_start : (g : Stage) (l : Standing) → (begun_at g l).start ≡ l.start
@@ -93,7 +95,7 @@ started_moves settings t u events g s z life at within read is set es gs now os 
     start_moves settings t u events (λ n. took (Started n) not_message) g s z y at within read set own (ap (λ (l : Standing). l.group) is ∙ begun_group z.life.stage z.life) es now (ap (λ v. v.groups) os) r (λ n. refl) (λ n. refl) (λ n. refl) (λ n m. refl)
     (λ n _ h. groups_kept settings t.groups u.groups events (took (Started n) not_message) gs (groups_stand settings t.groups events (took (Started n) not_message) refl) h)
     (λ n _. stops_kept t u events (took (Started n) not_message) (ap (λ v. v.stopping) os) refl
-    (λ m. same_either (nat_eq n m) (record { stage = stage_started (life_of m events).stage; started = true }) (life_of m events) (started_same (life_of m events).stage))) (λ n _. same_created settings t u events (took (Started n) not_message) (ap (λ v. v.created) os) (λ m. refl)) (part own)
+    (λ m. same_either (nat_eq n m) (record { stage = stage_started (life_of m events).stage; started = true }) (life_of m events) (started_same (life_of m events).stage))) (λ n _. record { created = same_created settings t u events (took (Started n) not_message) (ap (λ v. v.created) os) (λ m. refl); waiting = same_waits settings t.origins u.origins events (took (Started n) not_message) (ap (λ v. v.waiting) os) (λ rows. quiet_waits settings rows events (took (Started n) not_message) refl) }) (part own)
   where
     part : life.start ≡ z.life.start → (p : Part) → PartStands p settings t.requests z events → PartStands p settings t.requests (record z { life = life; started = true }) (events ++ took (Started z.life.start) not_message ∷ [])
     part own of_life h = part_life settings t.requests events (took (Started z.life.start) not_message) z (record z { life = life; started = true }) own
@@ -117,10 +119,10 @@ started_moves settings t u events g s z life at within read is set es gs now os 
 same_table : (limit : ℕ) (x : Forwarding) (t u : Table) → u.requests ≡ t.requests → u.next ≡ t.next → u.limit ≡ t.limit → (IsInOrder t → IsInOrder u) → IdsAt limit x t → IdsAt limit x u
 same_table limit x t u r n l o i = record { next = i.next ∙ sym n; open_requests = i.open_requests ∙ ap (map _) (sym r); ends = l ∙ i.ends; order = o i.order }
 
-answered_any : (limit s : ℕ) (t u : Table) (x : Forwarding) (body : List ℕ) (m : Message) (n : Option ℕ) → limit < 2 ^ 32 → NamesAt (answered_id m) n → MatchOption n (u.requests ≡ t.requests) (λ k. u.requests ≡ without k t.requests) → u.next ≡ t.next → u.limit ≡ t.limit → (IsInOrder t → IsInOrder u)
-    → IdsAt limit x t → IdsAt limit (forwarding_behind s x (took (FromServer s body) m)) u
-answered_any limit s t u x body m None h named taken next same order i = same_table limit (forwarding_behind s x (took (FromServer s body) m)) t u taken next same order (unanswered_ids limit s t x body m h named i)
-answered_any limit s t u x body m (Some k) h named taken next same order i = answered_ids limit s t u x body m k h named taken next same (order i.order) i.order i
+answered_any : (settings : Settings) (before : List Event) (limit s : ℕ) (t u : Table) (x : Forwarding) (body : List ℕ) (m : Message) (n : Option ℕ) → limit < 2 ^ 32 → NamesAt (answered_id m) n → MatchOption n (u.requests ≡ t.requests) (λ k. u.requests ≡ without k t.requests) → u.next ≡ t.next → u.limit ≡ t.limit → (IsInOrder t → IsInOrder u)
+    → IdsAt limit x t → IdsAt limit (forwarding_next settings s before x (took (FromServer s body) m)) u
+answered_any settings before limit s t u x body m None h named taken next same order i = same_table limit (forwarding_next settings s before x (took (FromServer s body) m)) t u taken next same order (unanswered_ids settings before limit s t x body m h named i)
+answered_any settings before limit s t u x body m (Some k) h named taken next same order i = answered_ids settings before limit s t u x body m k h named taken next same (order i.order) i.order i
 
 pub hears_answer : (g : Stage) (m : Message) → (is_first_result m && is_initializing g) ≡ false → stage_hears g m ≡ g
 hears_answer Initializing m h = rw (left (is_first_result m) h) refl
@@ -151,7 +153,7 @@ module _ (settings : Settings) (t u : Tables) (events : List Event) (g s : ℕ) 
   pub server_moves : Stands settings t events → Stands settings u (events ++ took (FromServer s body) (message_of body) ∷ [])
   server_moves st = start_moves settings t u events (λ k. took (FromServer k body) (message_of body)) g s z y at within read set own group es now os.groups r (λ k. refl) (λ k. refl) (λ k. refl) (λ k m. refl)
       (λ k e h. groups_kept settings t.groups u.groups events (took (FromServer k body) (message_of body)) gs (not_refused settings t.groups events k body (message_of body) (ap (λ a. is_first_error (message_of body) && is_initializing a) (stage_seen settings t events g k z st here (e ∙ sym (start_at_place t.lasts.items g s z here at))) ∙ refuses)) h)
-      (λ k e. heard_stops t u events k body os.stopping) (λ k e. subst (λ j. CreatedMove settings t u events (took (FromServer j body) (message_of body))) (sym e) os.created) (part st) st
+      (λ k e. heard_stops t u events k body os.stopping) (λ k e. subst (λ j. KeptMove settings t u events (took (FromServer j body) (message_of body))) (sym e) (record { created = os.created; waiting = os.waiting })) (part st) st
     where
       y : Start
       y = record z { life = life; ids = ids; shown = shown; parked = parked; live = live; lists = lists }
@@ -162,7 +164,7 @@ module _ (settings : Settings) (t u : Tables) (events : List Event) (g s : ℕ) 
       part : Stands settings t events → (p : Part) → PartStands p settings t.requests z events → PartStands p settings t.requests y (events ++ took (FromServer z.life.start body) (message_of body) ∷ [])
       part st of_life h = part_life settings t.requests events (took (FromServer z.life.start body) (message_of body)) z y own (rw (itself z.life.start) (ap (λ k. record { stage = k; started = z.started }) hears)) h
       part st of_ids h = part_ids settings t.requests events (took (FromServer z.life.start body) (message_of body)) z y own
-          (answered_any t.requests z.life.start z.ids ids (forwarding_of z.life.start events) body (message_of body) n st.range named taken next limit order) h
+          (answered_any settings events t.requests z.life.start z.ids ids (forwarding_of settings z.life.start events) body (message_of body) n st.range named taken next limit order) h
       part st of_shown h = part_shown settings t.requests events (took (FromServer z.life.start body) (message_of body)) z y own gives h
       part st of_stop h = subst (λ k. StopAt life.stage life.stopping (stop_of k (events ++ took (FromServer z.life.start body) (message_of body) ∷ []))) (sym own)
           (subst (λ o. StopAt life.stage life.stopping o) (sym (stop_more z.life.start events (took (FromServer z.life.start body) (message_of body)))) (awaits h))
@@ -258,13 +260,13 @@ result_moves settings t u events g s z body n life ids shown at within read stag
     (λ st h. first_lists z.life.stage life z.life (lists_of z.life.start (events ++ took (FromServer z.life.start body) (message_of body) ∷ [])) z.lists is stage
     (part_quiet of_lists settings t.requests z events (took (FromServer z.life.start body) (message_of body)) (result_tells (message_of body) first) h))
     (ap (λ (l : Standing). l.start) is) (ap (λ (l : Standing). l.group) is)
-    (rw (stage, first) refl ∙ ap (λ (l : Standing). l.stage) (sym is)) (no_error (message_of body) first (is_initializing z.life.stage)) named taken next limit order set es gs now (origins_stay settings t.origins u.origins events (took (FromServer s body) (message_of body)) os (λ m. first_result_tokens settings m s events (created_of settings m events) body (message_of body) first)) r
+    (rw (stage, first) refl ∙ ap (λ (l : Standing). l.stage) (sym is)) (no_error (message_of body) first (is_initializing z.life.stage)) named taken next limit order set es gs now (origins_stay settings t.origins u.origins events (took (FromServer s body) (message_of body)) os (λ m. first_result_tokens settings m s events (created_of settings m events) body (message_of body) first) (λ rows. quiet_waits settings rows events (took (FromServer s body) (message_of body)) refl)) r
 
 pub answer_found : (settings : Settings) (t : Tables) (events : List Event) (g s k : ℕ) (z : Start) (o : Option Pending) → slice_get (map number_in t.lasts.items) g ≡ Some s → g < length t.lasts.items → z ≡ get_or t.lasts.items g z → o ≡ pending_of k z.ids.requests
-    → Stands settings t events → find (is_under k) (forwarding_of s events).open_requests ≡ option_map (forwarded_as k) o
+    → Stands settings t events → find (is_under k) (forwarding_of settings s events).open_requests ≡ option_map (forwarded_as k) o
 answer_found settings t events g s k z o at within read is st =
     let here = read_here t.lasts.items g z within read in
-    subst (λ n. find (is_under k) (forwarding_of n events).open_requests ≡ option_map (forwarded_as k) o) (start_at_place t.lasts.items g s z here at) (found_seen t.requests z.life.start z.ids events k o is ((st.lasts.each g z here).parts of_ids))
+    subst (λ n. find (is_under k) (forwarding_of settings n events).open_requests ≡ option_map (forwarded_as k) o) (start_at_place t.lasts.items g s z here at) (found_seen settings t.requests z.life.start z.ids events k o is ((st.lasts.each g z here).parts of_ids))
 
 pub found_of : (n : Option ℕ) (k : ℕ) (o : Option Pending) (rs : List Numbered) → n ≡ Some k → MatchOption n (o ≡ None) (λ j. o ≡ pending_of j rs) → o ≡ pending_of k rs
 found_of n k o rs is h = subst (λ (m : Option ℕ). MatchOption m (o ≡ None) (λ j. o ≡ pending_of j rs)) is h
@@ -278,7 +280,7 @@ pub refusal_moves : (settings : Settings) (t u : Tables) (events : List Event) (
 refusal_moves settings t u events g s z body n ids at within read stage refuses named taken next limit order set es gs now os r st =
     start_moves settings t u events (λ k. took (FromServer k body) (message_of body)) g s z y at within read set refl refl es now (ap (λ v. v.groups) os) r (λ k. refl) (λ k. refl) (λ k. refl) (λ k m. refl)
     (λ k e h. refused_groups settings events k z.life.group body (message_of body) t.groups u.groups refuses (ap is_initializing (stage_seen settings t events g k z st here (e ∙ sym is)) ∙ ap is_initializing stage) (subst (λ m. group_of m events ≡ Some z.life.group) (is ∙ sym e) (st.lasts.each g z here).home)
-    (ap (λ w. w.limit) gs) (ap (λ w. w.idle) gs) (ap (λ w. w.groups) gs) h) (λ k e. heard_stops t u events k body (ap (λ v. v.stopping) os)) (λ k e. same_created settings t u events (took (FromServer k body) (message_of body)) (ap (λ v. v.created) os) (λ m. first_error_tokens settings m k events (created_of settings m events) body (message_of body) refuses)) part st
+    (ap (λ w. w.limit) gs) (ap (λ w. w.idle) gs) (ap (λ w. w.groups) gs) h) (λ k e. heard_stops t u events k body (ap (λ v. v.stopping) os)) (λ k e. record { created = same_created settings t u events (took (FromServer k body) (message_of body)) (ap (λ v. v.created) os) (λ m. first_error_tokens settings m k events (created_of settings m events) body (message_of body) refuses); waiting = same_waits settings t.origins u.origins events (took (FromServer k body) (message_of body)) (ap (λ v. v.waiting) os) (λ rows. quiet_waits settings rows events (took (FromServer k body) (message_of body)) refl) }) part st
   where
     y : Start
     y = record z { ids = ids }
@@ -300,7 +302,7 @@ refusal_moves settings t u events g s z body n ids at within read stage refuses 
     part : (p : Part) → PartStands p settings t.requests z events → PartStands p settings t.requests y (events ++ took (FromServer z.life.start body) (message_of body) ∷ [])
     part of_life h = part_life settings t.requests events (took (FromServer z.life.start body) (message_of body)) z y refl (rw (itself z.life.start) (ap (λ k. record { stage = k; started = z.started }) (hears_answer z.life.stage (message_of body) (no_result (message_of body) refuses (is_initializing z.life.stage))))) h
     part of_ids h = part_ids settings t.requests events (took (FromServer z.life.start body) (message_of body)) z y refl
-        (answered_any t.requests z.life.start z.ids ids (forwarding_of z.life.start events) body (message_of body) n st.range named taken next limit order) h
+        (answered_any settings events t.requests z.life.start z.ids ids (forwarding_of settings z.life.start events) body (message_of body) n st.range named taken next limit order) h
     part of_shown h = still_shown settings t.requests events (took (FromServer z.life.start body) (message_of body)) z y refl refl (no_first (is_first_result (message_of body)) (no_result (message_of body) refuses true)) h
     part of_stop h = still_stop settings t.requests events (took (FromServer z.life.start body) (message_of body)) z y refl refl h
     part of_asks h = still_asks settings t.requests events (took (FromServer z.life.start body) (message_of body)) z y refl refl refl h
@@ -313,15 +315,15 @@ module _ (settings : Settings) (t u : Tables) (events : List Event) (g s : ℕ) 
     (one : (n m : ℕ) → names_start m (ev n) ≡ nat_eq n m) (editor : (n : ℕ) → names_editor (ev n) ≡ false) (time : (n : ℕ) → ticks (ev n) ≡ false) (spawn : (n : ℕ) → spawns (ev n) ≡ false)
     (loses : (n : ℕ) (h : House) → groups_next settings events h (ev n) ≡ groups_lose settings events n h)
     (over : (n : ℕ) (l : Life) → life_behind n l (ev n) ≡ record { stage = Ended; started = l.started })
-    (clears : (n : ℕ) (f : Forwarding) → IdsAt t.requests (forwarding_behind n f (ev n)) x.start.ids)
-    (drops : (n : ℕ) (w : Created) → created_next settings n events w (ev n) ≡ no_created) (passes : (n m : ℕ) → nat_eq n m ≡ false → passes_by m (ev n) ≡ true) where
+    (clears : (n : ℕ) (f : Forwarding) → IdsAt t.requests (forwarding_next settings n events f (ev n)) x.start.ids)
+    (drops : (n : ℕ) (w : Created) → created_next settings n events w (ev n) ≡ no_created) (passes : (n m : ℕ) → nat_eq n m ≡ false → passes_by m (ev n) ≡ true) (waits : (n : ℕ) → touches_waiting (ev n) ≡ false) where
   pub over_moves : Stands settings t events → Stands settings u (events ++ ev s ∷ [])
   over_moves st =
       let own : x.start.life.start ≡ z.life.start = ap (λ (l : Standing). l.start) x.life in
       start_moves settings t u events ev g s z x.start at within (read_back t.lasts.items g z here) x.lasts own (ap (λ (l : Standing). l.group) x.life) x.editors x.course x.origins x.requests editor time spawn one
       (λ n e h. lost_groups settings events (ev n) n z.life.group (loses n) (t.groups) u.groups t.editors (subst (λ m. group_of m events ≡ Some z.life.group) (start_at_place t.lasts.items g s z here at ∙ sym e) (st.lasts.each g z here).home) st.house.editors x.groups h)
       (λ n e h. stopping_less events (ev n) n (spawn n) (one n) (ap (λ (l : Life). is_stopping l.stage) (over n (life_of n events))) ∙ ap (unstopped n) h
-      ∙ ap (λ k. unstopped k t.origins.stopping.items) (e ∙ sym (start_at_place t.lasts.items g s z here at)) ∙ sym x.stopping) (λ n e. tokens n (e ∙ sym (start_at_place t.lasts.items g s z here at))) (part own) st
+      ∙ ap (λ k. unstopped k t.origins.stopping.items) (e ∙ sym (start_at_place t.lasts.items g s z here at)) ∙ sym x.stopping) (λ n e. record { created = tokens n (e ∙ sym (start_at_place t.lasts.items g s z here at)); waiting = same_waits settings t.origins u.origins events (ev n) x.waiting (λ rows. quiet_waits settings rows events (ev n) (waits n)) }) (part own) st
     where
       tokens : (n : ℕ) → n ≡ z.life.start → CreatedMove settings t u events (ev n)
       tokens n own h = subst (λ (rows : Rows). CreatedStand settings rows (events ++ ev n ∷ [])) (sym (x.created ∙ ap (λ k. less k t.origins.created) (sym own)))
@@ -330,7 +332,7 @@ module _ (settings : Settings) (t u : Tables) (events : List Event) (g s : ℕ) 
       part : x.start.life.start ≡ z.life.start → (p : Part) → PartStands p settings t.requests z events → PartStands p settings t.requests x.start (events ++ ev z.life.start ∷ [])
       part own of_life h = part_life settings t.requests events (ev z.life.start) z x.start own (over z.life.start (record { stage = z.life.stage; started = z.started })
           ∙ (ap (λ k. record { stage = k; started = z.started }) (ap (λ (l : Standing). l.stage) (sym x.life)) ∙ ap (λ b. record { stage = x.start.life.stage; started = b }) (sym x.started))) h
-      part own of_ids h = part_ids settings t.requests events (ev z.life.start) z x.start own (λ _. clears z.life.start (forwarding_of z.life.start events)) h
+      part own of_ids h = part_ids settings t.requests events (ev z.life.start) z x.start own (λ _. clears z.life.start (forwarding_of settings z.life.start events)) h
       part own of_shown h = late_shown settings t.requests (events ++ ev z.life.start ∷ []) x.start (ap (λ (l : Standing). is_late l.stage) x.life)
       part own of_stop h = no_stop settings t.requests (events ++ ev z.life.start ∷ []) x.start (ap (λ (l : Standing). is_stopping l.stage) x.life)
       part own of_asks h = late_asks settings t.requests (events ++ ev z.life.start ∷ []) x.start (ap (λ (l : Standing). is_late l.stage) x.life)
@@ -338,11 +340,11 @@ module _ (settings : Settings) (t u : Tables) (events : List Event) (g s : ℕ) 
       part own of_live h = late_live settings t.requests (events ++ ev z.life.start ∷ []) x.start (ap (λ (l : Standing). is_late l.stage) x.life)
       part own of_lists h = late_lists settings t.requests (events ++ ev z.life.start ∷ []) x.start (ap (λ (l : Standing). is_late l.stage) x.life)
 
-gone_clears : (limit n : ℕ) (f : Forwarding) (ids : Table) → ids.requests ≡ [] → ids.next ≡ 2 → ids.limit ≡ limit → IsInOrder ids → IdsAt limit (forwarding_behind n f (took (ServerGone n) not_message)) ids
-gone_clears limit n f ids r k l o = ended_ids limit n ids f not_message (r, k, l, o)
+gone_clears : (settings : Settings) (before : List Event) (limit n : ℕ) (f : Forwarding) (ids : Table) → ids.requests ≡ [] → ids.next ≡ 2 → ids.limit ≡ limit → IsInOrder ids → IdsAt limit (forwarding_next settings n before f (took (ServerGone n) not_message)) ids
+gone_clears settings before limit n f ids r k l o = ended_ids settings before limit n ids f not_message (r, k, l, o)
 
-failed_clears : (limit n : ℕ) (f : Forwarding) (ids : Table) → ids.requests ≡ [] → ids.next ≡ 2 → ids.limit ≡ limit → IsInOrder ids → IdsAt limit (forwarding_behind n f (took (StartFailed n) not_message)) ids
-failed_clears limit n f ids r k l o = failed_ids limit n ids f not_message (r, k, l, o)
+failed_clears : (settings : Settings) (before : List Event) (limit n : ℕ) (f : Forwarding) (ids : Table) → ids.requests ≡ [] → ids.next ≡ 2 → ids.limit ≡ limit → IsInOrder ids → IdsAt limit (forwarding_next settings n before f (took (StartFailed n) not_message)) ids
+failed_clears settings before limit n f ids r k l o = failed_ids settings before limit n ids f not_message (r, k, l, o)
 
 pub exit_heard : (settings : Settings) (t u : Tables) (events : List Event) (g s restarts : ℕ) → settings.limits.restarts ≡ restarts → slice_get (map number_in t.lasts.items) g ≡ Some s → g < length t.lasts.items → ((z : Start) → slice_get t.lasts.items g ≡ Some z → Exits restarts t g z u)
     → Stands settings t events → Stands settings u (events ++ took (ServerGone s) not_message ∷ [])
@@ -350,7 +352,7 @@ exit_heard settings t u events g s restarts e at within f =
     let z = item_at t.lasts.items g within in
     let x : Exits settings.limits.restarts t g z.0 u = subst (λ n. Exits n t g z.0 u) (sym e) (f z.0 z.1) in
     over_moves settings t u events g s z.0 (λ n. took (ServerGone n) not_message) at within z.1 x (λ n m. refl) (λ n. refl) (λ n. refl) (λ n. refl) (λ n h. refl) (λ n l. rw (itself n) refl)
-    (λ n h. gone_clears t.requests n h x.start.ids x.requests_gone x.next x.limit x.order) (λ n w. rw (itself n) refl) (λ n m h. ap not h)
+    (λ n h. gone_clears settings events t.requests n h x.start.ids x.requests_gone x.next x.limit x.order) (λ n w. rw (itself n) refl) (λ n m h. ap not h) (λ n. refl)
 
 pub failure_heard : (settings : Settings) (t u : Tables) (events : List Event) (g s restarts : ℕ) → settings.limits.restarts ≡ restarts → slice_get (map number_in t.lasts.items) g ≡ Some s → g < length t.lasts.items → ((z : Start) → slice_get t.lasts.items g ≡ Some z → Exits restarts t g z u)
     → Stands settings t events → Stands settings u (events ++ took (StartFailed s) not_message ∷ [])
@@ -358,4 +360,4 @@ failure_heard settings t u events g s restarts e at within f =
     let z = item_at t.lasts.items g within in
     let x : Exits settings.limits.restarts t g z.0 u = subst (λ n. Exits n t g z.0 u) (sym e) (f z.0 z.1) in
     over_moves settings t u events g s z.0 (λ n. took (StartFailed n) not_message) at within z.1 x (λ n m. refl) (λ n. refl) (λ n. refl) (λ n. refl) (λ n h. refl) (λ n l. rw (itself n) refl)
-    (λ n h. failed_clears t.requests n h x.start.ids x.requests_gone x.next x.limit x.order) (λ n w. rw (itself n) refl) (λ n m h. ap not h)
+    (λ n h. failed_clears settings events t.requests n h x.start.ids x.requests_gone x.next x.limit x.order) (λ n w. rw (itself n) refl) (λ n m h. ap not h) (λ n. refl)

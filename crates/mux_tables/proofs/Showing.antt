@@ -34,6 +34,8 @@ use Rattle.mux_tables.proofs.Moves.{house_moves}
 use Rattle.mux_tables.proofs.Putting.{running_there}
 use Rattle.mux_tables.proofs.Said.{does_send, said_editors, told_house}
 use Rattle.mux_tables.proofs.TokenMoves.{origins_stay, told_tokens}
+use Rattle.mux_waits.proofs.Moves.{silent_waits}
+use Rattle.event_model.specs.Requests.{answered_id}
 
 bytes_back : (a b : List ℕ) → bytes_eq a b ≡ bytes_eq b a
 bytes_back a b = go (bytes_eq a b) (bytes_eq b a) refl refl
@@ -108,7 +110,7 @@ show_does settings t u xs ys base e body uri empty list l is gs now ls os r said
     let asks_none : is_request (message_of body) ≡ false = ap is_request list.says in
     does_send settings (ToEditor e body) base t u xs ys said_so
     (house_moves settings t u (behind base xs) (said (ToEditor e body)) (λ n. refl) (λ s. asks_stay settings s (behind base xs) (said (ToEditor e body)) asks_none) refl (ap (λ v. v.items) ls)
-    (origins_stay settings t.origins u.origins (behind base xs) (said (ToEditor e body)) os (λ s. told_tokens settings s e (behind base xs) (created_of settings s (behind base xs)) body (message_of body) asks_none)) r
+    (origins_stay settings t.origins u.origins (behind base xs) (said (ToEditor e body)) os (λ s. told_tokens settings s e (behind base xs) (created_of settings s (behind base xs)) body (message_of body) asks_none) (λ rows. silent_waits settings (behind base xs) e body (message_of body) rows (ap answered_id list.says))) r
     (λ h. told_house settings (behind base xs) e body t u (shown_editors settings (behind base xs) e body uri empty list t.editors u.editors l is h.editors) gs now h))
 
 -- X2: what is noted of an editor that runs

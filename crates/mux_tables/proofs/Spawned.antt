@@ -23,14 +23,14 @@ use Rattle.id_rewrite.specs.Tables.{IsInOrder}
 use Rattle.restart_replay.specs.Standings.{Standing, spawned}
 use Rattle.mux_tables.specs.declared.tables.Start.{Start}
 use Rattle.mux_tables.specs.declared.tables.Tables.{Tables}
-use Rattle.group_laws.specs.group_rows.specs.Forwarded.{forwarding_behind}
+use Rattle.group_laws.specs.group_rows.proofs.Frames.{forwarding_more}
 use Rattle.group_laws.specs.group_rows.specs.Ticks.{is_stopping}
 use Rattle.group_laws.specs.group_rows.specs.Asks.{asks_of, parked_of}
 use Rattle.group_laws.specs.group_rows.specs.Lists.{lists_of}
 use Rattle.group_laws.specs.group_rows.specs.Live.{live_of}
 use Rattle.mux_tables.specs.Stands.{AsksAt, IsLost, IsNew, Lost, OriginsStand, Rise, IdsAt, IdsStand, Part, of_life, of_ids, of_shown, of_stop, of_asks, of_parked, of_live, of_lists, ListsAt, LiveAt, ParkedAt, PartStands, ShownAt, blank, LastStands, LastsStand, Stands}
 use Rattle.mux_tables.proofs.Asking.{asks_more, parked_more}
-use Rattle.mux_tables.proofs.TokenMoves.{same_created}
+use Rattle.mux_tables.proofs.TokenMoves.{same_created, same_waits}
 use Rattle.mux_tables.proofs.Frames.{groups_stand, itself, last_stands, life_alone, part_apart}
 use Rattle.mux_tables.proofs.Lasts.{Last, known, same_place}
 use Rattle.mux_tables.proofs.Moves.{house_stands}
@@ -40,6 +40,7 @@ use Rattle.mux_tables.proofs.Registering.{live_more}
 use Rattle.mux_tables.proofs.Said.{does_send}
 use Rattle.mux_tables.proofs.Starts.{groups_kept, no_stop}
 use Rattle.mux_tables.proofs.Awaited.{stopping_spawned}
+use Rattle.mux_waits.proofs.Moves.{quiet_waits}
 
 spawned_origins : (origins after : List ℕ) (events : List Event) (n g : ℕ) → n ≡ length origins → after ≡ origins ++ g ∷ [] → OriginsStand origins events → OriginsStand after (events ++ did (Spawn n g) not_message ∷ [])
 spawned_origins origins after events n g last is s = record {
@@ -73,7 +74,7 @@ spawned_last settings limit events n g y f new =
     part : (p : Part) → PartStands p settings limit y (events ++ did (Spawn n g) not_message ∷ [])
     part of_life = subst (λ m. life_of m (events ++ did (Spawn n g) not_message ∷ []) ≡ record { stage = y.life.stage; started = y.started }) (sym (ap (λ l. l.start) new.0))
         (one_more (life_behind n) _ _ events (did (Spawn n g) not_message) refl ∙ rw (itself n) (rw (new.1) (ap (λ l. record { stage = l.stage; started = false }) (sym new.0))))
-    part of_ids = subst (λ m. IdsStand limit m y.ids (events ++ did (Spawn n g) not_message ∷ [])) (sym (ap (λ l. l.start) new.0)) (subst (λ a. IdsAt limit a y.ids) (sym (one_more (forwarding_behind n) _ _ events (did (Spawn n g) not_message) refl)) (record {
+    part of_ids = subst (λ m. IdsStand settings limit m y.ids (events ++ did (Spawn n g) not_message ∷ [])) (sym (ap (λ l. l.start) new.0)) (subst (λ a. IdsAt limit a y.ids) (sym (forwarding_more settings n events (did (Spawn n g) not_message))) (record {
       next = (f of_ids).next ∙ sym new.3;
       open_requests = (f of_ids).open_requests ∙ sym (ap (map _) new.2);
       ends = new.4;
@@ -136,7 +137,7 @@ module _ (settings : Settings) (limit : ℕ) (origins : List ℕ) (lasts after :
           inl (one_more (start_behind h) _ _ events ev refl ∙ subst (λ k. (if nat_eq g k then Some n else start_of h events) ≡ Some n) e (rw (itself g) refl))
       go m h (other d) w = kept m h d (compare g h) (s.old m h (before m h d w))
 
-module _ (settings : Settings) (t u : Tables) (events : List Event) (n g : ℕ) (y : Start) (last : n ≡ length t.origins.groups.items) (es : u.editors ≡ t.editors) (gs : u.groups ≡ t.groups) (now : u.course ≡ t.course) (os : u.origins.groups.items ≡ t.origins.groups.items ++ g ∷ []) (sk : u.origins.stopping ≡ t.origins.stopping) (cr : u.origins.created ≡ t.origins.created) (r : u.requests ≡ t.requests) (new : IsFresh t.requests n g y) where
+module _ (settings : Settings) (t u : Tables) (events : List Event) (n g : ℕ) (y : Start) (last : n ≡ length t.origins.groups.items) (es : u.editors ≡ t.editors) (gs : u.groups ≡ t.groups) (now : u.course ≡ t.course) (os : u.origins.groups.items ≡ t.origins.groups.items ++ g ∷ []) (sk : u.origins.stopping ≡ t.origins.stopping) (cr : u.origins.created ≡ t.origins.created) (wt : u.origins.waiting ≡ t.origins.waiting) (r : u.requests ≡ t.requests) (new : IsFresh t.requests n g y) where
   fresh_parts : Stands settings t events → (p : Part) → PartStands p settings t.requests (blank t.requests n) events
   fresh_parts s p = s.lasts.fresh n (subst (λ k. k ≤ n) (sym s.origins.count) (omega (arith, last))) p
 
@@ -146,6 +147,7 @@ module _ (settings : Settings) (t u : Tables) (events : List Event) (n g : ℕ) 
     origins = spawned_origins t.origins.groups.items u.origins.groups.items events n g last os s.origins;
     stopping = stopping_spawned events n g not_message (s.origins.count ∙ sym last) (ap (λ (l : Life). is_stopping l.stage) (fresh_parts s of_life)) ∙ s.stopping ∙ ap (λ v. v.items) (sym sk);
     created = same_created settings t u events (did (Spawn n g) not_message) cr (λ m. refl) s.created;
+    waiting = same_waits settings t.origins u.origins events (did (Spawn n g) not_message) wt (λ rows. quiet_waits settings rows events (did (Spawn n g) not_message) refl) s.waiting;
     lasts = subst (λ k. LastsStand settings k u.lasts.items (events ++ did (Spawn n g) not_message ∷ [])) (sym r) lasts;
     requests = s.requests ∙ sym r;
     range = rw r s.range;
@@ -196,12 +198,12 @@ spawn_does : (settings : Settings) (t u : Tables) (xs ys : List Out) (base : Lis
 spawn_does settings t u xs ys base n g last is go =
     does_look {Stands = λ t events. Stands settings t events} {f = λ events. send (Spawn (starts_of events) g)} (λ s. ap (λ k. send (Spawn k g)) (s.origins.count ∙ sym last)) (does_send settings (Spawn n g) base t u xs ys is go)
 
-pub found_gives : (settings : Settings) (t u : Tables) (xs ys : List Out) (base : List Event) (n g : ℕ) (y : Start) → n ≡ length t.origins.groups.items → IsNew g (behind base xs) → u.editors ≡ t.editors → u.groups ≡ t.groups → u.course ≡ t.course → u.origins.groups.items ≡ t.origins.groups.items ++ g ∷ [] → u.origins.stopping ≡ t.origins.stopping → u.origins.created ≡ t.origins.created → u.lasts.items ≡ t.lasts.items ++ y ∷ [] → u.requests ≡ t.requests
+pub found_gives : (settings : Settings) (t u : Tables) (xs ys : List Out) (base : List Event) (n g : ℕ) (y : Start) → n ≡ length t.origins.groups.items → IsNew g (behind base xs) → u.editors ≡ t.editors → u.groups ≡ t.groups → u.course ≡ t.course → u.origins.groups.items ≡ t.origins.groups.items ++ g ∷ [] → u.origins.stopping ≡ t.origins.stopping → u.origins.created ≡ t.origins.created → u.origins.waiting ≡ t.origins.waiting → u.lasts.items ≡ t.lasts.items ++ y ∷ [] → u.requests ≡ t.requests
     → y.life ≡ spawned n g → y.started ≡ false → y.ids.requests ≡ [] → y.ids.next ≡ 2 → y.ids.limit ≡ t.requests → IsInOrder y.ids → y.shown ≡ None → y.asks ≡ [] → y.parked ≡ [] → y.live ≡ [] → y.lists ≡ [] → ys ≡ xs ++ Spawn n g ∷ [] → Does (λ t events. Stands settings t events) (spawn g) base t xs u ys
-found_gives settings t u xs ys base n g y last unfounded es gs now os sk cr ls r life started requests next ends order blank_shown blank_asks blank_parked blank_live blank_lists is =
-    spawn_does settings t u xs ys base n g last is (found_moves settings t u (behind base xs) n g y last es gs now os sk cr r (life, started, requests, next, ends, order, blank_shown, blank_asks, blank_parked, blank_live, blank_lists) unfounded ls)
+found_gives settings t u xs ys base n g y last unfounded es gs now os sk cr wt ls r life started requests next ends order blank_shown blank_asks blank_parked blank_live blank_lists is =
+    spawn_does settings t u xs ys base n g last is (found_moves settings t u (behind base xs) n g y last es gs now os sk cr wt r (life, started, requests, next, ends, order, blank_shown, blank_asks, blank_parked, blank_live, blank_lists) unfounded ls)
 
-pub respawn_gives : (settings : Settings) (t u : Tables) (xs ys : List Out) (base : List Event) (n g i : ℕ) (x y : Start) → n ≡ length t.origins.groups.items → slice_get t.lasts.items i ≡ Some x → x.life.group ≡ g → x.life.stage ≡ Ended → u.editors ≡ t.editors → u.groups ≡ t.groups → u.course ≡ t.course → u.origins.groups.items ≡ t.origins.groups.items ++ g ∷ [] → u.origins.stopping ≡ t.origins.stopping → u.origins.created ≡ t.origins.created → u.lasts.items ≡ slice_set t.lasts.items i y → u.requests ≡ t.requests
+pub respawn_gives : (settings : Settings) (t u : Tables) (xs ys : List Out) (base : List Event) (n g i : ℕ) (x y : Start) → n ≡ length t.origins.groups.items → slice_get t.lasts.items i ≡ Some x → x.life.group ≡ g → x.life.stage ≡ Ended → u.editors ≡ t.editors → u.groups ≡ t.groups → u.course ≡ t.course → u.origins.groups.items ≡ t.origins.groups.items ++ g ∷ [] → u.origins.stopping ≡ t.origins.stopping → u.origins.created ≡ t.origins.created → u.origins.waiting ≡ t.origins.waiting → u.lasts.items ≡ slice_set t.lasts.items i y → u.requests ≡ t.requests
     → y.life ≡ spawned n g → y.started ≡ false → y.ids.requests ≡ [] → y.ids.next ≡ 2 → y.ids.limit ≡ t.requests → IsInOrder y.ids → y.shown ≡ None → y.asks ≡ [] → y.parked ≡ [] → y.live ≡ [] → y.lists ≡ [] → ys ≡ xs ++ Spawn n g ∷ [] → Does (λ t events. Stands settings t events) (spawn x.life.group) base t xs u ys
-respawn_gives settings t u xs ys base n g i x y last at mine ended es gs now os sk cr ls r life started requests next ends order blank_shown blank_asks blank_parked blank_live blank_lists is =
-    subst (λ k. Does (λ t events. Stands settings t events) (spawn k) base t xs u ys) (sym mine) (spawn_does settings t u xs ys base n g last is (respawn_moves settings t u (behind base xs) n g y last es gs now os sk cr r (life, started, requests, next, ends, order, blank_shown, blank_asks, blank_parked, blank_live, blank_lists) i x at mine ended ls))
+respawn_gives settings t u xs ys base n g i x y last at mine ended es gs now os sk cr wt ls r life started requests next ends order blank_shown blank_asks blank_parked blank_live blank_lists is =
+    subst (λ k. Does (λ t events. Stands settings t events) (spawn k) base t xs u ys) (sym mine) (spawn_does settings t u xs ys base n g last is (respawn_moves settings t u (behind base xs) n g y last es gs now os sk cr wt r (life, started, requests, next, ends, order, blank_shown, blank_asks, blank_parked, blank_live, blank_lists) i x at mine ended ls))

@@ -18,7 +18,7 @@ use Rattle.group_table.specs.Tables as group_tables
 use Rattle.restart_replay.specs.Standings.{Standing}
 use Rattle.mux_tables.specs.declared.tables.Start.{Start}
 use Rattle.mux_tables.specs.declared.tables.Tables.{Tables}
-use Rattle.group_laws.specs.group_rows.specs.Forwarded.{forwarding_behind, forwarding_of}
+use Rattle.group_laws.specs.group_rows.specs.Forwarded.{forwarding_next, forwarding_of}
 use Rattle.group_laws.specs.group_rows.specs.Ticks.{is_stopping, stop_of}
 use Rattle.ask_route.specs.declared.ask.Ask as route
 use Rattle.group_laws.specs.group_rows.specs.Asks.{Ask, Parked, asks_of, parked_of}
@@ -30,7 +30,7 @@ use Rattle.mux_tables.specs.Refusals.{asks_in}
 use Rattle.mux_tables.specs.Stands.{AsksAt, GroupsStand, IdsAt, IdsStand, Part, of_life, of_ids, of_shown, of_stop, of_asks, of_parked, of_live, of_lists, ListsAt, LiveAt, ParkedAt, PartStands, ShownAt, StopAt, Stands, house_in, number_in, stage_in}
 use Rattle.mux_tables.proofs.Frames.{names_start, names_editor, spawns, ticks, touches, part_quiet}
 use Rattle.mux_tables.proofs.IdMoves.{ids_more}
-use Rattle.mux_tables.proofs.TokenMoves.{CreatedMove}
+use Rattle.mux_tables.proofs.TokenMoves.{KeptMove}
 use Rattle.mux_tables.proofs.Moves.{parts_move}
 use Rattle.mux_tables.proofs.Awaited.{StopsMove}
 
@@ -84,9 +84,9 @@ pub part_life : (settings : Settings) (limit : ℕ) (events : List Event) (ev : 
 part_life settings limit events ev x y own step s = subst (λ n. life_of n (events ++ ev ∷ []) ≡ record { stage = y.life.stage; started = y.started }) (sym own) (one_more (life_behind x.life.start) _ _ events ev s ∙ step)
 
 -- its open requests go on
-pub part_ids : (settings : Settings) (limit : ℕ) (events : List Event) (ev : Event) (x y : Start) → y.life.start ≡ x.life.start → (IdsAt limit (forwarding_of x.life.start events) x.ids → IdsAt limit (forwarding_behind x.life.start (forwarding_of x.life.start events) ev) y.ids)
+pub part_ids : (settings : Settings) (limit : ℕ) (events : List Event) (ev : Event) (x y : Start) → y.life.start ≡ x.life.start → (IdsAt limit (forwarding_of settings x.life.start events) x.ids → IdsAt limit (forwarding_next settings x.life.start events (forwarding_of settings x.life.start events) ev) y.ids)
     → PartStands of_ids settings limit x events → PartStands of_ids settings limit y (events ++ ev ∷ [])
-part_ids settings limit events ev x y own go s = subst (λ n. IdsStand limit n y.ids (events ++ ev ∷ [])) (sym own) (ids_more limit x.life.start x.ids y.ids events ev go s)
+part_ids settings limit events ev x y own go s = subst (λ n. IdsStand settings limit n y.ids (events ++ ev ∷ [])) (sym own) (ids_more settings limit x.life.start x.ids y.ids events ev go s)
 
 -- what editors are shown goes on
 pub part_shown : (settings : Settings) (limit : ℕ) (events : List Event) (ev : Event) (x y : Start) → y.life.start ≡ x.life.start → (ShownAt x.life.stage x.shown (result_of x.life.start events) → ShownAt y.life.stage y.shown (result_behind x.life.start (result_of x.life.start events) ev))
@@ -102,7 +102,7 @@ still_life settings limit events ev x y l b q s =
 
 pub still_ids : (settings : Settings) (limit : ℕ) (events : List Event) (ev : Event) (x y : Start) → y.life.start ≡ x.life.start → y.ids ≡ x.ids → touches of_ids ev ≡ false → PartStands of_ids settings limit x events → PartStands of_ids settings limit y (events ++ ev ∷ [])
 still_ids settings limit events ev x y own i q s =
-    subst (λ n. IdsStand limit n y.ids (events ++ ev ∷ [])) (sym own) (subst (λ ids. IdsStand limit x.life.start ids (events ++ ev ∷ [])) (sym i) (part_quiet of_ids settings limit x events ev q s))
+    subst (λ n. IdsStand settings limit n y.ids (events ++ ev ∷ [])) (sym own) (subst (λ ids. IdsStand settings limit x.life.start ids (events ++ ev ∷ [])) (sym i) (part_quiet of_ids settings limit x events ev q s))
 
 pub still_shown : (settings : Settings) (limit : ℕ) (events : List Event) (ev : Event) (x y : Start) → y.life ≡ x.life → y.shown ≡ x.shown → touches of_shown ev ≡ false → PartStands of_shown settings limit x events → PartStands of_shown settings limit y (events ++ ev ∷ [])
 still_shown settings limit events ev x y l b q s =
@@ -211,7 +211,7 @@ late_lists settings limit events y h = lists_late y.life.stage (lists_of y.life.
 module _ (settings : Settings) (t u : Tables) (events : List Event) (ev : ℕ → Event) (g s : ℕ) (z y : Start) (at : slice_get (map number_in t.lasts.items) g ≡ Some s) (within : g < length t.lasts.items) (read : z ≡ get_or t.lasts.items g z)
     (set : u.lasts.items ≡ slice_set t.lasts.items g y) (own : y.life.start ≡ z.life.start) (group : y.life.group ≡ z.life.group) (es : u.editors ≡ t.editors) (now : u.course ≡ t.course) (os : u.origins.groups ≡ t.origins.groups) (r : u.requests ≡ t.requests)
     (e : (n : ℕ) → names_editor (ev n) ≡ false) (w : (n : ℕ) → ticks (ev n) ≡ false) (k : (n : ℕ) → spawns (ev n) ≡ false) (one : (n m : ℕ) → names_start m (ev n) ≡ nat_eq n m) where
-  pub start_moves : ((n : ℕ) → n ≡ s → GroupsStand settings t.groups events → GroupsStand settings u.groups (events ++ ev n ∷ [])) → ((n : ℕ) → n ≡ s → StopsMove t u events (ev n)) → ((n : ℕ) → n ≡ s → CreatedMove settings t u events (ev n)) → ((p : Part) → PartStands p settings t.requests z events → PartStands p settings t.requests y (events ++ ev z.life.start ∷ []))
+  pub start_moves : ((n : ℕ) → n ≡ s → GroupsStand settings t.groups events → GroupsStand settings u.groups (events ++ ev n ∷ [])) → ((n : ℕ) → n ≡ s → StopsMove t u events (ev n)) → ((n : ℕ) → n ≡ s → KeptMove settings t u events (ev n)) → ((p : Part) → PartStands p settings t.requests z events → PartStands p settings t.requests y (events ++ ev z.life.start ∷ []))
       → Stands settings t events → Stands settings u (events ++ ev s ∷ [])
   start_moves groups stops tokens parts st =
       let here : slice_get t.lasts.items g ≡ Some z = read_here t.lasts.items g z within read in

@@ -26,34 +26,53 @@ use Rattle.mux_tokens.proofs.Stays.{passes_stay, takes_none}
 use Rattle.mux_tables.specs.declared.tables.Origins.{Origins}
 use Rattle.mux_tables.specs.declared.tables.Tables.{Tables}
 use Rattle.mux_tables.specs.Stands.{is_answer, is_request}
+use Rattle.mux_waits.specs.Rows.{Rows as Waits}
+use Rattle.mux_waits.specs.Stands.{WaitingStand}
 
 -- the tokens of all starts move
 abbrev pub CreatedMove : Settings → Tables → Tables → List Event → Event → Type 0
 CreatedMove settings t u events ev = CreatedStand settings t.origins.created events → CreatedStand settings u.origins.created (events ++ ev ∷ [])
+
+-- and what waits in groups, or that stays
+abbrev pub WaitsMove : Settings → Origins → Origins → List Event → Event → Type 0
+WaitsMove settings o p events ev = WaitingStand settings o.waiting events → WaitingStand settings p.waiting (events ++ ev ∷ [])
+
+abbrev pub WaitsStay : Settings → List Event → Event → Type 0
+WaitsStay settings events ev = (rows : Waits) → WaitingStand settings rows events → WaitingStand settings rows (events ++ ev ∷ [])
+
+pub same_waits : (settings : Settings) (o p : Origins) (events : List Event) (ev : Event) → p.waiting ≡ o.waiting → WaitsStay settings events ev → WaitsMove settings o p events ev
+same_waits settings o p events ev is stays h = subst (λ (rows : Waits). WaitingStand settings rows (events ++ ev ∷ [])) (sym is) (stays o.waiting h)
+
+pub record KeptMove (settings : Settings) (t u : Tables) (events : List Event) (ev : Event) : Type 0 where
+  pub created : CreatedMove settings t u events ev
+  pub waiting : WaitsMove settings t.origins u.origins events ev
 
 -- and nothing else of what is kept of them beside the last ones of groups
 pub record OriginsMove (settings : Settings) (o p : Origins) (events : List Event) (ev : Event) : Type 0 where
   pub groups : p.groups ≡ o.groups
   pub stopping : p.stopping ≡ o.stopping
   pub created : CreatedStand settings o.created events → CreatedStand settings p.created (events ++ ev ∷ [])
+  pub waiting : WaitsMove settings o p events ev
 
 pub same_created : (settings : Settings) (t u : Tables) (events : List Event) (ev : Event) → u.origins.created ≡ t.origins.created → TokensStay settings events ev → CreatedMove settings t u events ev
 same_created settings t u events ev cr stays h = subst (λ (rows : Rows). CreatedStand settings rows (events ++ ev ∷ [])) (sym cr) (stay_stands settings t.origins.created events ev stays h)
 
-pub origins_stay : (settings : Settings) (o p : Origins) (events : List Event) (ev : Event) → p ≡ o → TokensStay settings events ev → OriginsMove settings o p events ev
-origins_stay settings o p events ev os stays = record {
+pub origins_stay : (settings : Settings) (o p : Origins) (events : List Event) (ev : Event) → p ≡ o → TokensStay settings events ev → WaitsStay settings events ev → OriginsMove settings o p events ev
+origins_stay settings o p events ev os stays waits = record {
   groups = ap (λ v. v.groups) os;
   stopping = ap (λ v. v.stopping) os;
   created = λ h. subst (λ (rows : Rows). CreatedStand settings rows (events ++ ev ∷ [])) (sym (ap (λ v. v.created) os)) (stay_stands settings o.created events ev stays h);
+  waiting = same_waits settings o p events ev (ap (λ v. v.waiting) os) waits;
 }
 
 -- an editor leaves all starts
 pub origins_left : (settings : Settings) (o p : Origins) (events : List Event) (ev : Event) (e : ℕ) → p.groups ≡ o.groups → p.stopping ≡ o.stopping → p.created ≡ left_each e (keys_of o.created) o.created → IsStrictlySortedBy nat_cmp (keys_of o.created)
-    → ((s : ℕ) → created_next settings s events (created_of settings s events) ev ≡ left e (created_of settings s events)) → OriginsMove settings o p events ev
-origins_left settings o p events ev e og sk cr sorted goes = record {
+    → ((s : ℕ) → created_next settings s events (created_of settings s events) ev ≡ left e (created_of settings s events)) → WaitsMove settings o p events ev → OriginsMove settings o p events ev
+origins_left settings o p events ev e og sk cr sorted goes waits = record {
   groups = og;
   stopping = sk;
   created = λ h. subst (λ (rows : Rows). CreatedStand settings rows (events ++ ev ∷ [])) (sym cr) (left_moves settings o.created events ev e goes sorted h);
+  waiting = waits;
 }
 
 -- A start's message

@@ -3,7 +3,7 @@ use Rattle.std.specs.Prelude.{◌≡◌, ℕ, ◌<◌, ◌≤◌, ◌^◌, Bool,
 use Rattle.std.specs.Prelude.{Option, Some, None, slice_get, slice_set}
 use Rattle.std.specs.List.{AllByRecursion}
 use Rattle.mux_history.specs.declared.out.Out.{Out}
-use Rattle.mux_history.specs.declared.out.Out.TheVariants.{CloseEditor, ToServer}
+use Rattle.mux_history.specs.declared.out.Out.TheVariants.{CloseEditor, ToEditor, ToServer}
 use Rattle.rpc_message.specs.Message.{Message, message_of}
 use Rattle.position_codec.specs.declared.Encoding.{Encoding}
 use Rattle.document_model.specs.Opens.{Open}
@@ -116,9 +116,14 @@ abbrev pub left_all : List ℕ → Documents → Documents
 left_all [] d = d
 left_all (e ∷ es) d = left_all es (leave_row e d).after
 
--- their links are to be ended
-abbrev pub closes : List ℕ → List Out
-closes es = map (λ e. CloseEditor e) es
+-- what is said as these editors are parted with: some of their requests are answered, and the link of each is to be ended, in this order
+abbrev pub Parts : List Out → List ℕ → Type 0
+Parts [] [] = Unit {0}
+Parts [] (e ∷ es) = ⊥
+Parts (ToEditor n body ∷ xs) es = Parts xs es
+Parts (CloseEditor n ∷ xs) [] = ⊥
+Parts (CloseEditor n ∷ xs) (e ∷ es) = (n ≡ e) × Parts xs es
+Parts (other ∷ xs) es = ⊥
 
 -- the same, while the documents are ahead of the events by these outs
 abbrev pub AheadStand : Settings → Tables × (Owed × List Out) → List Event → Type 0

@@ -10,6 +10,7 @@ pub mod Refusals
 pub mod Resumes
 pub mod Puts
 pub mod Tokens
+pub mod Waits
 pub use Rattle.ask_route
 pub use Rattle.diagnostics_route
 pub use Rattle.group_laws.specs.document_laws
@@ -18,3 +19,4 @@ pub use Rattle.group_laws
 pub use Rattle.group_table
 pub use Rattle.id_rewrite
 pub use Rattle.mux_tokens
+pub use Rattle.mux_waits

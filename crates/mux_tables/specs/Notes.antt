@@ -48,7 +48,7 @@ has_left other = false
 
 -- at a request of editor e that went on to start s as its request n: the versions of e's documents at the moment of its forwarding; nothing need be kept where e left
 abbrev pub IsNoted : Settings → ℕ → ℕ → ℕ → List Event → Option (List (List ℕ × Stamp)) → Type 0
-IsNoted settings s n e events (Some noted) = (moment : List Event) × (moment_of s n events ≡ Some moment) × ((u : List ℕ) → stamp_of u noted ≡ stamp_at held_version settings s e moment u)
+IsNoted settings s n e events (Some noted) = (moment : List Event) × (moment_of settings s n events ≡ Some moment) × ((u : List ℕ) → stamp_of u noted ≡ stamp_at held_version settings s e moment u)
 IsNoted settings s n e events None = has_left (desk_of e events).phase ≡ true
 
 abbrev pub NotesStand : Settings → ℕ → List Numbered → List Event → Type 0

@@ -36,11 +36,12 @@ use Rattle.id_rewrite.specs.Tables.{Table, IsInOrder}
 use Rattle.restart_replay.specs.Standings.{Standing, moved}
 use Rattle.mux_tokens.specs.progress_route.specs.Tables.{less}
 use Rattle.mux_tokens.specs.Stands.{CreatedStand}
+use Rattle.mux_waits.specs.Stands.{WaitingStand}
 use Rattle.mux_tables.specs.declared.tables.Start.{Start}
 use Rattle.mux_tables.specs.declared.tables.Tables.{Tables}
 use Rattle.mux_tables.specs.Names.{NamesStand}
 use Rattle.group_laws.specs.group_rows.specs.Asks.{Ask, Parked, asking_next, asking_of, asks_of, is_patient, is_seated, is_under, next_ask, parked_of}
-use Rattle.group_laws.specs.group_rows.specs.Forwarded.{Forwarded, Forwarding, forwarding_of, names}
+use Rattle.group_laws.specs.group_rows.specs.Forwarded.{Forwarded, Forwarding, first_sender, forwarding_of, names, sender_or}
 use Rattle.group_laws.specs.group_rows.specs.ExitRows.{is_full}
 use Rattle.group_laws.specs.group_rows.specs.Lists.{is_publishing, lists_next, lists_of}
 use Rattle.group_laws.specs.group_rows.specs.Live.{live_next, live_of}
@@ -116,8 +117,8 @@ pub record IdsAt (limit : ℕ) (x : Forwarding) (ids : Table) : Type 0 where
   pub ends : ids.limit ≡ limit
   pub order : IsInOrder ids
 
-abbrev pub IdsStand : ℕ → ℕ → Table → List Event → Type 0
-IdsStand limit s ids events = IdsAt limit (forwarding_of s events) ids
+abbrev pub IdsStand : Settings → ℕ → ℕ → Table → List Event → Type 0
+IdsStand settings limit s ids events = IdsAt limit (forwarding_of settings s events) ids
 
 -- it gave no result of its `initialize` yet
 abbrev pub is_early : Stage → Bool
@@ -238,7 +239,7 @@ pub data Part : Type 0 where
 
 abbrev pub PartStands : Part → Settings → ℕ → Start → List Event → Type 0
 PartStands of_life settings limit x events = life_of x.life.start events ≡ record { stage = x.life.stage; started = x.started }
-PartStands of_ids settings limit x events = IdsStand limit x.life.start x.ids events
+PartStands of_ids settings limit x events = IdsStand settings limit x.life.start x.ids events
 PartStands of_shown settings limit x events = ShownAt x.life.stage x.shown (result_of x.life.start events)
 PartStands of_stop settings limit x events = StopAt x.life.stage x.life.stopping (stop_of x.life.start events)
 PartStands of_asks settings limit x events = AsksAt x.life.stage events (asks_of settings x.life.start events) x.asks
@@ -310,6 +311,7 @@ pub record Stands (settings : Settings) (t : Tables) (events : List Event) : Typ
   pub origins : OriginsStand t.origins.groups.items events
   pub stopping : stopping_of events ≡ t.origins.stopping.items
   pub created : CreatedStand settings t.origins.created events
+  pub waiting : WaitingStand settings t.origins.waiting events
   pub lasts : LastsStand settings t.requests t.lasts.items events
   pub requests : settings.limits.requests ≡ t.requests
   pub range : t.requests < 2 ^ 32
@@ -418,9 +420,9 @@ pub record IsListOf (uri : List ℕ) (empty : Bool) (body : List ℕ) : Type 0 w
   pub document : list.uri ≡ uri
   pub none : list.empty ≡ empty
 
--- e's request under this id is at work, with these tokens for progress, and goes to start s
-abbrev pub Sends : ℕ → ℕ → List ℕ → Option (List ℕ) → Option (List ℕ) → List Event → Type 0
-Sends s e id work partial events = (forwarding_of s events).sender ≡ Some (record { editor = e; id = id; work = work; partial = partial })
+-- e's request under this id is at work, with these tokens for progress, and goes to start s; or none is, and it is what waits longest
+abbrev pub Sends : Settings → ℕ → ℕ → List ℕ → Option (List ℕ) → Option (List ℕ) → List Event → Type 0
+Sends settings s e id work partial events = sender_or (forwarding_of settings s events).sender (first_sender settings s events) ≡ Some (record { editor = e; id = id; work = work; partial = partial })
 
 -- the others of these starts
 abbrev pub unstopped : ℕ → List ℕ → List ℕ
@@ -442,6 +444,7 @@ pub record Exits (restarts : ℕ) (t : Tables) (g : ℕ) (z : Start) (u : Tables
   pub course : u.course ≡ t.course
   pub origins : u.origins.groups ≡ t.origins.groups
   pub created : u.origins.created ≡ less z.life.start t.origins.created
+  pub waiting : u.origins.waiting ≡ t.origins.waiting
   pub stopping : u.origins.stopping.items ≡ unstopped z.life.start t.origins.stopping.items
   pub requests : u.requests ≡ t.requests
 

@@ -25,7 +25,7 @@ impl Tables {
     pub fn request(&self, g: usize, n: u32) -> Option<&Pending>
         requires { g < length self.now.lasts.items }
         ensures found { (settings : Settings) (events : List Event) (s : ℕ) → slice_get (map number_in self.now.lasts.items) g ≡ Some s
-            → Stands settings self.now events → find (is_under n) (forwarding_of s events).open_requests ≡ option_map (forwarded_as n) (option_copied result) }
+            → Stands settings self.now events → find (is_under n) (forwarding_of settings s events).open_requests ≡ option_map (forwarded_as n) (option_copied result) }
         ensures noted { (settings : Settings) (owed : Owed) (events : List Event) (s : ℕ) (p : Pending)
             → slice_get (map number_in self.now.lasts.items) g ≡ Some s → option_copied result ≡ Some p
             → DocumentsStand settings owed self.now events → IsNoted settings s n p.editor events p.noted }

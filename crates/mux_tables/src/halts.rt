@@ -52,7 +52,7 @@ impl Tables {
     pub fn ids_of(&self, alloc: Global, g: usize, e: u64) -> Result<Vec<Body>, Memory>
         requires { g < length self.now.lasts.items }
         ensures { (settings : Settings) (events : List Event) (s : ℕ) → slice_get (map number_in self.now.lasts.items) g ≡ Some s
-            → Stands settings self.now events → IfOk result (λ texts. texts.items ≡ ids_at e (forwarding_of s events).open_requests) }
+            → Stands settings self.now events → IfOk result (λ texts. texts.items ≡ ids_at e (forwarding_of settings s events).open_requests) }
     {
         ids_of(alloc, &self.lasts[g].ids, e)
     }

@@ -17,6 +17,7 @@ ghost use Rattle.json_text.specs.Json.{Json};
 ghost use Rattle.rpc_message.specs.Message.{id_bytes, message_of, notification};
 ghost use Rattle.rpc_message.specs.Parsed.{IsRead};
 ghost use Rattle.mux_tokens.specs.Stands.{TakesNone};
+ghost use Rattle.mux_waits.specs.Stands.{Unheld};
 ghost use Rattle.mux_tables.specs.Documents.{DocumentsStand, Leaves, Owed, changes_documents, nothing_owed, noticing, owes, to};
 ghost use Rattle.mux_tables.specs.Stands.{AnswersNone, Stands, start_for, stays_in};
 
@@ -58,7 +59,7 @@ impl Tables {
         ensures lasts { self.new.lasts ≡ self.old.lasts }
         ensures stands { (settings : Settings) (events : List Event) (body : List ℕ) → Stands settings self.old events
             → AnswersNone settings e (message_of body) events → TakesNone settings e (message_of body) events
-            → places (desk_of e events).phase (message_of body) ≡ false → stops events e (message_of body) ≡ false
+            → Unheld settings e body (message_of body) events → places (desk_of e events).phase (message_of body) ≡ false → stops events e (message_of body) ≡ false
             → is_first_open settings.servers events e (message_of body) ≡ false
             → (desk_of e (events ++ heard (FromEditor e body) ∷ [])).phase ≡ phase → Stands settings self.new (events ++ heard (FromEditor e body) ∷ []) }
         ensures documents { (settings : Settings) (owed : Owed) (events : List Event) (body : List ℕ)
@@ -184,6 +185,7 @@ impl Tables {
         self.editors.leave(e);
         self.empty(home, phase.is_begun())?;
         self.origins.created.forget_editor(e)?;
+        self.origins.waiting.leave(home, e);
         let place = self.place_in(home);
         let owed = leave(alloc, &mut self.documents, place, e)?;
         Ok(owed)
@@ -232,7 +234,7 @@ impl Tables {
         ensures lasts { self.new.lasts ≡ self.old.lasts }
         ensures stands { (settings : Settings) (events : List Event) (body : List ℕ) → Stands settings self.old events
             → AnswersNone settings e (message_of body) events → TakesNone settings e (message_of body) events
-            → places (desk_of e events).phase (message_of body) ≡ false → stops events e (message_of body) ≡ false
+            → Unheld settings e body (message_of body) events → places (desk_of e events).phase (message_of body) ≡ false → stops events e (message_of body) ≡ false
             → is_first_open settings.servers events e (message_of body) ≡ false
             → (desk_of e (events ++ heard (FromEditor e body) ∷ [])).phase ≡ phase
             → OnOk result (Stands settings self.new (events ++ heard (FromEditor e body) ∷ [])) }

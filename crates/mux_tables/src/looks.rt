@@ -128,7 +128,7 @@ impl Tables {
     pub fn requests_of(&self, g: usize, e: u64) -> Result<Vec<u32>, Memory>
         requires { g < length self.now.lasts.items }
         ensures { (settings : Settings) (events : List Event) (s : ℕ) → slice_get (map number_in self.now.lasts.items) g ≡ Some s
-            → Stands settings self.now events → IfOk result (λ numbers. numbers.items ≡ numbers_of e (forwarding_of s events).open_requests) }
+            → Stands settings self.now events → IfOk result (λ numbers. numbers.items ≡ numbers_of e (forwarding_of settings s events).open_requests) }
     {
         let numbers = self.lasts[g].ids.of_editor(e)?;
         Ok(numbers)

@@ -88,6 +88,16 @@ impl Tables {
         self.place_of(g)
     }
 
+    // The group in which an editor is; one past the end is in none.
+    pub fn home(&self, e: u64) -> Option<u64>
+        ensures { (settings : Settings) (events : List Event) → Stands settings self.now events → home_of settings e events ≡ result }
+    {
+        if e >= self.editors.count() {
+            return None;
+        }
+        self.editors.group(e)
+    }
+
     /// Where the group's last start stands.
     pub fn stage(&self, g: usize) -> Stage
         requires { g < length self.now.lasts.items }
@@ -133,7 +143,7 @@ impl Tables {
     pub fn uncancelled_of(&self, g: usize, e: u64) -> Result<Vec<u32>, Memory>
         requires { g < length self.now.lasts.items }
         ensures { (settings : Settings) (events : List Event) (s : ℕ) → slice_get (map number_in self.now.lasts.items) g ≡ Some s
-            → Stands settings self.now events → IfOk result (λ numbers. numbers.items ≡ uncancelled_of e (forwarding_of s events).open_requests) }
+            → Stands settings self.now events → IfOk result (λ numbers. numbers.items ≡ uncancelled_of e (forwarding_of settings s events).open_requests) }
     {
         let numbers = uncancelled_of(&self.lasts[g].ids, e)?;
         Ok(numbers)

@@ -191,7 +191,7 @@ impl Tables {
     pub fn last_among(&self, g: usize, among: &[u64]) -> Option<u64>
         requires { g < length self.now.lasts.items }
         ensures last { (settings : Settings) (events : List Event) (s : ℕ) → slice_get (map number_in self.now.lasts.items) g ≡ Some s
-            → Stands settings self.now events → result ≡ last_among among.now (forwarding_of s events).open_requests }
+            → Stands settings self.now events → result ≡ last_among among.now (forwarding_of settings s events).open_requests }
         ensures one { IfSome result (λ e. Contains among.now e) }
     {
         self.lasts[g].ids.last_editor(among)

@@ -14,6 +14,7 @@ ghost use Rattle.mux_history.specs.declared.cause.Cause.TheVariants.{FromEditor}
 ghost use Rattle.mux_tokens.specs.progress_route.specs.Tables.{answered, given};
 ghost use Rattle.mux_tokens.specs.Rows.{edited, table_of};
 ghost use Rattle.mux_tokens.specs.Stands.{TakesOne};
+ghost use Rattle.mux_waits.specs.Stands.{Unheld};
 ghost use Rattle.rpc_message.specs.Message.{message_of};
 ghost use Rattle.mux_tables.specs.declared.tables.Start.{Start};
 ghost use Rattle.mux_tables.specs.Documents.{DocumentsStand, Owed, changes_documents};
@@ -80,7 +81,7 @@ impl Tables {
         ensures stands { (settings : Settings) (events : List Event) (body : List ℕ) (x : Start) → slice_get self.old.lasts.items g ≡ Some x
             → NamesAsk (answered_id (message_of body)) n → accepts ≡ fold.accepts (message_of body) → requests (codes "shutdown") (message_of body) ≡ false
             → AnswersOne settings x.life.start e (message_of body) events → TakesOne settings x.life.start e (message_of body) events
-            → places (desk_of e events).phase (message_of body) ≡ false → stops events e (message_of body) ≡ false
+            → Unheld settings e body (message_of body) events → places (desk_of e events).phase (message_of body) ≡ false → stops events e (message_of body) ≡ false
             → is_first_open settings.servers events e (message_of body) ≡ false
             → (desk_of e (events ++ heard (FromEditor e body) ∷ [])).phase ≡ phase
             → Stands settings self.old events → OnOk result (Stands settings self.new (events ++ heard (FromEditor e body) ∷ [])) }

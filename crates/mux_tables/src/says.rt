@@ -19,11 +19,19 @@ ghost use Rattle.event_model.specs.Members.{named_of};
 ghost use Rattle.rpc_message.specs.Message as message;
 ghost use Rattle.rpc_message.specs.Message.{Id, message_of};
 ghost use Rattle.mux_tables.specs.declared.tables.Start.{Start};
+ghost use Rattle.mux_tables.specs.declared.tables.Tables.{Tables as State};
+ghost use Rattle.mux_tables.specs.Waits.{Released};
 ghost use Rattle.document_model.specs.Sayings.{nothing, saying_of};
 ghost use Rattle.group_laws.specs.group_rows.specs.Asks.{Ask, Parked, asks_of, is_under, parked_of, waits_under};
 ghost use Rattle.group_laws.specs.group_rows.specs.Forwarded.{is_written, moves_ids};
-ghost use Rattle.group_laws.specs.group_rows.specs.Texts.{is_synced, worker_of};
+ghost use Rattle.group_laws.specs.group_rows.specs.Texts.{is_synced};
+ghost use Rattle.group_laws.specs.group_rows.specs.Waiting.{first_waiting, worker_of};
+ghost use Rattle.mux_waits.specs.held_requests.specs.declared.request.Request.{Request as Waits};
 ghost use Rattle.mux_tables.specs.Documents.{AllStand, DocumentsStand, Leaves, Owed, nothing_owed, owes, syncing, to};
+ghost use Rattle.mux_waits.specs.Rows.{BecomesAt};
+ghost use Rattle.mux_waits.specs.Stands.{AnswersId};
+ghost use Rattle.mux_waits.specs.held_requests.specs.Tables.{is_under as is_waiting_under};
+ghost use Rattle.mux_waits.specs.numbered_rows.specs.Rows.{less};
 ghost use Rattle.mux_tables.specs.Names.{id_in};
 ghost use Rattle.mux_tables.specs.Refusals.{asks_in};
 ghost use Rattle.mux_tables.specs.Stands.{IsNew, Keeps, Sends, Stands, Welcomes, house_in, is_answer, number_in, stage_in, start_for};
@@ -55,11 +63,12 @@ fn closed(phase: Phase) -> Phase
 }
 
 impl Tables {
-    /// A body that is no request goes to an editor, which it leaves in its phase.
+    /// A body that is no request and answers none goes to an editor, which it leaves in its phase.
     #[tactic(auto, using(crate::proofs::Said::told_does))]
     pub fn tell(&self, outs: &mut Outs, e: u64, body: Body) -> Result<(), Memory>
         ensures outs { OnOk result (outs.new ≡ outs.old ++ ToEditor e body ∷ []) }
         ensures does { (settings : Settings) (base : List Event) → Keeps e body (behind base outs.old)
+            → answered_id (message_of body) ≡ None
             → OnOk result (Does (λ t events. Stands settings t events) (send (ToEditor e body)) base self.now outs.old self.now outs.new) }
         ensures documents { (settings : Settings) (owed : Owed) (base : List Event) → DocumentsStand settings owed self.now (behind base outs.old)
             → OnOk result (DocumentsStand settings owed self.now (behind base outs.new)) }
@@ -68,19 +77,43 @@ impl Tables {
         Ok(())
     }
 
-    /// The result of its `initialize` goes to an editor that waits.
-    pub fn welcome(&mut self, outs: &mut Outs, e: u64, body: Body) -> Result<(), Memory>
-        requires { e < length self.old.editors }
+    /// An answer to its request of this id goes to an editor, which it leaves in its phase; where the request waited it waits no more.
+    pub fn answer(&mut self, outs: &mut Outs, e: u64, id: &[u8], body: Body) -> Result<(), Memory>
         ensures requests { self.new.requests ≡ self.old.requests }
         ensures versions { self.new.versions ≡ self.old.versions }
-        ensures count { OnOk result (length self.new.editors ≡ length self.old.editors) }
-        ensures ids { OnOk result ((n : ℕ) → id_in (slice_get self.new.editors n) ≡ id_in (slice_get self.old.editors n)) }
+        ensures lasts { self.new.lasts ≡ self.old.lasts }
+        ensures editors { self.new.editors ≡ self.old.editors }
+        ensures same { self.new.documents ≡ self.old.documents }
         ensures outs { OnOk result (outs.new ≡ outs.old ++ ToEditor e body ∷ []) }
-        ensures does { (settings : Settings) (base : List Event) → Welcomes e body (behind base outs.old)
+        ensures waiting { (settings : Settings) (events : List Event) → Stands settings self.old events
+            → BecomesAt (home_of settings e events) (less (is_waiting_under e id.now)) self.old.origins.waiting self.new.origins.waiting }
+        ensures does { (settings : Settings) (base : List Event) → Keeps e body (behind base outs.old) → AnswersId id.now body
             → OnOk result (Does (λ t events. Stands settings t events) (send (ToEditor e body)) base self.old outs.old self.new outs.new) }
         ensures documents { (settings : Settings) (owed : Owed) (base : List Event) → DocumentsStand settings owed self.old (behind base outs.old)
             → OnOk result (DocumentsStand settings owed self.new (behind base outs.new)) }
     {
+        let home = self.home(e);
+        self.origins.waiting.answer(home, e, id);
+        outs.push(Out::ToEditor(e, body))?;
+        Ok(())
+    }
+
+    /// The result of its `initialize`, which has this id, goes to an editor that waits.
+    pub fn welcome(&mut self, outs: &mut Outs, e: u64, id: &[u8], body: Body) -> Result<(), Memory>
+        requires { e < length self.old.editors }
+        ensures requests { self.new.requests ≡ self.old.requests }
+        ensures versions { self.new.versions ≡ self.old.versions }
+        ensures lasts { self.new.lasts ≡ self.old.lasts }
+        ensures count { OnOk result (length self.new.editors ≡ length self.old.editors) }
+        ensures ids { OnOk result ((n : ℕ) → id_in (slice_get self.new.editors n) ≡ id_in (slice_get self.old.editors n)) }
+        ensures outs { OnOk result (outs.new ≡ outs.old ++ ToEditor e body ∷ []) }
+        ensures does { (settings : Settings) (base : List Event) → Welcomes e body (behind base outs.old) → AnswersId id.now body
+            → OnOk result (Does (λ t events. Stands settings t events) (send (ToEditor e body)) base self.old outs.old self.new outs.new) }
+        ensures documents { (settings : Settings) (owed : Owed) (base : List Event) → DocumentsStand settings owed self.old (behind base outs.old)
+            → OnOk result (DocumentsStand settings owed self.new (behind base outs.new)) }
+    {
+        let home = self.home(e);
+        self.origins.waiting.answer(home, e, id);
         self.editors.set(e, Phase::Answered);
         outs.push(Out::ToEditor(e, body))?;
         Ok(())
@@ -119,6 +152,7 @@ impl Tables {
         self.editors.set(e, closed(phase));
         self.empty(home, phase.is_begun())?;
         self.origins.created.forget_editor(e)?;
+        self.origins.waiting.leave(home, e);
         let place = self.place_in(home);
         let owed = leave(alloc, &mut self.documents, place, e)?;
         outs.push(Out::CloseEditor(e))?;
@@ -175,40 +209,6 @@ impl Tables {
         Ok(())
     }
 
-    /// An editor's request goes to the group's last start under the next number: `text` is its body under that number, `id`
-    /// what the editor called it, and `work` and `partial` the texts of its tokens for progress, where it has them.
-    pub fn forward(
-        &mut self,
-        outs: &mut Outs,
-        g: usize,
-        e: u64,
-        id: Body,
-        work: Option<Body>,
-        partial: Option<Body>,
-        text: Body,
-    ) -> Result<(), Memory>
-        requires group { g < length self.old.lasts.items }
-        requires left { (x : Start) → slice_get self.old.lasts.items g ≡ Some x → x.ids.next < x.ids.limit }
-        ensures starts { OnOk result (map number_in self.new.lasts.items ≡ map number_in self.old.lasts.items) }
-        ensures does { (settings : Settings) (base : List Event) (s : ℕ) (name : Id) (method : List ℕ) (ps : Option Json)
-            → slice_get (map number_in self.old.lasts.items) g ≡ Some s → message_of text ≡ message.request name method ps → is_own method ≡ false
-            → Sends s e id work partial (behind base outs.old)
-            → OnOk result (Does (λ t events. Stands settings t events) (send (ToServer s text)) base self.old outs.old self.new outs.new) }
-    {
-        let last = &mut self.lasts[g];
-        let pending = Pending {
-            editor: e,
-            id,
-            work,
-            partial,
-            cancelled: false,
-            noted: None,
-        };
-        keep(&mut last.ids, pending)?;
-        outs.push(Out::ToServer(last.life.start(), text))?;
-        Ok(())
-    }
-
     /// E10: an editor's request goes to the group's last start, which is ready, under the next number: `text` is its body under that
     /// number, `id` what the editor called it, and `work` and `partial` the texts of its tokens for progress, where it has them. Before
     /// it the start is sent the editor's text of each of its documents, where it has another; behind that the versions of these documents
@@ -230,9 +230,20 @@ impl Tables {
         ensures requests { self.new.requests ≡ self.old.requests }
         ensures versions { self.new.versions ≡ self.old.versions }
         ensures starts { OnOk result (map number_in self.new.lasts.items ≡ map number_in self.old.lasts.items) }
+        ensures stages { OnOk result (map stage_in self.new.lasts.items ≡ map stage_in self.old.lasts.items) }
+        ensures groups { OnOk result (map house_in self.new.lasts.items ≡ map house_in self.old.lasts.items) }
+        ensures origins { self.new.origins ≡ self.old.origins }
+        // S2: where the request had waited longest in the group, and was just taken out
+        ensures waited { (settings : Settings) (base : List Event) (t : State) (x : Start) (s : ℕ) (name : Id) (method : List ℕ) (ps : Option Json) (r : Waits)
+            → Released x.life.group t self.old → slice_get t.lasts.items g ≡ Some x → slice_get (map number_in t.lasts.items) g ≡ Some s
+            → message_of text ≡ message.request name method ps → is_own method ≡ false
+            → worker_of (behind base outs.old) ≡ None → first_waiting settings s (behind base outs.old) ≡ Some r → r.editor ≡ e
+            → Sends settings s e id work partial (behind base outs.old) → OnOk result (Does (λ k events. AllStand settings k events)
+            (look (λ now. to_start s (syncing settings now x.life.group s e) ⨾ send (ToServer s text))) base
+            (t, nothing_owed) outs.old (self.new, nothing_owed) outs.new) }
         ensures does { (settings : Settings) (base : List Event) (s : ℕ) (name : Id) (method : List ℕ) (ps : Option Json)
             → slice_get (map number_in self.old.lasts.items) g ≡ Some s → message_of text ≡ message.request name method ps → is_own method ≡ false
-            → Sends s e id work partial (behind base outs.old) → worker_of (behind base outs.old) ≡ Some e
+            → Sends settings s e id work partial (behind base outs.old) → worker_of (behind base outs.old) ≡ Some e
             → (x : Start) → slice_get self.old.lasts.items g ≡ Some x → OnOk result (Does (λ k events. AllStand settings k events)
             (look (λ now. to_start s (syncing settings now x.life.group s e) ⨾ send (ToServer s text))) base
             (self.old, nothing_owed) outs.old (self.new, nothing_owed) outs.new) }

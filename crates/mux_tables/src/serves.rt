@@ -16,10 +16,11 @@ ghost use Rattle.mux_history.specs.declared.cause.Cause.TheVariants.{FromServer,
 ghost use Rattle.rpc_message.specs.Message.{message_of, result_bytes};
 ghost use Rattle.mux_tables.specs.declared.tables.Start.{Start};
 ghost use Rattle.group_laws.specs.mux_model.specs.Documents.{encoding_by};
-ghost use Rattle.mux_tables.specs.Documents.{DocumentsStand, Owed, closes, nothing_owed, owes, replaying, to};
+ghost use Rattle.mux_history.specs.declared.out.Out.{Out};
+ghost use Rattle.mux_tables.specs.Documents.{DocumentsStand, Owed, Parts, nothing_owed, owes, replaying, to};
 ghost use Rattle.group_laws.specs.group_rows.specs.Forwarded.{forwarding_of, is_under};
 ghost use Rattle.mux_tokens.specs.Stands.{CreatedStay};
-ghost use Rattle.mux_tables.specs.Stands.{Exits, ListsStay, LiveStay, NamesAt, ParkedStay, Stands, any_in, begun_at, forwarded_as, is_early, number_in, stage_in};
+ghost use Rattle.mux_tables.specs.Stands.{Exits, ListsStay, LiveStay, NamesAt, ParkedStay, Stands, any_in, begun_at, forwarded_as, house_in, is_early, number_in, stage_in};
 
 use crate::documents::{ready, remove, unready};
 use crate::requests::{answer, forget};
@@ -72,8 +73,8 @@ impl Tables {
 
     /// S2: the group's last start gave the result of its `initialize`, and counts positions in this encoding; `n` is the number that
     /// its id writes, and `shown` what editors are shown of it; and the links of these editors of the group are to be ended before it is
-    /// told anything. The bodies that it is owed for the documents that are open at the others. The documents are ahead of the events by the
-    /// ends of these links. Where the answer is an error the tables stand for nothing any more.
+    /// told anything. The bodies that it is owed for the documents that are open at the others. The documents are ahead of the events by what
+    /// is said of these links. Where the answer is an error the tables stand for nothing any more.
     pub fn hear_result(
         &mut self,
         alloc: Global,
@@ -89,19 +90,20 @@ impl Tables {
         ensures versions { self.new.versions ≡ self.old.versions }
         ensures editors { OnOk result (self.new.editors ≡ self.old.editors) }
         ensures starts { OnOk result (map number_in self.new.lasts.items ≡ map number_in self.old.lasts.items) }
+        ensures groups { OnOk result (map house_in self.new.lasts.items ≡ map house_in self.old.lasts.items) }
         ensures ready { OnOk result ((x : Start) → slice_get self.new.lasts.items g ≡ Some x → x.life.stage ≡ Ready) }
         ensures stands { (settings : Settings) (events : List Event) (s : ℕ) (body : List ℕ)
             → slice_get (map number_in self.old.lasts.items) g ≡ Some s → is_first_result (message_of body) ≡ true
             → NamesAt (answered_id (message_of body)) n → shown ≡ shown_of (result_bytes body)
             → Stands settings self.old events → OnOk result (Stands settings self.new (events ++ heard (FromServer s body) ∷ [])) }
-        ensures documents { (settings : Settings) (events : List Event) (s : ℕ) (body : List ℕ)
-            → slice_get (map number_in self.old.lasts.items) g ≡ Some s → encoding_by (message_of body) ≡ Some encoding
+        ensures documents { (settings : Settings) (events : List Event) (s : ℕ) (body : List ℕ) (xs : List Out)
+            → slice_get (map number_in self.old.lasts.items) g ≡ Some s → Parts xs parted.now → encoding_by (message_of body) ≡ Some encoding
             → Stands settings self.old events → DocumentsStand settings nothing_owed self.old events
             → (x : Start) → slice_get self.old.lasts.items g ≡ Some x
             → AllByRecursion (λ e. home_of settings e events ≡ Some x.life.group) parted.now
-            → IfOk result (λ owed. (owed ≡ to s (replaying settings (behind (events ++ heard (FromServer s body) ∷ []) (closes parted.now)) x.life.group))
-            × DocumentsStand settings (owes x.life.group (replaying settings (behind (events ++ heard (FromServer s body) ∷ []) (closes parted.now)) x.life.group))
-            self.new (behind (events ++ heard (FromServer s body) ∷ []) (closes parted.now))) }
+            → IfOk result (λ owed. (owed ≡ to s (replaying settings (behind (events ++ heard (FromServer s body) ∷ []) xs) x.life.group))
+            × DocumentsStand settings (owes x.life.group (replaying settings (behind (events ++ heard (FromServer s body) ∷ []) xs) x.life.group))
+            self.new (behind (events ++ heard (FromServer s body) ∷ []) xs)) }
     {
         let last = &mut self.lasts[g];
         last.life.result();
@@ -328,7 +330,7 @@ impl Tables {
             → (is_first_result (message_of body) && is_initializing x.life.stage) ≡ false → x.life.stage ≢ Spawning → Stands settings self.old events
             → DocumentsStand settings owed self.old events → DocumentsStand settings owed self.new (events ++ heard (FromServer s body) ∷ []) }
         ensures found { (settings : Settings) (events : List Event) (s k : ℕ) → slice_get (map number_in self.old.lasts.items) g ≡ Some s → n ≡ Some k
-            → Stands settings self.old events → find (is_under k) (forwarding_of s events).open_requests ≡ option_map (forwarded_as k) result }
+            → Stands settings self.old events → find (is_under k) (forwarding_of settings s events).open_requests ≡ option_map (forwarded_as k) result }
         ensures editors { self.new.editors ≡ self.old.editors }
     {
         let last = &mut self.lasts[g];

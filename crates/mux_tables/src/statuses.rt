@@ -79,7 +79,7 @@ impl Tables {
     pub fn asked(&self, g: usize) -> Result<u64, Memory>
         requires { g < length self.now.lasts.items }
         ensures { (settings : Settings) (events : List Event) (s : ℕ) → slice_get (map number_in self.now.lasts.items) g ≡ Some s
-            → Stands settings self.now events → IfOk result (λ n. n ≡ asked_at events s) }
+            → Stands settings self.now events → IfOk result (λ n. n ≡ asked_at settings events s) }
     {
         let editors = self.lasts[g].ids.editors()?;
         Ok(count_there(&self.editors, editors))

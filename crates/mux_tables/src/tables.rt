@@ -13,6 +13,7 @@ use group_table::Groups;
 use id_rewrite::IdTable;
 use message_body::{Body, Memory};
 use mux_tokens::Created;
+use mux_waits::Waiting;
 use restart_replay::Life;
 use std::alloc::Global;
 use text_pieces::PieceText;
@@ -42,6 +43,8 @@ pub struct Origins {
     pub stopping: Vec<u64>,
     /// The tokens for progress that starts created, until a start's program ends.
     pub created: Created,
+    /// The requests that wait until a start of their group is ready.
+    pub waiting: Waiting,
 }
 
 /// How far it has come.
@@ -103,6 +106,7 @@ impl Tables {
                 groups: Vec::new(alloc),
                 stopping: Vec::new(alloc),
                 created: Created::new(alloc),
+                waiting: Waiting::new(alloc),
             },
             documents: Vec::new(alloc),
             requests,

@@ -100,8 +100,8 @@ impl Tables {
         ensures inside { IfSome result (λ x. x.editor < length self.now.editors) }
         ensures told { (settings : Settings) (before : List Event) (s : ℕ) (token : Option Json)
             → slice_get (map number_in self.now.lasts.items) g ≡ Some s → MarksAt token k → Stands settings self.now before
-            → MatchOption result (find (is_told before token) (forwarding_of s before).open_requests ≡ None)
-            (λ x. IsTold before token (forwarding_of s before).open_requests x.editor x.token.now) }
+            → MatchOption result (find (is_told before token) (forwarding_of settings s before).open_requests ≡ None)
+            (λ x. IsTold before token (forwarding_of settings s before).open_requests x.editor x.token.now) }
     {
         let k = k?;
         let n = owner(k)?;
@@ -124,7 +124,7 @@ impl Tables {
         ensures { (settings : Settings) (events : List Event) (s : ℕ) (id : Id) (named : Option Json)
             → slice_get (map number_in self.now.lasts.items) g ≡ Some s → IsIdText id token.now → option_and_then id_of named ≡ Some id
             → Stands settings self.now events
-            → IfOk result (λ n. n ≡ option_map (λ (f : Forwarded). f.number) (find (is_worked e named) (forwarding_of s events).open_requests)) }
+            → IfOk result (λ n. n ≡ option_map (λ (f : Forwarded). f.number) (find (is_worked e named) (forwarding_of settings s events).open_requests)) }
     {
         first_worked(&self.lasts[g].ids, e, token)
     }

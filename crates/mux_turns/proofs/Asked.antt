@@ -1,8 +1,8 @@
 -- Which ids are open at an editor, as the tables have it.
-use Rattle.std.proofs.Common.{◌≡◌, ℕ, zero, suc, ◌≤◌, Bool, true, false, cond, ◌&&◌, ◌||◌, List, [], ◌∷◌, map, length, find, nat_eq, refl, ap, sym, subst, ◌∙◌, arith}
-use Rattle.std.specs.Prelude.{Option, Some, None, is_some, option_map, slice_get}
+use Rattle.std.proofs.Common.{◌≡◌, ℕ, zero, suc, ◌≤◌, Bool, true, false, cond, ◌&&◌, ◌||◌, List, [], ◌∷◌, map, length, find, nat_eq, refl, ap, sym, subst, ◌∙◌, arith, inl, inr, Bor}
+use Rattle.std.specs.Prelude.{◌⊎◌, Option, Some, None, is_some, option_copied, option_map, slice_get}
 use Rattle.std.specs.List.{AllByRecursion}
-use Rattle.std.specs.Option.{option_and_then}
+use Rattle.std.specs.Option.{option_and_then, option_map_or}
 use Rattle.std.proofs.lemmas.Bool.Decides.{nat_tests}
 use Rattle.json_text.specs.Json.{Json}
 use Rattle.rpc_message.specs.Message.{Message, request, notification, result, error, not_json, not_message, Id, id_bytes, message_of, same_id}
@@ -19,7 +19,7 @@ use Rattle.event_model.proofs.Places.{same_item}
 use Rattle.group_facts.specs.Built.{doubles}
 use Rattle.group_facts.specs.Facts.{AllForwarded, IsForwarded, is_up}
 use Rattle.group_facts.proofs.LiveGroups.{lives_busy}
-use Rattle.group_facts.specs.Settled.{Settled, is_answered}
+use Rattle.group_facts.specs.Settled.{IsKeptBack, IsSent, Settled, is_answered}
 use Rattle.group_facts.specs.group_rows.specs.Forwarded.{Forwarded, forwarding_of}
 use Rattle.group_words.specs.Houses.{groups_of, home_of}
 use Rattle.mux_tables.specs.id_rewrite.specs.declared.pending.Numbered.{Numbered}
@@ -30,6 +30,11 @@ use Rattle.group_facts.specs.mux_facts.proofs.Words.{id_same, same_id_itself}
 use Rattle.mux_tables.specs.declared.tables.Start.{Start}
 use Rattle.mux_tables.specs.declared.tables.Tables.{Tables}
 use Rattle.mux_tables.specs.Names.{id_in}
+use Rattle.group_facts.specs.group_rows.specs.Waiting.{id_meant, is_meant, waiting_of}
+use Rattle.group_facts.specs.group_rows.proofs.Cancelling.{text_meant}
+use Rattle.mux_tables.specs.mux_waits.specs.held_requests.specs.declared.request.Request.{Request}
+use Rattle.mux_tables.specs.mux_waits.specs.Stands.{IsHeld}
+use Rattle.mux_tables.specs.mux_waits.proofs.Moves.{held_text}
 use Rattle.mux_tables.specs.Stands.{HasEnded, Stands, forwarded_of, of_ids, start_for}
 use Rattle.mux_tables.proofs.Frames.{itself}
 use Rattle.mux_tables.proofs.Seen.{phase_past}
@@ -46,6 +51,13 @@ agree : (a b : Bool) → (a ≡ true → b ≡ true) → (b ≡ true → a ≡ t
 agree true b there back = sym (there refl)
 agree false true there back = back refl
 agree false false there back = refl
+
+pub copied_some : {A : Type 0} (r : Option (Bor A)) → is_some r ≡ is_some (option_copied r)
+copied_some None = refl
+copied_some (Some b) = refl
+
+same_editor : (a b : ℕ) → nat_eq a b ≡ true → a ≡ b
+same_editor a b h = grind (arith, nat_tests)
 
 nothing_some : {A : Type 0} {x : A} → ◌≡◌ {A = Option A} None (Some x) → ⊥
 nothing_some e = cc
@@ -103,27 +115,16 @@ module _ (settings : Settings) (t : Tables) (before : List Event) (e : ℕ) (i :
   begun Closed h = absurd (cc)
   begun Gone h = absurd (cc)
 
-  pub sent_nowhere : HasEnded (start_for settings e before) before → false ≡ is_open i (open_of e before)
-  sent_nowhere ended = go (is_open i (open_of e before)) refl
-    where
-      clash : true ≡ false → ⊥
-      clash q = cc
-
-      go : (b : Bool) → is_open i (open_of e before) ≡ b → false ≡ b
-      go false h = refl
-      go true h =
-          let x = known.sent e i served h in
-          let live = lives_busy x.group (groups_of settings before) (known.lively.busy e x.group (begun (desk_of e before).phase served) x.home) in
-          absurd (clash (sym (known.lively.up x.group x.start live x.last) ∙ ap is_up (ended x.start (ap (option_and_then (λ g. start_of g before)) x.home ∙ x.last))))
+  pub sent_nowhere : HasEnded (start_for settings e before) before → IsSent settings before e i → false ≡ true
+  sent_nowhere ended x =
+      let live = lives_busy x.group (groups_of settings before) (known.lively.busy e x.group (begun (desk_of e before).phase served) x.home) in
+      sym (sym (known.lively.up x.group x.start live x.last) ∙ ap is_up (ended x.start (ap (option_and_then (λ g. start_of g before)) x.home ∙ x.last)))
 
   module _ (w : List ℕ) (text : IsIdText i w) where
     found_open : (rs : List Numbered) → AllByRecursion (IsForwarded before) (map forwarded_of rs) → is_some (number_under e w rs) ≡ true → is_open i (open_of e before) ≡ true
     found_open [] all h = absurd (cc)
     found_open (r ∷ rs) all h = go (is_under e w r) refl h (λ k. found_open rs all.1 k)
       where
-        same_editor : (a b : ℕ) → nat_eq a b ≡ true → a ≡ b
-        same_editor a b h = grind (arith, nat_tests)
-
         go : (b : Bool) → is_under e w r ≡ b → is_some (option_map (λ (q : Numbered). q.number) (cond b (Some r) (find (is_under e w) rs))) ≡ true → (is_some (number_under e w rs) ≡ true → is_open i (open_of e before) ≡ true) → is_open i (open_of e before) ≡ true
         go true u h rest =
             let two = both (nat_eq r.pending.editor e) (same_form w r.pending.id) u in
@@ -147,18 +148,68 @@ module _ (settings : Settings) (t : Tables) (before : List Event) (e : ℕ) (i :
         go true rest = refl
         go false rest = rest
 
-    pub sent_here : (p : ℕ) (z : Start) (b : Bool) → AllForwarded before → Stands settings t before → home_of settings e before ≡ Some z.life.group → slice_get t.lasts.items p ≡ Some z → b ≡ is_some (number_under e w z.ids.requests) → b ≡ is_open i (open_of e before)
-    sent_here p z b asked st home here is =
-        let g = z.life.group in
+    pub sent_open : (p : ℕ) (z : Start) (b : Bool) → AllForwarded settings before → Stands settings t before → slice_get t.lasts.items p ≡ Some z → b ≡ is_some (number_under e w z.ids.requests) → b ≡ true → is_open i (open_of e before) ≡ true
+    sent_open p z b asked st here is so =
+        let opened = ((st.lasts.each p z here).parts of_ids).open_requests in
+        found_open z.ids.requests (subst (AllByRecursion (IsForwarded before)) opened (asked z.life.start)) (sym is ∙ so)
+
+    pub sent_found : (p : ℕ) (z : Start) (b : Bool) → Stands settings t before → home_of settings e before ≡ Some z.life.group → slice_get t.lasts.items p ≡ Some z → b ≡ is_some (number_under e w z.ids.requests) → IsSent settings before e i → b ≡ true
+    sent_found p z b st home here is x =
         let last = st.lasts.each p z here in
         let opened = (last.parts of_ids).open_requests in
-        is ∙ agree (is_some (number_under e w z.ids.requests)) (is_open i (open_of e before))
-        (found_open z.ids.requests (subst (AllByRecursion (IsForwarded before)) opened (asked z.life.start)))
-        (λ h.
-        let x = known.sent e i served h in
-        let group : x.group ≡ g = same_item (sym x.home ∙ home) in
+        let group : x.group ≡ z.life.group = same_item (sym x.home ∙ home) in
         let start : x.start ≡ z.life.start = same_item (sym x.last ∙ (ap (λ n. start_of n before) group ∙ last.start)) in
-        open_found z.ids.requests x.place x.request (subst (λ fs. slice_get fs x.place ≡ Some x.request) (ap (λ n. (forwarding_of n before).open_requests) start ∙ opened) x.at) x.editor x.text)
+        is ∙ open_found z.ids.requests x.place x.request (subst (λ fs. slice_get fs x.place ≡ Some x.request) (ap (λ n. (forwarding_of settings n before).open_requests) start ∙ opened) x.at) x.editor x.text
+
+-- of what waits
+module _ (settings : Settings) (before : List Event) (e : ℕ) (i : Id) where
+  meant_open : (g : ℕ) (rs : List Request) → AllByRecursion (IsHeld settings g before) rs → is_some (find (is_meant e i) rs) ≡ true → is_open i (open_of e before) ≡ true
+  meant_open g [] h so = absurd (cc)
+  meant_open g (r ∷ rs) h so = go (is_meant e i r) refl so (λ k. meant_open g rs h.1 k)
+    where
+      go : (b : Bool) → is_meant e i r ≡ b → is_some (cond b (Some r) (find (is_meant e i) rs)) ≡ true → (is_some (find (is_meant e i) rs) ≡ true → is_open i (open_of e before) ≡ true) → is_open i (open_of e before) ≡ true
+      go true m so rest =
+          let k = h.0 in
+          let two = both (nat_eq r.editor e) (option_map_or (same_id i) (id_meant r.id) false) m in
+          let same : i ≡ k.name = id_same i k.name (sym (ap (λ o. option_map_or (same_id i) o false) (text_meant k.name r.id (held_text settings g before r k))) ∙ two.1) in
+          subst (λ n. is_open i (open_of n before) ≡ true) (same_editor r.editor e two.0) (subst (λ j. is_open j (open_of r.editor before) ≡ true) (sym same) k.open_id)
+      go false m so rest = rest so
+
+  meant_found : (rs : List Request) (k : ℕ) (r : Request) → slice_get rs k ≡ Some r → r.editor ≡ e → IsIdText i r.id → is_some (find (is_meant e i) rs) ≡ true
+  meant_found [] k r at own id = absurd (nothing_some at)
+  meant_found (q ∷ rs) zero r at own id = ap (λ b. is_some (cond b (Some q) (find (is_meant e i) rs))) meant
+    where
+      is : q ≡ r
+      is = same_item at
+
+      meant : is_meant e i q ≡ true
+      meant = ap (is_meant e i) is ∙ (ap (λ n. nat_eq n e && option_map_or (same_id i) (id_meant r.id) false) own ∙ (ap (λ b. b && option_map_or (same_id i) (id_meant r.id) false) (itself e)
+          ∙ (ap (λ o. option_map_or (same_id i) o false) (text_meant i r.id id) ∙ same_id_itself i)))
+  meant_found (q ∷ rs) (suc k) r at own id = go (is_meant e i q) (meant_found rs k r at own id)
+    where
+      go : (b : Bool) → is_some (find (is_meant e i) rs) ≡ true → is_some (cond b (Some q) (find (is_meant e i) rs)) ≡ true
+      go true rest = refl
+      go false rest = rest
+
+  pub held_found : (g : ℕ) → home_of settings e before ≡ Some g → IsKeptBack settings before e i → is_some (find (is_meant e i) (waiting_of settings g before)) ≡ true
+  held_found g home k =
+      let group : k.group ≡ g = same_item (sym k.home ∙ home) in
+      meant_found (waiting_of settings g before) k.place k.request (subst (λ n. slice_get (waiting_of settings n before) k.place ≡ Some k.request) group k.at) k.editor k.text
+
+  pub held_nowhere : home_of settings e before ≡ None → IsKeptBack settings before e i → false ≡ true
+  held_nowhere none k = absurd (nothing_some (sym none ∙ k.home))
+
+  pub asked_else : (b : Bool) → Settled settings before → is_answered (desk_of e before).phase ≡ true → (b ≡ true → is_open i (open_of e before) ≡ true) → (IsSent settings before e i → ⊥) → (IsKeptBack settings before e i → b ≡ true) → b ≡ is_open i (open_of e before)
+  asked_else b known served there off kept = agree b (is_open i (open_of e before)) there (λ h. by (known.sent e i served h))
+    where
+      by : IsSent settings before e i ⊎ IsKeptBack settings before e i → b ≡ true
+      by (inl x) = absurd (off x)
+      by (inr k) = kept k
+
+pub held_open : (settings : Settings) (t : Tables) (before : List Event) (e : ℕ) (i : Id) (g : ℕ) → Stands settings t before → is_some (find (is_meant e i) (waiting_of settings g before)) ≡ true → is_open i (open_of e before) ≡ true
+held_open settings t before e i g st so =
+    let held = st.waiting g in
+    meant_open settings before e i g (waiting_of settings g before) (subst (AllByRecursion (IsHeld settings g before)) held.same held.each) so
 
 -- where none can be open under it
 pub alone_else : (p : Phase) (i : Id) (ids : List Id) → (p ≡ Waiting → ⊥) → (p ≡ Answered → ⊥) → (p ≡ Running → ⊥) → (p ≡ Down → ⊥) → false ≡ doubles p i ids

@@ -73,12 +73,12 @@ then_then p q r events =
 pub leave_alike : (settings : Settings) (before : List Event) (e : ℕ) → Alike (leave_row settings before e) (cancels_row settings before e ⨾ closings_row settings before e (home_of settings e before))
 leave_alike settings before e = record { sends = λ events. at_home events (home_of settings e before) }
   where
-    at_start : (events : List Event) (g : ℕ) (o : Option ℕ) → outs (on o nothing (λ s. cancels before s e ⨾ (refusals settings before s e ⨾ closings settings before g s e))) events ≡ outs (on o nothing (λ s. cancels before s e ⨾ refusals settings before s e) ⨾ on o nothing (λ s. closings settings before g s e)) events
+    at_start : (events : List Event) (g : ℕ) (o : Option ℕ) → outs (on o nothing (λ s. cancels settings before s e ⨾ (refusals settings before s e ⨾ closings settings before g s e))) events ≡ outs (on o nothing (λ s. cancels settings before s e ⨾ refusals settings before s e) ⨾ on o nothing (λ s. closings settings before g s e)) events
     at_start events g None = refl
-    at_start events g (Some s) = then_then (cancels before s e) (refusals settings before s e) (closings settings before g s e) events
+    at_start events g (Some s) = then_then (cancels settings before s e) (refusals settings before s e) (closings settings before g s e) events
 
-    at_home : (events : List Event) (home : Option ℕ) → outs (on home nothing (λ g. on (start_of g before) nothing (λ s. cancels before s e ⨾ (refusals settings before s e ⨾ closings settings before g s e)))) events
-        ≡ outs (on home nothing (λ g. on (start_of g before) nothing (λ s. cancels before s e ⨾ refusals settings before s e)) ⨾ closings_row settings before e home) events
+    at_home : (events : List Event) (home : Option ℕ) → outs (on home nothing (λ g. on (start_of g before) nothing (λ s. cancels settings before s e ⨾ (refusals settings before s e ⨾ closings settings before g s e)))) events
+        ≡ outs (on home nothing (λ g. on (start_of g before) nothing (λ s. cancels settings before s e ⨾ refusals settings before s e)) ⨾ closings_row settings before e home) events
     at_home events None = refl
     at_home events (Some g) = at_start events g (start_of g before)
 

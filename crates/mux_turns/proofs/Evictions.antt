@@ -22,7 +22,8 @@ use Rattle.event_model.proofs.Turns.{behind_more, does_knowing, does_look, does_
 use Rattle.group_facts.specs.Facts.{Numbered}
 use Rattle.group_facts.specs.Why.{is_starting}
 use Rattle.group_facts.proofs.GroupEnds.{shutdown_says}
-use Rattle.group_facts.specs.group_rows.specs.Forwarded.{Forwarding, forwarding_behind, forwarding_of}
+use Rattle.group_facts.specs.group_rows.specs.Forwarded.{Forwarding, forwarding_next, forwarding_of}
+use Rattle.group_facts.specs.group_rows.proofs.Frames.{forwarding_more}
 use Rattle.group_words.specs.declared.placed.Placed.TheVariants.{Evicts}
 use Rattle.group_words.specs.Rows.{end_group, end_start, placed_row, spawn}
 use Rattle.mux_tables.specs.id_rewrite.specs.Tables.{IsInOrder}
@@ -75,14 +76,14 @@ module _ (settings : Settings) (t u : Tables) (base : List Event) (xs ys : List 
   stage_here st = subst (λ n. (life_of n (behind base xs)).stage ≡ x.life.stage) own (ap (λ (l : Life). l.stage) ((st.lasts.each g x at).parts of_life))
 
   -- it is sent `shutdown`
-  pub shuts : (owed : Owed) (n : ℕ) (text : List ℕ) → x.life.stage ≡ Ready → (IsInOrder x.ids → x.ids.limit ≡ t.requests → n ≡ x.ids.next) → text ≡ request_text n (codes "shutdown") None → next_number s (behind base xs) ≡ (forwarding_of s (behind base xs)).next
+  pub shuts : (owed : Owed) (n : ℕ) (text : List ℕ) → x.life.stage ≡ Ready → (IsInOrder x.ids → x.ids.limit ≡ t.requests → n ≡ x.ids.next) → text ≡ request_text n (codes "shutdown") None → next_number s (behind base xs) ≡ (forwarding_of settings s (behind base xs)).next
       → ((name : Id) (ps : Option Json) → message_of text ≡ request name (codes "shutdown") ps → Does (λ t events. Stands settings t events) (send (ToServer s text)) base t xs u ys)
       → ((name : Id) (ps : Option Json) → message_of text ≡ request name (codes "shutdown") ps → DocumentsStand settings owed t (behind base xs) → DocumentsStand settings owed u (behind base ys))
       → Does (λ k events. AllStand settings k events) (end_start s Ready) base (t, owed) xs (u, owed) ys
   shuts owed n text ready same is asked d docs = does_knowing (λ k.
       let ids = (k.0.lasts.each g x at).parts of_ids in
       let next : n ≡ x.ids.next = same ids.order ids.ends in
-      let asks : next_number s (behind base xs) ≡ n = asked ∙ (ap (λ m. (forwarding_of m (behind base xs)).next) (sym own) ∙ (ids.next ∙ sym next)) in
+      let asks : next_number s (behind base xs) ≡ n = asked ∙ (ap (λ m. (forwarding_of settings m (behind base xs)).next) (sym own) ∙ (ids.next ∙ sym next)) in
       let within = ids.order.within in
       let ends = ids.ends in
       let range = k.0.range in
@@ -143,20 +144,20 @@ replaces settings t u v before base e g n body xs ys zs next d spawns docs = doe
     does_then d (all_does settings u v nothing_owed nothing_owed base ys zs (spawns still) (docs still)))
 
 -- a cause that no start's numbers speak of leaves them alone
-numbered_quiet : (before : List Event) (event : Event) → ((s : ℕ) (l : Life) → life_behind s l event ≡ l) → ((s n : ℕ) → number_behind s n event ≡ n) → ((s : ℕ) (f : Forwarding) → (forwarding_behind s f event).next ≡ f.next) → Numbered before → Numbered (before ++ event ∷ [])
-numbered_quiet before event life number next k s ready =
+numbered_quiet : (settings : Settings) (before : List Event) (event : Event) → ((s : ℕ) (l : Life) → life_behind s l event ≡ l) → ((s n : ℕ) → number_behind s n event ≡ n) → ((s : ℕ) (f : Forwarding) → (forwarding_next settings s before f event).next ≡ f.next) → Numbered settings before → Numbered settings (before ++ event ∷ [])
+numbered_quiet settings before event life number next k s ready =
     let stood : (life_of s before).stage ≡ Ready = sym (ap (λ (l : Life). l.stage) (one_more (life_behind s) _ _ before event refl ∙ life s (life_of s before))) ∙ ready in
-    (one_more (number_behind s) _ _ before event refl ∙ number s (next_number s before)) ∙ (k s stood ∙ sym (ap (λ (f : Forwarding). f.next) (one_more (forwarding_behind s) _ _ before event refl) ∙ next s (forwarding_of s before)))
+    (one_more (number_behind s) _ _ before event refl ∙ number s (next_number s before)) ∙ (k s stood ∙ sym (ap (λ (f : Forwarding). f.next) (forwarding_more settings s before event) ∙ next s (forwarding_of settings s before)))
 
-pub numbered_heard : (before : List Event) (e : ℕ) (body : List ℕ) → Numbered before → Numbered (with_cause before (FromEditor e body))
-numbered_heard before e body = numbered_quiet before (heard (FromEditor e body)) (λ s l. refl) (λ s n. refl) (λ s f. refl)
+pub numbered_heard : (settings : Settings) (before : List Event) (e : ℕ) (body : List ℕ) → Numbered settings before → Numbered settings (with_cause before (FromEditor e body))
+numbered_heard settings before e body = numbered_quiet settings before (heard (FromEditor e body)) (λ s l. refl) (λ s n. refl) (λ s f. refl)
 
-pub numbered_ticked : (before : List Event) (t : ℕ) → Numbered before → Numbered (with_cause before (Tick t))
-numbered_ticked before t = numbered_quiet before (heard (Tick t)) (λ s l. refl) (λ s n. refl) (λ s f. refl)
+pub numbered_ticked : (settings : Settings) (before : List Event) (t : ℕ) → Numbered settings before → Numbered settings (with_cause before (Tick t))
+numbered_ticked settings before t = numbered_quiet settings before (heard (Tick t)) (λ s l. refl) (λ s n. refl) (λ s f. refl)
 
 -- nor do bodies to editors, and ends of their links
-pub numbered_told : (before : List Event) (e : ℕ) (body : List ℕ) → Numbered before → Numbered (before ++ said (ToEditor e body) ∷ [])
-numbered_told before e body = numbered_quiet before (said (ToEditor e body)) (λ s l. refl) (λ s n. refl) (λ s f. refl)
+pub numbered_told : (settings : Settings) (before : List Event) (e : ℕ) (body : List ℕ) → Numbered settings before → Numbered settings (before ++ said (ToEditor e body) ∷ [])
+numbered_told settings before e body = numbered_quiet settings before (said (ToEditor e body)) (λ s l. refl) (λ s n. refl) (λ s f. refl)
 
-pub numbered_closed : (before : List Event) (e : ℕ) → Numbered before → Numbered (before ++ said (CloseEditor e) ∷ [])
-numbered_closed before e = numbered_quiet before (said (CloseEditor e)) (λ s l. refl) (λ s n. refl) (λ s f. refl)
+pub numbered_closed : (settings : Settings) (before : List Event) (e : ℕ) → Numbered settings before → Numbered settings (before ++ said (CloseEditor e) ∷ [])
+numbered_closed settings before e = numbered_quiet settings before (said (CloseEditor e)) (λ s l. refl) (λ s n. refl) (λ s f. refl)

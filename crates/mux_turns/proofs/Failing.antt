@@ -55,9 +55,9 @@ module _ (settings : Settings) (t : Tables) (base : List Event) (xs : List Out) 
   pub refuses_none : AllHoused settings now → id_in (slice_get t.editors e) ≡ None → (Stands settings t now → is_waiting (desk_of e now).phase ≡ true) → Refuses xs
   refuses_none housed none waits = does_knowing (λ st. absurd (none_some (sym none ∙ kept housed st (waits st))))
 
-module _ (settings : Settings) (t : Tables) (base : List Event) (xs ys : List Out) (e : ℕ) (asking : AllAsking (behind base xs)) (housed : AllHoused settings (behind base xs)) (id : List ℕ) (is : id_in (slice_get t.editors e) ≡ Some id) where
-  pub refuses_waiting : (Stands settings t (behind base xs) → is_waiting (desk_of e (behind base xs)).phase ≡ true) → (IsNamed id → Does (λ t events. Stands settings t events) (refuse_id e id) base t xs t ys)
-      → Does (λ t events. Stands settings t events) (refuse_initialize e) base t xs t ys
+module _ (settings : Settings) (t u : Tables) (base : List Event) (xs ys : List Out) (e : ℕ) (asking : AllAsking (behind base xs)) (housed : AllHoused settings (behind base xs)) (id : List ℕ) (is : id_in (slice_get t.editors e) ≡ Some id) where
+  pub refuses_waiting : (Stands settings t (behind base xs) → is_waiting (desk_of e (behind base xs)).phase ≡ true) → (IsNamed id → Does (λ t events. Stands settings t events) (refuse_id e id) base t xs u ys)
+      → Does (λ t events. Stands settings t events) (refuse_initialize e) base t xs u ys
   refuses_waiting waits d = does_knowing (λ st.
       let desk = desk_of e (behind base xs) in
       let at : desk.phase ≡ Waiting = waiting_is desk.phase (waits st) in
@@ -65,7 +65,7 @@ module _ (settings : Settings) (t : Tables) (base : List Event) (xs ys : List Ou
       let asks = asking e at in
       let named : IsNamed id = (asks.name, subst (λ w. IsIdText asks.name w) (sym same) (request_id_bytes desk.initialize asks.name asks.method asks.params asks.says)) in
       does_look (λ _. ap (λ b. choose b (send (ToEditor e (error_text (id_bytes desk.initialize) request_failed))) nothing) (waits st))
-      (does_true (subst (λ w. Does (λ t events. Stands settings t events) (send (ToEditor e (error_text w request_failed))) base t xs t ys) same (d named))))
+      (does_true (subst (λ w. Does (λ t events. Stands settings t events) (send (ToEditor e (error_text w request_failed))) base t xs u ys) same (d named))))
 
 -- what a start has to answer
 pub named_at : (ids : List (List ℕ)) (i : ℕ) (d : List ℕ) → i < length ids → AllByRecursion IsNamed ids → IsNamed (get_or ids i d)

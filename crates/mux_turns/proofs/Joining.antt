@@ -28,6 +28,7 @@ use Rattle.mux_tables.specs.Documents.{AllStand, DocumentsStand, nothing_owed}
 use Rattle.mux_tables.specs.Stands.{Stands, Welcomes, number_in}
 use Rattle.mux_tables.proofs.Frames.{itself}
 use Rattle.mux_tables.proofs.Starts.{start_at_place, start_there}
+use Rattle.mux_tables.specs.mux_waits.specs.Stands.{AnswersId}
 use Rattle.mux_turns.specs.Welcomes.{IsGreeted, IsShown, is_greeted}
 use Rattle.mux_turns.proofs.Rows.{is_first}
 use Rattle.mux_turns.proofs.Welcoming.{answered_does}
@@ -73,9 +74,9 @@ module _ (settings : Settings) (t u : Tables) (before : List Event) (e g s : ℕ
       still None = refl
       still (Some b) = refl
 
-  pub joins_ready : (given text shown : List ℕ) → result_of s before ≡ Some given → IsShown given → text ≡ ok_text (id_bytes body) shown → shown ≡ shown_of (result_bytes given) → (Welcomes e text (behind base xs) → Does (λ t events. Stands settings t events) (send (ToEditor e text)) base t xs u ys)
+  pub joins_ready : (given text shown : List ℕ) → result_of s before ≡ Some given → IsShown given → text ≡ ok_text (id_bytes body) shown → shown ≡ shown_of (result_bytes given) → (Welcomes e text (behind base xs) → AnswersId (id_bytes body) text → Does (λ t events. Stands settings t events) (send (ToEditor e text)) base t xs u ys)
       → (DocumentsStand settings nothing_owed t (behind base xs) → DocumentsStand settings nothing_owed u (behind base ys)) → Does (λ k events. AllStand settings k events) (placed_row e body before (Joins g)) base (t, nothing_owed) xs (u, nothing_owed) ys
   joins_ready given text shown gave whole is are d docs =
       let row = alike_then (is_first (ap (λ o. on o nothing (welcomed e body before)) starts) ready) (alike (ap (λ o. on o nothing (answer_with e body)) gave)) in
       does_alike (λ _. row) (subst (λ i. Does (λ k events. AllStand settings k events) (send (ToEditor e (ok_text (id_bytes i) (shown_of (result_bytes given))))) base (t, nothing_owed) xs (u, nothing_owed) ys) (ap (λ (d : Desk). d.initialize) desk)
-      (answered_does settings t u base xs ys e given text shown greeted whole (is ∙ ap (λ (d : Desk). ok_text (id_bytes d.initialize) shown) (sym desk)) are d docs))
+      (answered_does settings t u base xs ys e given text shown greeted whole (is ∙ ap (λ (d : Desk). ok_text (id_bytes d.initialize) shown) (sym desk)) are (λ w a. d w (subst (λ (d : Desk). AnswersId (id_bytes d.initialize) text) desk a)) docs))

@@ -9,11 +9,13 @@ use Rattle.rpc_message.specs.Message.{Message, error, notification, request, Id,
 use Rattle.rpc_message.specs.Texts.{Code, error_text, error_tree, ok_text}
 use Rattle.rpc_message.proofs.Fixed.{error_law, id_as_response, null_as_response}
 use Rattle.rpc_message.proofs.Ids.{request_id_bytes}
+use Rattle.rpc_message.specs.ValueTexts.{IsIdText}
 use Rattle.event_model.specs.declared.phase.Phase.{Phase}
 use Rattle.event_model.specs.declared.phase.Phase.TheVariants.{Absent, New, Waiting, Answered, Running, Down, Closed, Gone}
 use Rattle.event_model.specs.Does.{Does}
 use Rattle.event_model.specs.Event.{Event, said}
 use Rattle.event_model.specs.Phases.{Desk, desk_behind, desk_of, has_id, phase_told}
+use Rattle.event_model.specs.Requests.{answered_id}
 use Rattle.event_model.specs.Row.{Row, choose, send}
 use Rattle.event_model.specs.Settings.{Settings}
 use Rattle.event_model.proofs.Frames.{one_more}
@@ -24,6 +26,7 @@ use Rattle.group_facts.proofs.Nulls.{null_said}
 use Rattle.mux_tables.specs.declared.tables.Tables.{Tables}
 use Rattle.mux_tables.specs.Stands.{Keeps, Stands, is_traced}
 use Rattle.mux_tables.proofs.Frames.{itself}
+use Rattle.mux_tables.specs.mux_waits.specs.Stands.{AnswersId}
 
 -- an error makes nobody answered
 pub error_told : (p : Phase) (i : List ℕ) (id : Option Id) (x : Json) → phase_told p i (error id x) ≡ p
@@ -83,6 +86,10 @@ module _ (settings : Settings) (base : List Event) (t u : Tables) (xs ys : List 
 -- an error under a request's id, and one under a null id
 pub refused_says : (text body id method : List ℕ) (name : Id) (params : Option Json) (c : Code) → text ≡ error_text id c → id ≡ id_bytes body → message_of body ≡ request name method params → message_of text ≡ error (Some name) (error_tree c)
 refused_says text body id method name params c is own says = ap message_of (is ∙ ap (λ w. error_text w c) own) ∙ error_law (Some name) (id_bytes body) c (id_as_response name (id_bytes body) (request_id_bytes body name method params says))
+
+-- a body that answers a request answers under the id that it came with
+pub answers_own : (text body own method : List ℕ) (name : Id) (params : Option Json) → own ≡ id_bytes body → message_of body ≡ request name method params → answered_id (message_of text) ≡ Some name → AnswersId own text
+answers_own text body own method name params is says answers = record { name = name; is = subst (λ w. IsIdText name w) (sym is) (request_id_bytes body name method params says); says = answers }
 
 -- the result null
 abbrev pub null_tree : Json

@@ -26,3 +26,4 @@ pub mod Rows
 pub mod Welcoming
 pub mod Named
 pub mod Turning
+pub mod Refusing

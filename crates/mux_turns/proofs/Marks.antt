@@ -16,7 +16,8 @@ use Rattle.rpc_message.specs.Envelopes.{not_null}
 use Rattle.rpc_message.specs.Message.{Id, message_of, notification, request}
 use Rattle.rpc_message.specs.Parsed.{IsRead, Parsed, params_in}
 use Rattle.event_model.specs.Members.{is_token, named_of, params_of}
-use Rattle.group_facts.specs.group_rows.specs.Tokens.{begins_as_mark, is_reserved, mark, mark_edits, mark_text, new_mark, partial_mark, token_edits, work_mark}
+use Rattle.group_facts.specs.group_rows.specs.Tokens.{mark, mark_edits, mark_text, new_mark, partial_mark, token_edits, work_mark}
+use Rattle.group_facts.specs.group_rows.specs.Reserved.{begins_as_mark, is_reserved}
 use Rattle.group_facts.specs.mux_members.specs.Tokens.{text_of}
 use Rattle.group_facts.specs.mux_members.proofs.Encoded.{ascii_fronted}
 use Rattle.group_facts.specs.mux_members.proofs.Roots.{read_params}

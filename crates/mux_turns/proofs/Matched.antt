@@ -42,25 +42,25 @@ find_never [] = refl
 find_never (f ∷ fs) = find_never fs
 
 module _ (settings : Settings) (t : Tables) (before : List Event) (g s : ℕ) (id : Option Id) (st : Stands settings t before) (within : g < length t.lasts.items) (at : slice_get (map number_in t.lasts.items) g ≡ Some s) where
-  same_found : (q : Forwarded → Bool) → ((n : ℕ) → n < 2 ^ 32 → (f : Forwarded) → f.number ≡ n → answered_by id f ≡ q f) → find (answered_by id) (forwarding_of s before).open_requests ≡ find q (forwarding_of s before).open_requests
+  same_found : (q : Forwarded → Bool) → ((n : ℕ) → n < 2 ^ 32 → (f : Forwarded) → f.number ≡ n → answered_by id f ≡ q f) → find (answered_by id) (forwarding_of settings s before).open_requests ≡ find q (forwarding_of settings s before).open_requests
   same_found q same =
       let x = item_at t.lasts.items g within in
       let ids = (st.lasts.each g x.0 x.1).parts of_ids in
       let own = start_at_place t.lasts.items g s x.0 x.1 at in
-      let opened = ap (λ n. (forwarding_of n before).open_requests) (sym own) ∙ ids.open_requests in
+      let opened = ap (λ n. (forwarding_of settings n before).open_requests) (sym own) ∙ ids.open_requests in
       let last = ids.order.within in
       let ends = ids.ends in
       let range = st.range in
       ap (find (answered_by id)) opened ∙ (find_below (answered_by id) q x.0.ids.next (λ f l. same f.number (omega (arith, ends)) f refl) 2 x.0.ids.requests ids.order.rising ∙ ap (find q) (sym opened))
 
-  pub found_some : (k : ℕ) → NamesAt id (Some k) → find (answered_by id) (forwarding_of s before).open_requests ≡ find (is_under k) (forwarding_of s before).open_requests
+  pub found_some : (k : ℕ) → NamesAt id (Some k) → find (answered_by id) (forwarding_of settings s before).open_requests ≡ find (is_under k) (forwarding_of settings s before).open_requests
   found_some k named = same_found (is_under k) (λ n l f e. named f.number (subst (λ m. m < 2 ^ 32) (sym e) l))
 
-  pub found_none : NamesAt id None → find (answered_by id) (forwarding_of s before).open_requests ≡ None
-  found_none named = same_found (λ f. false) (λ n l f e. named f.number (subst (λ m. m < 2 ^ 32) (sym e) l)) ∙ find_never (forwarding_of s before).open_requests
+  pub found_none : NamesAt id None → find (answered_by id) (forwarding_of settings s before).open_requests ≡ None
+  found_none named = same_found (λ f. false) (λ n l f e. named f.number (subst (λ m. m < 2 ^ 32) (sym e) l)) ∙ find_never (forwarding_of settings s before).open_requests
 
-  pub found_as : (o : Option ℕ) (asked kept : Option Pending) → NamesAt id o → MatchOption o (kept ≡ None) (λ n. kept ≡ asked) → ((k : ℕ) → o ≡ Some k → find (is_under k) (forwarding_of s before).open_requests ≡ option_map (forwarded_as k) asked)
-      → (k : ℕ) × (find (answered_by id) (forwarding_of s before).open_requests ≡ option_map (forwarded_as k) kept)
+  pub found_as : (o : Option ℕ) (asked kept : Option Pending) → NamesAt id o → MatchOption o (kept ≡ None) (λ n. kept ≡ asked) → ((k : ℕ) → o ≡ Some k → find (is_under k) (forwarding_of settings s before).open_requests ≡ option_map (forwarded_as k) asked)
+      → (k : ℕ) × (find (answered_by id) (forwarding_of settings s before).open_requests ≡ option_map (forwarded_as k) kept)
   found_as None asked kept named is seen = (0, found_none named ∙ ap (option_map (forwarded_as 0)) (sym is))
   found_as (Some k) asked kept named is seen = (k, found_some k named ∙ (seen k refl ∙ ap (option_map (forwarded_as k)) (sym is)))
 

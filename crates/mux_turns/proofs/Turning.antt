@@ -74,11 +74,11 @@ module _ (settings : Settings) (t u : Tables) (events later : List Event) (e : �
   unserved_leaves h = left_nothing (home_of settings e events) (λ g. start_of g events) silent h
 
 -- it is turned away
-pub turned : (settings : Settings) (t u : Tables) (before base : List Event) (e : ℕ) (body method : List ℕ) (id : Id) (params : Option Json) (xs ys zs owed : List Out) → message_of body ≡ request id method params → is_served (desk_of e (behind base xs)).phase ≡ false
-    → Does (λ t events. Stands settings t events) (answer_error e body request_failed) base t xs t ys → (DocumentsStand settings nothing_owed t (behind base xs) → DocumentsStand settings nothing_owed t (behind base ys)) → Does (λ t events. Stands settings t events) (send (CloseEditor e)) base t ys u zs
-    → (Stands settings t (behind base ys) → DocumentsStand settings nothing_owed t (behind base ys) → Leaves settings (behind base ys) e (home_of settings e (behind base ys)) (start_for settings e (behind base ys)) owed u (behind base zs))
+pub turned : (settings : Settings) (t m u : Tables) (before base : List Event) (e : ℕ) (body method : List ℕ) (id : Id) (params : Option Json) (xs ys zs owed : List Out) → message_of body ≡ request id method params → is_served (desk_of e (behind base xs)).phase ≡ false
+    → Does (λ t events. Stands settings t events) (answer_error e body request_failed) base t xs m ys → (DocumentsStand settings nothing_owed t (behind base xs) → DocumentsStand settings nothing_owed m (behind base ys)) → Does (λ t events. Stands settings t events) (send (CloseEditor e)) base m ys u zs
+    → (Stands settings m (behind base ys) → DocumentsStand settings nothing_owed m (behind base ys) → Leaves settings (behind base ys) e (home_of settings e (behind base ys)) (start_for settings e (behind base ys)) owed u (behind base zs))
     → Does (λ k events. AllStand settings k events) (placed_row e body before TooMany) base (t, nothing_owed) xs (u, nothing_owed) zs
-turned settings t u before base e body method id params xs ys zs owed says off answers stay closes leaves = record {
+turned settings t m u before base e body method id params xs ys zs owed says off answers stay closes leaves = record {
   done = λ k.
       let first = answers.done k.0 in
       let last = (does_then answers closes).done k.0 in
@@ -86,5 +86,5 @@ turned settings t u before base e body method id params xs ys zs owed says off a
       let keeps = keeps_error e answer (behind base xs) (Some id) (error_tree request_failed) (refused_says answer body (id_bytes body) method id params request_failed refl refl says) in
       let phase : (desk_of e (behind base ys)).phase ≡ (desk_of e (behind base xs)).phase = ap (λ es. (desk_of e es).phase) (ap (behind base) first.outs ∙ behind_more base xs (ToEditor e answer ∷ [])) ∙ keeps.0 in
       let ds = stay k.1 in
-      record { outs = last.outs; stands = (last.stands, unserved_leaves settings t u (behind base ys) (behind base zs) e owed first.stands ds (ap is_served phase ∙ off) (leaves first.stands ds)) };
+      record { outs = last.outs; stands = (last.stands, unserved_leaves settings m u (behind base ys) (behind base zs) e owed first.stands ds (ap is_served phase ∙ off) (leaves first.stands ds)) };
 }

@@ -20,6 +20,7 @@ use Rattle.event_model.specs.Does.{Does}
 use Rattle.event_model.specs.Event.{Event, behind, said}
 use Rattle.event_model.specs.Phases.{Desk, desk_behind, desk_of, editors_of, has_id, is_waiting, phase_told}
 use Rattle.event_model.specs.Row.{send}
+use Rattle.event_model.specs.Requests.{answered_id}
 use Rattle.event_model.specs.Settings.{Settings}
 use Rattle.event_model.specs.Stages.{is_first_result}
 use Rattle.event_model.proofs.Frames.{one_more}
@@ -33,6 +34,7 @@ use Rattle.mux_tables.specs.declared.tables.Tables.{Tables}
 use Rattle.mux_tables.specs.Documents.{AllStand, DocumentsStand, nothing_owed}
 use Rattle.mux_tables.specs.Names.{NamesStand, id_in}
 use Rattle.mux_tables.specs.Stands.{Stands, Welcomes, is_traced}
+use Rattle.mux_tables.specs.mux_waits.specs.Stands.{AnswersId}
 use Rattle.mux_tables.proofs.DocumentOwed.{all_does}
 use Rattle.mux_tables.proofs.Frames.{itself}
 use Rattle.mux_turns.specs.Welcomes.{AllAsking, AreBodies, IsBody, IsGreeted, IsShown, Tells, is_greeted}
@@ -121,19 +123,22 @@ module _ (e : ℕ) (events : List Event) (body text shown : List ℕ) (k : IsGre
   answers Closed i h says = absurd (cc)
   answers Gone i h says = absurd (cc)
 
+  pub answers_its : AnswersId (id_bytes (desk_of e events).initialize) text
+  answers_its = record { name = k.asks.name; is = request_id_bytes (desk_of e events).initialize k.asks.name k.asks.method k.asks.params k.asks.says; says = ap answered_id text_says }
+
   pub welcomes : Welcomes e text events
   welcomes = (ap (λ (d : Desk). d.phase) (one_more (desk_behind e) _ _ events (said (ToEditor e text)) refl) ∙ rw (itself e, text_says) (answers (desk_of e events).phase (desk_of e events).initialize k.phase k.asks.says), ap is_traced text_says)
 
 -- as a row, over all tables
 pub answered_does : (settings : Settings) (t u : Tables) (base : List Event) (xs ys : List Out) (e : ℕ) (body text shown : List ℕ) → IsGreeted (behind base xs) e → IsShown body → text ≡ ok_text (id_bytes (desk_of e (behind base xs)).initialize) shown → shown ≡ shown_of (result_bytes body)
-    → (Welcomes e text (behind base xs) → Does (λ t events. Stands settings t events) (send (ToEditor e text)) base t xs u ys) → (DocumentsStand settings nothing_owed t (behind base xs) → DocumentsStand settings nothing_owed u (behind base ys))
+    → (Welcomes e text (behind base xs) → AnswersId (id_bytes (desk_of e (behind base xs)).initialize) text → Does (λ t events. Stands settings t events) (send (ToEditor e text)) base t xs u ys) → (DocumentsStand settings nothing_owed t (behind base xs) → DocumentsStand settings nothing_owed u (behind base ys))
     → Does (λ k events. AllStand settings k events) (send (ToEditor e (ok_text (id_bytes (desk_of e (behind base xs)).initialize) (shown_of (result_bytes body))))) base (t, nothing_owed) xs (u, nothing_owed) ys
 answered_does settings t u base xs ys e body text shown k s is are d docs =
     subst (λ w. Does (λ k events. AllStand settings k events) (send (ToEditor e w)) base (t, nothing_owed) xs (u, nothing_owed) ys) (is ∙ ap (ok_text (id_bytes (desk_of e (behind base xs)).initialize)) are)
-    (all_does settings t u nothing_owed nothing_owed base xs ys (d (welcomes e (behind base xs) body text shown k s is are)) (λ _ ds. docs ds))
+    (all_does settings t u nothing_owed nothing_owed base xs ys (d (welcomes e (behind base xs) body text shown k s is are) (answers_its e (behind base xs) body text shown k s is are)) (λ _ ds. docs ds))
 
 pub greets : (settings : Settings) (t u : Tables) (base : List Event) (xs ys : List Out) (e : ℕ) (body text shown : List ℕ) → IsGreeted (behind base xs) e → IsShown body → text ≡ ok_text (id_bytes (desk_of e (behind base xs)).initialize) shown → shown ≡ shown_of (result_bytes body)
-    → (Welcomes e text (behind base xs) → Does (λ t events. Stands settings t events) (send (ToEditor e text)) base t xs u ys) → (DocumentsStand settings nothing_owed t (behind base xs) → DocumentsStand settings nothing_owed u (behind base ys))
+    → (Welcomes e text (behind base xs) → AnswersId (id_bytes (desk_of e (behind base xs)).initialize) text → Does (λ t events. Stands settings t events) (send (ToEditor e text)) base t xs u ys) → (DocumentsStand settings nothing_owed t (behind base xs) → DocumentsStand settings nothing_owed u (behind base ys))
     → Does (λ k events. AllStand settings k events) (welcome body e) base (t, nothing_owed) xs (u, nothing_owed) ys
 greets settings t u base xs ys e body text shown k s is are d docs = does_look (λ _. refl) (answered_does settings t u base xs ys e body text shown k s is are d docs)
 

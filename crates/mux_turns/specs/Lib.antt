@@ -14,3 +14,4 @@ pub use Rattle.group_facts.specs.group_rows
 pub use Rattle.group_facts.specs.mux_facts
 pub use Rattle.group_facts.specs.mux_model
 pub use Rattle.mux_tables
+pub mod Waits

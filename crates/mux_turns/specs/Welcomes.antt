@@ -47,6 +47,17 @@ IsBody other = ⊥
 abbrev pub AreBodies : List Out → Type 0
 AreBodies xs = AllByRecursion IsBody xs
 
+-- bodies to editors
+abbrev pub IsToEditor : Out → Type 0
+IsToEditor (ToEditor e body) = Unit {0}
+IsToEditor other = ⊥
+
+-- only such are said behind those that were
+pub record Informs (xs ys : List Out) : Type 0 where
+  pub more : List Out
+  pub is : ys ≡ xs ++ more
+  pub all : AllByRecursion IsToEditor more
+
 -- some are said behind those that were
 pub record Tells (xs ys : List Out) : Type 0 where
   pub more : List Out

@@ -61,7 +61,7 @@ fn shut_down(tables: &mut Tables, alloc: Global, outs: &mut Outs, g: usize) -> R
     ensures requests { tables.new.requests ≡ tables.old.requests }
     ensures versions { tables.new.versions ≡ tables.old.versions }
     ensures does { (settings : Settings) (owed : Owed) (base : List Event) (s : ℕ) → slice_get (map number_in tables.old.lasts.items) g ≡ Some s
-        → next_number s (behind base outs.old) ≡ (forwarding_of s (behind base outs.old)).next
+        → next_number s (behind base outs.old) ≡ (forwarding_of settings s (behind base outs.old)).next
         → OnOk result (Does (λ k events. AllStand settings k events)
         (end_start s Ready) base (tables.old, owed) outs.old (tables.new, owed) outs.new) }
 {
@@ -77,7 +77,7 @@ fn end_start(tables: &mut Tables, alloc: Global, outs: &mut Outs, g: usize) -> R
     ensures requests { tables.new.requests ≡ tables.old.requests }
     ensures versions { tables.new.versions ≡ tables.old.versions }
     ensures does { (settings : Settings) (owed : Owed) (base : List Event) (s : ℕ) → slice_get (map number_in tables.old.lasts.items) g ≡ Some s
-        → Numbered (behind base outs.old)
+        → Numbered settings (behind base outs.old)
         → OnOk result (Does (λ k events. AllStand settings k events)
         (look (λ events. end_start s (life_of s events).stage)) base (tables.old, owed) outs.old (tables.new, owed) outs.new) }
 {
@@ -97,7 +97,7 @@ fn end_start(tables: &mut Tables, alloc: Global, outs: &mut Outs, g: usize) -> R
 pub fn evict(tables: &mut Tables, alloc: Global, outs: &mut Outs, g: u64) -> Result<(), Memory>
     ensures requests { tables.new.requests ≡ tables.old.requests }
     ensures versions { tables.new.versions ≡ tables.old.versions }
-    ensures does { (settings : Settings) (owed : Owed) (base : List Event) → Numbered (behind base outs.old)
+    ensures does { (settings : Settings) (owed : Owed) (base : List Event) → Numbered settings (behind base outs.old)
         → OnOk result (Does (λ k events. AllStand settings k events)
         (end_group g) base (tables.old, owed) outs.old (tables.new, owed) outs.new) }
 {
@@ -119,7 +119,7 @@ pub fn end_groups(
 ) -> Result<(), Memory>
     ensures requests { tables.new.requests ≡ tables.old.requests }
     ensures versions { tables.new.versions ≡ tables.old.versions }
-    ensures does { (settings : Settings) (owed : Owed) (base : List Event) → Numbered (behind base outs.old)
+    ensures does { (settings : Settings) (owed : Owed) (base : List Event) → Numbered settings (behind base outs.old)
         → OnOk result (Does (λ k events. AllStand settings k events)
         (each end_group groups.now) base (tables.old, owed) outs.old (tables.new, owed) outs.new) }
 {
@@ -142,7 +142,7 @@ pub fn replace(
     ensures requests { tables.new.requests ≡ tables.old.requests }
     ensures versions { tables.new.versions ≡ tables.old.versions }
     ensures does { (settings : Settings) (before base : List Event) (e : ℕ) (body : List ℕ) → IsNext new (behind base outs.old)
-        → Numbered (behind base outs.old)
+        → Numbered settings (behind base outs.old)
         → OnOk result (Does (λ k events. AllStand settings k events)
         (placed_row e body before (Evicts g new)) base (tables.old, nothing_owed) outs.old (tables.new, nothing_owed) outs.new) }
 {

@@ -8,6 +8,7 @@ mod creates;
 mod doubled;
 mod evicting;
 mod greeting;
+mod held;
 mod initials;
 mod leaves;
 mod lists;
@@ -25,6 +26,7 @@ pub use doubled::doubles;
 pub use evicting::{end_groups, evict, replace, stage_at};
 pub use greeting::{add_comma, bytes_of, folders_text, opening, quoted, shown_of};
 pub use group_facts::mux_members;
+pub use held::{refuse_held, refuse_ids};
 pub use initials::{refuse_id, refuse_initialize};
 pub use leaves::{Departure, cancel_request, depart, leaving};
 pub use lists::listed_text;
@@ -35,4 +37,6 @@ pub use placing::{found, turn_away, waits, welcome};
 pub use refusals::{
     asked_at, refuse, refuse_early, refuse_request, refuse_reserved, refuse_wrong, reject,
 };
-pub use tokens::{forwarded_text, is_reserved, mark_text, marked, marked_text, reserves};
+pub use tokens::{
+    forwarded_text, is_reserved, mark_text, marked, marked_text, reserves, token_text,
+};

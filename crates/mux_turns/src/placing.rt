@@ -65,8 +65,9 @@ pub fn welcome(
     match tables.shown(g) {
         None => Ok(()),
         Some(shown) => {
-            let text = ok_reply(alloc, message.id_bytes(), shown.bytes())?;
-            tables.welcome(outs, e, text)?;
+            let id = message.id_bytes();
+            let text = ok_reply(alloc, id, shown.bytes())?;
+            tables.welcome(outs, e, id, text)?;
             Ok(())
         }
     }

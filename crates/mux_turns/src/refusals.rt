@@ -7,12 +7,14 @@ ghost use Rattle.event_model.specs.Row.{◌⨾◌};
 ghost use Rattle.event_model.specs.Settings.{Settings};
 ghost use Rattle.event_model.specs.Members.{params_of};
 ghost use Rattle.group_facts.specs.group_rows.specs.Rows.{answer_error, early_code, forward, request_row, sync_row, wrong_code};
-ghost use Rattle.group_facts.specs.group_rows.specs.Tokens.{reserves};
+ghost use Rattle.group_facts.specs.group_rows.specs.Reserved.{reserves};
 ghost use Rattle.json_text.specs.Json.{Json};
+ghost use Rattle.group_words.specs.Houses.{home_of};
 ghost use Rattle.group_facts.specs.mux_model.specs.Rows.{malformed_code, malformed_row};
 ghost use Rattle.mux_tables.specs.declared.tables.Start.{Start};
 ghost use Rattle.mux_tables.specs.Documents.{DocumentsStand, Owed};
 ghost use Rattle.mux_tables.specs.Stands.{Stands, number_in};
+ghost use Rattle.mux_turns.specs.Waits.{waiting_row};
 ghost use Rattle.rpc_message.specs.Codes.{code_of};
 ghost use Rattle.rpc_message.specs.Message.{Id, Message as Meaning, message_of, request};
 ghost use Rattle.rpc_message.specs.Parsed.{IsRead};
@@ -65,21 +67,26 @@ pub fn reject(
 
 /// A request is answered with an error, under its own id.
 pub fn refuse(
-    tables: &Tables,
+    tables: &mut Tables,
     alloc: Global,
     outs: &mut Outs,
     e: u64,
     message: &Message,
     code: ErrorCode,
 ) -> Result<(), Memory>
+    ensures requests { tables.new.requests ≡ tables.old.requests }
+    ensures versions { tables.new.versions ≡ tables.old.versions }
+    ensures lasts { tables.new.lasts ≡ tables.old.lasts }
+    ensures editors { tables.new.editors ≡ tables.old.editors }
     ensures does { (settings : Settings) (base : List Event) (body method : List ℕ) (id : Id) (params : Option Json) → IsRead message.now body
         → message_of body ≡ request id method params
-        → OnOk result (Does (λ t events. Stands settings t events) (answer_error e body (code_of code)) base tables.now outs.old tables.now outs.new) }
-    ensures documents { (settings : Settings) (owed : Owed) (base : List Event) → DocumentsStand settings owed tables.now (behind base outs.old)
-        → OnOk result (DocumentsStand settings owed tables.now (behind base outs.new)) }
+        → OnOk result (Does (λ t events. Stands settings t events) (answer_error e body (code_of code)) base tables.old outs.old tables.new outs.new) }
+    ensures documents { (settings : Settings) (owed : Owed) (base : List Event) → DocumentsStand settings owed tables.old (behind base outs.old)
+        → OnOk result (DocumentsStand settings owed tables.new (behind base outs.new)) }
 {
-    let text = error_answer(alloc, message.id_bytes(), code)?;
-    tables.tell(outs, e, text)?;
+    let id = message.id_bytes();
+    let text = error_answer(alloc, id, code)?;
+    tables.answer(outs, e, id, text)?;
     Ok(())
 }
 
@@ -98,18 +105,22 @@ fn wrong_code(message: &Message, otherwise: ErrorCode) -> ErrorCode
 
 /// E8: a request that an editor which is served may not send is answered with an error (JSON-RPC 2.0, section 5.1: Invalid Request).
 pub fn refuse_wrong(
-    tables: &Tables,
+    tables: &mut Tables,
     alloc: Global,
     outs: &mut Outs,
     e: u64,
     message: &Message,
 ) -> Result<(), Memory>
+    ensures requests { tables.new.requests ≡ tables.old.requests }
+    ensures versions { tables.new.versions ≡ tables.old.versions }
+    ensures lasts { tables.new.lasts ≡ tables.old.lasts }
+    ensures editors { tables.new.editors ≡ tables.old.editors }
     ensures does { (settings : Settings) (base : List Event) (body method : List ℕ) (id : Id) (params : Option Json) → IsRead message.now body
         → message_of body ≡ request id method params
         → OnOk result (Does (λ t events. Stands settings t events)
-        (answer_error e body (wrong_code method invalid_request)) base tables.now outs.old tables.now outs.new) }
-    ensures documents { (settings : Settings) (owed : Owed) (base : List Event) → DocumentsStand settings owed tables.now (behind base outs.old)
-        → OnOk result (DocumentsStand settings owed tables.now (behind base outs.new)) }
+        (answer_error e body (wrong_code method invalid_request)) base tables.old outs.old tables.new outs.new) }
+    ensures documents { (settings : Settings) (owed : Owed) (base : List Event) → DocumentsStand settings owed tables.old (behind base outs.old)
+        → OnOk result (DocumentsStand settings owed tables.new (behind base outs.new)) }
 {
     let code = wrong_code(message, ErrorCode::InvalidRequest);
     refuse(tables, alloc, outs, e, message, code)?;
@@ -130,18 +141,22 @@ fn early_code(message: &Message) -> ErrorCode
 
 /// E8: a request that comes before the answer to `initialize` gets an error (LSP 3.17, Lifecycle Messages: ServerNotInitialized).
 pub fn refuse_early(
-    tables: &Tables,
+    tables: &mut Tables,
     alloc: Global,
     outs: &mut Outs,
     e: u64,
     message: &Message,
 ) -> Result<(), Memory>
+    ensures requests { tables.new.requests ≡ tables.old.requests }
+    ensures versions { tables.new.versions ≡ tables.old.versions }
+    ensures lasts { tables.new.lasts ≡ tables.old.lasts }
+    ensures editors { tables.new.editors ≡ tables.old.editors }
     ensures does { (settings : Settings) (base : List Event) (body method : List ℕ) (id : Id) (params : Option Json) → IsRead message.now body
         → message_of body ≡ request id method params
         → OnOk result (Does (λ t events. Stands settings t events)
-        (answer_error e body (early_code method)) base tables.now outs.old tables.now outs.new) }
-    ensures documents { (settings : Settings) (owed : Owed) (base : List Event) → DocumentsStand settings owed tables.now (behind base outs.old)
-        → OnOk result (DocumentsStand settings owed tables.now (behind base outs.new)) }
+        (answer_error e body (early_code method)) base tables.old outs.old tables.new outs.new) }
+    ensures documents { (settings : Settings) (owed : Owed) (base : List Event) → DocumentsStand settings owed tables.old (behind base outs.old)
+        → OnOk result (DocumentsStand settings owed tables.new (behind base outs.new)) }
 {
     let code = early_code(message);
     refuse(tables, alloc, outs, e, message, code)?;
@@ -149,16 +164,18 @@ pub fn refuse_early(
 }
 
 /// E10: the place of the group whose last start takes the editor's request that has no reserved token, as it stands before the request;
-/// none where the editor is in no group, or the group has no start, or that start ended, isn't ready or has no number left: then it is to be refused.
+/// none where the editor is in no group, or the group has no start, or that start ended, isn't ready or has no number left: then it waits, or is to be refused.
 pub fn asked_at(tables: &Tables, e: u64) -> Option<usize>
     ensures inside { IfSome result (λ g. g < length tables.now.lasts.items) }
+    ensures home { IfSome result (λ g. (settings : Settings) (before : List Event) (x : Start) → slice_get tables.now.lasts.items g ≡ Some x
+        → Stands settings tables.now before → home_of settings e before ≡ Some x.life.group) }
     ensures takes { IfSome result (λ g. (x : Start) → slice_get tables.now.lasts.items g ≡ Some x → (x.life.stage ≡ Ready) × (x.ids.next < x.ids.limit)) }
-    ensures refused { IfNone result ((settings : Settings) (before : List Event) (body : List ℕ) → reserves (params_of body) ≡ false
-        → Stands settings tables.now before → Alike (request_row settings before e body) (answer_error e body request_failed)) }
+    ensures waits { IfNone result ((settings : Settings) (before : List Event) (body : List ℕ) → reserves (params_of body) ≡ false
+        → Stands settings tables.now before → Alike (request_row settings before e body) (waiting_row settings before e body)) }
     ensures goes { IfSome result (λ g. (settings : Settings) (before : List Event) (body : List ℕ) (s : ℕ) (x : Start)
         → slice_get tables.now.lasts.items g ≡ Some x → slice_get (map number_in tables.now.lasts.items) g ≡ Some s
         → reserves (params_of body) ≡ false → Stands settings tables.now before
-        → Alike (request_row settings before e body) (sync_row settings before x.life.group s e ⨾ forward s body)) }
+        → Alike (request_row settings before e body) (sync_row settings before x.life.group s e ⨾ forward settings s body)) }
 {
     let g = tables.place(e)?;
     if tables.can_ask(g) { Some(g) } else { None }
@@ -166,17 +183,21 @@ pub fn asked_at(tables: &Tables, e: u64) -> Option<usize>
 
 /// E10: a request that no start takes is answered with an error (LSP 3.17, RequestFailed).
 pub fn refuse_request(
-    tables: &Tables,
+    tables: &mut Tables,
     alloc: Global,
     outs: &mut Outs,
     e: u64,
     message: &Message,
 ) -> Result<(), Memory>
+    ensures requests { tables.new.requests ≡ tables.old.requests }
+    ensures versions { tables.new.versions ≡ tables.old.versions }
+    ensures lasts { tables.new.lasts ≡ tables.old.lasts }
+    ensures editors { tables.new.editors ≡ tables.old.editors }
     ensures does { (settings : Settings) (before base : List Event) (body method : List ℕ) (id : Id) (params : Option Json) → IsRead message.now body
         → message_of body ≡ request id method params → Alike (request_row settings before e body) (answer_error e body request_failed)
-        → OnOk result (Does (λ t events. Stands settings t events) (request_row settings before e body) base tables.now outs.old tables.now outs.new) }
-    ensures documents { (settings : Settings) (owed : Owed) (base : List Event) → DocumentsStand settings owed tables.now (behind base outs.old)
-        → OnOk result (DocumentsStand settings owed tables.now (behind base outs.new)) }
+        → OnOk result (Does (λ t events. Stands settings t events) (request_row settings before e body) base tables.old outs.old tables.new outs.new) }
+    ensures documents { (settings : Settings) (owed : Owed) (base : List Event) → DocumentsStand settings owed tables.old (behind base outs.old)
+        → OnOk result (DocumentsStand settings owed tables.new (behind base outs.new)) }
 {
     refuse(tables, alloc, outs, e, message, ErrorCode::RequestFailed)?;
     Ok(())
@@ -184,17 +205,21 @@ pub fn refuse_request(
 
 /// E10: a request with a token that might be the daemon's is answered with an error (JSON-RPC 2.0, section 5.1: Invalid params).
 pub fn refuse_reserved(
-    tables: &Tables,
+    tables: &mut Tables,
     alloc: Global,
     outs: &mut Outs,
     e: u64,
     message: &Message,
 ) -> Result<(), Memory>
+    ensures requests { tables.new.requests ≡ tables.old.requests }
+    ensures versions { tables.new.versions ≡ tables.old.versions }
+    ensures lasts { tables.new.lasts ≡ tables.old.lasts }
+    ensures editors { tables.new.editors ≡ tables.old.editors }
     ensures does { (settings : Settings) (before base : List Event) (body method : List ℕ) (id : Id) (params : Option Json) → IsRead message.now body
         → message_of body ≡ request id method params → reserves (params_of body) ≡ true
-        → OnOk result (Does (λ t events. Stands settings t events) (request_row settings before e body) base tables.now outs.old tables.now outs.new) }
-    ensures documents { (settings : Settings) (owed : Owed) (base : List Event) → DocumentsStand settings owed tables.now (behind base outs.old)
-        → OnOk result (DocumentsStand settings owed tables.now (behind base outs.new)) }
+        → OnOk result (Does (λ t events. Stands settings t events) (request_row settings before e body) base tables.old outs.old tables.new outs.new) }
+    ensures documents { (settings : Settings) (owed : Owed) (base : List Event) → DocumentsStand settings owed tables.old (behind base outs.old)
+        → OnOk result (DocumentsStand settings owed tables.new (behind base outs.new)) }
 {
     refuse(tables, alloc, outs, e, message, ErrorCode::InvalidParams)?;
     Ok(())

@@ -1,7 +1,9 @@
 //! E10, E11 and S13: tokens for progress of editors' requests, and the daemon's own in their place (LSP 3.17, Work Done Progress and
 //! Partial Result Progress).
 ghost use Rattle.std.specs.Prelude.{◌≡◌, ◌<◌, ◌++◌, ℕ, List, true, false, codes, length, IfOk, MatchOption, Option};
-ghost use Rattle.group_facts.specs.group_rows.specs.Tokens.{begins_as_mark, forwarded_text, is_reserved, mark_edits, mark_text, marked_text, reserves};
+ghost use Rattle.group_facts.specs.group_rows.specs.Tokens.{forwarded_text, mark_edits, mark_text, marked_text};
+ghost use Rattle.group_facts.specs.group_rows.specs.Forwarded.{token_in};
+ghost use Rattle.group_facts.specs.group_rows.specs.Reserved.{begins_as_mark, is_reserved, reserves};
 ghost use Rattle.std.specs.Str.{chars};
 ghost use Rattle.event_model.specs.Members.{named_of, params_of};
 ghost use Rattle.json_nodes.specs.At.{At, Found};
@@ -16,7 +18,7 @@ ghost use Rattle.rpc_message.specs.Message.{Id, message_of, notification, reques
 ghost use Rattle.rpc_message.specs.Parsed.{IsRead};
 
 use crate::answered::{read, writes};
-use group_facts::mux_members::{named_token, text};
+use group_facts::mux_members::{named_token, text, token};
 use itoa::Buffer;
 use json_nodes::Put;
 use json_span::Tape;
@@ -159,6 +161,20 @@ fn put_marks(
         put_one(alloc, tape, node, "partialResultToken", k + 1)
     } else {
         Ok(Vec::new(alloc))
+    }
+}
+
+/// E10: the text of a token of a request, where it has one.
+pub fn token_text(alloc: Global, message: &Message, name: &str) -> Result<Option<Body>, Memory>
+    ensures { is_ascii name.now ≡ true → (body method : List ℕ) (id : Id) (params : Option Json) → IsRead message.now body
+        → message_of body ≡ request id method params → IfOk result (λ text. text ≡ token_in name.now body) }
+{
+    match token(message, name) {
+        Some(bytes) => {
+            let text = Vec::from_slice(alloc, bytes)?;
+            Ok(Some(Body::new(text)))
+        }
+        None => Ok(None),
     }
 }
 

@@ -34,6 +34,14 @@ fn requests_wait_until_they_are_sent(rt: HostRuntime) -> Result<(), Fail> {
     assert!(rt; put(alloc, &mut held, 1, "\"x\"", "b")?);
     assert!(rt; put(alloc, &mut held, 0, "2", "c")?);
     assert!(rt; held.of_editor(0)?.len() == 2);
+    assert!(rt; held.find(0, "\"x\"".as_bytes()).is_none());
+    assert!(rt; held.find(1, "\"\\u0078\"".as_bytes()).is_some());
+    assert!(rt;
+        match held.first() {
+            Some(request) => request.body.bytes() == "a".as_bytes(),
+            None => false,
+        }
+    );
     assert!(rt; !held.cancel(0, "\"x\"".as_bytes()));
     assert!(rt; held.cancel(1, "\"\\u0078\"".as_bytes()));
     assert!(rt; pops(&mut held, 0, "a"));

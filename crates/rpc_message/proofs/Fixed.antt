@@ -16,7 +16,7 @@ use Rattle.json_text.proofs.Compact.{all_simple, simple_string, closing_none, cl
 use Rattle.json_text.proofs.Forms.{says, says_of}
 use Rattle.json_text.proofs.Put.{depth_bare}
 use Rattle.rpc_message.specs.Message.{Id, integer, notification, result, error, no_name_twice, is_integer, integer_if, id_of, response_id, error_if, response_with, message_of}
-use Rattle.rpc_message.specs.Texts.{ok_text, Code, parse_error, invalid_request, method_not_found, invalid_params, server_not_initialized, content_modified, request_failed, code_text, code_number, code_message, error_reply_text, error_text, error_tree, failure_tree, initialized_text}
+use Rattle.rpc_message.specs.Texts.{ok_text, Code, parse_error, invalid_request, method_not_found, invalid_params, server_not_initialized, request_cancelled, content_modified, request_failed, code_text, code_number, code_message, error_reply_text, error_text, error_tree, failure_tree, initialized_text}
 use Rattle.rpc_message.specs.ValueTexts.{IsValueText, IsIdText, IsResponseIdText}
 use Rattle.rpc_message.proofs.Meaning.{message_says}
 
@@ -118,6 +118,7 @@ error_law i id invalid_request h = failure_law i (codes "-32600") (codes "Invali
 error_law i id method_not_found h = failure_law i (codes "-32601") (codes "Method not found") id h (below_zero 51 (codes "2601") refl refl) refl refl
 error_law i id invalid_params h = failure_law i (codes "-32602") (codes "Invalid params") id h (below_zero 51 (codes "2602") refl refl) refl refl
 error_law i id server_not_initialized h = failure_law i (codes "-32002") (codes "Server not initialized") id h (below_zero 51 (codes "2002") refl refl) refl refl
+error_law i id request_cancelled h = failure_law i (codes "-32800") (codes "Request cancelled") id h (below_zero 51 (codes "2800") refl refl) refl refl
 error_law i id content_modified h = failure_law i (codes "-32801") (codes "Content modified") id h (below_zero 51 (codes "2801") refl refl) refl refl
 error_law i id request_failed h = failure_law i (codes "-32803") (codes "Request failed") id h (below_zero 51 (codes "2803") refl refl) refl refl
 
@@ -144,6 +145,7 @@ tail_same invalid_request = refl
 tail_same method_not_found = refl
 tail_same invalid_params = refl
 tail_same server_not_initialized = refl
+tail_same request_cancelled = refl
 tail_same content_modified = refl
 tail_same request_failed = refl
 
@@ -157,5 +159,6 @@ number_fits invalid_request = record { sfits = omega arith }
 number_fits method_not_found = record { sfits = omega arith }
 number_fits invalid_params = record { sfits = omega arith }
 number_fits server_not_initialized = record { sfits = omega arith }
+number_fits request_cancelled = record { sfits = omega arith }
 number_fits content_modified = record { sfits = omega arith }
 number_fits request_failed = record { sfits = omega arith }

@@ -22,6 +22,7 @@ pub data Code : Type 0 where
   method_not_found : Code
   invalid_params : Code
   server_not_initialized : Code
+  request_cancelled : Code
   content_modified : Code
   request_failed : Code
 
@@ -31,6 +32,7 @@ code_text invalid_request = codes "-32600"
 code_text method_not_found = codes "-32601"
 code_text invalid_params = codes "-32602"
 code_text server_not_initialized = codes "-32002"
+code_text request_cancelled = codes "-32800"
 code_text content_modified = codes "-32801"
 code_text request_failed = codes "-32803"
 
@@ -41,6 +43,7 @@ code_number invalid_request = negsuc 32599
 code_number method_not_found = negsuc 32600
 code_number invalid_params = negsuc 32601
 code_number server_not_initialized = negsuc 32001
+code_number request_cancelled = negsuc 32799
 code_number content_modified = negsuc 32800
 code_number request_failed = negsuc 32802
 
@@ -50,6 +53,7 @@ code_message invalid_request = codes "Invalid Request"
 code_message method_not_found = codes "Method not found"
 code_message invalid_params = codes "Invalid params"
 code_message server_not_initialized = codes "Server not initialized"
+code_message request_cancelled = codes "Request cancelled"
 code_message content_modified = codes "Content modified"
 code_message request_failed = codes "Request failed"
 

@@ -10,6 +10,7 @@ pub enum ErrorCode {
     MethodNotFound,
     InvalidParams,
     ServerNotInitialized,
+    RequestCancelled,
     ContentModified,
     RequestFailed,
 }
@@ -25,6 +26,7 @@ impl ErrorCode {
             ErrorCode::MethodNotFound => -32601,
             ErrorCode::InvalidParams => -32602,
             ErrorCode::ServerNotInitialized => -32002,
+            ErrorCode::RequestCancelled => -32800,
             ErrorCode::ContentModified => -32801,
             ErrorCode::RequestFailed => -32803,
         }
@@ -40,6 +42,7 @@ impl ErrorCode {
             ErrorCode::MethodNotFound => "Method not found",
             ErrorCode::InvalidParams => "Invalid params",
             ErrorCode::ServerNotInitialized => "Server not initialized",
+            ErrorCode::RequestCancelled => "Request cancelled",
             ErrorCode::ContentModified => "Content modified",
             ErrorCode::RequestFailed => "Request failed",
         }

@@ -2,3 +2,4 @@ mod Counting
 mod Finding
 mod Joined
 mod Same
+mod Summed

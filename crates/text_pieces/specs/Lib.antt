@@ -1,3 +1,4 @@
 pub mod Counts
 pub mod Pieces
 pub mod Rests
+pub mod Sums

@@ -9,5 +9,6 @@ mod limits;
 mod order;
 mod piece;
 mod piece_text;
+mod sums;
 
 pub use piece_text::PieceText;

@@ -3,7 +3,9 @@ ghost use Rattle.std.specs.Prelude.{◌≡◌, IfOk, IfSome, IsUtf8};
 ghost use Rattle.std.specs.Str.{chars};
 ghost use Rattle.position_codec.specs.Spots.{spot_behind};
 ghost use Rattle.text_pieces.specs.Pieces.{text_of};
+ghost use Rattle.text_pieces.specs.Sums.{sums_of};
 
+use crate::sums::Sums;
 use message_body::Memory;
 use position_codec::{Encoding, Spot};
 use std::alloc::Global;
@@ -20,18 +22,19 @@ pub struct Piece {
     fresh: Spot,
     /// Where it leads from there behind a `\r`, to which a `\n` at its head belongs.
     returned: Spot,
+    sums: Sums,
 }
 
 impl Model for Piece {
     ghost use Rattle.std.specs.Prelude.{ℕ, List};
     ghost use Rattle.std.specs.Arc.{arc_value};
-    ghost use Rattle.text_pieces.specs.Counts.{Counted};
+    ghost use Rattle.text_pieces.specs.Counts.{IsMeasured};
 
     ghost Value = { List ℕ };
 
     ghost view = { λ p. (arc_value p.text).bytes.items };
 
-    ghost invariant = { λ p. Counted p.encoding (arc_value p.text).bytes.items p.fresh p.returned };
+    ghost invariant = { λ p. IsMeasured p.encoding (arc_value p.text).bytes.items p.fresh p.returned p.sums };
 }
 
 impl Piece {
@@ -50,12 +53,16 @@ impl Piece {
         let Some(returned) = behind_return.behind(encoding, text) else {
             return Err(Memory)
         };
+        let Some(sums) = Sums::of(text.as_bytes()) else {
+            return Err(Memory)
+        };
         let text = Arc::new(alloc, String::from_str(alloc, text)?)?;
         Ok(Piece {
             text,
             encoding,
             fresh,
             returned,
+            sums,
         })
     }
 
@@ -67,6 +74,13 @@ impl Piece {
         self.text.as_str()
     }
 
+    /// The sums of the piece's bytes.
+    pub fn sums(&self) -> Sums
+        ensures { result ≡ sums_of self.now }
+    {
+        self.sums
+    }
+
     /// The same piece, without a copy of its text.
     pub fn share(&self) -> Result<Piece, Memory>
         ensures { IfOk result (λ piece. piece ≡ self.now) }
@@ -76,6 +90,7 @@ impl Piece {
             encoding: self.encoding,
             fresh: self.fresh,
             returned: self.returned,
+            sums: self.sums,
         })
     }
 

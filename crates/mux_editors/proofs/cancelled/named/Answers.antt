@@ -1,7 +1,7 @@
 -- What a cancel names.
 use Rattle.std.proofs.Common.{map, refl, subst, sym, ◌∙◌}
 use Rattle.std.specs.Prelude.{None, Some}
-use Rattle.group_rows.specs.Cancelling.{named_id}
+use Rattle.group_rows.specs.Waiting.{named_id}
 use Rattle.mux_tables.specs.Stands.{number_in}
 use Rattle.event_model.proofs.Places.{item_at}
 use Rattle.mux_tables.proofs.Homes.{group_seen}

@@ -4,6 +4,7 @@ use Rattle.mux_history.specs.declared.out.Out.TheVariants.{ToEditor}
 use Rattle.event_model.specs.Does.{Does}
 use Rattle.event_model.specs.Event.{behind}
 use Rattle.event_model.specs.Row.{each, send}
+use Rattle.event_model.specs.Requests.{answered_id}
 use Rattle.event_model.proofs.Turns.{does_next, does_whole}
 use Rattle.group_rows.specs.Created.{created_text}
 use Rattle.group_rows.specs.CreatedRows.{tell}
@@ -33,7 +34,7 @@ loop-body-preserved c = record {
       let new = marked_says (created_text s k) body one.0 one.1 (created_token_text s k) one.2 in
       does_next (tell s k e) bodies i body c.loop-body-test.true (c.loop-body.invariant.does settings base held)
       (subst (λ w. Does (λ t events. Stands settings t events) (send (ToEditor e w)) base t c.loop-body.outs t c.tell.new.outs) (is ∙ ap (marked_text (created_text s k)) c.body-item.is)
-      (c.in_ok-tell.ensures.does settings base (keeps_notice e c.in_ok-text.text (behind base c.loop-body.outs) one.0 new.0 one.3 (ap message_of is ∙ new.1))));
+      (c.in_ok-tell.ensures.does settings base (keeps_notice e c.in_ok-text.text (behind base c.loop-body.outs) one.0 new.0 one.3 (ap message_of is ∙ new.1)) (ap answered_id (ap message_of is ∙ new.1))));
   documents = λ settings owed base ds. c.in_ok-tell.ensures.documents settings owed base (c.loop-body.invariant.documents settings owed base ds);
 }
 

@@ -22,6 +22,7 @@ use Rattle.mux_editors.proofs.Runs.{runs_now, then_rest, works_now}
 use Rattle.mux_editors.proofs.Serving.{not_new, unplaced}
 use Rattle.mux_editors.proofs.Taking.{given_as, takings_held}
 use Rattle.mux_editors.proofs.Takings.{can_begin, takes_by_one}
+use Rattle.mux_editors.proofs.Staying.{unheld_response}
 use Rattle.mux_turns.proofs.Ready.{is_that_ready}
 use Rattle.mux_turns.proofs.Stays.{kept_stage}
 use Rattle.mux_editors.proofs.handed.reply_at.Goals as goal
@@ -47,7 +48,7 @@ returns-in_ok-reply-clause-does c = λ settings before body x read response serv
     let found = find (is_seated e (answered_id m)) (asks_of settings s before) in
     let stage = ap is_ready (sym (c.stage_at.ensures x here)) ∙ (sym c.is_ready-ready.ensures ∙ c.if-ready.true) in
     let ready = is_that_ready x.life.stage stage in
-    let heard = c.in_ok-found.ensures.stands settings before body x here named taken (reply_unshut m response) one (takes_by_one settings before settled t st e x.life.group s m home last) (unplaced (desk_of e before).phase m served) (reply_stops before e m response)
+    let heard = c.in_ok-found.ensures.stands settings before body x here named taken (reply_unshut m response) one (takes_by_one settings before settled t st e x.life.group s m home last) (unheld_response settings e body m before response) (unplaced (desk_of e before).phase m served) (reply_stops before e m response)
     (old_unopened settings.servers before e m (not_new (desk_of e before).phase served)) (runs_now settings before e body served runs) st in
     let docs = c.in_ok-found.ensures.documents settings nothing_owed before body (reply_keeps before e m response) ds in
     let begun = c.in_ok-begin.ensures.begun settings nothing_owed before body served runs begins first (can_begin settings before meant settled t e body st ds) heard docs in
@@ -71,7 +72,7 @@ returns-else-ready-clause-does c = λ settings before body x read response serve
     let taken = c.is_result-accepts.ensures body read in
     let last = (group_seen settings t before g s x st here (number_there t.lasts.items g x here)).1 in
     let stage = ap is_ready (sym (c.stage_at.ensures x here)) ∙ (sym c.is_ready-ready.ensures ∙ c.if-ready.false) in
-    let heard = c.in_ok-found.ensures.stands settings before body x here named taken (reply_unshut m response) one (takes_by_one settings before settled t st e x.life.group s m home last) (unplaced (desk_of e before).phase m served) (reply_stops before e m response)
+    let heard = c.in_ok-found.ensures.stands settings before body x here named taken (reply_unshut m response) one (takes_by_one settings before settled t st e x.life.group s m home last) (unheld_response settings e body m before response) (unplaced (desk_of e before).phase m served) (reply_stops before e m response)
     (old_unopened settings.servers before e m (not_new (desk_of e before).phase served)) (runs_now settings before e body served runs) st in
     let docs = c.in_ok-found.ensures.documents settings nothing_owed before body (reply_keeps before e m response) ds in
     let begun = c.in_ok-begin.ensures.begun settings nothing_owed before body served runs (c.may_begin-begins.ensures settings before st) first (can_begin settings before meant settled t e body st ds) heard docs in

@@ -12,6 +12,7 @@ use Rattle.mux_tables.proofs.Lasts.{same_place}
 use Rattle.mux_editors.proofs.Handing.{ended_reply, ended_silent, reply_keeps, reply_makes, unready_reply}
 use Rattle.mux_editors.proofs.Runs.{then_rest}
 use Rattle.mux_editors.proofs.Takings.{takes_ended}
+use Rattle.mux_editors.proofs.Staying.{unheld_response}
 use Rattle.mux_editors.proofs.handed.take_reply.Goals as goal
 
 pub returns-in_ok-hear_running-in-None-clause-does : goal.returns-in_ok-hear_running-in-None-clause-does
@@ -21,7 +22,7 @@ returns-in_ok-hear_running-in-None-clause-does c = λ settings before body g s r
     let over = ended_reply settings before e g s body home last (c.in-None.ensures.none settings before st) in
     let silent = ended_silent settings before e g s body home last over one in
     let untaken = takes_ended settings before settled c.args.tables.now st e g s m home last over in
-    let begun = c.in_ok-hear_running-in-None.ensures.begun settings before body served (reply_makes m response) silent untaken (reply_keeps before e m response) first meant settled st ds in
+    let begun = c.in_ok-hear_running-in-None.ensures.begun settings before body served (reply_makes m response) silent untaken (unheld_response settings e body m before response) (reply_keeps before e m response) first meant settled st ds in
     then_rest begun.done (does_alike (λ _. unready_reply settings before e g s body home last (ap is_ready over)) does_nothing)
 
 pub returns-in_ok-reply_at-in-Some-clause-does : goal.returns-in_ok-reply_at-in-Some-clause-does

@@ -35,7 +35,7 @@ returns-in_ok-replace-in-Evicts-clause-does c = λ settings before body method i
     let n = c.in-Evicts.n in
     let moves = c.in_ok-placed.ensures.moves settings before body method id params read says new all (sym (c.server-server.ensures settings before st (new_here before e (message_of body) new) default)) st ds in
     placed_entry settings c.seat.new.tables c.replace.new.tables before e body (Evicts c.in-Evicts.idle n) c.args.outs.now c.replace.new.outs first (sym c.in-Evicts.is ∙ moves.0) moves.1
-    (c.in_ok-replace-in-Evicts.ensures.does settings before base e body (evicts_next settings before e body settled c.in-Evicts.idle n c.args.outs.now first (sym c.in-Evicts.is ∙ moves.0)) (numbered_now before e body c.args.outs.now first known.numbered))
+    (c.in_ok-replace-in-Evicts.ensures.does settings before base e body (evicts_next settings before e body settled c.in-Evicts.idle n c.args.outs.now first (sym c.in-Evicts.is ∙ moves.0)) (numbered_now settings before e body c.args.outs.now first known.numbered))
 
 pub returns-in_ok-turn_away-in-TooMany-clause-does : goal.returns-in_ok-turn_away-in-TooMany-clause-does
 returns-in_ok-turn_away-in-TooMany-clause-does c = λ settings before body method id params read says new all default first known settled st ds.
@@ -43,4 +43,4 @@ returns-in_ok-turn_away-in-TooMany-clause-does c = λ settings before body metho
     let base = with_cause before (FromEditor e body) in
     let moves = c.in_ok-placed.ensures.moves settings before body method id params read says new all (sym (c.server-server.ensures settings before st (new_here before e (message_of body) new) default)) st ds in
     placed_entry settings c.seat.new.tables c.turn_away.new.tables before e body TooMany c.args.outs.now c.turn_away.new.outs first (sym c.in-TooMany.is ∙ moves.0) moves.1
-    (c.in_ok-turn_away-in-TooMany.ensures.does settings before base body method id params read says (unserved_now before e body c.args.outs.now first new))
+    (c.in_ok-turn_away-in-TooMany.ensures.does settings before base body method id params read says (unserved_now settings before e body c.args.outs.now first new))

@@ -11,6 +11,8 @@ use Rattle.mux_tables.specs.Resumes.{unasked}
 use Rattle.mux_tables.specs.Stands.{is_answer}
 use Rattle.mux_tables.proofs.Asking.{answers_none}
 use Rattle.mux_tables.specs.mux_tokens.proofs.Stays.{takes_none}
+use Rattle.mux_tables.specs.mux_waits.proofs.Unheld.{unheld_by}
+use Rattle.group_rows.specs.Waiting.{is_for_start}
 use Rattle.mux_editors.proofs.Asides.{old_unopened}
 use Rattle.mux_editors.proofs.Beginning.{same_length}
 use Rattle.mux_editors.proofs.Noticing.{noticed, unnoticed}
@@ -28,7 +30,7 @@ returns-in_ok-show_opened-in-Some-clause-does c = λ settings before body method
     let u = c.begin.new.tables in
     let what = saying_by method params in
     let runs = notice_makes method params stays m says in
-    let heard = c.in_ok-owed.ensures.stands settings before body st (answers_none settings e m before (ap is_answer says)) (takes_none settings e m before (ap (requests (codes "shutdown")) says) (ap is_answer says)) (unplaced (desk_of e before).phase m served) (notice_stops before e m method params says)
+    let heard = c.in_ok-owed.ensures.stands settings before body st (answers_none settings e m before (ap is_answer says)) (takes_none settings e m before (ap (requests (codes "shutdown")) says) (ap is_answer says)) (unheld_by settings e body m before (ap (is_for_start before e body) says)) (unplaced (desk_of e before).phase m served) (notice_stops before e m method params says)
     (old_unopened settings.servers before e m (not_new (desk_of e before).phase served)) (runs_now settings before e body served runs) in
     let owed = c.in_ok-owed.ensures.documents settings before body method params g s read says served home starts st ds in
     let begun = c.in_ok-begin.ensures.begun settings (owes g (noticing settings before g s e body what)) before body served runs (c.may_begin-begins.ensures settings before st) first (can_begin settings before meant settled c.args.tables.now c.args.e body st ds) heard owed.1 in
@@ -47,7 +49,7 @@ returns-in-None-clause-does c = λ settings before body method params g s read s
     let u = c.begin.new.tables in
     let what = saying_by method params in
     let runs = notice_makes method params stays m says in
-    let heard = c.in_ok-owed.ensures.stands settings before body st (answers_none settings e m before (ap is_answer says)) (takes_none settings e m before (ap (requests (codes "shutdown")) says) (ap is_answer says)) (unplaced (desk_of e before).phase m served) (notice_stops before e m method params says)
+    let heard = c.in_ok-owed.ensures.stands settings before body st (answers_none settings e m before (ap is_answer says)) (takes_none settings e m before (ap (requests (codes "shutdown")) says) (ap is_answer says)) (unheld_by settings e body m before (ap (is_for_start before e body) says)) (unplaced (desk_of e before).phase m served) (notice_stops before e m method params says)
     (old_unopened settings.servers before e m (not_new (desk_of e before).phase served)) (runs_now settings before e body served runs) in
     let owed = c.in_ok-owed.ensures.documents settings before body method params g s read says served home starts st ds in
     let begun = c.in_ok-begin.ensures.begun settings (owes g (noticing settings before g s e body what)) before body served runs (c.may_begin-begins.ensures settings before st) first (can_begin settings before meant settled c.args.tables.now c.args.e body st ds) heard owed.1 in

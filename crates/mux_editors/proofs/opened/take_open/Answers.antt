@@ -16,6 +16,7 @@ use Rattle.mux_tables.specs.mux_tokens.proofs.Stays.{takes_none}
 use Rattle.mux_turns.proofs.Departing.{behind_first}
 use Rattle.mux_turns.proofs.Keeping.{chosen, unchosen}
 use Rattle.mux_editors.proofs.Lspmux.{first_new, lspmux_is, open_asks, open_unstopped, own_keeps, own_placed, own_shuts, own_stays, own_stops}
+use Rattle.mux_editors.proofs.Staying.{unheld_own}
 use Rattle.mux_turns.proofs.Matched.{whole_entry}
 use Rattle.mux_editors.proofs.opened.take_open.Goals as goal
 
@@ -35,9 +36,9 @@ returns-in_ok-answer_named-clause-does c = λ settings before body read names se
     let docs = c.hear_open.ensures.documents settings nothing_owed before body (own_keeps before e body asks) ds in
     let now : (desk_of e (behind base xs)).phase ≡ New = ap (λ es. (desk_of e es).phase) (behind_first base xs first) ∙ (own_stays before e body asks ∙ first_new settings.servers before e m opens) in
     let stays : ((desk_of e (behind base xs)).phase ≡ Waiting) → ⊥ = λ waits. absurd (let clash : New ≡ Waiting = sym now ∙ waits in cc) in
-    let does = subst (λ o. Does (λ t events. Stands settings t events) (named_row e body o) base u xs u c.answer_named.new.outs) asked (c.in_ok-answer_named.ensures.does settings base body k.method k.id k.params read k.is stays) in
-    whole_entry (λ k events. AllStand settings k events) (open_row settings before e body m) base (u, nothing_owed) (u, nothing_owed) xs c.answer_named.new.outs first (heard, docs)
-    (chosen is c.if-is_first.true (all_does settings u u nothing_owed nothing_owed base xs c.answer_named.new.outs does (λ _ d. c.in_ok-answer_named.ensures.documents settings nothing_owed base d)))
+    let does = subst (λ o. Does (λ t events. Stands settings t events) (named_row e body o) base u xs c.answer_named.new.tables c.answer_named.new.outs) asked (c.in_ok-answer_named.ensures.does settings base body k.method k.id k.params read k.is stays) in
+    whole_entry (λ k events. AllStand settings k events) (open_row settings before e body m) base (u, nothing_owed) (c.answer_named.new.tables, nothing_owed) xs c.answer_named.new.outs first (heard, docs)
+    (chosen is c.if-is_first.true (all_does settings u c.answer_named.new.tables nothing_owed nothing_owed base xs c.answer_named.new.outs does (λ _ d. c.in_ok-answer_named.ensures.documents settings nothing_owed base d)))
 
 pub returns-in_ok-refuse-clause-does : goal.returns-in_ok-refuse-clause-does
 returns-in_ok-refuse-clause-does c = λ settings before body read names servers first st ds.
@@ -50,7 +51,7 @@ returns-in_ok-refuse-clause-does c = λ settings before body read names servers 
     let k = lspmux_is m asks in
     let at = c.phase_of-phase.ensures.stands settings before st in
     let is = c.is_first.ensures settings before m names at st in
-    let heard = c.hear_editor.ensures.stands settings before body st (answers_none settings e m before (ap is_answer k.is)) (takes_none settings e m before (own_shuts m asks) (ap is_answer k.is)) (own_placed before e body asks) (own_stops before e body asks (open_unstopped m names)) (sym is ∙ c.if-is_first.false) (own_stays before e body asks ∙ sym at) in
+    let heard = c.hear_editor.ensures.stands settings before body st (answers_none settings e m before (ap is_answer k.is)) (takes_none settings e m before (own_shuts m asks) (ap is_answer k.is)) (unheld_own settings e body m before k.id k.method k.params k.is k.own) (own_placed before e body asks) (own_stops before e body asks (open_unstopped m names)) (sym is ∙ c.if-is_first.false) (own_stays before e body asks ∙ sym at) in
     let docs = c.hear_editor.ensures.documents settings nothing_owed before body (own_keeps before e body asks) ds in
-    whole_entry (λ k events. AllStand settings k events) (open_row settings before e body m) base (u, nothing_owed) (u, nothing_owed) xs c.refuse.new.outs first (heard, docs)
-    (unchosen is c.if-is_first.false (all_does settings u u nothing_owed nothing_owed base xs c.refuse.new.outs (c.in_ok-refuse.ensures.does settings base body k.method k.id k.params read k.is) (λ _ d. c.in_ok-refuse.ensures.documents settings nothing_owed base d)))
+    whole_entry (λ k events. AllStand settings k events) (open_row settings before e body m) base (u, nothing_owed) (c.refuse.new.tables, nothing_owed) xs c.refuse.new.outs first (heard, docs)
+    (unchosen is c.if-is_first.false (all_does settings u c.refuse.new.tables nothing_owed nothing_owed base xs c.refuse.new.outs (c.in_ok-refuse.ensures.does settings base body k.method k.id k.params read k.is) (λ _ d. c.in_ok-refuse.ensures.documents settings nothing_owed base d)))

@@ -15,14 +15,14 @@ use Rattle.mux_turns.proofs.Matched.{whole_entry}
 use Rattle.mux_editors.proofs.parting.end_link.Goals as goal
 
 pub returns-clause-does : goal.returns-clause-does
-returns-clause-does c = λ settings before body silent untaken placed stopped unopened quiet stays first st ds.
+returns-clause-does c = λ settings before body silent untaken unheld placed stopped unopened quiet stays first st ds.
     let e = c.args.e in
     let base = with_cause before (FromEditor e body) in
     let t = c.args.tables.now in
     let u = c.hear_editor.new.self in
     let v = c.close.new.self in
     let xs = c.args.outs.now in
-    let heard = c.hear_editor.ensures.stands settings before body st silent untaken placed stopped unopened stays in
+    let heard = c.hear_editor.ensures.stands settings before body st silent untaken unheld placed stopped unopened stays in
     let docs = c.hear_editor.ensures.documents settings nothing_owed before body quiet ds in
     let lasts = c.close.ensures.lasts ∙ c.hear_editor.ensures.lasts in
     let there = behind_first base xs first in

@@ -15,6 +15,7 @@ use Rattle.mux_tables.proofs.Asking.{answers_none}
 use Rattle.mux_editors.proofs.Asides.{desk_now, old_unopened, unserved_keeps}
 use Rattle.mux_turns.proofs.Matched.{whole_entry}
 use Rattle.mux_editors.proofs.Takings.{takes_unserved}
+use Rattle.mux_editors.proofs.Staying.{unheld_unserved}
 use Rattle.mux_editors.proofs.parting.take_down.Goals as goal
 
 pub returns-clause-does : goal.returns-clause-does
@@ -23,8 +24,8 @@ returns-clause-does c = λ settings before body method id params read says down 
     let base = with_cause before (FromEditor e body) in
     let u = c.hear_editor.new.self in
     let stays = desk_now before e body Down (ap (λ p. (desk_hears p (desk_of e before).initialize body (message_of body)).phase) down) in
-    let heard = c.hear_editor.ensures.stands settings before body st (answers_none settings e (message_of body) before (ap is_answer says)) (takes_unserved settings before settled c.args.tables.now st e (message_of body) (ap is_served down)) (ap (λ p. places p (message_of body)) down) unstopped (old_unopened settings.servers before e (message_of body) (ap is_new down)) stays in
+    let heard = c.hear_editor.ensures.stands settings before body st (answers_none settings e (message_of body) before (ap is_answer says)) (takes_unserved settings before settled c.args.tables.now st e (message_of body) (ap is_served down)) (unheld_unserved settings e body (message_of body) before (ap is_served down)) (ap (λ p. places p (message_of body)) down) unstopped (old_unopened settings.servers before e (message_of body) (ap is_new down)) stays in
     let docs = c.hear_editor.ensures.documents settings nothing_owed before body (unserved_keeps before e (message_of body) (ap is_served down)) ds in
-    whole_entry (λ k events. AllStand settings k events) (answer_error e body (wrong_code method invalid_request)) base (u, nothing_owed) (u, nothing_owed) c.args.outs.now c.refuse_wrong.new.outs first (heard, docs)
-    (all_does settings u u nothing_owed nothing_owed base c.args.outs.now c.refuse_wrong.new.outs (c.in_ok-refuse_wrong.ensures.does settings base body method id params read says)
+    whole_entry (λ k events. AllStand settings k events) (answer_error e body (wrong_code method invalid_request)) base (u, nothing_owed) (c.refuse_wrong.new.tables, nothing_owed) c.args.outs.now c.refuse_wrong.new.outs first (heard, docs)
+    (all_does settings u c.refuse_wrong.new.tables nothing_owed nothing_owed base c.args.outs.now c.refuse_wrong.new.outs (c.in_ok-refuse_wrong.ensures.does settings base body method id params read says)
     (λ _ d. c.in_ok-refuse_wrong.ensures.documents settings nothing_owed base d))

@@ -13,6 +13,7 @@ use Rattle.mux_editors.proofs.Asides.{desk_now, early_keeps, early_stays, early_
 use Rattle.mux_editors.proofs.Lspmux.{unasked_open}
 use Rattle.mux_turns.proofs.Matched.{whole_entry}
 use Rattle.mux_editors.proofs.Takings.{takes_unserved}
+use Rattle.mux_editors.proofs.Staying.{unheld_unserved}
 use Rattle.mux_editors.proofs.quiet.take_early.Goals as goal
 
 pub returns-clause-does : goal.returns-clause-does
@@ -21,7 +22,7 @@ returns-clause-does c = λ settings before body method id params read says early
     let base = with_cause before (FromEditor e body) in
     let u = c.hear_editor.new.self in
     let stays = desk_now before e body c.phase_of-phase.result (early_stays (desk_of e before).phase (desk_of e before).initialize body (message_of body) early unplaced ∙ sym (c.phase_of-phase.ensures.stands settings before st)) in
-    let heard = c.hear_editor.ensures.stands settings before body st (answers_none settings e (message_of body) before (ap is_answer says)) (takes_unserved settings before settled c.args.tables.now st e (message_of body) (early_unserved (desk_of e before).phase early)) unplaced unstopped (unnamed_unopened settings.servers before e (message_of body) (unasked_open (message_of body) unasked)) stays in
+    let heard = c.hear_editor.ensures.stands settings before body st (answers_none settings e (message_of body) before (ap is_answer says)) (takes_unserved settings before settled c.args.tables.now st e (message_of body) (early_unserved (desk_of e before).phase early)) (unheld_unserved settings e body (message_of body) before (early_unserved (desk_of e before).phase early)) unplaced unstopped (unnamed_unopened settings.servers before e (message_of body) (unasked_open (message_of body) unasked)) stays in
     let docs = c.hear_editor.ensures.documents settings nothing_owed before body (early_keeps before e (message_of body) early) ds in
-    whole_entry (λ k events. AllStand settings k events) (answer_error e body (early_code method)) base (u, nothing_owed) (u, nothing_owed) c.args.outs.now c.refuse_early.new.outs first (heard, docs)
-    (all_does settings u u nothing_owed nothing_owed base c.args.outs.now c.refuse_early.new.outs (c.in_ok-refuse_early.ensures.does settings base body method id params read says) (λ _ d. c.in_ok-refuse_early.ensures.documents settings nothing_owed base d))
+    whole_entry (λ k events. AllStand settings k events) (answer_error e body (early_code method)) base (u, nothing_owed) (c.refuse_early.new.tables, nothing_owed) c.args.outs.now c.refuse_early.new.outs first (heard, docs)
+    (all_does settings u c.refuse_early.new.tables nothing_owed nothing_owed base c.args.outs.now c.refuse_early.new.outs (c.in_ok-refuse_early.ensures.does settings base body method id params read says) (λ _ d. c.in_ok-refuse_early.ensures.documents settings nothing_owed base d))

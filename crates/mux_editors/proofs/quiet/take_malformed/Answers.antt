@@ -13,6 +13,7 @@ use Rattle.mux_tables.proofs.DocumentOwed.{all_does}
 use Rattle.mux_tables.proofs.Asking.{answers_none}
 use Rattle.mux_tables.specs.mux_tokens.proofs.Stays.{takes_none}
 use Rattle.mux_editors.proofs.Asides.{aside, desk_now, malformed_aside, malformed_keeps, malformed_shuts, malformed_silent, malformed_stays, refused}
+use Rattle.mux_editors.proofs.Staying.{unheld_malformed}
 use Rattle.mux_turns.proofs.Matched.{whole_entry}
 use Rattle.mux_editors.proofs.quiet.take_malformed.Goals as goal
 use Rattle.mux_editors.proofs.quiet.take_malformed.Goals.{in-Memory, in_default}
@@ -28,7 +29,7 @@ returns-clause-does c = λ settings before body refuses first st ds.
     let off = aside before e m (malformed_aside m bad) in
     let is = c.phase_of-phase.ensures.stands settings before st in
     let stays = desk_now before e body c.phase_of-phase.result (malformed_stays (desk_of e before).phase (desk_of e before).initialize body m bad ∙ sym is) in
-    let heard = c.hear_editor.ensures.stands settings before body st (answers_none settings e m before (malformed_silent m bad)) (takes_none settings e m before (malformed_shuts m bad) (malformed_silent m bad)) off.placed off.stopped (off.unopened settings.servers) stays in
+    let heard = c.hear_editor.ensures.stands settings before body st (answers_none settings e m before (malformed_silent m bad)) (takes_none settings e m before (malformed_shuts m bad) (malformed_silent m bad)) (unheld_malformed settings e body m before bad) off.placed off.stopped (off.unopened settings.servers) stays in
     let docs = c.hear_editor.ensures.documents settings nothing_owed before body (malformed_keeps before e m bad) ds in
     whole_entry (λ k events. AllStand settings k events) (malformed_row e m (desk_of e before).phase) base (u, nothing_owed) (u, nothing_owed) c.args.outs.now c.reject.new.outs first (heard, docs)
     (subst (λ p. Does (λ k events. AllStand settings k events) (malformed_row e m p) base (u, nothing_owed) c.args.outs.now (u, nothing_owed) c.reject.new.outs) is

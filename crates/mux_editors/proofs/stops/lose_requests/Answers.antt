@@ -10,6 +10,6 @@ returns-in-None-clause-does c = λ settings before base stays forwarded. loses_h
     (λ st. home_seen settings c.args.tables.now (behind base c.args.outs.now) c.args.e _ c.requires c.group.ensures st ∙ c.in-None.is)
 
 pub returns-in_ok-lose_in-in-Some-clause-does : goal.returns-in_ok-lose_in-in-Some-clause-does
-returns-in_ok-lose_in-in-Some-clause-does c = λ settings before base stays forwarded. loses_home settings c.args.tables.now before base c.args.outs.now c.lose_in.new.outs c.args.e c.in-Some.home stays
+returns-in_ok-lose_in-in-Some-clause-does c = λ settings before base stays forwarded. loses_home settings c.args.tables.now c.lose_in.new.tables before base c.args.outs.now c.lose_in.new.outs c.args.e c.in-Some.home stays
     (λ st. home_seen settings c.args.tables.now (behind base c.args.outs.now) c.args.e _ c.requires c.group.ensures st ∙ c.in-Some.is)
     (c.in_ok-lose_in-in-Some.ensures.does settings before base stays forwarded)

@@ -12,6 +12,8 @@ use Rattle.mux_tables.specs.Stands.{is_answer, number_in}
 use Rattle.mux_tables.proofs.Asking.{answers_none}
 use Rattle.mux_tables.proofs.DocumentOwed.{number_there}
 use Rattle.mux_tables.specs.mux_tokens.proofs.Stays.{takes_none}
+use Rattle.mux_tables.specs.mux_waits.proofs.Unheld.{unheld_by}
+use Rattle.group_rows.specs.Waiting.{is_for_start}
 use Rattle.mux_editors.specs.Works.{Goes}
 use Rattle.mux_editors.proofs.Beginning.{same_kept, same_length}
 use Rattle.mux_editors.proofs.Runs.{then_rest}
@@ -25,7 +27,7 @@ returns-in-None-clause-does c = λ settings before body params read says served 
     let m = message_of body in
     let cancel = codes "window/workDoneProgress/cancel" in
     let silent = subst (Goes settings before e body params (map number_in c.args.tables.now.lasts.items)) c.in-None.is (c.in_ok-work.ensures.goes settings before body params read says st) in
-    let begun = c.in_ok-hear_running.ensures.begun settings before body served (notice_makes cancel params refl m says) (answers_none settings e m before (ap is_answer says)) (takes_none settings e m before (ap (requests (codes "shutdown")) says) (ap is_answer says)) (work_keeps before e body params says) first meant settled st ds in
+    let begun = c.in_ok-hear_running.ensures.begun settings before body served (notice_makes cancel params refl m says) (answers_none settings e m before (ap is_answer says)) (takes_none settings e m before (ap (requests (codes "shutdown")) says) (ap is_answer says)) (unheld_by settings e body m before (ap (is_for_start before e body) says)) (work_keeps before e body params says) first meant settled st ds in
     then_rest begun.done (does_alike (λ _. silent) does_nothing)
 
 pub returns-in_ok-pass_work-in-Some-clause-does : goal.returns-in_ok-pass_work-in-Some-clause-does
@@ -42,7 +44,7 @@ returns-in_ok-pass_work-in-Some-clause-does c = λ settings before body params r
     let s = x.0.life.start in
     let y = same_kept unasked u.lasts.items t.lasts.items (sym c.in_ok-hear_running.ensures.rest) w.group x.0 x.1 in
     let there = number_there u.lasts.items w.group y.0 y.1.0 ∙ ap (λ (z : Start). Some (number_in z)) (sym y.1.1) in
-    let begun = c.in_ok-hear_running.ensures.begun settings before body served (notice_makes cancel params refl m says) (answers_none settings e m before (ap is_answer says)) (takes_none settings e m before (ap (requests (codes "shutdown")) says) (ap is_answer says)) (work_keeps before e body params says) first meant settled st ds in
+    let begun = c.in_ok-hear_running.ensures.begun settings before body served (notice_makes cancel params refl m says) (answers_none settings e m before (ap is_answer says)) (takes_none settings e m before (ap (requests (codes "shutdown")) says) (ap is_answer says)) (unheld_by settings e body m before (ap (is_for_start before e body) says)) (work_keeps before e body params says) first meant settled st ds in
     then_rest begun.done (does_alike (λ _. goes.1 s (number_there t.lasts.items w.group x.0 x.1)) (c.in_ok-pass_work-in-Some.ensures.does settings (with_cause before (FromEditor e body)) goes.0.0 s goes.0.1 there))
 
 pub pass_work-requires : goal.pass_work-requires

@@ -6,7 +6,8 @@ use Rattle.mux_starts.specs.group_facts.proofs.Quits.{not_stopped}
 use Rattle.rpc_message.specs.Message.{message_of, notification, request}
 use Rattle.mux_starts.specs.mux_tables.specs.Documents.{AllStand}
 use Rattle.mux_entries.proofs.EditorAsks.{asked_by_one}
-use Rattle.mux_entries.proofs.EditorBuilt.{served_needs, served_there, standard_asks, unasked_when}
+use Rattle.group_words.specs.Houses.{is_doubled}
+use Rattle.mux_entries.proofs.EditorBuilt.{served_needs, served_there, single_served, standard_asks, unasked_when}
 use Rattle.mux_entries.proofs.EditorRows.{answered, asks_by_sort, done_alike, is_answer, notes_by_sort, read_well, served, unasking, unnoting}
 use Rattle.mux_entries.proofs.editors.from_served.Goals as goal
 
@@ -18,7 +19,7 @@ returns-in_ok-from_asking-in-Request-clause-does c = λ settings before body rea
     let asks = asks_by_sort m (c.sort.ensures body read ∙ ap (λ x. Some x) c.in-Request.is) in
     let sort = standard_asks asks.method (unasked_when p m asks.id asks.method asks.params asks.is (served_there p serves) none) in
     done_alike (λ k events. AllStand settings k events) (served settings before e body (request asks.id asks.method asks.params) asks.is serves (read_well c.args.message.now body read) single none)
-    (c.in_ok-from_asking-in-Request.ensures.does settings before body asks.method asks.id asks.params read asks.is sort serves first known.meant settled st ds)
+    (c.in_ok-from_asking-in-Request.ensures.does settings before body asks.method asks.id asks.params read asks.is sort serves (single_served p (is_doubled before e m) serves single) first known.meant settled st ds)
 
 pub returns-in_ok-from_noting-in-Notification-clause-does : goal.returns-in_ok-from_noting-in-Notification-clause-does
 returns-in_ok-from_noting-in-Notification-clause-does c = λ settings before body read serves first known settled single none st ds.

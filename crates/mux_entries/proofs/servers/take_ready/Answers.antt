@@ -42,4 +42,4 @@ returns-in_ok-take_answer-in-Result-clause-does c = λ settings before body s re
     let unasked = unasking m c.sort.result (c.sort.ensures body read) c.in-Result.is in
     let unnoted = unnoting m c.sort.result (c.sort.ensures body read) c.in-Result.is in
     done_alike (λ k events. AllStand settings k events) (answer_here settings before s body stage unasked unnoted)
-    (c.in_ok-take_answer-in-Result.ensures.does settings before body s x.0 read (no_request m unasked) (answers_create settings before s body (no_request m unasked) unnoted) (answers_unlisted before s body unnoted) first x.1 ready at (asked before s m (known.asked (ready_unstopped settings before settled s stage))) known.meant st ds)
+    (c.in_ok-take_answer-in-Result.ensures.does settings before body s x.0 read (no_request m unasked) (answers_create settings before s body (no_request m unasked) unnoted) (answers_unlisted before s body unnoted) first x.1 ready at (asked settings before s m (known.asked (ready_unstopped settings before settled s stage))) known.meant st ds)

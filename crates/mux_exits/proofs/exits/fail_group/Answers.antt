@@ -1,5 +1,5 @@
 -- A group goes on or ends with its last start, whose program couldn't be run.
-use Rattle.std.proofs.Common.{◌<◌, ◌^◌, length, ltb-true, ap, sym, subst, ◌∙◌}
+use Rattle.std.proofs.Common.{◌≡◌, ◌<◌, ◌^◌, length, ltb-true, ap, sym, subst, ◌∙◌}
 use Rattle.std.specs.Prelude.{slice_get}
 use Rattle.std.specs.List.{All, AllByRecursion}
 use Rattle.std.proofs.lemmas.List.{length-set}
@@ -10,11 +10,12 @@ use Rattle.event_model.proofs.Frames.{never}
 use Rattle.event_model.proofs.Places.{item_at}
 use Rattle.mux_exits.specs.Losses.{IsInside}
 use Rattle.mux_exits.proofs.Ending.{entry_done, entry_renewed, exit_group, exit_over, exit_unready, here}
-use Rattle.mux_exits.specs.Partings.{CanPart, renewing_row}
+use Rattle.mux_exits.specs.Partings.{CanPart, parting_row, renewing_row}
 use Rattle.mux_history.specs.declared.cause.Cause.TheVariants.{StartFailed}
 use Rattle.mux_starts.specs.group_facts.specs.Lively.{lives_at}
 use Rattle.group_words.proofs.Frames.{groups_more}
 use Rattle.mux_starts.specs.group_facts.proofs.ExitEntry.{failed_exit}
+use Rattle.mux_starts.specs.Refusing.{IsUnready}
 use Rattle.mux_starts.proofs.Stopped.{ended_unbegun, last_life}
 use Rattle.mux_tables.specs.Documents.{AllStand, nothing_owed}
 use Rattle.mux_tables.proofs.DocumentOwed.{number_there}
@@ -33,8 +34,8 @@ pub hear_failure-requires-clause-room : goal.hear_failure-requires-clause-room
 hear_failure-requires-clause-room c = λ z x here at.
     ltb-true x.exits (2 ^ 63) (sym (c.is_counted.ensures x (ap (λ h. slice_get c.args.tables.now.groups.groups h) (c.group_number.ensures z here) ∙ at)) ∙ c.if-not-is_counted.false)
 
-pub group_number-requires-2 : goal.group_number-requires-2
-group_number-requires-2 c =
+pub group_number-group-requires : goal.group_number-group-requires
+group_number-group-requires c =
     let lasts = c.args.tables.now.lasts.items in
     let z = item_at lasts c.args.g c.requires.group in
     let e = c.in_ok-hear_failure.ensures.exits z.0 z.1 in
@@ -96,7 +97,7 @@ returns-in_ok-renew-clause-failure c = λ settings before x at_g live restarts f
     (λ may. c.in_ok-renew.ensures.does settings now e.start there may) in
     entry_renewed settings before (StartFailed s) s (failed_exit settings before s) h (group_seen settings t before g s x st at_g at).0 (ap (lives_at h) st.house.groups.groups ∙ live) known settled
     parting (c.in_ok-parting.ensures.parts settings before x at_g st) u stands (groups_more settings before (heard (StartFailed s))) c.renew.new.tables c.args.outs.now c.renew.new.outs
-    (ap (λ n. lives_at n u.groups.groups) (sym (c.group_number-2.ensures e.start there ∙ same)) ∙ (sym c.lives.ensures ∙ c.if-lives.true)) first (c.in_ok-hear_failure.ensures.documents settings nothing_owed before s ds) can
+    (ap (λ n. lives_at n u.groups.groups) (sym (c.group_number-group.ensures e.start there ∙ same)) ∙ (sym c.lives.ensures ∙ c.if-lives.true)) first (c.in_ok-hear_failure.ensures.documents settings nothing_owed before s ds) can
 
 pub returns-in_ok-part-clause-failure : goal.returns-in_ok-part-clause-failure
 returns-in_ok-part-clause-failure c = λ settings before x at_g live restarts first known settled fit st ds.
@@ -111,8 +112,10 @@ returns-in_ok-part-clause-failure c = λ settings before x at_g live restarts fi
     let there = here c.args.restarts t u g x c.requires.group e in
     let same = exit_group c.args.restarts t u g x c.requires.group e in
     let stands = c.in_ok-hear_failure.ensures.stands settings before s restarts at st in
+    let own : c.group_number-group.result ≡ h = c.group_number-group.ensures e.start there ∙ same in
     let parting = c.in_ok-parting.parting in
     entry_done settings before (StartFailed s) s (failed_exit settings before s) h (group_seen settings t before g s x st at_g at).0 (ap (lives_at h) st.house.groups.groups ∙ live) known settled
     parting (c.in_ok-parting.ensures.parts settings before x at_g st) u stands (groups_more settings before (heard (StartFailed s))) c.part.new.tables c.args.outs.now c.part.new.outs
-    (ap (λ n. lives_at n u.groups.groups) (sym (c.group_number-2.ensures e.start there ∙ same)) ∙ (sym c.lives.ensures ∙ c.if-lives.false)) first (c.in_ok-hear_failure.ensures.documents settings nothing_owed before s ds)
-    (λ can. c.in_ok-part.ensures.does settings now h (exit_over c.args.restarts t u g x c.requires.group e) (exit_unready c.args.restarts t u g x c.requires.group e settings now stands) can)
+    (ap (λ n. lives_at n u.groups.groups) (sym (c.group_number-group.ensures e.start there ∙ same)) ∙ (sym c.lives.ensures ∙ c.if-lives.false)) first (c.in_ok-hear_failure.ensures.documents settings nothing_owed before s ds)
+    (λ can. subst (λ n. Does (λ k events. AllStand settings k events) (parting_row settings n parting) now (u, nothing_owed) c.args.outs.now (c.part.new.tables, nothing_owed) c.part.new.outs) own
+    (c.in_ok-part.ensures.does settings now (exit_over c.args.restarts t u g x c.requires.group e) (subst (λ n. IsUnready n u.lasts.items) (sym own) (exit_unready c.args.restarts t u g x c.requires.group e settings now stands)) (subst (λ n. CanPart settings (behind now c.args.outs.now) n parting) (sym own) can)))

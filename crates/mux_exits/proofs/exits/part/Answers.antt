@@ -19,7 +19,8 @@ pub forget-requires : goal.forget-requires
 forget-requires c = subst (λ ls. c.args.g < length ls.items) (sym (c.in_ok-turn_out_all.ensures.lasts ∙ c.in_ok-tell_losses.ensures.lasts)) c.requires.group
 
 pub returns-clause-does : goal.returns-clause-does
-returns-clause-does c = λ settings base h over unready can.
+returns-clause-does c = λ settings base over unready can.
+    let h = c.args.group in
     let t = c.args.tables.now in
     let v = c.turn_out_all.new.tables in
     let lasts = c.in_ok-turn_out_all.ensures.lasts ∙ c.in_ok-tell_losses.ensures.lasts in
@@ -27,6 +28,6 @@ returns-clause-does c = λ settings base h over unready can.
     let done = subst (λ ls. IsOver c.args.g ls.items) (sym lasts) over in
     part_does settings t c.tell_losses.new.tables v c.forget.new.self base h c.args.outs.now c.tell_losses.new.outs c.turn_out_all.new.outs c.args.parting c.deref.result.now c.deref-2.result.now c.deref.ensures.value c.deref-2.ensures.value can
     (c.in_ok-tell_losses.ensures.does settings base (subst (λ rs. IsCall (unregister_text rs)) (sym c.deref.ensures.value) can.call) can.losses can.idle)
-    (λ asking housed home. c.in_ok-turn_out_all.ensures.does settings base h (subst (λ ls. IsUnready h ls.items) (sym c.in_ok-tell_losses.ensures.lasts) unready) asking housed home)
+    (λ asking housed home. c.in_ok-turn_out_all.ensures.does settings base (subst (λ ls. IsUnready h ls.items) (sym c.in_ok-tell_losses.ensures.lasts) unready) asking housed home)
     (λ st. c.forget.ensures.stands settings (behind base c.turn_out_all.new.outs) x.0 x.1 (done x.0 x.1) st)
     (λ ds. c.forget.ensures.documents settings nothing_owed (behind base c.turn_out_all.new.outs) ds)

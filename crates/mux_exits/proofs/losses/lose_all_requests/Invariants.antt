@@ -12,5 +12,5 @@ abbrev pub invariant-loop-e : goal.invariant-loop-e
 invariant-loop-e l = record {
   inside : (n : ℕ) → AllByRecursion (IsInside n) l.initial.losses.items → AllByRecursion (IsInside n) l.losses.items;
   lost : (settings : Settings) (before : List Event) (s : ℕ) → slice_get (map number_in l.tables.lasts.items) l.g ≡ Some s → Stands settings l.tables before
-      → l.losses.items ≡ l.initial.losses.items ++ flat_map (lost_sent before s) (take l.e-index l.editors);
+      → l.losses.items ≡ l.initial.losses.items ++ flat_map (lost_sent settings before s) (take l.e-index l.editors);
 }

@@ -18,7 +18,7 @@ invariant-loop-e l = record {
   requests : l.tables.requests ≡ l.initial.tables.requests;
   versions : l.tables.versions ≡ l.initial.tables.versions;
   lasts : l.tables.lasts ≡ l.initial.tables.lasts;
-  does : (settings : Settings) (base : List Event) (g : ℕ) → IsUnready g l.initial.tables.lasts.items → AllAsking (behind base l.initial.outs) → AllHoused settings (behind base l.initial.outs)
-      → AreHome settings (behind base l.initial.outs) g l.editors
-      → Does (λ k events. AllStand settings k events) (each turn_out (take l.e-index l.editors)) base (l.initial.tables, nothing_owed) l.initial.outs (l.tables, nothing_owed) l.outs;
+  does : (settings : Settings) (base : List Event) → IsUnready l.g l.initial.tables.lasts.items → AllAsking (behind base l.initial.outs) → AllHoused settings (behind base l.initial.outs)
+      → AreHome settings (behind base l.initial.outs) l.g l.editors
+      → Does (λ k events. AllStand settings k events) (each (turn_out settings l.g) (take l.e-index l.editors)) base (l.initial.tables, nothing_owed) l.initial.outs (l.tables, nothing_owed) l.outs;
 }

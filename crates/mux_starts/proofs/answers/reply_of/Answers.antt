@@ -10,7 +10,7 @@ returns-then-not-is_there c = λ settings before body s n x read here ready at s
 
 pub returns : goal.returns
 returns c = λ settings before body s n x read here ready at st ds noted. (
-  reply_given settings before body s n c.args.pending.now c.in_ok-body.body (ap is_there (sym (c.phase.ensures settings before st)) ∙ (sym c.is_there.ensures ∙ c.if-not-is_there.false))
+  reply_given settings before body s n c.args.pending.now c.in_ok-id.id c.in_ok-body.body (ap is_there (sym (c.phase.ensures settings before st)) ∙ (sym c.is_there.ensures ∙ c.if-not-is_there.false))
       (c.in_ok-body.ensures settings before body s n x read here ready at st ds noted),
-  refl,
+  record { editor = refl; id = c.in_ok-id.ensures; text = c.in_ok-body.ensures settings before body s n x read here ready at st ds noted },
 )

@@ -3,6 +3,7 @@ use Rattle.std.proofs.Common.{ap, subst, ◌∙◌, get_or}
 use Rattle.mux_history.specs.declared.out.Out.TheVariants.{ToEditor}
 use Rattle.event_model.specs.Does.{Does}
 use Rattle.event_model.specs.Event.{behind}
+use Rattle.event_model.specs.Requests.{answered_id}
 use Rattle.event_model.specs.Row.{send}
 use Rattle.event_model.proofs.Turns.{does_next, does_whole}
 use Rattle.group_rows.specs.AskRows.{broadcast}
@@ -19,7 +20,7 @@ loop-e-preserved c = record {
       let is = c.new-text.ensures ∙ c.in_ok-from_slice.ensures.items in
       does_next (broadcast c.args.body.now) c.args.numbers.now c.loop-e.e-index 0 c.loop-e-test.true (c.loop-e.invariant.does settings base method params plain says)
       (subst (λ w. Does (λ k events. Stands settings k events) (send (ToEditor e w)) base t c.loop-e.outs t c.tell.new.outs) is
-      (c.in_ok-tell.ensures.does settings base (keeps_notice e c.new-text.result (behind base c.loop-e.outs) method params plain (ap message_of is ∙ says))));
+      (c.in_ok-tell.ensures.does settings base (keeps_notice e c.new-text.result (behind base c.loop-e.outs) method params plain (ap message_of is ∙ says)) (ap answered_id (ap message_of is ∙ says))));
   documents = λ settings owed base ds. c.in_ok-tell.ensures.documents settings owed base (c.loop-e.invariant.documents settings owed base ds);
 }
 

@@ -2,7 +2,7 @@
 use Rattle.std.proofs.Common.{ap, sym, ◌∙◌}
 use Rattle.std.specs.Prelude.{find, option_map}
 use Rattle.group_rows.specs.Asks.{asks_of, is_under}
-use Rattle.group_rows.specs.Cancelling.{named_id}
+use Rattle.group_rows.specs.Waiting.{named_id}
 use Rattle.mux_tables.specs.Refusals.{seat_from}
 use Rattle.mux_turns.proofs.Named.{names_none, names_some}
 use Rattle.mux_starts.proofs.Recalls.{none_named}

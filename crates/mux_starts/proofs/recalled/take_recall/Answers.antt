@@ -15,7 +15,7 @@ use Rattle.mux_turns.proofs.Matched.{not_early, not_first, not_spawning, whole_e
 use Rattle.mux_tables.specs.Stands.{of_asks}
 use Rattle.mux_tables.proofs.Refusing.{ready_asks}
 use Rattle.group_rows.specs.Asks.{asks_of}
-use Rattle.group_rows.specs.Cancelling.{named_id}
+use Rattle.group_rows.specs.Waiting.{named_id}
 use Rattle.mux_starts.proofs.Recalls.{recalls_none, recalls_one, seat_small}
 use Rattle.mux_starts.proofs.Uncreated.{other_tells}
 use Rattle.mux_starts.proofs.Unlisted.{tells_unlisted}

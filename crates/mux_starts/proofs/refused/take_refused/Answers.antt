@@ -22,7 +22,7 @@ pub end-requires-clause-runs : goal.end-requires-clause-runs
 end-requires-clause-runs c = λ x at ended.
     let z = item_at c.args.tables.now.lasts.items c.args.g c.requires.group in
     let kept = stage_kept c.args.g c.args.tables.now.lasts.items c.hear_refusal.new.self.lasts.items z.0 z.1 c.hear_refusal.ensures.stages (c.requires.stage z.0 z.1) in
-    let clash : Initializing ≡ Ended = sym (kept x (sym (ap (λ ls. slice_get ls.items c.args.g) (c.in_ok-close_all.ensures.lasts ∙ c.in_ok-refuse_all.ensures.lasts)) ∙ at)) ∙ ended in cc
+    let clash : Initializing ≡ Ended = sym (kept x (sym (ap (λ ls. slice_get ls.items c.args.g) (c.in_ok-part_all.ensures.lasts ∙ c.in_ok-refuse_all.ensures.lasts)) ∙ at)) ∙ ended in cc
 
 pub returns-clause-does : goal.returns-clause-does
 returns-clause-does c = λ settings before body s read first at none asking st ds.
@@ -39,8 +39,8 @@ returns-clause-does c = λ settings before body s read first at none asking st d
     let own : w.0.life.group ≡ h = same_item (sym (group_seen settings c.hear_refusal.new.self base g s w.0 stands w.1 starts).0 ∙ (one_more (group_behind s) _ _ before (heard (FromServer s body)) refl ∙ home)) in
     let unready : IsUnready h c.hear_refusal.new.self.lasts.items = subst (λ n. IsUnready n c.hear_refusal.new.self.lasts.items) own (unready_at g c.hear_refusal.new.self.lasts.items w.0 stands.lasts.rise w.1 (ap is_ready (stage_kept g t.lasts.items c.hear_refusal.new.self.lasts.items z.0 z.1 c.hear_refusal.ensures.stages (c.requires.stage z.0 z.1) w.0 w.1))) in
     let later = subst (λ ls. IsUnready h ls.items) (sym c.in_ok-refuse_all.ensures.lasts) unready in
-    let there = ap (λ ls. slice_get (map number_in ls.items) g) (c.in_ok-close_all.ensures.lasts ∙ c.in_ok-refuse_all.ensures.lasts) ∙ (ap (λ ns. slice_get ns g) c.hear_refusal.ensures.starts ∙ at) in
-    refused_entry settings before s h body c.hear_refusal.new.self c.refuse_all.new.tables c.close_all.new.tables c.end.new.self c.args.outs.now c.refuse_all.new.outs c.close_all.new.outs c.end.new.outs home none (stands, docs)
+    let there = ap (λ ls. slice_get (map number_in ls.items) g) (c.in_ok-part_all.ensures.lasts ∙ c.in_ok-refuse_all.ensures.lasts) ∙ (ap (λ ns. slice_get ns g) c.hear_refusal.ensures.starts ∙ at) in
+    refused_entry settings before s h body c.hear_refusal.new.self c.refuse_all.new.tables c.part_all.new.tables c.end.new.self c.args.outs.now c.refuse_all.new.outs c.part_all.new.outs c.end.new.outs home none (stands, docs)
     (c.in_ok-refuse_all.ensures.does settings base body read first unready (still_asking before s body [] c.args.outs.now none asking))
-    (c.in_ok-close_all.ensures.does settings base later)
-    (all_does settings c.close_all.new.tables c.end.new.self nothing_owed nothing_owed base c.close_all.new.outs c.end.new.outs (c.in_ok-end.ensures.does settings base s there) (λ _ d. c.in_ok-end.ensures.documents settings nothing_owed base d))
+    (c.in_ok-part_all.ensures.does settings base later)
+    (all_does settings c.part_all.new.tables c.end.new.self nothing_owed nothing_owed base c.part_all.new.outs c.end.new.outs (c.in_ok-end.ensures.does settings base s there) (λ _ d. c.in_ok-end.ensures.documents settings nothing_owed base d))

@@ -1,8 +1,9 @@
 -- An editor that waits is answered.
-use Rattle.std.proofs.Common.{ap, ◌∙◌}
+use Rattle.std.proofs.Common.{ap, subst, sym, ◌∙◌}
 use Rattle.event_model.proofs.Places.{same_item}
 use Rattle.rpc_message.specs.Texts.{ok_text}
 use Rattle.mux_tables.specs.Documents.{nothing_owed}
+use Rattle.mux_tables.specs.mux_waits.specs.Stands.{AnswersId}
 use Rattle.mux_turns.proofs.Welcoming.{greets, kept_none, tells_none, tells_one}
 use Rattle.mux_starts.proofs.results.greet.Goals as goal
 
@@ -17,6 +18,8 @@ returns-in_ok-welcome-in-Some-clause-told c = tells_one c.args.outs.now c.welcom
 
 pub returns-in_ok-welcome-in-Some-clause-does : goal.returns-in_ok-welcome-in-Some-clause-does
 returns-in_ok-welcome-in-Some-clause-does c = λ settings base body are shown greeted kept.
+    let it = c.in_ok-own-in-Some.ensures ∙ same_item (c.in-Some.ensures ∙ kept) in
+    let own = c.bytes.ensures ∙ it in
     greets settings c.args.tables.now c.welcome.new.self base c.args.outs.now c.welcome.new.outs c.args.e body c.in_ok-text-in-Some.text c.args.shown.now greeted shown
-    (c.in_ok-text-in-Some.ensures ∙ ap (λ w. ok_text w c.args.shown.now) (c.bytes.ensures ∙ same_item (c.in-Some.ensures ∙ kept))) are
-    (λ w. c.in_ok-welcome-in-Some.ensures.does settings base w) (λ ds. c.in_ok-welcome-in-Some.ensures.documents settings nothing_owed base ds)
+    (c.in_ok-text-in-Some.ensures ∙ ap (λ w. ok_text w c.args.shown.now) own) are
+    (λ w answers. c.in_ok-welcome-in-Some.ensures.does settings base w (subst (λ i. AnswersId i c.in_ok-text-in-Some.text) (sym (c.bytes-in-Some.ensures ∙ it)) answers)) (λ ds. c.in_ok-welcome-in-Some.ensures.documents settings nothing_owed base ds)

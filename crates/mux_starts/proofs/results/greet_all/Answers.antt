@@ -15,6 +15,7 @@ loop-e-preserved c = record {
   ids = λ n. c.in_ok-greet.ensures.ids n ∙ c.loop-e.invariant.ids n;
   requests = c.in_ok-greet.ensures.requests ∙ c.loop-e.invariant.requests;
   versions = c.in_ok-greet.ensures.versions ∙ c.loop-e.invariant.versions;
+  lasts = c.in_ok-greet.ensures.lasts ∙ c.loop-e.invariant.lasts;
   told = tells_then c.args.outs.now c.loop-e.outs c.greet.new.outs c.loop-e.invariant.told c.in_ok-greet.ensures.told;
   does = λ settings base body are shown all.
       let items = c.deref-e-items.result.now in

@@ -20,6 +20,7 @@ invariant-loop-e l = record {
   ids : (n : ℕ) → id_in (slice_get l.tables.editors n) ≡ id_in (slice_get l.initial.tables.editors n);
   requests : l.tables.requests ≡ l.initial.tables.requests;
   versions : l.tables.versions ≡ l.initial.tables.versions;
+  lasts : l.tables.lasts ≡ l.initial.tables.lasts;
   told : Tells l.initial.outs l.outs;
   does : (settings : Settings) (base : List Event) (body : List ℕ) → l.shown ≡ shown_of (result_bytes body) → IsShown body → AllGreeted l.initial.tables.editors (behind base l.initial.outs) l.e-items
       → Does (λ k events. AllStand settings k events) (each (welcome body) (take l.e-index l.e-items)) base (l.initial.tables, nothing_owed) l.initial.outs (l.tables, nothing_owed) l.outs;

@@ -1,10 +1,8 @@
 -- Those before are parted with.
-use Rattle.std.proofs.Common.{◌≡◌, ◌++◌, List, drop, length, take}
-use Rattle.event_model.specs.Does.{Does}
-use Rattle.event_model.specs.Event.{Event}
-use Rattle.event_model.specs.Settings.{Settings}
-use Rattle.group_rows.specs.StopRows.{close_each}
-use Rattle.mux_tables.specs.Documents.{AheadStand, Owed, closes}
+use Rattle.std.proofs.Common.{◌≡◌, length, take}
+use Rattle.event_model.specs.Row.{each}
+use Rattle.group_rows.specs.Waiting.{part}
+use Rattle.mux_starts.specs.Parted.{PartedBy}
 use Rattle.mux_starts.proofs.results.part_each.Given as goal
 
 abbrev pub invariant-loop-e : goal.invariant-loop-e
@@ -13,7 +11,5 @@ invariant-loop-e l = record {
   requests : l.tables.requests ≡ l.initial.tables.requests;
   versions : l.tables.versions ≡ l.initial.tables.versions;
   lasts : l.tables.lasts ≡ l.initial.tables.lasts;
-  outs : l.outs ≡ l.initial.outs ++ closes (take l.e-index l.editors);
-  does : (settings : Settings) (owed : Owed) (base : List Event)
-      → Does (λ k events. AheadStand settings k events) (close_each (take l.e-index l.editors)) base (l.initial.tables, (owed, closes l.editors)) l.initial.outs (l.tables, (owed, closes (drop l.e-index l.editors))) l.outs;
+  parted : PartedBy (λ settings. each (part settings l.g) (take l.e-index l.editors)) (take l.e-index l.editors) l.initial.tables l.tables l.initial.outs l.outs;
 }

@@ -45,6 +45,6 @@ pub returns-in_ok-ask_in_focus-in-Some-clause-does : goal.returns-in_ok-ask_in_f
 returns-in_ok-ask_in_focus-in-Some-clause-does c = λ settings before body method id params s x read says one off fresh first here ready at meant st ds.
     let e = c.in-Some.e in
     let some = sym (c.in_ok-focus.ensures.focus settings before s x here at st) ∙ c.in-Some.is in
-    let runs = focus_has (λ n. is_running (desk_of n before).phase ≡ true) (running_in settings x.life.group before) (forwarding_of s before).open_requests e (all_running settings x.life.group before) some in
+    let runs = focus_has (λ n. is_running (desk_of n before).phase ≡ true) (running_in settings x.life.group before) (forwarding_of settings s before).open_requests e (all_running settings x.life.group before) some in
     done_alike (λ k events. AllStand settings k events) (alike (ap (λ o. on o (send (ToServer s (error_text (id_bytes body) request_failed))) (ask_in_focus settings before s body method)) some))
     (c.in_ok-ask_in_focus-in-Some.ensures.does settings before body method id params s x read says one off fresh runs first here ready at meant st ds)

@@ -13,7 +13,7 @@ abbrev pub invariant-loop-g : goal.invariant-loop-g
 invariant-loop-g l = record {
   requests : l.tables.requests ≡ l.initial.tables.requests;
   versions : l.tables.versions ≡ l.initial.tables.versions;
-  numbered : (settings : Settings) (owed : Owed) (base : List Event) → Numbered (behind base l.initial.outs) → AllStand settings (l.initial.tables, owed) (behind base l.initial.outs) → Numbered (behind base l.outs);
-  does : (settings : Settings) (owed : Owed) (base : List Event) → Numbered (behind base l.initial.outs)
+  numbered : (settings : Settings) (owed : Owed) (base : List Event) → Numbered settings (behind base l.initial.outs) → AllStand settings (l.initial.tables, owed) (behind base l.initial.outs) → Numbered settings (behind base l.outs);
+  does : (settings : Settings) (owed : Owed) (base : List Event) → Numbered settings (behind base l.initial.outs)
       → Does (λ k events. AllStand settings k events) (each end_group (take l.g-index l.groups)) base (l.initial.tables, owed) l.initial.outs (l.tables, owed) l.outs;
 }

@@ -17,6 +17,6 @@ returns-in-None-clause-does c = λ settings base asking housed.
 
 pub returns-in_ok-refuse_id-in-Some-clause-does : goal.returns-in_ok-refuse_id-in-Some-clause-does
 returns-in_ok-refuse_id-in-Some-clause-does c = λ settings base asking housed.
-    refuses_waiting settings c.args.tables.now base c.args.outs.now c.refuse_id.new.outs c.args.e asking housed c.bytes.result.now (sym (ap (λ w. Some w) c.bytes.ensures ∙ c.in-Some.ensures))
+    refuses_waiting settings c.args.tables.now c.refuse_id.new.tables base c.args.outs.now c.refuse_id.new.outs c.args.e asking housed c.bytes.result.now (sym (ap (λ w. Some w) (c.bytes.ensures ∙ c.in_ok-own-in-Some.ensures) ∙ c.in-Some.ensures))
     (λ st. ap is_waiting (sym (c.phase.ensures settings (behind base c.args.outs.now) st)) ∙ (sym c.is_waiting.ensures ∙ c.if-not-is_waiting.false))
     (λ named. c.in_ok-refuse_id-in-Some.ensures.does settings base named)

@@ -6,5 +6,5 @@ use Rattle.mux_tables.specs.Stands.{Stands}
 use Rattle.mux_turns.proofs.refusals.refuse_early.Goals as goal
 
 pub returns-clause-does : goal.returns-clause-does
-returns-clause-does c = λ settings base body method id params read says. subst (λ code. Does (λ t events. Stands settings t events) (answer_error c.args.e body code) base c.args.tables.now c.args.outs.now c.args.tables.now c.refuse.new.outs) (c.early_code-code.ensures body method id params read says)
+returns-clause-does c = λ settings base body method id params read says. subst (λ code. Does (λ t events. Stands settings t events) (answer_error c.args.e body code) base c.args.tables.now c.args.outs.now c.refuse.new.tables c.refuse.new.outs) (c.early_code-code.ensures body method id params read says)
     (c.in_ok-refuse.ensures.does settings base body method id params read says)

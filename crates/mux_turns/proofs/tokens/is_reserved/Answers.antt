@@ -1,6 +1,6 @@
 -- Whether a token might be the daemon's.
 use Rattle.std.proofs.Common.{ap, sym, ◌∙◌}
-use Rattle.group_facts.specs.group_rows.specs.Tokens.{begins_as_mark}
+use Rattle.group_facts.specs.group_rows.specs.Reserved.{begins_as_mark}
 use Rattle.event_model.specs.Members.{named_of, params_of}
 use Rattle.mux_turns.proofs.Marks.{reserved_nothing, reserved_text}
 use Rattle.mux_turns.proofs.tokens.is_reserved.Goals as goal

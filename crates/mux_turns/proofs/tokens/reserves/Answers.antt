@@ -1,7 +1,7 @@
 -- Whether a request has a reserved token.
 use Rattle.std.proofs.Common.{codes, refl}
 use Rattle.event_model.specs.Members.{named_of, params_of}
-use Rattle.group_facts.specs.group_rows.specs.Tokens.{is_reserved}
+use Rattle.group_facts.specs.group_rows.specs.Reserved.{is_reserved}
 use Rattle.group_facts.specs.mux_members.proofs.Bared.{either_second}
 use Rattle.mux_turns.proofs.tokens.reserves.Goals as goal
 

@@ -19,7 +19,7 @@ returns-clause-number c = λ settings events x at st.
 
 pub returns-clause-stands : goal.returns-clause-stands
 returns-clause-stands c = λ settings events body method id params s x new is ready at says creates untaken makes text st.
-    create_by settings c.args.self.now _ events c.args.g s c.start-s.result x c.index.result.now is at c.requires c.index.ensures ready c.start-s.ensures refl refl refl refl refl refl refl st body method c.args.token id params new c.in_ok-number.ensures.table says creates untaken makes text
+    create_by settings c.args.self.now _ events c.args.g s c.start-s.result x c.index.result.now is at c.requires c.index.ensures ready c.start-s.ensures refl refl refl refl refl refl refl refl st body method c.args.token id params new c.in_ok-number.ensures.table says creates untaken makes text
 
 pub returns-clause-documents : goal.returns-clause-documents
 returns-clause-documents c = λ settings owed events body method id params s x is ready at says st ds.

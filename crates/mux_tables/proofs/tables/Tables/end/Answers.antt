@@ -15,7 +15,7 @@ returns-clause-starts c = starts_stay c.args.self.now.lasts.items c.args.g c.ind
 pub returns-clause-does : goal.returns-clause-does
 returns-clause-does c = λ settings base s at.
     end_does settings c.args.self.now _ c.args.outs.now c.push.new.self base c.args.g s c.start-start.result c.index_mut-last.result.now c.end.new.self at c.requires.group c.index_mut-last.ensures.value
-    (c.requires.runs c.index_mut-last.result.now (read_here c.args.self.now.lasts.items c.args.g c.index_mut-last.result.now c.requires.group c.index_mut-last.ensures.value)) c.end.ensures c.end_stop.ensures refl refl refl refl refl refl refl c.start-start.ensures c.in_ok-push.ensures.ok
+    (c.requires.runs c.index_mut-last.result.now (read_here c.args.self.now.lasts.items c.args.g c.index_mut-last.result.now c.requires.group c.index_mut-last.ensures.value)) c.end.ensures c.end_stop.ensures refl refl refl refl refl refl refl refl c.start-start.ensures c.in_ok-push.ensures.ok
 
 pub returns-clause-documents : goal.returns-clause-documents
 returns-clause-documents c = λ settings owed base ds.

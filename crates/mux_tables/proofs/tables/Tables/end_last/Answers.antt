@@ -21,27 +21,27 @@ pub returns-clause-exit : goal.returns-clause-exit
 returns-clause-exit c = λ settings events s at dead st. exit_heard settings c.args.self.now _ events c.args.g s settings.limits.restarts refl at c.requires.group (λ z here.
     let e = read_same c.args.self.now.lasts.items c.args.g c.index_mut-last.result.now z c.requires.group c.index_mut-last.ensures.value here in
     left_exits settings.limits.restarts c.args.self.now _ c.args.g z (record { life = c.over.new.self; started = c.index_mut-last.result.now.started; ids = c.new-ids.result; shown = None; asks = c.new-asks.result; parked = c.new-parked.result; live = c.new-live.result; lists = c.new-lists.result }) (λ x at. dead z x here at) refl refl (c.over.ensures ∙ ap (λ w. moved Ended w.life) e) (ap (λ w. w.started) e)
-    c.new-ids.ensures.requests c.new-ids.ensures.next c.new-ids.ensures.limit c.new-ids.ensures.order refl refl refl (c.end_stop.ensures ∙ ap (λ n. unstopped n c.args.self.now.origins.stopping.items) (c.start.ensures ∙ ap (λ (l : Standing). l.start) c.over.ensures ∙ ap number_in e)) (c.end_start.ensures ∙ ap (λ n. less n c.args.self.now.origins.created) (c.start-2.ensures ∙ ap (λ (l : Standing). l.start) c.over.ensures ∙ ap number_in e)) refl) st
+    c.new-ids.ensures.requests c.new-ids.ensures.next c.new-ids.ensures.limit c.new-ids.ensures.order refl refl refl (c.end_stop.ensures ∙ ap (λ n. unstopped n c.args.self.now.origins.stopping.items) (c.start.ensures ∙ ap (λ (l : Standing). l.start) c.over.ensures ∙ ap number_in e)) (c.end_start.ensures ∙ ap (λ n. less n c.args.self.now.origins.created) (c.start-2.ensures ∙ ap (λ (l : Standing). l.start) c.over.ensures ∙ ap number_in e)) refl refl) st
 
 pub returns-clause-failure : goal.returns-clause-failure
 returns-clause-failure c = λ settings events s at dead st. failure_heard settings c.args.self.now _ events c.args.g s settings.limits.restarts refl at c.requires.group (λ z here.
     let e = read_same c.args.self.now.lasts.items c.args.g c.index_mut-last.result.now z c.requires.group c.index_mut-last.ensures.value here in
     left_exits settings.limits.restarts c.args.self.now _ c.args.g z (record { life = c.over.new.self; started = c.index_mut-last.result.now.started; ids = c.new-ids.result; shown = None; asks = c.new-asks.result; parked = c.new-parked.result; live = c.new-live.result; lists = c.new-lists.result }) (λ x at. dead z x here at) refl refl (c.over.ensures ∙ ap (λ w. moved Ended w.life) e) (ap (λ w. w.started) e)
-    c.new-ids.ensures.requests c.new-ids.ensures.next c.new-ids.ensures.limit c.new-ids.ensures.order refl refl refl (c.end_stop.ensures ∙ ap (λ n. unstopped n c.args.self.now.origins.stopping.items) (c.start.ensures ∙ ap (λ (l : Standing). l.start) c.over.ensures ∙ ap number_in e)) (c.end_start.ensures ∙ ap (λ n. less n c.args.self.now.origins.created) (c.start-2.ensures ∙ ap (λ (l : Standing). l.start) c.over.ensures ∙ ap number_in e)) refl) st
+    c.new-ids.ensures.requests c.new-ids.ensures.next c.new-ids.ensures.limit c.new-ids.ensures.order refl refl refl (c.end_stop.ensures ∙ ap (λ n. unstopped n c.args.self.now.origins.stopping.items) (c.start.ensures ∙ ap (λ (l : Standing). l.start) c.over.ensures ∙ ap number_in e)) (c.end_start.ensures ∙ ap (λ n. less n c.args.self.now.origins.created) (c.start-2.ensures ∙ ap (λ (l : Standing). l.start) c.over.ensures ∙ ap number_in e)) refl refl) st
 
 pub returns-clause-exit_documents : goal.returns-clause-exit_documents
 returns-clause-exit_documents c = λ settings owed events s ds dead.
     let z = item_at c.args.self.now.lasts.items c.args.g c.requires.group in
     let e = read_same c.args.self.now.lasts.items c.args.g c.index_mut-last.result.now z.0 c.requires.group c.index_mut-last.ensures.value z.1 in
     exit_documents settings owed settings.limits.restarts c.args.self.now _ events c.args.g s z.0 z.1 (left_exits settings.limits.restarts c.args.self.now _ c.args.g z.0 (record { life = c.over.new.self; started = c.index_mut-last.result.now.started; ids = c.new-ids.result; shown = None; asks = c.new-asks.result; parked = c.new-parked.result; live = c.new-live.result; lists = c.new-lists.result }) (λ x at. dead z.0 x z.1 at) refl refl (c.over.ensures ∙ ap (λ w. moved Ended w.life) e) (ap (λ w. w.started) e)
-    c.new-ids.ensures.requests c.new-ids.ensures.next c.new-ids.ensures.limit c.new-ids.ensures.order refl refl refl (c.end_stop.ensures ∙ ap (λ n. unstopped n c.args.self.now.origins.stopping.items) (c.start.ensures ∙ ap (λ (l : Standing). l.start) c.over.ensures ∙ ap number_in e)) (c.end_start.ensures ∙ ap (λ n. less n c.args.self.now.origins.created) (c.start-2.ensures ∙ ap (λ (l : Standing). l.start) c.over.ensures ∙ ap number_in e)) refl) refl c.unready.ensures ds
+    c.new-ids.ensures.requests c.new-ids.ensures.next c.new-ids.ensures.limit c.new-ids.ensures.order refl refl refl (c.end_stop.ensures ∙ ap (λ n. unstopped n c.args.self.now.origins.stopping.items) (c.start.ensures ∙ ap (λ (l : Standing). l.start) c.over.ensures ∙ ap number_in e)) (c.end_start.ensures ∙ ap (λ n. less n c.args.self.now.origins.created) (c.start-2.ensures ∙ ap (λ (l : Standing). l.start) c.over.ensures ∙ ap number_in e)) refl refl) refl c.unready.ensures ds
 
 pub returns-clause-failure_documents : goal.returns-clause-failure_documents
 returns-clause-failure_documents c = λ settings owed events s ds dead.
     let z = item_at c.args.self.now.lasts.items c.args.g c.requires.group in
     let e = read_same c.args.self.now.lasts.items c.args.g c.index_mut-last.result.now z.0 c.requires.group c.index_mut-last.ensures.value z.1 in
     failure_documents settings owed settings.limits.restarts c.args.self.now _ events c.args.g s z.0 z.1 (left_exits settings.limits.restarts c.args.self.now _ c.args.g z.0 (record { life = c.over.new.self; started = c.index_mut-last.result.now.started; ids = c.new-ids.result; shown = None; asks = c.new-asks.result; parked = c.new-parked.result; live = c.new-live.result; lists = c.new-lists.result }) (λ x at. dead z.0 x z.1 at) refl refl (c.over.ensures ∙ ap (λ w. moved Ended w.life) e) (ap (λ w. w.started) e)
-    c.new-ids.ensures.requests c.new-ids.ensures.next c.new-ids.ensures.limit c.new-ids.ensures.order refl refl refl (c.end_stop.ensures ∙ ap (λ n. unstopped n c.args.self.now.origins.stopping.items) (c.start.ensures ∙ ap (λ (l : Standing). l.start) c.over.ensures ∙ ap number_in e)) (c.end_start.ensures ∙ ap (λ n. less n c.args.self.now.origins.created) (c.start-2.ensures ∙ ap (λ (l : Standing). l.start) c.over.ensures ∙ ap number_in e)) refl) refl c.unready.ensures ds
+    c.new-ids.ensures.requests c.new-ids.ensures.next c.new-ids.ensures.limit c.new-ids.ensures.order refl refl refl (c.end_stop.ensures ∙ ap (λ n. unstopped n c.args.self.now.origins.stopping.items) (c.start.ensures ∙ ap (λ (l : Standing). l.start) c.over.ensures ∙ ap number_in e)) (c.end_start.ensures ∙ ap (λ n. less n c.args.self.now.origins.created) (c.start-2.ensures ∙ ap (λ (l : Standing). l.start) c.over.ensures ∙ ap number_in e)) refl refl) refl c.unready.ensures ds
 
 pub returns-clause-count : goal.returns-clause-count
 returns-clause-count c = length-set c.args.self.now.lasts.items c.args.g (record { life = c.over.new.self; started = c.index_mut-last.result.now.started; ids = c.new-ids.result; shown = None; asks = c.new-asks.result; parked = c.new-parked.result; live = c.new-live.result; lists = c.new-lists.result })

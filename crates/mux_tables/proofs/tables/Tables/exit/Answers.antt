@@ -35,6 +35,7 @@ returns-clause-exits c = λ z at.
       origins = refl;
       created = c.end_start.ensures ∙ ap (λ n. less n c.args.self.now.origins.created) (c.start-2.ensures ∙ ap (λ (l : Standing). l.start) c.over.ensures ∙ ap number_in e);
       stopping = c.end_stop.ensures ∙ ap (λ n. unstopped n c.args.self.now.origins.stopping.items) (c.start.ensures ∙ ap (λ (l : Standing). l.start) c.over.ensures ∙ ap number_in e);
+      waiting = refl;
       requests = refl;
     }
 

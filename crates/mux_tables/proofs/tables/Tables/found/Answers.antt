@@ -7,7 +7,7 @@ use Rattle.mux_tables.proofs.tables.Tables.found.Goals as goal
 
 pub returns-clause-does : goal.returns-clause-does
 returns-clause-does c = λ settings base unfounded.
-    found_gives settings c.args.self.now _ c.args.outs.now c.push-4.new.self base c.len-s.result c.args.g (record { life = c.new-life.result; started = false; ids = c.new-ids.result; shown = None; asks = c.new-asks.result; parked = c.new-parked.result; live = c.new-live.result; lists = c.new-lists.result }) (search rules) unfounded refl refl refl c.in_ok-push.ensures.items refl refl c.in_ok-push-3.ensures.items refl
+    found_gives settings c.args.self.now _ c.args.outs.now c.push-4.new.self base c.len-s.result c.args.g (record { life = c.new-life.result; started = false; ids = c.new-ids.result; shown = None; asks = c.new-asks.result; parked = c.new-parked.result; live = c.new-live.result; lists = c.new-lists.result }) (search rules) unfounded refl refl refl c.in_ok-push.ensures.items refl refl refl c.in_ok-push-3.ensures.items refl
     c.new-life.ensures refl c.new-ids.ensures.requests c.new-ids.ensures.next c.new-ids.ensures.limit c.new-ids.ensures.order refl c.new-asks.ensures c.new-parked.ensures c.new-live.ensures c.new-lists.ensures c.in_ok-push-4.ensures.ok
 
 pub returns-clause-documents : goal.returns-clause-documents

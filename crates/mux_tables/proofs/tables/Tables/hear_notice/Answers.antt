@@ -8,9 +8,10 @@ use Rattle.mux_tables.proofs.DocumentLeft.{home_seen}
 use Rattle.mux_tables.proofs.DocumentNoticed.{noticed_documents}
 use Rattle.mux_tables.proofs.Heard.{set_moves}
 use Rattle.mux_tables.proofs.tables.Tables.hear_notice.Goals as goal
+use Rattle.mux_tables.proofs.HeldMoves.{heard_stay}
 
 pub returns-clause-stands : goal.returns-clause-stands
-returns-clause-stands c = λ settings events body st silent leaves stays goes off step. set_moves settings c.args.self.now _ events c.args.e body c.args.phase c.requires.editor c.set.ensures refl refl (origins_stay settings c.args.self.now.origins c.args.self.now.origins events (heard (FromEditor c.args.e body)) refl leaves) refl stays step silent refl refl goes off st
+returns-clause-stands c = λ settings events body st silent leaves unheld stays goes off step. set_moves settings c.args.self.now _ events c.args.e body c.args.phase c.requires.editor c.set.ensures refl refl (origins_stay settings c.args.self.now.origins c.args.self.now.origins events (heard (FromEditor c.args.e body)) refl leaves (heard_stay settings c.args.self.now.editors events c.args.e body st.house.editors unheld)) refl stays step silent refl refl goes off st
 
 pub returns-clause-documents : goal.returns-clause-documents
 returns-clause-documents c = λ settings events body method params g s read reads served home starts st ds.

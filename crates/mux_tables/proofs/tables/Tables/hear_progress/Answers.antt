@@ -12,7 +12,7 @@ use Rattle.mux_tables.proofs.tables.Tables.hear_progress.Goals as goal
 
 pub returns-clause-stands : goal.returns-clause-stands
 returns-clause-stands c = λ settings events method params s x i is ready at says tells names_it text begun ends st.
-    progress_by settings c.args.self.now _ events c.args.g s c.start-s.result x c.index.result.now is at c.requires c.index.ensures ready c.start-s.ensures refl refl refl refl refl refl refl st c.args.body.now method c.args.token.now params i c.args.kind c.in_ok-_due.ensures.table says tells names_it text begun ends
+    progress_by settings c.args.self.now _ events c.args.g s c.start-s.result x c.index.result.now is at c.requires c.index.ensures ready c.start-s.ensures refl refl refl refl refl refl refl refl st c.args.body.now method c.args.token.now params i c.args.kind c.in_ok-_due.ensures.table says tells names_it text begun ends
 
 pub returns-clause-documents : goal.returns-clause-documents
 returns-clause-documents c = λ settings owed events method params s x is ready at says st ds.

@@ -6,7 +6,7 @@ use Rattle.mux_tables.proofs.DocumentLeft.{home_seen, shutdown_documents}
 use Rattle.mux_tables.proofs.tables.Tables.hear_shutdown.Goals as goal
 
 pub returns-clause-stands : goal.returns-clause-stands
-returns-clause-stands c = λ settings events body served asks st. shutdown_moves settings c.args.self.now _ events c.args.e body c.requires c.set.ensures refl refl refl refl refl c.in_ok-forget_editor.ensures.table c.in_ok-forget_editor.ensures.rising refl served asks st
+returns-clause-stands c = λ settings events body served asks st. shutdown_moves settings c.args.self.now _ events c.args.e body c.requires c.set.ensures refl refl refl refl refl c.in_ok-forget_editor.ensures.table c.in_ok-forget_editor.ensures.rising refl refl served asks st
 
 pub returns-clause-documents : goal.returns-clause-documents
 returns-clause-documents c = λ settings events body served asks st ds.

@@ -25,7 +25,7 @@ pub returns-clause-does : goal.returns-clause-does
 returns-clause-does c = λ settings base x at runs left offer none.
     offer_does settings c.args.self.now _ base c.args.outs.now c.push.new.self x.life.start c.args.e c.args.k c.in-Some.n c.start-s.result c.args.text c.requires.editor runs offer none c.in-Some.ensures.number
     (number_is c.args.self.now.lasts.items c.args.g x c.index.result.now c.start-s.result at c.requires.group c.index.ensures c.start-s.ensures)
-    c.ask_number.ensures.kept refl refl refl refl refl (c.in_ok-ask.ensures ∙ ap (λ m. changed c.start-s.result (put_to c.args.k c.args.e m) c.args.self.now.origins.created) c.from.ensures) refl c.in_ok-push.ensures.ok
+    c.ask_number.ensures.kept refl refl refl refl refl (c.in_ok-ask.ensures ∙ ap (λ m. changed c.start-s.result (put_to c.args.k c.args.e m) c.args.self.now.origins.created) c.from.ensures) refl refl c.in_ok-push.ensures.ok
 
 pub returns-clause-documents : goal.returns-clause-documents
 returns-clause-documents c = λ settings owed base ds. told_documents settings owed c.args.self.now _ base c.args.outs.now c.push.new.self c.args.e c.args.text refl refl refl c.in_ok-push.ensures.ok ds

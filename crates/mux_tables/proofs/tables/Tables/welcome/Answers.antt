@@ -6,12 +6,14 @@ use Rattle.mux_tables.specs.Names.{id_in}
 use Rattle.mux_tables.proofs.Phased.{phased_id}
 use Rattle.mux_tables.proofs.Waits.{ids_kept}
 use Rattle.event_model.specs.declared.phase.Phase.TheVariants.{Answered}
-use Rattle.mux_tables.proofs.Said.{welcome_does}
+use Rattle.mux_tables.proofs.Said.{answer_waits, welcome_does}
 use Rattle.mux_tables.proofs.DocumentSaid.{told_documents}
 use Rattle.mux_tables.proofs.tables.Tables.welcome.Goals as goal
+use Rattle.event_model.specs.Event.{behind}
 
 pub returns-clause-does : goal.returns-clause-does
-returns-clause-does c = λ settings base k. welcome_does settings c.args.self.now _ c.args.outs.now c.push.new.self base c.args.e c.args.body Answered c.requires k.0 k.1 c.set.ensures refl refl refl refl refl c.in_ok-push.ensures.ok
+returns-clause-does c = λ settings base k a. welcome_does settings c.args.self.now _ c.args.outs.now c.push.new.self base c.args.e c.args.body Answered c.requires k.0 k.1 c.set.ensures refl refl refl refl refl refl
+    (λ st. answer_waits settings c.args.self.now (record c.args.self.now { origins = record c.args.self.now.origins { waiting = c.answer.new.self } }) (behind base c.args.outs.now) c.args.e c.args.id.now c.args.body c.home-home.result a (c.home-home.ensures settings (behind base c.args.outs.now) st) c.answer.ensures) refl c.in_ok-push.ensures.ok
 
 pub returns-clause-documents : goal.returns-clause-documents
 returns-clause-documents c = λ settings owed base ds. told_documents settings owed c.args.self.now _ base c.args.outs.now c.push.new.self c.args.e c.args.body refl refl refl c.in_ok-push.ensures.ok ds
