@@ -133,8 +133,8 @@ fn get(list: &[Carried], g: u64) -> Option<&Body>
     None
 }
 
-// Whether the group of this number lives.
-fn lives(tables: &Tables, g: u64) -> bool
+/// Whether the group of this number lives.
+pub fn lives(tables: &Tables, g: u64) -> bool
     ensures { result ≡ lives_at g tables.now.groups.groups }
 {
     match tables.groups.get(g) {

@@ -20,7 +20,7 @@ mod tokens;
 
 pub use answered::{answered_ask, answered_number};
 pub use calls::{call_registered, call_unregistered, call_unregistered_any};
-pub use carried::{Carried, Carries};
+pub use carried::{Carried, Carries, lives};
 pub use creates::{created_mark, created_text, held_text, kind_of, offer, told_text};
 pub use doubled::doubles;
 pub use evicting::{end_groups, evict, replace, stage_at};
