@@ -26,21 +26,11 @@ use message_body::Memory;
 use mux_history::Outs;
 use mux_starts::take_left;
 use mux_tables::Tables;
-use mux_turns::stage_at;
+use mux_turns::{lives, stage_at};
 use std::alloc::Global;
 
 // More exits of one group aren't counted.
 const MOST: u64 = 0x8000_0000_0000_0000;
-
-// Whether the group of this number lives.
-fn lives(tables: &Tables, h: u64) -> bool
-    ensures { result ≡ lives_at h tables.now.groups.groups }
-{
-    match tables.groups.get(h) {
-        None => false,
-        Some(kept) => kept.live,
-    }
-}
 
 // Whether one more exit of it can be counted.
 fn is_counted(tables: &Tables, h: u64) -> bool
@@ -172,7 +162,7 @@ fn fail_group(
         return Err(Memory);
     }
     let parting = gather(tables, alloc, g)?;
-    tables.hear_failure(alloc, restarts, g)?;
+    tables.hear_exit(alloc, restarts, g)?;
     let group = tables.group_number(g);
     if lives(tables, group) {
         renew(tables, alloc, outs, g, parting)?;

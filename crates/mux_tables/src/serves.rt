@@ -182,9 +182,9 @@ impl Tables {
         Ok(())
     }
 
-    /// X1 to X3: the program of the group's last start ended. Its open requests are gone. The group ends, unless an editor of it
-    /// needs a server and at most `restarts` of its starts ended, this one included. Where the answer is an error the tables stand
-    /// for nothing any more.
+    /// X1 to X3: the program of the group's last start ended, or couldn't be run. Its open requests are gone. The group ends, unless
+    /// an editor of it needs a server and at most `restarts` of its starts ended, this one included. Where the answer is an error the
+    /// tables stand for nothing any more.
     pub fn hear_exit(&mut self, alloc: Global, restarts: u64, g: usize) -> Result<(), Memory>
         requires limit { 2 ≤ self.old.requests }
         requires group { g < length self.old.lasts.items }
@@ -194,30 +194,16 @@ impl Tables {
         ensures requests { self.new.requests ≡ self.old.requests }
         ensures versions { self.new.versions ≡ self.old.versions }
         ensures exits { (z : Start) → slice_get self.old.lasts.items g ≡ Some z → OnOk result (Exits restarts self.old g z self.new) }
-        ensures stands { (settings : Settings) (events : List Event) (s : ℕ) → settings.limits.restarts ≡ restarts
+        ensures exit { (settings : Settings) (events : List Event) (s : ℕ) → settings.limits.restarts ≡ restarts
             → slice_get (map number_in self.old.lasts.items) g ≡ Some s → Stands settings self.old events
             → OnOk result (Stands settings self.new (events ++ heard (ServerGone s) ∷ [])) }
-        ensures documents { (settings : Settings) (owed : Owed) (events : List Event) (s : ℕ) → DocumentsStand settings owed self.old events
-            → OnOk result (DocumentsStand settings owed self.new (events ++ heard (ServerGone s) ∷ [])) }
-    {
-        self.exit(alloc, restarts, g)?;
-        Ok(())
-    }
-
-    /// The same where it couldn't be run.
-    pub fn hear_failure(&mut self, alloc: Global, restarts: u64, g: usize) -> Result<(), Memory>
-        requires limit { 2 ≤ self.old.requests }
-        requires group { g < length self.old.lasts.items }
-        requires runs { (x : Start) → slice_get self.old.lasts.items g ≡ Some x → x.life.stage ≢ Ended }
-        requires room { (z : Start) (x : Kept) → slice_get self.old.lasts.items g ≡ Some z → slice_get self.old.groups.groups z.life.group ≡ Some x
-            → x.exits < 2 ^ 63 }
-        ensures requests { self.new.requests ≡ self.old.requests }
-        ensures versions { self.new.versions ≡ self.old.versions }
-        ensures exits { (z : Start) → slice_get self.old.lasts.items g ≡ Some z → OnOk result (Exits restarts self.old g z self.new) }
-        ensures stands { (settings : Settings) (events : List Event) (s : ℕ) → settings.limits.restarts ≡ restarts
+        ensures failure { (settings : Settings) (events : List Event) (s : ℕ) → settings.limits.restarts ≡ restarts
             → slice_get (map number_in self.old.lasts.items) g ≡ Some s → Stands settings self.old events
             → OnOk result (Stands settings self.new (events ++ heard (StartFailed s) ∷ [])) }
-        ensures documents { (settings : Settings) (owed : Owed) (events : List Event) (s : ℕ) → DocumentsStand settings owed self.old events
+        ensures exit_documents { (settings : Settings) (owed : Owed) (events : List Event) (s : ℕ) → DocumentsStand settings owed self.old events
+            → OnOk result (DocumentsStand settings owed self.new (events ++ heard (ServerGone s) ∷ [])) }
+        ensures failure_documents { (settings : Settings) (owed : Owed) (events : List Event) (s : ℕ)
+            → DocumentsStand settings owed self.old events
             → OnOk result (DocumentsStand settings owed self.new (events ++ heard (StartFailed s) ∷ [])) }
     {
         self.exit(alloc, restarts, g)?;

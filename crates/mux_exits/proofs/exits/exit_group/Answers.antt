@@ -90,14 +90,14 @@ returns-in_ok-renew-clause-exit c = λ settings before x at_g live restarts firs
     let e = c.in_ok-hear_exit.ensures.exits x at_g in
     let there = here c.args.restarts t u g x c.requires.group e in
     let same = exit_group c.args.restarts t u g x c.requires.group e in
-    let stands = c.in_ok-hear_exit.ensures.stands settings before s restarts at st in
+    let stands = c.in_ok-hear_exit.ensures.exit settings before s restarts at st in
     let parting = c.in_ok-parting.parting in
     let can : CanPart settings (behind now c.args.outs.now) h parting → Does (λ k events. AllStand settings k events) (renewing_row h parting) now (u, nothing_owed) c.args.outs.now (c.renew.new.tables, nothing_owed) c.renew.new.outs =
     subst (λ n. CanPart settings (behind now c.args.outs.now) n parting → Does (λ k events. AllStand settings k events) (renewing_row n parting) now (u, nothing_owed) c.args.outs.now (c.renew.new.tables, nothing_owed) c.renew.new.outs) same
     (λ may. c.in_ok-renew.ensures.does settings now e.start there may) in
     entry_renewed settings before (ServerGone s) s (gone_exit settings before s) h (group_seen settings t before g s x st at_g at).0 (ap (lives_at h) st.house.groups.groups ∙ live) known settled
     parting (c.in_ok-parting.ensures.parts settings before x at_g st) u stands (groups_more settings before (heard (ServerGone s))) c.renew.new.tables c.args.outs.now c.renew.new.outs
-    (ap (λ n. lives_at n u.groups.groups) (sym (c.group_number-group.ensures e.start there ∙ same)) ∙ (sym c.lives.ensures ∙ c.if-lives.true)) first (c.in_ok-hear_exit.ensures.documents settings nothing_owed before s ds) can
+    (ap (λ n. lives_at n u.groups.groups) (sym (c.group_number-group.ensures e.start there ∙ same)) ∙ (sym c.lives.ensures ∙ c.if-lives.true)) first (c.in_ok-hear_exit.ensures.exit_documents settings nothing_owed before s ds) can
 
 pub returns-in_ok-part-clause-exit : goal.returns-in_ok-part-clause-exit
 returns-in_ok-part-clause-exit c = λ settings before x at_g live restarts first known settled fit st ds.
@@ -111,11 +111,11 @@ returns-in_ok-part-clause-exit c = λ settings before x at_g live restarts first
     let e = c.in_ok-hear_exit.ensures.exits x at_g in
     let there = here c.args.restarts t u g x c.requires.group e in
     let same = exit_group c.args.restarts t u g x c.requires.group e in
-    let stands = c.in_ok-hear_exit.ensures.stands settings before s restarts at st in
+    let stands = c.in_ok-hear_exit.ensures.exit settings before s restarts at st in
     let own : c.group_number-group.result ≡ h = c.group_number-group.ensures e.start there ∙ same in
     let parting = c.in_ok-parting.parting in
     entry_done settings before (ServerGone s) s (gone_exit settings before s) h (group_seen settings t before g s x st at_g at).0 (ap (lives_at h) st.house.groups.groups ∙ live) known settled
     parting (c.in_ok-parting.ensures.parts settings before x at_g st) u stands (groups_more settings before (heard (ServerGone s))) c.part.new.tables c.args.outs.now c.part.new.outs
-    (ap (λ n. lives_at n u.groups.groups) (sym (c.group_number-group.ensures e.start there ∙ same)) ∙ (sym c.lives.ensures ∙ c.if-lives.false)) first (c.in_ok-hear_exit.ensures.documents settings nothing_owed before s ds)
+    (ap (λ n. lives_at n u.groups.groups) (sym (c.group_number-group.ensures e.start there ∙ same)) ∙ (sym c.lives.ensures ∙ c.if-lives.false)) first (c.in_ok-hear_exit.ensures.exit_documents settings nothing_owed before s ds)
     (λ can. subst (λ n. Does (λ k events. AllStand settings k events) (parting_row settings n parting) now (u, nothing_owed) c.args.outs.now (c.part.new.tables, nothing_owed) c.part.new.outs) own
     (c.in_ok-part.ensures.does settings now (exit_over c.args.restarts t u g x c.requires.group e) (subst (λ n. IsUnready n u.lasts.items) (sym own) (exit_unready c.args.restarts t u g x c.requires.group e settings now stands)) (subst (λ n. CanPart settings (behind now c.args.outs.now) n parting) (sym own) can)))
