@@ -55,7 +55,7 @@ use Rattle.group_sessions.specs.group_facts.specs.SlowRows.{entry_outs}
 use Rattle.group_sessions.specs.group_facts.proofs.Facts.{Facts}
 use Rattle.group_sessions.specs.group_facts.proofs.Reached.{facts_at, reached}
 use Rattle.group_sessions.specs.ExitReplay.{gives_result}
-use Rattle.group_sessions.proofs.FirstTexts.{waited_gives}
+use Rattle.group_sessions.proofs.FirstTexts.{both_own, waited_gives}
 use Rattle.group_sessions.proofs.ListsLaw.{legal_parts}
 use Rattle.group_sessions.proofs.ReplayLaw.{entry_first}
 
@@ -72,13 +72,9 @@ module _ (settings : Settings) where
   one_slow place e events [] why = tt
   one_slow place e events (out ∷ outs) why = (slow_why place e events out why.0, one_slow place e (events ++ said out ∷ []) outs why.1)
 
-  both_own : (events : List Event) (xs ys : List Out) → AllOnOwnTexts settings events xs → AllOnOwnTexts settings (behind events xs) ys → AllOnOwnTexts settings events (xs ++ ys)
-  both_own events [] ys f g = subst (λ z. AllOnOwnTexts settings z ys) (append-nil events) g
-  both_own events (x ∷ xs) ys f g = (f.0, both_own (events ++ said x ∷ []) xs ys f.1 (subst (λ z. AllOnOwnTexts settings z ys) (sym (append_assoc events (said x ∷ []) (map said xs))) g))
-
   slow_own : (events : List Event) (xs : List SlowOuts) → AllSlow settings events xs → AllOnOwnTexts settings events (flat_map (λ (x : SlowOuts). x.outs) xs)
   slow_own events [] h = tt
-  slow_own events (x ∷ xs) h = both_own events x.outs (flat_map (λ (y : SlowOuts). y.outs) xs) (one_slow events x.editor events x.outs h.1.0) (slow_own (behind events x.outs) xs h.1.1)
+  slow_own events (x ∷ xs) h = both_own settings events x.outs (flat_map (λ (y : SlowOuts). y.outs) xs) (one_slow events x.editor events x.outs h.1.0) (slow_own (behind events x.outs) xs h.1.1)
 
 module _ (settings : Settings) (t : Tables) (before : List Event) (st : Stands settings t before) (ds : DocumentsStand settings nothing_owed t before) where
   -- the last start of a group, where it is ready

@@ -17,13 +17,13 @@ pub record Sessions (settings : Settings) (history : List Entry) : Type 0 where
   pub due : KeepsDue settings history
   -- each editor was sent just the lists of diagnostics that it was due
   pub lists : KeepsLists settings history
-  -- before a message that went on behind a sync, just those documents were switched on which the start didn't agree
+  -- before a message that went on behind a sync, just those documents were switched on which the start didn't agree, for one that had waited from some place on
   pub switches : Switches settings history
   -- each answer had its editor's own versions, or was an error
   pub versions : OwnVersions settings history
   -- each message that went on behind a sync stood on its editor's own texts, and each ready start has the holders' texts
   pub own : OwnTexts settings history
-  -- where a start exits whose group lives, nothing of it is left open, and the group gets a new start, or is over
+  -- where a start exits whose group lives, nothing of it is left open, the group gets a new start, or is over, and what waited waits on, or is answered
   pub exits : ExitsEnd settings history
-  -- behind the row of its first result, a start has just the documents that are open, each opened once
+  -- at a place in the row of its first result, a start has just the documents that are open, each opened once
   pub replays : Replays settings history
