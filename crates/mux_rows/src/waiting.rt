@@ -224,6 +224,102 @@ const GIVEN_UP: [(&str, &str); 6] = [
     ),
 ];
 
+// Requests of two editors that have other texts wait in turn, through an exit before the result, while a notification is told nobody: each
+// goes behind the text of its own editor, and behind the answer to an editor that waits. They fail with the start that they went to.
+const IN_TURN: [(&str, &str); 14] = [
+    (
+        "ed 0 {\"jsonrpc\":\"2.0\",\"method\":\"textDocument/didOpen\",\"params\":{\"textDocument\":{\"uri\":\"file:///u\",\"languageId\":\"x\",\"version\":1,\"text\":\"a\"}}}\n",
+        ">sv 0 {\"jsonrpc\":\"2.0\",\"method\":\"textDocument/didOpen\",\"params\":{\"textDocument\":{\"uri\":\"file:///u\",\"languageId\":\"x\",\"version\":1,\"text\":\"a\"}}}\n",
+    ),
+    (
+        "ed 1 {\"jsonrpc\":\"2.0\",\"method\":\"textDocument/didOpen\",\"params\":{\"textDocument\":{\"uri\":\"file:///u\",\"languageId\":\"x\",\"version\":1,\"text\":\"b\"}}}\n",
+        ">sv 0 {\"jsonrpc\":\"2.0\",\"method\":\"textDocument/didChange\",\"params\":{\"textDocument\":{\"uri\":\"file:///u\",\"version\":2},\"contentChanges\":[{\"text\":\"b\"}]}}\n",
+    ),
+    ("exit 0\n", ">spawn 1 0\n"),
+    (
+        "ed 1 {\"jsonrpc\":\"2.0\",\"id\":1,\"method\":\"textDocument/hover\",\"params\":{}}\n",
+        "",
+    ),
+    (
+        "ed 0 {\"jsonrpc\":\"2.0\",\"id\":1,\"method\":\"textDocument/hover\",\"params\":{}}\n",
+        "",
+    ),
+    (
+        "ed 0 {\"jsonrpc\":\"2.0\",\"method\":\"textDocument/didSave\",\"params\":{}}\n",
+        "",
+    ),
+    (
+        "ed 1 {\"jsonrpc\":\"2.0\",\"id\":2,\"method\":\"textDocument/hover\",\"params\":{}}\n",
+        "",
+    ),
+    ("join 2\n", ""),
+    (
+        "ed 2 {\"jsonrpc\":\"2.0\",\"id\":0,\"method\":\"initialize\",\"params\":{\"rootUri\":\"file:///w\",\"capabilities\":{}}}\n",
+        "",
+    ),
+    (
+        "up 1\n",
+        ">sv 1 {\"jsonrpc\":\"2.0\",\"id\":1,\"method\":\"initialize\",\"params\":{\"processId\":null,\"clientInfo\":{\"name\":\"lspmux\"},\"rootUri\":\"file:///w\",\"capabilities\":{},\"trace\":\"off\"}}\n",
+    ),
+    ("exit 1\n", ">spawn 2 0\n"),
+    (
+        "up 2\n",
+        ">sv 2 {\"jsonrpc\":\"2.0\",\"id\":1,\"method\":\"initialize\",\"params\":{\"processId\":null,\"clientInfo\":{\"name\":\"lspmux\"},\"rootUri\":\"file:///w\",\"capabilities\":{},\"trace\":\"off\"}}\n",
+    ),
+    (
+        "sv 2 {\"jsonrpc\":\"2.0\",\"id\":1,\"result\":{\"capabilities\":{}}}\n",
+        ">sv 2 {\"jsonrpc\":\"2.0\",\"method\":\"initialized\",\"params\":{}}\n>sv 2 {\"jsonrpc\":\"2.0\",\"method\":\"textDocument/didOpen\",\"params\":{\"textDocument\":{\"uri\":\"file:///u\",\"languageId\":\"x\",\"version\":1,\"text\":\"b\"}}}\n>ed 2 {\"jsonrpc\":\"2.0\",\"id\":0,\"result\":{\"capabilities\":{}}}\n>sv 2 {\"jsonrpc\":\"2.0\",\"id\":2,\"method\":\"textDocument/hover\",\"params\":{}}\n>sv 2 {\"jsonrpc\":\"2.0\",\"method\":\"textDocument/didChange\",\"params\":{\"textDocument\":{\"uri\":\"file:///u\",\"version\":2},\"contentChanges\":[{\"text\":\"a\"}]}}\n>sv 2 {\"jsonrpc\":\"2.0\",\"id\":3,\"method\":\"textDocument/hover\",\"params\":{}}\n>sv 2 {\"jsonrpc\":\"2.0\",\"method\":\"textDocument/didChange\",\"params\":{\"textDocument\":{\"uri\":\"file:///u\",\"version\":3},\"contentChanges\":[{\"text\":\"b\"}]}}\n>sv 2 {\"jsonrpc\":\"2.0\",\"id\":4,\"method\":\"textDocument/hover\",\"params\":{}}\n",
+    ),
+    (
+        "exit 2\n",
+        ">ed 0 {\"jsonrpc\":\"2.0\",\"id\":1,\"error\":{\"code\":-32803,\"message\":\"Request failed\"}}\n>ed 1 {\"jsonrpc\":\"2.0\",\"id\":1,\"error\":{\"code\":-32803,\"message\":\"Request failed\"}}\n>ed 1 {\"jsonrpc\":\"2.0\",\"id\":2,\"error\":{\"code\":-32803,\"message\":\"Request failed\"}}\n>spawn 3 0\n",
+    ),
+];
+
+// Two of three editors go while a request of each waits, one by its link and one by `exit`: only those of the third are left. Its first one
+// goes to the start, and no number is left for its second (limit 3).
+const LEFT: [(&str, &str); 12] = [
+    ("join 2\n", ""),
+    (
+        "ed 2 {\"jsonrpc\":\"2.0\",\"id\":0,\"method\":\"initialize\",\"params\":{\"rootUri\":\"file:///w\",\"capabilities\":{}}}\n",
+        ">ed 2 {\"jsonrpc\":\"2.0\",\"id\":0,\"result\":{\"capabilities\":{}}}\n",
+    ),
+    ("exit 0\n", ">spawn 1 0\n"),
+    (
+        "ed 0 {\"jsonrpc\":\"2.0\",\"id\":1,\"method\":\"textDocument/hover\",\"params\":{}}\n",
+        "",
+    ),
+    (
+        "ed 2 {\"jsonrpc\":\"2.0\",\"id\":1,\"method\":\"textDocument/hover\",\"params\":{}}\n",
+        "",
+    ),
+    (
+        "ed 1 {\"jsonrpc\":\"2.0\",\"id\":1,\"method\":\"textDocument/hover\",\"params\":{}}\n",
+        "",
+    ),
+    (
+        "ed 1 {\"jsonrpc\":\"2.0\",\"id\":2,\"method\":\"textDocument/hover\",\"params\":{}}\n",
+        "",
+    ),
+    ("gone 0 end\n", ""),
+    (
+        "ed 2 {\"jsonrpc\":\"2.0\",\"method\":\"exit\"}\n",
+        ">close 2\n",
+    ),
+    (
+        "up 1\n",
+        ">sv 1 {\"jsonrpc\":\"2.0\",\"id\":1,\"method\":\"initialize\",\"params\":{\"processId\":null,\"clientInfo\":{\"name\":\"lspmux\"},\"rootUri\":\"file:///w\",\"capabilities\":{},\"trace\":\"off\"}}\n",
+    ),
+    (
+        "sv 1 {\"jsonrpc\":\"2.0\",\"id\":1,\"result\":{\"capabilities\":{}}}\n",
+        ">sv 1 {\"jsonrpc\":\"2.0\",\"method\":\"initialized\",\"params\":{}}\n>sv 1 {\"jsonrpc\":\"2.0\",\"id\":2,\"method\":\"textDocument/hover\",\"params\":{}}\n>ed 1 {\"jsonrpc\":\"2.0\",\"id\":2,\"error\":{\"code\":-32803,\"message\":\"Request failed\"}}\n",
+    ),
+    (
+        "sv 1 {\"jsonrpc\":\"2.0\",\"id\":2,\"result\":null}\n",
+        ">ed 1 {\"jsonrpc\":\"2.0\",\"id\":1,\"result\":null}\n",
+    ),
+];
+
 // As many requests wait as may of one editor, and one more fails; another one may wait where one of them is cancelled.
 fn full(alloc: Global) -> Result<(String, String), AllocError> {
     let mut lines = String::from_str(alloc, "exit 0\n")?;
@@ -252,6 +348,7 @@ fn requests_wait_for_a_start(rt: HostRuntime) -> Result<(), Fail> {
     for rows in [
         KEPT.as_slice(),
         &SYNCED,
+        &IN_TURN,
         &SHUT_DOWN,
         &PARTED,
         &DECLINED,
@@ -265,9 +362,16 @@ fn requests_wait_for_a_start(rt: HostRuntime) -> Result<(), Fail> {
             Ok(()),
         )?;
     }
+    Ok(())
+}
+
+#[test]
+fn requests_wait_under_other_limits(rt: HostRuntime) -> Result<(), Fail> {
+    let alloc = rt.alloc();
     let mut few = limits(MOST, MOST);
     few.restarts = 1;
-    play(&rt, alloc, few, &[&TWO_EDITORS, &GIVEN_UP], Ok(()))
+    play(&rt, alloc, few, &[&TWO_EDITORS, &GIVEN_UP], Ok(()))?;
+    play(&rt, alloc, limits(3, MOST), &[&TWO_EDITORS, &LEFT], Ok(()))
 }
 
 #[test]
