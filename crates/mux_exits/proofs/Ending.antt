@@ -8,8 +8,6 @@ use Rattle.mux_history.specs.declared.cause.Cause.{Cause}
 use Rattle.mux_history.specs.declared.cause.Cause.TheVariants.{ServerGone, StartFailed}
 use Rattle.mux_history.specs.declared.out.Out.{Out}
 use Rattle.rpc_message.specs.Message.{message_of}
-use Rattle.rpc_message.specs.Texts.{request_failed}
-use Rattle.rpc_message.proofs.Fixed.{error_law, id_as_response}
 use Rattle.event_model.specs.Does.{Does, Done}
 use Rattle.event_model.specs.Event.{Event, behind, heard, with_cause}
 use Rattle.event_model.specs.Phases.{Desk, is_running, needs_server}

@@ -1,5 +1,5 @@
 //! X1 to X3: the program of a start ended, or couldn't be run.
-ghost use Rattle.std.specs.Prelude.{◌≡◌, ◌<◌, ◌≤◌, ◌^◌, ℕ, List, [], Some, true, length, map, nat_lt, OnOk, slice_get};
+ghost use Rattle.std.specs.Prelude.{◌≡◌, ◌<◌, ◌≤◌, ◌^◌, List, [], Some, true, length, map, nat_lt, OnOk, slice_get};
 ghost use Rattle.std.specs.List.{All, AllByRecursion};
 ghost use Rattle.event_model.specs.Does.{Does, Done};
 ghost use Rattle.event_model.specs.Event.{Event, behind, with_cause};
