@@ -5,3 +5,4 @@ pub mod Said
 pub mod Questions
 pub mod Joining
 pub mod Carried
+pub mod Exits

@@ -17,7 +17,7 @@ use crate::editors::{from_editor, gone, joined};
 use crate::servers::from_server;
 use event_model::{Limits, Server};
 use message_body::Memory;
-use mux_exits::{take_exit, take_failure};
+use mux_exits::take_exit;
 use mux_history::{Cause, Outs};
 use mux_starts::mux_tables::Tables;
 use mux_starts::{take_started, take_tick};
@@ -72,11 +72,7 @@ fn follow(
             from_server(tables, carries, alloc, outs, *s, body)?;
             Ok(())
         }
-        Cause::StartFailed(s) => {
-            take_failure(tables, alloc, limits.restarts as u64, outs, *s)?;
-            Ok(())
-        }
-        Cause::ServerGone(s) => {
+        Cause::StartFailed(s) | Cause::ServerGone(s) => {
             take_exit(tables, alloc, limits.restarts as u64, outs, *s)?;
             Ok(())
         }

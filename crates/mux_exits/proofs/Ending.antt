@@ -5,12 +5,11 @@ use Rattle.std.specs.List.{AllByRecursion}
 use Rattle.std.specs.Option.{option_map_or}
 use Rattle.lsp_method.specs.Class.{server_notification}
 use Rattle.mux_history.specs.declared.cause.Cause.{Cause}
+use Rattle.mux_history.specs.declared.cause.Cause.TheVariants.{ServerGone, StartFailed}
 use Rattle.mux_history.specs.declared.out.Out.{Out}
 use Rattle.rpc_message.specs.Message.{message_of}
-use Rattle.rpc_message.specs.Texts.{request_failed}
-use Rattle.rpc_message.proofs.Fixed.{error_law, id_as_response}
 use Rattle.event_model.specs.Does.{Does, Done}
-use Rattle.event_model.specs.Event.{Event, behind, with_cause}
+use Rattle.event_model.specs.Event.{Event, behind, heard, with_cause}
 use Rattle.event_model.specs.Phases.{Desk, is_running, needs_server}
 use Rattle.event_model.specs.Row.{Row, choose, each, nothing, outs, ◌⨾◌}
 use Rattle.event_model.specs.Settings.{Settings}
@@ -36,6 +35,7 @@ use Rattle.group_rows.proofs.ListsKept.{IsList, lists_kept}
 use Rattle.group_rows.proofs.LiveTexts.{live_written}
 use Rattle.group_words.specs.Houses.{groups_lose, groups_of, house_of}
 use Rattle.group_words.specs.Rows.{spawn}
+use Rattle.group_words.proofs.Frames.{groups_more}
 use Rattle.mux_exits.specs.declared.losses.Loss.{Loss}
 use Rattle.mux_exits.specs.declared.losses.Loss.TheVariants.{Emptied, Unregistered}
 use Rattle.mux_exits.specs.declared.partings.Parting.{Parting}
@@ -46,7 +46,7 @@ use Rattle.mux_exits.proofs.Rows.{losing_alike, parting_alike}
 use Rattle.mux_exits.proofs.Turning.{adds_row, asking_on, housed_on}
 use Rattle.mux_starts.specs.Refusing.{IsUnready}
 use Rattle.mux_starts.specs.group_facts.specs.Built.{is_left}
-use Rattle.mux_starts.specs.group_facts.specs.Facts.{AllForwarded, IsAsked, IsTake, Known}
+use Rattle.mux_starts.specs.group_facts.specs.Facts.{AllForwarded, IsAsked, IsTake, Known, is_exit}
 use Rattle.mux_starts.specs.group_facts.specs.Lively.{lives_at}
 use Rattle.mux_starts.specs.group_facts.specs.Settled.{Settled}
 use Rattle.mux_starts.specs.group_facts.proofs.ExitEntry.{Exit}
@@ -62,11 +62,19 @@ use Rattle.mux_tables.proofs.DocumentOwed.{all_does}
 use Rattle.mux_tables.specs.mux_tokens.specs.Ends.{begun_tokens, unanswered_takes}
 use Rattle.mux_turns.specs.Initials.{AllHoused, IsNamed}
 use Rattle.mux_turns.specs.Welcomes.{AllAsking}
+use Rattle.mux_turns.specs.mux_facts.proofs.Words.{number_same}
 use Rattle.mux_turns.proofs.Called.{unregister_call}
 use Rattle.mux_turns.proofs.Departing.{behind_first}
 use Rattle.mux_turns.proofs.Failing.{named_all}
 use Rattle.mux_turns.proofs.Listed.{meant_same}
 use Rattle.mux_turns.proofs.Matched.{whole_entry}
+
+-- What holds where the program of a start ended, and where it couldn't be run, holds by each cause that is one of the two
+
+pub by_either : (P : Cause → Type 0) (s : ℕ) → P (ServerGone s) → P (StartFailed s) → (cause : Cause) → is_exit cause s ≡ true → P cause
+by_either P s gone failed (ServerGone n) is = subst (λ k. P (ServerGone k)) (sym (number_same n s is)) gone
+by_either P s gone failed (StartFailed n) is = subst (λ k. P (StartFailed k)) (sym (number_same n s is)) failed
+by_either P s gone failed other is = never (sym is)
 
 -- The last start in this place, as it is kept behind the end of its program
 
@@ -251,7 +259,10 @@ module _ (settings : Settings) (before : List Event) (cause : Cause) (s : ℕ) (
         record { outs = done.outs ∙ (ap (outs row) (append-nil now) ∙ (sym same ∙ ap (outs (row_of settings before cause)) (sym (append-nil now)))); stands = done.stands }
 
     -- where the group lives behind the cause it goes on with a new start, else it ends
-    module _ (t : Tables) (st : Stands settings t now) (groups : groups_of settings now ≡ groups_lose settings before s (house_of settings before)) where
+    module _ (t : Tables) (st : Stands settings t now) where
+      groups : groups_of settings now ≡ groups_lose settings before s (house_of settings before)
+      groups = by_either (λ k. groups_of settings (with_cause before k) ≡ groups_lose settings before s (house_of settings before)) s (groups_more settings before (heard (ServerGone s))) (groups_more settings before (heard (StartFailed s))) cause exit.is
+
       lives_now : lives_at h t.groups.groups ≡ lives_at h (groups_lose settings before s (house_of settings before))
       lives_now = ap (lives_at h) (sym st.house.groups.groups ∙ groups)
 

@@ -1,5 +1,5 @@
 //! X1 to X3: the program of a start ended, or couldn't be run.
-ghost use Rattle.std.specs.Prelude.{◌≡◌, ◌<◌, ◌≤◌, ◌^◌, ℕ, List, [], Some, true, length, map, nat_lt, OnOk, slice_get};
+ghost use Rattle.std.specs.Prelude.{◌≡◌, ◌<◌, ◌≤◌, ◌^◌, List, [], Some, true, length, map, nat_lt, OnOk, slice_get};
 ghost use Rattle.std.specs.List.{All, AllByRecursion};
 ghost use Rattle.event_model.specs.Does.{Does, Done};
 ghost use Rattle.event_model.specs.Event.{Event, behind, with_cause};
@@ -9,9 +9,9 @@ ghost use Rattle.group_rows.specs.Rows.{row_of};
 ghost use Rattle.group_words.specs.declared.kept.Kept.{Kept};
 ghost use Rattle.mux_exits.specs.Losses.{IsInside};
 ghost use Rattle.mux_exits.specs.Partings.{CanPart, IsOver, parting_row, renewing_row};
-ghost use Rattle.mux_history.specs.declared.cause.Cause.TheVariants.{ServerGone, StartFailed};
+ghost use Rattle.mux_history.specs.declared.cause.Cause.{Cause};
 ghost use Rattle.mux_starts.specs.Refusing.{IsUnready};
-ghost use Rattle.mux_starts.specs.group_facts.specs.Facts.{Known};
+ghost use Rattle.mux_starts.specs.group_facts.specs.Facts.{Known, is_exit};
 ghost use Rattle.mux_starts.specs.group_facts.specs.Lively.{lives_at};
 ghost use Rattle.mux_starts.specs.group_facts.specs.Settled.{Settled};
 ghost use Rattle.mux_model.specs.Fits.{fits_behind};
@@ -97,7 +97,7 @@ fn renew(
     Ok(())
 }
 
-// X1 to X3: the group in this place lives, and the program of its last start ended.
+// X1 to X3: the group in this place lives, and the program of its last start ended, or couldn't be run.
 fn exit_group(
     tables: &mut Tables,
     alloc: Global,
@@ -109,13 +109,12 @@ fn exit_group(
     requires group { g < length tables.old.lasts.items }
     ensures requests { tables.new.requests ≡ tables.old.requests }
     ensures versions { tables.new.versions ≡ tables.old.versions }
-    ensures exit { (settings : Settings) (before : List Event) (x : Start) → slice_get tables.old.lasts.items g ≡ Some x
+    ensures exit { (settings : Settings) (before : List Event) (cause : Cause) (x : Start) → slice_get tables.old.lasts.items g ≡ Some x
         → lives_at x.life.group tables.old.groups.groups ≡ true → settings.limits.restarts ≡ restarts → outs.old ≡ []
-        → Known settings before → Settled settings before
-        → fits_behind before (ServerGone x.life.start) ≡ true
+        → Known settings before → Settled settings before → is_exit cause x.life.start ≡ true → fits_behind before cause ≡ true
         → Stands settings tables.old before → DocumentsStand settings nothing_owed tables.old before
-        → OnOk result (Done (λ k events. AllStand settings k events) (row_of settings before (ServerGone x.life.start))
-        (with_cause before (ServerGone x.life.start)) [] (tables.new, nothing_owed) outs.new) }
+        → OnOk result (Done (λ k events. AllStand settings k events) (row_of settings before cause)
+        (with_cause before cause) [] (tables.new, nothing_owed) outs.new) }
 {
     if stage_at(tables, g).is_ended() {
         return Ok(());
@@ -135,45 +134,7 @@ fn exit_group(
     }
 }
 
-// The same where it couldn't be run.
-fn fail_group(
-    tables: &mut Tables,
-    alloc: Global,
-    restarts: u64,
-    outs: &mut Outs,
-    g: usize,
-) -> Result<(), Memory>
-    requires limit { 2 ≤ tables.old.requests }
-    requires group { g < length tables.old.lasts.items }
-    ensures requests { tables.new.requests ≡ tables.old.requests }
-    ensures versions { tables.new.versions ≡ tables.old.versions }
-    ensures failure { (settings : Settings) (before : List Event) (x : Start) → slice_get tables.old.lasts.items g ≡ Some x
-        → lives_at x.life.group tables.old.groups.groups ≡ true → settings.limits.restarts ≡ restarts → outs.old ≡ []
-        → Known settings before → Settled settings before
-        → fits_behind before (StartFailed x.life.start) ≡ true
-        → Stands settings tables.old before → DocumentsStand settings nothing_owed tables.old before
-        → OnOk result (Done (λ k events. AllStand settings k events) (row_of settings before (StartFailed x.life.start))
-        (with_cause before (StartFailed x.life.start)) [] (tables.new, nothing_owed) outs.new) }
-{
-    if stage_at(tables, g).is_ended() {
-        return Ok(());
-    }
-    if !is_counted(tables, tables.group_number(g)) {
-        return Err(Memory);
-    }
-    let parting = gather(tables, alloc, g)?;
-    tables.hear_exit(alloc, restarts, g)?;
-    let group = tables.group_number(g);
-    if lives(tables, group) {
-        renew(tables, alloc, outs, g, parting)?;
-        Ok(())
-    } else {
-        part(tables, alloc, outs, g, group, parting)?;
-        Ok(())
-    }
-}
-
-// The program of the last start of the group in this place ended.
+// The program of the last start of the group in this place ended, or couldn't be run.
 fn exit_at(
     tables: &mut Tables,
     alloc: Global,
@@ -186,12 +147,12 @@ fn exit_at(
     requires group { g < length tables.old.lasts.items }
     ensures requests { tables.new.requests ≡ tables.old.requests }
     ensures versions { tables.new.versions ≡ tables.old.versions }
-    ensures exit { (settings : Settings) (before : List Event) → slice_get (map number_in tables.old.lasts.items) g ≡ Some s
+    ensures exit { (settings : Settings) (before : List Event) (cause : Cause) → slice_get (map number_in tables.old.lasts.items) g ≡ Some s
         → settings.limits.restarts ≡ restarts → outs.old ≡ [] → Known settings before → Settled settings before
-        → fits_behind before (ServerGone s) ≡ true
+        → is_exit cause s ≡ true → fits_behind before cause ≡ true
         → Stands settings tables.old before → DocumentsStand settings nothing_owed tables.old before
-        → OnOk result (Done (λ k events. AllStand settings k events) (row_of settings before (ServerGone s))
-        (with_cause before (ServerGone s)) [] (tables.new, nothing_owed) outs.new) }
+        → OnOk result (Done (λ k events. AllStand settings k events) (row_of settings before cause)
+        (with_cause before cause) [] (tables.new, nothing_owed) outs.new) }
 {
     if !lives(tables, tables.group_number(g)) {
         take_left(tables, alloc, s);
@@ -201,37 +162,9 @@ fn exit_at(
     Ok(())
 }
 
-// The same where it couldn't be run.
-fn failure_at(
-    tables: &mut Tables,
-    alloc: Global,
-    restarts: u64,
-    outs: &mut Outs,
-    s: u64,
-    g: usize,
-) -> Result<(), Memory>
-    requires limit { 2 ≤ tables.old.requests }
-    requires group { g < length tables.old.lasts.items }
-    ensures requests { tables.new.requests ≡ tables.old.requests }
-    ensures versions { tables.new.versions ≡ tables.old.versions }
-    ensures failure { (settings : Settings) (before : List Event) → slice_get (map number_in tables.old.lasts.items) g ≡ Some s
-        → settings.limits.restarts ≡ restarts → outs.old ≡ [] → Known settings before → Settled settings before
-        → fits_behind before (StartFailed s) ≡ true
-        → Stands settings tables.old before → DocumentsStand settings nothing_owed tables.old before
-        → OnOk result (Done (λ k events. AllStand settings k events) (row_of settings before (StartFailed s))
-        (with_cause before (StartFailed s)) [] (tables.new, nothing_owed) outs.new) }
-{
-    if !lives(tables, tables.group_number(g)) {
-        take_left(tables, alloc, s);
-        return Ok(());
-    }
-    fail_group(tables, alloc, restarts, outs, g)?;
-    Ok(())
-}
-
-/// X1 to X3: the program of a start ended. Where its group lives, each editor of it is told that its requests fail, and each that runs, where
-/// the start is ready, what ends with it; then the group goes on with a new start, or each editor of it is turned out. Else nothing is sent.
-/// It takes time n log n in what is sent, and, for each editor that runs, in how many documents the start has lists of.
+/// X1 to X3: the program of a start ended, or couldn't be run. Where its group lives, each editor of it is told that its requests fail, and each
+/// that runs, where the start is ready, what ends with it; then the group goes on with a new start, or each editor of it is turned out. Else
+/// nothing is sent. It takes time n log n in what is sent, and, for each editor that runs, in how many documents the start has lists of.
 pub fn take_exit(
     tables: &mut Tables,
     alloc: Global,
@@ -242,44 +175,16 @@ pub fn take_exit(
     requires { 2 ≤ tables.old.requests }
     ensures requests { tables.new.requests ≡ tables.old.requests }
     ensures versions { tables.new.versions ≡ tables.old.versions }
-    ensures exit { (settings : Settings) (before : List Event) → settings.limits.restarts ≡ restarts → outs.old ≡ []
-        → Known settings before → Settled settings before
-        → fits_behind before (ServerGone s) ≡ true
+    ensures exit { (settings : Settings) (before : List Event) (cause : Cause) → settings.limits.restarts ≡ restarts → outs.old ≡ []
+        → Known settings before → Settled settings before → is_exit cause s ≡ true → fits_behind before cause ≡ true
         → Stands settings tables.old before → DocumentsStand settings nothing_owed tables.old before
-        → OnOk result (Done (λ k events. AllStand settings k events) (row_of settings before (ServerGone s))
-        (with_cause before (ServerGone s)) [] (tables.new, nothing_owed) outs.new) }
+        → OnOk result (Done (λ k events. AllStand settings k events) (row_of settings before cause)
+        (with_cause before cause) [] (tables.new, nothing_owed) outs.new) }
 {
     match tables.last(s) {
         None => Ok(()),
         Some(g) => {
             exit_at(tables, alloc, restarts, outs, s, g)?;
-            Ok(())
-        }
-    }
-}
-
-/// X1 to X3: the same of a start whose program couldn't be run.
-pub fn take_failure(
-    tables: &mut Tables,
-    alloc: Global,
-    restarts: u64,
-    outs: &mut Outs,
-    s: u64,
-) -> Result<(), Memory>
-    requires { 2 ≤ tables.old.requests }
-    ensures requests { tables.new.requests ≡ tables.old.requests }
-    ensures versions { tables.new.versions ≡ tables.old.versions }
-    ensures failure { (settings : Settings) (before : List Event) → settings.limits.restarts ≡ restarts → outs.old ≡ []
-        → Known settings before → Settled settings before
-        → fits_behind before (StartFailed s) ≡ true
-        → Stands settings tables.old before → DocumentsStand settings nothing_owed tables.old before
-        → OnOk result (Done (λ k events. AllStand settings k events) (row_of settings before (StartFailed s))
-        (with_cause before (StartFailed s)) [] (tables.new, nothing_owed) outs.new) }
-{
-    match tables.last(s) {
-        None => Ok(()),
-        Some(g) => {
-            failure_at(tables, alloc, restarts, outs, s, g)?;
             Ok(())
         }
     }

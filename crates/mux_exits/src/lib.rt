@@ -7,7 +7,7 @@ mod partings;
 mod told;
 mod turned;
 
-pub use exits::{take_exit, take_failure};
+pub use exits::take_exit;
 pub use losses::Loss;
 pub use mux_starts;
 pub use partings::Parting;

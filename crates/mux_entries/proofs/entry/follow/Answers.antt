@@ -9,6 +9,7 @@ use Rattle.mux_starts.specs.mux_tables.specs.Documents.{AllStand, nothing_owed}
 use Rattle.mux_turns.specs.Carried.{CarriedStand}
 use Rattle.mux_entries.proofs.Carried.{IsAside, aside_carried}
 use Rattle.mux_entries.proofs.EditorRows.{done_quietly, drained_entry}
+use Rattle.mux_entries.proofs.Exits.{exit_aside, exit_of}
 use Rattle.mux_entries.proofs.entry.follow.Goals as goal
 
 pub returns-in-Drained-clause-does : goal.returns-in-Drained-clause-does
@@ -29,19 +30,10 @@ returns-in_ok-from_editor-in-FromEditor-clause-does c = λ settings before limit
     subst (λ cause. Done (λ k events. AllStand settings k events) (row_of settings before cause) (with_cause before cause) [] (c.from_editor.new.tables, nothing_owed) c.from_editor.new.outs) (sym is)
     (c.in_ok-from_editor-in-FromEditor.ensures.does settings before servers default first known settled (subst (λ cause. fits_behind before cause ≡ true) is fits) st ds)
 
-pub returns-in_ok-take_failure-in-StartFailed-clause-does : goal.returns-in_ok-take_failure-in-StartFailed-clause-does
-returns-in_ok-take_failure-in-StartFailed-clause-does c = λ settings before limits servers default first known settled fits kept st ds.
-    let is = c.in-StartFailed.is in
-    subst (λ cause. Done (λ k events. AllStand settings k events) (row_of settings before cause) (with_cause before cause) [] (c.take_failure.new.tables, nothing_owed) c.take_failure.new.outs) (sym is)
-    (c.in_ok-take_failure-in-StartFailed.ensures.failure settings before (ap (λ (l : Limits). l.restarts) limits) first known settled
-    (subst (λ cause. fits_behind before cause ≡ true) is fits) st ds)
-
-pub returns-in_ok-take_exit-in-ServerGone-clause-does : goal.returns-in_ok-take_exit-in-ServerGone-clause-does
-returns-in_ok-take_exit-in-ServerGone-clause-does c = λ settings before limits servers default first known settled fits kept st ds.
-    let is = c.in-ServerGone.is in
-    subst (λ cause. Done (λ k events. AllStand settings k events) (row_of settings before cause) (with_cause before cause) [] (c.take_exit.new.tables, nothing_owed) c.take_exit.new.outs) (sym is)
-    (c.in_ok-take_exit-in-ServerGone.ensures.exit settings before (ap (λ (l : Limits). l.restarts) limits) first known settled
-    (subst (λ cause. fits_behind before cause ≡ true) is fits) st ds)
+pub returns-in_ok-take_exit-in-StartFailed-clause-does : goal.returns-in_ok-take_exit-in-StartFailed-clause-does
+returns-in_ok-take_exit-in-StartFailed-clause-does c = λ settings before limits servers default first known settled fits kept st ds.
+    c.in_ok-take_exit-in-StartFailed.ensures.exit settings before c.args.cause.now (ap (λ (l : Limits). l.restarts) limits) first known settled
+    (exit_of c.args.cause.now c.in-StartFailed.s c.in-StartFailed.is) fits st ds
 
 pub returns-in_ok-take_tick-in-Tick-clause-does : goal.returns-in_ok-take_tick-in-Tick-clause-does
 returns-in_ok-take_tick-in-Tick-clause-does c = λ settings before limits servers default first known settled fits kept st ds.
@@ -59,11 +51,8 @@ returns-in_ok-gone-in-EditorGone-clause-carried c = λ settings before limits se
 pub returns-in_ok-take_started-in-Started-clause-carried : goal.returns-in_ok-take_started-in-Started-clause-carried
 returns-in_ok-take_started-in-Started-clause-carried c = λ settings before limits servers default first known settled fits kept st ds. aside_carried settings c.args.carries.now before c.args.cause.now c.take_started.new.outs (subst IsAside (sym c.in-Started.is) tt) kept
 
-pub returns-in_ok-take_failure-in-StartFailed-clause-carried : goal.returns-in_ok-take_failure-in-StartFailed-clause-carried
-returns-in_ok-take_failure-in-StartFailed-clause-carried c = λ settings before limits servers default first known settled fits kept st ds. aside_carried settings c.args.carries.now before c.args.cause.now c.take_failure.new.outs (subst IsAside (sym c.in-StartFailed.is) tt) kept
-
-pub returns-in_ok-take_exit-in-ServerGone-clause-carried : goal.returns-in_ok-take_exit-in-ServerGone-clause-carried
-returns-in_ok-take_exit-in-ServerGone-clause-carried c = λ settings before limits servers default first known settled fits kept st ds. aside_carried settings c.args.carries.now before c.args.cause.now c.take_exit.new.outs (subst IsAside (sym c.in-ServerGone.is) tt) kept
+pub returns-in_ok-take_exit-in-StartFailed-clause-carried : goal.returns-in_ok-take_exit-in-StartFailed-clause-carried
+returns-in_ok-take_exit-in-StartFailed-clause-carried c = λ settings before limits servers default first known settled fits kept st ds. aside_carried settings c.args.carries.now before c.args.cause.now c.take_exit.new.outs (exit_aside c.args.cause.now c.in-StartFailed.s c.in-StartFailed.is) kept
 
 pub returns-in_ok-take_tick-in-Tick-clause-carried : goal.returns-in_ok-take_tick-in-Tick-clause-carried
 returns-in_ok-take_tick-in-Tick-clause-carried c = λ settings before limits servers default first known settled fits kept st ds. aside_carried settings c.args.carries.now before c.args.cause.now c.take_tick.new.outs (subst IsAside (sym c.in-Tick.is) tt) kept

@@ -1,31 +1,31 @@
--- A group goes on or ends with the program of its last start.
+-- A group goes on or ends with the program of its last start, which ended, or couldn't be run.
 use Rattle.std.proofs.Common.{◌≡◌, ◌<◌, ◌^◌, length, ltb-true, ap, sym, subst, ◌∙◌}
 use Rattle.std.specs.Prelude.{slice_get}
 use Rattle.std.specs.List.{All, AllByRecursion}
 use Rattle.std.proofs.lemmas.List.{length-set}
 use Rattle.event_model.specs.Does.{Does}
-use Rattle.event_model.specs.Event.{behind, heard, with_cause}
-use Rattle.event_model.specs.Stages.{is_ended, life_of}
+use Rattle.event_model.specs.Event.{behind, with_cause}
+use Rattle.event_model.specs.Stages.{Life, is_ended}
 use Rattle.event_model.proofs.Frames.{never}
 use Rattle.event_model.proofs.Places.{item_at}
 use Rattle.mux_exits.specs.Losses.{IsInside}
-use Rattle.mux_exits.proofs.Ending.{entry_done, entry_renewed, exit_group, exit_over, exit_unready, here}
+use Rattle.mux_exits.proofs.Ending.{by_either, entry_done, entry_renewed, exit_group, exit_over, exit_unready, here}
 use Rattle.mux_exits.specs.Partings.{CanPart, parting_row, renewing_row}
-use Rattle.mux_history.specs.declared.cause.Cause.TheVariants.{ServerGone}
 use Rattle.mux_starts.specs.group_facts.specs.Lively.{lives_at}
-use Rattle.group_words.proofs.Frames.{groups_more}
-use Rattle.mux_starts.specs.group_facts.proofs.ExitEntry.{gone_exit}
+use Rattle.mux_starts.specs.group_facts.proofs.ExitEntry.{exit_by}
+use Rattle.mux_starts.specs.group_facts.proofs.LastStarts.{alive_exit}
 use Rattle.mux_starts.specs.Refusing.{IsUnready}
-use Rattle.mux_starts.proofs.Stopped.{ended_never, last_life}
+use Rattle.mux_starts.proofs.Stopped.{last_life}
 use Rattle.mux_tables.specs.Documents.{AllStand, nothing_owed}
 use Rattle.mux_tables.proofs.DocumentOwed.{number_there}
 use Rattle.mux_tables.proofs.Homes.{group_seen}
 use Rattle.mux_exits.proofs.exits.exit_group.Goals as goal
 
 pub returns-then-is_ended-clause-exit : goal.returns-then-is_ended-clause-exit
-returns-then-is_ended-clause-exit c = λ settings before x here live restarts first known settled fit st ds.
+returns-then-is_ended-clause-exit c = λ settings before cause x here live restarts first known settled is fit st ds.
     let t = c.args.tables.now in
-    ended_never (life_of x.life.start before) x.life.stage x.started (last_life settings t before c.args.g x.life.start x here (number_there t.lasts.items c.args.g x here) st) (ap is_ended (sym (c.stage_at.ensures x here)) ∙ (sym c.is_ended.ensures ∙ c.if-is_ended.true)) fit
+    let life = last_life settings t before c.args.g x.life.start x here (number_there t.lasts.items c.args.g x here) st in
+    never (sym (ap (λ (l : Life). is_ended l.stage) life ∙ (ap is_ended (sym (c.stage_at.ensures x here)) ∙ (sym c.is_ended.ensures ∙ c.if-is_ended.true))) ∙ alive_exit before cause x.life.start is fit)
 
 pub hear_exit-requires-clause-runs : goal.hear_exit-requires-clause-runs
 hear_exit-requires-clause-runs c = λ x here ended. never (sym (ap is_ended (c.stage_at.ensures x here ∙ ended)) ∙ (sym c.is_ended.ensures ∙ c.if-is_ended.false))
@@ -79,43 +79,47 @@ part-requires-clause-inside c =
     subst (λ n. AllByRecursion (IsInside n) c.in_ok-parting.parting.losses.items) (sym (ap length e.editors)) c.in_ok-parting.ensures.inside
 
 pub returns-in_ok-renew-clause-exit : goal.returns-in_ok-renew-clause-exit
-returns-in_ok-renew-clause-exit c = λ settings before x at_g live restarts first known settled fit st ds.
+returns-in_ok-renew-clause-exit c = λ settings before cause x at_g live restarts first known settled is fit st ds.
     let t = c.args.tables.now in
     let u = c.hear_exit.new.self in
     let g = c.args.g in
     let s = x.life.start in
     let h = x.life.group in
-    let now = with_cause before (ServerGone s) in
+    let now = with_cause before cause in
     let at = number_there t.lasts.items g x at_g in
-    let e = c.in_ok-hear_exit.ensures.exits x at_g in
+    let heard = c.in_ok-hear_exit.ensures in
+    let e = heard.exits x at_g in
     let there = here c.args.restarts t u g x c.requires.group e in
     let same = exit_group c.args.restarts t u g x c.requires.group e in
-    let stands = c.in_ok-hear_exit.ensures.exit settings before s restarts at st in
+    let both : AllStand settings (u, nothing_owed) now = by_either (λ k. AllStand settings (u, nothing_owed) (with_cause before k)) s
+    (heard.exit settings before s restarts at st, heard.exit_documents settings nothing_owed before s ds) (heard.failure settings before s restarts at st, heard.failure_documents settings nothing_owed before s ds) cause is in
     let parting = c.in_ok-parting.parting in
     let can : CanPart settings (behind now c.args.outs.now) h parting → Does (λ k events. AllStand settings k events) (renewing_row h parting) now (u, nothing_owed) c.args.outs.now (c.renew.new.tables, nothing_owed) c.renew.new.outs =
     subst (λ n. CanPart settings (behind now c.args.outs.now) n parting → Does (λ k events. AllStand settings k events) (renewing_row n parting) now (u, nothing_owed) c.args.outs.now (c.renew.new.tables, nothing_owed) c.renew.new.outs) same
     (λ may. c.in_ok-renew.ensures.does settings now e.start there may) in
-    entry_renewed settings before (ServerGone s) s (gone_exit settings before s) h (group_seen settings t before g s x st at_g at).0 (ap (lives_at h) st.house.groups.groups ∙ live) known settled
-    parting (c.in_ok-parting.ensures.parts settings before x at_g st) u stands (groups_more settings before (heard (ServerGone s))) c.renew.new.tables c.args.outs.now c.renew.new.outs
-    (ap (λ n. lives_at n u.groups.groups) (sym (c.group_number-group.ensures e.start there ∙ same)) ∙ (sym c.lives.ensures ∙ c.if-lives.true)) first (c.in_ok-hear_exit.ensures.exit_documents settings nothing_owed before s ds) can
+    entry_renewed settings before cause s (exit_by settings before cause s is) h (group_seen settings t before g s x st at_g at).0 (ap (lives_at h) st.house.groups.groups ∙ live) known settled
+    parting (c.in_ok-parting.ensures.parts settings before x at_g st) u both.0 c.renew.new.tables c.args.outs.now c.renew.new.outs
+    (ap (λ n. lives_at n u.groups.groups) (sym (c.group_number-group.ensures e.start there ∙ same)) ∙ (sym c.lives.ensures ∙ c.if-lives.true)) first both.1 can
 
 pub returns-in_ok-part-clause-exit : goal.returns-in_ok-part-clause-exit
-returns-in_ok-part-clause-exit c = λ settings before x at_g live restarts first known settled fit st ds.
+returns-in_ok-part-clause-exit c = λ settings before cause x at_g live restarts first known settled is fit st ds.
     let t = c.args.tables.now in
     let u = c.hear_exit.new.self in
     let g = c.args.g in
     let s = x.life.start in
     let h = x.life.group in
-    let now = with_cause before (ServerGone s) in
+    let now = with_cause before cause in
     let at = number_there t.lasts.items g x at_g in
-    let e = c.in_ok-hear_exit.ensures.exits x at_g in
+    let heard = c.in_ok-hear_exit.ensures in
+    let e = heard.exits x at_g in
     let there = here c.args.restarts t u g x c.requires.group e in
     let same = exit_group c.args.restarts t u g x c.requires.group e in
-    let stands = c.in_ok-hear_exit.ensures.exit settings before s restarts at st in
+    let both : AllStand settings (u, nothing_owed) now = by_either (λ k. AllStand settings (u, nothing_owed) (with_cause before k)) s
+    (heard.exit settings before s restarts at st, heard.exit_documents settings nothing_owed before s ds) (heard.failure settings before s restarts at st, heard.failure_documents settings nothing_owed before s ds) cause is in
     let own : c.group_number-group.result ≡ h = c.group_number-group.ensures e.start there ∙ same in
     let parting = c.in_ok-parting.parting in
-    entry_done settings before (ServerGone s) s (gone_exit settings before s) h (group_seen settings t before g s x st at_g at).0 (ap (lives_at h) st.house.groups.groups ∙ live) known settled
-    parting (c.in_ok-parting.ensures.parts settings before x at_g st) u stands (groups_more settings before (heard (ServerGone s))) c.part.new.tables c.args.outs.now c.part.new.outs
-    (ap (λ n. lives_at n u.groups.groups) (sym (c.group_number-group.ensures e.start there ∙ same)) ∙ (sym c.lives.ensures ∙ c.if-lives.false)) first (c.in_ok-hear_exit.ensures.exit_documents settings nothing_owed before s ds)
+    entry_done settings before cause s (exit_by settings before cause s is) h (group_seen settings t before g s x st at_g at).0 (ap (lives_at h) st.house.groups.groups ∙ live) known settled
+    parting (c.in_ok-parting.ensures.parts settings before x at_g st) u both.0 c.part.new.tables c.args.outs.now c.part.new.outs
+    (ap (λ n. lives_at n u.groups.groups) (sym own) ∙ (sym c.lives.ensures ∙ c.if-lives.false)) first both.1
     (λ can. subst (λ n. Does (λ k events. AllStand settings k events) (parting_row settings n parting) now (u, nothing_owed) c.args.outs.now (c.part.new.tables, nothing_owed) c.part.new.outs) own
-    (c.in_ok-part.ensures.does settings now (exit_over c.args.restarts t u g x c.requires.group e) (subst (λ n. IsUnready n u.lasts.items) (sym own) (exit_unready c.args.restarts t u g x c.requires.group e settings now stands)) (subst (λ n. CanPart settings (behind now c.args.outs.now) n parting) (sym own) can)))
+    (c.in_ok-part.ensures.does settings now (exit_over c.args.restarts t u g x c.requires.group e) (subst (λ n. IsUnready n u.lasts.items) (sym own) (exit_unready c.args.restarts t u g x c.requires.group e settings now both.0)) (subst (λ n. CanPart settings (behind now c.args.outs.now) n parting) (sym own) can)))
