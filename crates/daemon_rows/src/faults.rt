@@ -1,14 +1,16 @@
 // Sessions whose bytes come and go one at a time, and each read or write of which fails in turn.
-use crate::daemon::{HOVER, START, STOP, TURNS, hold, metered, port, times};
+use crate::daemon::{HOVER, START, STOP, gate, metered_port, one, serve_lanes, times, two};
 use crate::peers::{OneByOne, Peers, Taker};
 use lane_echo::Echo;
-use mux_daemon::{Answer, Lanes, Served, serve_core};
+use mux_daemon::{Answer, Served};
 use mux_serve::LaneJob;
 use outside_io::{Gate, MemSink, MemSource, Meter, SetClock};
 use std::alloc::Global;
 use std::sync::Wait;
 use std::test::Fail;
 use std::thread::Threads;
+
+type Peer = (OneByOne, Taker);
 
 type Left = Served<Echo, Peers, Peers, SetClock>;
 
@@ -19,73 +21,94 @@ enum Fails {
     Write(u64),
 }
 
-// A list of at most one number.
-fn only(alloc: Global, number: Option<u64>) -> Result<Vec<u64>, Fail> {
-    let mut numbers = Vec::new(alloc);
-    if let Some(number) = number {
-        numbers.push(number)?;
+// The read that fails, if it is one.
+fn failed_read(alloc: Global, fails: Fails) -> Result<Vec<u64>, Fail> {
+    match fails {
+        Fails::Read(number) => one(alloc, number),
+        Fails::Write(_) => Ok(Vec::new(alloc)),
     }
-    Ok(numbers)
 }
 
-// A peer that says these bytes, one at a time, and takes one byte at each write. One call of it may fail, and one read wait. What
-// is written to it raises a meter.
-fn peer(
+// The write that fails, if it is one.
+fn failed_write(alloc: Global, fails: Fails) -> Result<Vec<u64>, Fail> {
+    match fails {
+        Fails::Read(_) => Ok(Vec::new(alloc)),
+        Fails::Write(number) => one(alloc, number),
+    }
+}
+
+// A sink that takes one byte at each write, of which these fail. What is written to it raises a meter.
+fn taker(alloc: Global, fails: Vec<u64>, raises: &Meter) -> Result<Taker, Fail> {
+    let says = MemSink::new(alloc, Vec::new(alloc), None);
+    let waits = MemSource::new(Vec::new(alloc), Vec::new(alloc), None);
+    let kept = MemSink::new(alloc, fails, Some(raises.share()?));
+    Ok(Taker::new(says, waits, kept))
+}
+
+// A sink whose first write raises one meter, and then waits until another one shows so many bytes.
+fn slow_taker(
+    alloc: Global,
+    begun: &Meter,
+    waits: Option<Gate>,
+    raises: &Meter,
+) -> Result<Taker, Fail> {
+    let says = MemSink::new(alloc, Vec::new(alloc), Some(begun.share()?));
+    let waits = MemSource::new(Vec::new(alloc), Vec::new(alloc), waits);
+    let kept = MemSink::new(alloc, Vec::new(alloc), Some(raises.share()?));
+    Ok(Taker::new(says, waits, kept))
+}
+
+// A source that gives these bytes, one at a time. One read of it may wait.
+fn source(alloc: Global, bytes: &[u8], waits: Option<Gate>) -> Result<OneByOne, Fail> {
+    let inner = MemSource::new(bytes.to_vec(alloc)?, Vec::new(alloc), waits);
+    Ok(OneByOne::new(inner))
+}
+
+// A peer that says these bytes, one at a time, and takes one byte at each write. One read of it may wait.
+fn peer(alloc: Global, bytes: &[u8], waits: Option<Gate>, raises: &Meter) -> Result<Peer, Fail> {
+    let source = source(alloc, bytes, waits)?;
+    Ok((source, taker(alloc, Vec::new(alloc), raises)?))
+}
+
+// The same without waiting, with one call that fails.
+fn failing(alloc: Global, bytes: &[u8], fails: Fails, raises: &Meter) -> Result<Peer, Fail> {
+    let numbers = failed_read(alloc, fails)?;
+    let source = OneByOne::new(MemSource::new(bytes.to_vec(alloc)?, numbers, None));
+    Ok((source, taker(alloc, failed_write(alloc, fails)?, raises)?))
+}
+
+// Such a peer for each of these calls.
+fn failing_each(
     alloc: Global,
     bytes: &[u8],
-    fails: Option<Fails>,
-    gate: Option<Gate>,
+    calls: &[Fails],
     raises: &Meter,
-) -> Result<(OneByOne, Taker), Fail> {
-    let (read, write) = match fails {
-        Some(Fails::Read(number)) => (Some(number), None),
-        Some(Fails::Write(number)) => (None, Some(number)),
-        None => (None, None),
-    };
-    let source = MemSource::new(bytes.to_vec(alloc)?, only(alloc, read)?, gate);
-    let sink = Taker {
-        says: MemSink::new(alloc, Vec::new(alloc), None),
-        waits: MemSource::new(Vec::new(alloc), Vec::new(alloc), None),
-        kept: MemSink::new(alloc, only(alloc, write)?, Some(raises.share()?)),
-        most: 1,
-        faults: 0,
-    };
-    Ok((OneByOne::new(source), sink))
+) -> Result<Vec<Peer>, Fail> {
+    let mut all = Vec::new(alloc);
+    for fails in calls {
+        all.push(failing(alloc, bytes, *fails, raises)?)?;
+    }
+    Ok(all)
 }
 
-// The read of this number waits until a meter shows so many bytes.
-fn gate(read: usize, meter: &Meter, bytes: usize) -> Result<Option<Gate>, Fail> {
-    Ok(Some(Gate {
-        read: read as u64,
-        meter: meter.share()?,
-        bytes: bytes as u64,
-        turns: TURNS,
-    }))
+// The one lane of these peers.
+fn lane(alloc: Global, peers: Vec<Peer>) -> Result<Vec<LaneJob<Peers>>, Fail> {
+    one(alloc, LaneJob::new(Peers::new(alloc, peers)))
 }
 
-// The lane of these peers.
-fn lane(alloc: Global, peers: Vec<(OneByOne, Taker)>) -> LaneJob<Peers> {
-    LaneJob::new(Peers::new(alloc, peers))
-}
-
-// Serves these ports and one berth of these programs. The own link asks for a stop once a meter shows so many bytes; what is
-// written to it raises another.
+// Serves these ports and one berth of these programs. The own link asks for a stop once its gate opens; what is written to it
+// raises a meter.
 fn serve<R: Threads + Wait + Sync>(
     rt: &R,
     alloc: Global,
     ports: Vec<LaneJob<Peers>>,
-    programs: Vec<(OneByOne, Taker)>,
-    waits: &Meter,
-    until: usize,
+    programs: Vec<Peer>,
+    waits: Option<Gate>,
     own: &Meter,
 ) -> Result<Left, Fail> {
-    let lanes = Lanes {
-        ports,
-        own: port(alloc, metered(alloc, STOP, 0, waits, until, own)?)?,
-        berths: vec![in alloc; lane(alloc, programs)]?,
-        clock: LaneJob::new(SetClock::new(Vec::new(alloc))),
-    };
-    Ok(serve_core(rt, alloc, Echo::new(alloc), 1024, &[], lanes))
+    let berths = lane(alloc, programs)?;
+    let own = metered_port(alloc, STOP, waits, own)?;
+    Ok(serve_lanes(rt, alloc, ports, own, berths, Vec::new(alloc)))
 }
 
 // The frames of `hover` among the first bytes of two of them.
@@ -102,6 +125,15 @@ fn wanted(bytes: &[u8], fails: Fails) -> usize {
     }
 }
 
+// The same of all these peers.
+fn wanted_of_all(bytes: &[u8], calls: &[Fails]) -> usize {
+    let mut all: usize = 0;
+    for fails in calls {
+        all = all.saturating_add(wanted(bytes, *fails));
+    }
+    all
+}
+
 // Each read and each write of these bytes and one more, in turn.
 fn all_calls(alloc: Global, bytes: &[u8]) -> Result<Vec<Fails>, Fail> {
     let mut all = Vec::new(alloc);
@@ -113,17 +145,22 @@ fn all_calls(alloc: Global, bytes: &[u8]) -> Result<Vec<Fails>, Fail> {
     Ok(all)
 }
 
-// Each of these peers was written what was read of it, or up to its failed write.
-fn written(peers: &[LaneJob<Peers>], bytes: &[u8], calls: &[Fails]) -> Result<(), Fail> {
-    for job in peers {
-        for (at, fails) in calls.iter().enumerate() {
-            hold(
-                job.outside.written(at) == Some(wanted(bytes, *fails)),
-                "one was written something else",
-            )?;
+// Each peer of this lane was written what was read of it, or up to its failed write.
+fn all_written(lane: Option<&LaneJob<Peers>>, bytes: &[u8], calls: &[Fails]) -> bool {
+    let Some(job) = lane else {
+        return false;
+    };
+    for (at, fails) in calls.iter().enumerate() {
+        if job.outside.written(at) != Some(wanted(bytes, *fails)) {
+            return false;
         }
     }
-    Ok(())
+    true
+}
+
+// Each port was closed, and so many editors joined.
+fn closed(left: &Left, joined: usize) -> bool {
+    left.answer == Answer::PortsClosed && left.core.joined() == joined as u64
 }
 
 #[test]
@@ -132,21 +169,39 @@ fn links_fail_at_each_call(rt: HostRuntime) -> Result<(), Fail> {
     let meter = Meter::new(alloc)?;
     let bytes = times(alloc, HOVER, 2)?;
     let calls = all_calls(alloc, bytes.as_slice())?;
-    let mut links = Vec::new(alloc);
-    for fails in calls.as_slice() {
-        links.push(peer(alloc, bytes.as_slice(), Some(*fails), None, &meter)?)?;
-    }
-    let ports = vec![in alloc; lane(alloc, links)]?;
-    let left = serve(&rt, alloc, ports, Vec::new(alloc), &meter, 0, &meter)?;
-    hold(left.answer == Answer::PortsClosed, "another answer")?;
-    hold(
-        left.core.joined() == (calls.len() as u64).saturating_add(1),
-        "another number of editors",
+    let links = failing_each(alloc, bytes.as_slice(), calls.as_slice(), &meter)?;
+    let left = serve(
+        &rt,
+        alloc,
+        lane(alloc, links)?,
+        Vec::new(alloc),
+        None,
+        &meter,
     )?;
-    written(
-        left.lanes.ports.as_slice(),
-        bytes.as_slice(),
-        calls.as_slice(),
+    assert!(rt; closed(&left, calls.len().saturating_add(1)));
+    assert!(rt; all_written(left.lanes.ports.get(0), bytes.as_slice(), calls.as_slice()));
+    Ok(())
+}
+
+// Serves an editor that asks for as many starts as there are programs, and goes when they were written so much.
+fn serve_programs<R: Threads + Wait + Sync>(
+    rt: &R,
+    alloc: Global,
+    programs: Vec<Peer>,
+    meter: &Meter,
+    until: usize,
+) -> Result<Left, Fail> {
+    let own = Meter::new(alloc)?;
+    let asks = times(alloc, START, programs.len())?;
+    let waits = gate(asks.len(), meter, until)?;
+    let asking = one(alloc, peer(alloc, asks.as_slice(), waits, &own)?)?;
+    serve(
+        rt,
+        alloc,
+        lane(alloc, asking)?,
+        programs,
+        gate(0, meter, until)?,
+        &own,
     )
 }
 
@@ -154,69 +209,56 @@ fn links_fail_at_each_call(rt: HostRuntime) -> Result<(), Fail> {
 fn programs_fail_at_each_call(rt: HostRuntime) -> Result<(), Fail> {
     let alloc = rt.alloc();
     let meter = Meter::new(alloc)?;
-    let own = Meter::new(alloc)?;
     let calls = all_calls(alloc, HOVER)?;
-    let mut programs = Vec::new(alloc);
-    let mut until: usize = 0;
-    for fails in calls.as_slice() {
-        programs.push(peer(alloc, HOVER, Some(*fails), None, &meter)?)?;
-        until = until.saturating_add(wanted(HOVER, *fails));
-    }
-    let asks = times(alloc, START, calls.len())?;
-    let waits = gate(asks.len(), &meter, until)?;
-    let asking = peer(alloc, asks.as_slice(), None, waits, &own)?;
-    let ports = vec![in alloc; lane(alloc, vec![in alloc; asking]?)]?;
-    let left = serve(&rt, alloc, ports, programs, &meter, until, &own)?;
-    hold(left.answer == Answer::PortsClosed, "another answer")?;
-    written(left.lanes.berths.as_slice(), HOVER, calls.as_slice())
+    let programs = failing_each(alloc, HOVER, calls.as_slice(), &meter)?;
+    let until = wanted_of_all(HOVER, calls.as_slice());
+    let left = serve_programs(&rt, alloc, programs, &meter, until)?;
+    assert!(rt; closed(&left, 2));
+    assert!(rt; all_written(left.lanes.berths.get(0), HOVER, calls.as_slice()));
+    Ok(())
+}
+
+// How much the first peer of a lane was written.
+fn first_written(lane: Option<&LaneJob<Peers>>) -> Option<usize> {
+    lane?.outside.written(0)
+}
+
+// An editor that asks for a start and says `hover` a hundred times, once the other one's first write began.
+fn busy(alloc: Global, begun: &Meter, raises: &Meter) -> Result<Peer, Fail> {
+    let mut bytes = START.to_vec(alloc)?;
+    bytes.extend_from_slice(times(alloc, HOVER, 100)?.as_slice())?;
+    peer(alloc, bytes.as_slice(), gate(0, begun, 1)?, raises)
+}
+
+// The lanes of two editors, of which the first one's first write waits until the meter shows so many bytes.
+fn slow_and_busy(
+    alloc: Global,
+    others: &Meter,
+    until: usize,
+    own: &Meter,
+) -> Result<Vec<LaneJob<Peers>>, Fail> {
+    let begun = Meter::new(alloc)?;
+    let sink = slow_taker(alloc, &begun, gate(0, others, until)?, own)?;
+    let slow = one(alloc, (source(alloc, HOVER, None)?, sink))?;
+    let busy = one(alloc, busy(alloc, &begun, others)?)?;
+    let (slow, busy) = (Peers::new(alloc, slow), Peers::new(alloc, busy));
+    two(alloc, LaneJob::new(slow), LaneJob::new(busy))
 }
 
 // An editor whose first write waits until another editor and a program were written all that they said.
 #[test]
 fn a_peer_that_stops_reading_stops_no_other(rt: HostRuntime) -> Result<(), Fail> {
     let alloc = rt.alloc();
-    let begun = Meter::new(alloc)?;
     let others = Meter::new(alloc)?;
     let own = Meter::new(alloc)?;
     let until = HOVER.len().saturating_mul(101);
-    let (source, mut slow) = peer(alloc, HOVER, None, None, &own)?;
-    slow.says = MemSink::new(alloc, Vec::new(alloc), Some(begun.share()?));
-    slow.waits = MemSource::new(Vec::new(alloc), Vec::new(alloc), gate(0, &others, until)?);
-    let mut bytes = START.to_vec(alloc)?;
-    bytes.extend_from_slice(times(alloc, HOVER, 100)?.as_slice())?;
-    let other = peer(alloc, bytes.as_slice(), None, gate(0, &begun, 1)?, &others)?;
+    let ports = slow_and_busy(alloc, &others, until, &own)?;
     let stop = gate(HOVER.len(), &own, HOVER.len().saturating_add(STOP.len()))?;
-    let program = peer(alloc, HOVER, None, stop, &others)?;
-    let ports = vec![in alloc;
-        lane(alloc, vec![in alloc; (source, slow)]?),
-        lane(alloc, vec![in alloc; other]?),
-    ]?;
-    let left = serve(
-        &rt,
-        alloc,
-        ports,
-        vec![in alloc; program]?,
-        &others,
-        until,
-        &own,
-    )?;
-    hold(left.answer == Answer::PortsClosed, "another answer")?;
-    for (job, bytes) in left
-        .lanes
-        .ports
-        .iter()
-        .zip(&[HOVER.len(), HOVER.len().saturating_mul(100)])
-    {
-        hold(
-            job.outside.written(0) == Some(*bytes),
-            "an editor was written something else",
-        )?;
-    }
-    for job in &left.lanes.berths {
-        hold(
-            job.outside.written(0) == Some(HOVER.len()),
-            "the program was written something else",
-        )?;
-    }
+    let programs = one(alloc, peer(alloc, HOVER, stop, &others)?)?;
+    let left = serve(&rt, alloc, ports, programs, gate(0, &others, until)?, &own)?;
+    assert!(rt; closed(&left, 3));
+    assert!(rt; first_written(left.lanes.ports.get(0)) == Some(HOVER.len()));
+    assert!(rt; first_written(left.lanes.ports.get(1)) == Some(HOVER.len().saturating_mul(100)));
+    assert!(rt; first_written(left.lanes.berths.get(0)) == Some(HOVER.len()));
     Ok(())
 }

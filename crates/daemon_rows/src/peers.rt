@@ -39,24 +39,32 @@ impl Source for OneByOne {
     }
 }
 
-/// A sink that takes so many bytes at each write. Before a write it says so to one sink, and takes a read of a source, which may
-/// wait or fail.
+/// A sink that takes one byte at each write. Before a write it says so to one sink, and takes a read of a source, which may wait or
+/// fail.
 #[derive(Drop)]
 pub struct Taker {
-    pub says: MemSink,
-    pub waits: MemSource,
-    pub kept: MemSink,
-    pub most: usize,
-    pub faults: u64,
+    says: MemSink,
+    waits: MemSource,
+    kept: MemSink,
+    faults: u64,
 }
 
 impl Taker {
+    pub fn new(says: MemSink, waits: MemSource, kept: MemSink) -> Taker {
+        Taker {
+            says,
+            waits,
+            kept,
+            faults: 0,
+        }
+    }
+
     // What one write takes; none where it fails, or takes nothing of a piece that isn't empty.
     fn take(&mut self, bytes: &[u8]) -> Option<usize>
         ensures { self.new.faults ≡ self.old.faults }
     {
         let mut one = [0u8; 1];
-        let most = bytes.len().min(self.most);
+        let most = bytes.len().min(1);
         self.says.write(&one).ok()?;
         self.waits.read(&mut one).ok()?;
         let count = self.kept.write(&bytes[..most]).ok()?;

@@ -1,4 +1,5 @@
-use lane_queue::{HubEnds, Lane, LaneIn, Order, Posted, Side};
+use crate::queue::is_body;
+use lane_queue::{HubEnds, Lane, LaneIn, LaneOut, Order, Posted, Side};
 use message_body::Body;
 use mux_history::Why;
 use outside_io::{MemSink, MemSource};
@@ -25,17 +26,25 @@ impl Core for Always {
     }
 }
 
-// What a session of these bytes is told of its end, the reads of these numbers failing; and what is found in its queue.
+// A source of these bytes, one read of which may fail.
+fn source(alloc: Global, bytes: &[u8], fails: Option<u64>) -> Result<MemSource, Fail> {
+    let mut numbers = Vec::new(alloc);
+    if let Some(number) = fails {
+        numbers.push(number)?;
+    }
+    Ok(MemSource::new(bytes.to_vec(alloc)?, numbers, None))
+}
+
+// What a session is told of its end that reads from this source, and what is found in its queue.
 fn read<R: Wait>(
     rt: &R,
     alloc: Global,
-    bytes: &[u8],
-    fails: Vec<u64>,
+    source: MemSource,
     end: Option<End>,
 ) -> Result<(Stop, HubEnds), Fail> {
     let (inn, _out, hub) = Lane::new(alloc)?;
     let mut inn: LaneIn = inn;
-    let mut source = MemSource::new(bytes.to_vec(alloc)?, fails, None);
+    let mut source = source;
     let stop = read_session(rt, alloc, 16, &Always { end }, &mut source, &mut inn);
     Ok((stop, hub))
 }
@@ -48,59 +57,77 @@ fn is_end<R: Wait>(rt: &R, hub: &mut HubEnds, wanted: Why) -> bool {
 #[test]
 fn frames_and_the_end_are_posted(rt: HostRuntime) -> Result<(), Fail> {
     let alloc = rt.alloc();
-    let bytes = b"Content-Length: 2\r\n\r\n{}Cont";
-    let (stop, mut hub) = read(&rt, alloc, bytes, Vec::new(alloc), None)?;
-    assert_eq!(rt; stop, Stop::Ended(Why::End));
-    assert!(rt;
-        matches!(hub.next(&rt), Some(Posted::Body(body)) if body.bytes() == b"{}".as_slice())
-    );
+    let source = source(alloc, b"Content-Length: 2\r\n\r\n{}Cont", None)?;
+    let (stop, mut hub) = read(&rt, alloc, source, None)?;
+    assert!(rt; stop == Stop::Ended(Why::End));
+    assert!(rt; is_body(&rt, &mut hub, b"{}"));
     assert!(rt; is_end(&rt, &mut hub, Why::End));
     Ok(())
 }
 
+// A session that reads from this source is told this of its end, and posts nothing before it.
+fn ends<R: Wait>(
+    rt: &R,
+    alloc: Global,
+    source: MemSource,
+    end: Option<End>,
+    wanted: Stop,
+    why: Why,
+) -> Result<bool, Fail> {
+    let (stop, mut hub) = read(rt, alloc, source, end)?;
+    Ok(stop == wanted && is_end(rt, &mut hub, why))
+}
+
 #[test]
-fn a_fault_a_failed_read_and_an_order_end_it(rt: HostRuntime) -> Result<(), Fail> {
+fn a_fault_ends_it(rt: HostRuntime) -> Result<(), Fail> {
     let alloc = rt.alloc();
-    let long: &[u8] = b"Content-Length: 17\r\n\r\n";
-    let cases = [
-        (long, None, None, Stop::Ended(Why::BadFrame), Why::BadFrame),
-        (
-            b"x",
-            Some(0),
-            None,
-            Stop::Ended(Why::ReadFault),
-            Why::ReadFault,
-        ),
-        (
-            b"x",
-            None,
-            Some(End::Closed),
-            Stop::Told(End::Closed),
-            Why::End,
-        ),
-    ];
-    for (bytes, fails, end, wanted, why) in cases {
-        let mut numbers: Vec<u64> = Vec::new(alloc);
-        if let Some(number) = fails {
-            numbers.push(number)?;
-        }
-        let (stop, mut hub) = read(&rt, alloc, bytes, numbers, end)?;
-        assert_eq!(rt; stop, wanted);
-        assert!(rt; is_end(&rt, &mut hub, why));
-    }
+    let long = source(alloc, b"Content-Length: 17\r\n\r\n", None)?;
+    let told = Stop::Ended(Why::BadFrame);
+    assert!(rt; ends(&rt, alloc, long, None, told, Why::BadFrame)?);
     Ok(())
+}
+
+#[test]
+fn a_failed_read_ends_it(rt: HostRuntime) -> Result<(), Fail> {
+    let alloc = rt.alloc();
+    let fails = source(alloc, b"x", Some(0))?;
+    let told = Stop::Ended(Why::ReadFault);
+    assert!(rt; ends(&rt, alloc, fails, None, told, Why::ReadFault)?);
+    Ok(())
+}
+
+#[test]
+fn an_order_ends_it(rt: HostRuntime) -> Result<(), Fail> {
+    let alloc = rt.alloc();
+    let source = source(alloc, b"x", None)?;
+    let (end, told) = (Some(End::Closed), Stop::Told(End::Closed));
+    assert!(rt; ends(&rt, alloc, source, end, told, Why::End)?);
+    Ok(())
+}
+
+// A body, and behind it the end of the link.
+fn order<R: Wait>(rt: &R, alloc: Global, hub: &mut HubEnds) -> Result<bool, Fail> {
+    let body = Order::Body(Body::new(b"{}".to_vec(alloc)?));
+    Ok(hub.push(rt, body).is_ok() && hub.push(rt, Order::Close).is_ok())
+}
+
+// What is written of the orders; None where the session was cut off, or its writing failed.
+fn write<R: Wait>(rt: &R, alloc: Global, out: &mut LaneOut) -> Option<MemSink> {
+    let mut sink = MemSink::new(alloc, Vec::new(alloc), None);
+    let wrote = write_session(rt, alloc, &Always { end: None }, &mut sink, out);
+    if wrote.cut || wrote.broke {
+        return None;
+    }
+    Some(sink)
 }
 
 #[test]
 fn ordered_bodies_are_written(rt: HostRuntime) -> Result<(), Fail> {
     let alloc = rt.alloc();
     let (_inn, mut out, mut hub) = Lane::new(alloc)?;
-    let body = Body::new(b"{}".to_vec(alloc)?);
-    assert!(rt; hub.push(&rt, Order::Body(body)).is_ok() && hub.push(&rt, Order::Close).is_ok());
-    let mut sink = MemSink::new(alloc, Vec::new(alloc), None);
-    let wrote = write_session(&rt, alloc, &Always { end: None }, &mut sink, &mut out);
-    assert!(rt; !wrote.cut && !wrote.broke);
-    assert_eq!(rt; sink.bytes(), b"Content-Length: 2\r\n\r\n{}".as_slice());
-    assert_eq!(rt; hub.next_side(&rt), Some(Side::Wrote));
+    assert!(rt; order(&rt, alloc, &mut hub)?);
+    let frame = b"Content-Length: 2\r\n\r\n{}".as_slice();
+    assert!(rt; matches!(write(&rt, alloc, &mut out), Some(sink) if sink.bytes() == frame));
+    assert!(rt; hub.next_side(&rt) == Some(Side::Wrote));
     Ok(())
 }

@@ -15,23 +15,37 @@ fn play<R: Wait>(rt: &R, alloc: Global, items: Vec<Posted>, begin: Begin) -> Res
     }
 }
 
+// A link, a body and its end.
+fn session(alloc: Global, bytes: &[u8]) -> Result<Vec<Posted>, Fail> {
+    let body = Body::new(Vec::from_slice(alloc, bytes)?);
+    let mut items = Vec::new(alloc);
+    items.push(Posted::Link)?;
+    items.push(Posted::Body(body))?;
+    items.push(Posted::Ended(Why::End))?;
+    Ok(items)
+}
+
 #[test]
 fn a_session_gets_its_bodies_back(rt: HostRuntime) -> Result<(), Fail> {
     let alloc = rt.alloc();
-    let hover = Body::new(Vec::from_slice(alloc, b"hover")?);
-    let items = vec![in alloc; Posted::Link, Posted::Body(hover), Posted::Ended(Why::End)]?;
-    let ran = play(&rt, alloc, items, Begin::Fresh)?;
+    let ran = play(&rt, alloc, session(alloc, b"hover")?, Begin::Fresh)?;
     let is_so = !ran.spent && ran.echo.joined() == 1;
     assert!(rt; is_so && matches!(ran.orders.as_slice(), [Order::Body(_), Order::Done]));
     Ok(())
 }
 
+// A deck that begins so does nothing with this item, and its work ends.
+fn ends<R: Wait>(rt: &R, alloc: Global, item: Posted, begin: Begin) -> Result<bool, Fail> {
+    let mut items = Vec::new(alloc);
+    items.push(item)?;
+    let ran = play(rt, alloc, items, begin)?;
+    Ok(ran.spent && ran.echo.joined() == 0 && ran.orders.is_empty())
+}
+
 #[test]
 fn an_item_out_of_its_place_or_a_failed_lane_ends_the_work(rt: HostRuntime) -> Result<(), Fail> {
     let alloc = rt.alloc();
-    for (item, begin) in [(Posted::Up, Begin::Fresh), (Posted::Link, Begin::Failed)] {
-        let ran = play(&rt, alloc, vec![in alloc; item]?, begin)?;
-        assert!(rt; ran.spent && ran.echo.joined() == 0 && ran.orders.is_empty());
-    }
+    assert!(rt; ends(&rt, alloc, Posted::Up, Begin::Fresh)?);
+    assert!(rt; ends(&rt, alloc, Posted::Link, Begin::Failed)?);
     Ok(())
 }

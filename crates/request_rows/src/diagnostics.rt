@@ -1,6 +1,6 @@
+use crate::texts::read;
 use diagnostics_route::{Agreement, LastList, Lists, fits, published, shown};
 use message_body::Memory;
-use rpc_message::Message;
 use std::alloc::Global;
 use std::test::Fail;
 
@@ -19,14 +19,6 @@ const OTHER: &str =
 const NONE: &str =
     r#"{"jsonrpc":"2.0","method":"textDocument/publishDiagnostics","params":{"diagnostics":[],"uri":"file:\/\/\/u"}}"#;
 
-// The message that a short body is.
-fn read<'a>(alloc: Global, body: &'a str) -> Option<Message<'a>> {
-    if body.len() > 10_000 {
-        return None;
-    }
-    Message::read(alloc, body.as_bytes()).ok()
-}
-
 // Whether a list that came behind three notifications, of version 1, fits as it should.
 fn are_right(list: &LastList) -> bool {
     fits(list, Agreement::NotOpen)
@@ -40,17 +32,32 @@ fn agrees(held: u32, changed: u128) -> Agreement {
     Agreement::Agrees { held, changed }
 }
 
+// Whether the list of a body that came behind three notifications fits as it should.
+fn fits_rightly(alloc: Global, body: &str) -> Result<bool, Memory> {
+    let Some(message) = read(alloc, body) else {
+        return Ok(false);
+    };
+    match published(alloc, &message, 3)? {
+        Some(list) => Ok(are_right(&list)),
+        None => Ok(false),
+    }
+}
+
+// Whether an editor with this version of the document is shown a body so.
+fn is_shown(alloc: Global, body: &str, own: Option<&[u8]>, so: &str) -> Result<bool, Memory> {
+    match read(alloc, body) {
+        Some(message) => Ok(shown(alloc, &message, own)?.bytes() == so.as_bytes()),
+        None => Ok(false),
+    }
+}
+
 #[test]
 fn a_list_is_shown_with_the_own_version(rt: HostRuntime) -> Result<(), Fail> {
     let alloc = rt.alloc();
-    let first = read(alloc, FIRST).expect(&rt, "a message");
-    let list = published(alloc, &first, 3)?.expect(&rt, "a list");
-    assert!(rt; are_right(&list));
-    let own: &[u8] = b"5";
-    assert!(rt; shown(alloc, &first, Some(own))?.bytes() == OWN.as_bytes());
-    assert!(rt; shown(alloc, &first, None)?.bytes() == PLAIN.as_bytes());
-    let other = read(alloc, OTHER).expect(&rt, "a message");
-    assert!(rt; shown(alloc, &other, Some(own))?.bytes() == OTHER.as_bytes());
+    assert!(rt; fits_rightly(alloc, FIRST)?);
+    assert!(rt; is_shown(alloc, FIRST, Some(b"5"), OWN)?);
+    assert!(rt; is_shown(alloc, FIRST, None, PLAIN)?);
+    assert!(rt; is_shown(alloc, OTHER, Some(b"5"), OTHER)?);
     Ok(())
 }
 
@@ -65,6 +72,19 @@ fn take(alloc: Global, lists: &mut Lists, body: &str) -> Result<Option<u64>, Mem
     }
 }
 
+fn has_places(lists: &Lists, count: u64) -> bool {
+    lists.count() == count && lists.get(count).is_none()
+}
+
+// The one list that isn't empty has this number.
+fn is_alone(lists: &Lists, number: u64) -> Result<bool, Memory> {
+    Ok(lists.nonempty()?.as_slice() == [number].as_slice())
+}
+
+fn is_at(lists: &Lists, uri: &[u8], number: u64) -> bool {
+    lists.number_of(uri) == Some(number)
+}
+
 #[test]
 fn an_empty_list_keeps_its_place(rt: HostRuntime) -> Result<(), Fail> {
     let alloc = rt.alloc();
@@ -72,9 +92,8 @@ fn an_empty_list_keeps_its_place(rt: HostRuntime) -> Result<(), Fail> {
     assert!(rt; take(alloc, &mut lists, FIRST)? == Some(0));
     assert!(rt; take(alloc, &mut lists, OTHER)? == Some(1));
     assert!(rt; take(alloc, &mut lists, NONE)? == Some(0));
-    assert!(rt; lists.count() == 2);
-    assert!(rt; lists.nonempty()?.as_slice() == [1].as_slice());
-    assert!(rt; lists.number_of(b"file:///v") == Some(1));
-    assert!(rt; lists.get(2).is_none());
+    assert!(rt; has_places(&lists, 2));
+    assert!(rt; is_alone(&lists, 1)?);
+    assert!(rt; is_at(&lists, b"file:///v", 1));
     Ok(())
 }

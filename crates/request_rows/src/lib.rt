@@ -1,5 +1,6 @@
 //! Tests of the tables of asks, of registrations, of progress tokens and of last lists of diagnostics, of what no session of mux_rows
-//! comes to, through the public calls of ask_route, registrations, progress_route and diagnostics_route.
+//! comes to, through the public calls of ask_route, registrations, progress_route and diagnostics_route. Each call stands in a function
+//! without clauses, since a test is dear by what is known of the calls before.
 #![tactic(auto)]
 
 #[cfg(test)]
@@ -12,3 +13,5 @@ mod held;
 mod live;
 #[cfg(test)]
 mod progress;
+#[cfg(test)]
+mod texts;
