@@ -322,8 +322,14 @@ const LEFT: [(&str, &str); 12] = [
 
 // As many requests wait as may of one editor, and one more fails; another one may wait where one of them is cancelled.
 fn full(alloc: Global) -> Result<(String, String), AllocError> {
-    let mut lines = String::from_str(alloc, "exit 0\n")?;
-    let mut outs = String::from_str(alloc, ">spawn 1 0\n")?;
+    let mut lines = String::new(alloc);
+    let mut outs = String::new(alloc);
+    for (line, out) in OPENING {
+        lines.push_str(line)?;
+        outs.push_str(out)?;
+    }
+    lines.push_str("exit 0\n")?;
+    outs.push_str(">spawn 1 0\n")?;
     for id in 0..257 {
         writeln!(
             lines,
@@ -379,5 +385,5 @@ fn so_many_requests_of_an_editor_wait(rt: HostRuntime) -> Result<(), Fail> {
     let alloc = rt.alloc();
     let (lines, outs) = full(alloc)?;
     let rows = [(lines.as_str(), outs.as_str())];
-    play(&rt, alloc, limits(MOST, MOST), &[&OPENING, &rows], Ok(()))
+    play(&rt, alloc, limits(MOST, MOST), &[&rows], Ok(()))
 }
