@@ -10,7 +10,8 @@ ghost use Rattle.mux_history.specs.Cores.{body_length};
 
 use itoa::Buffer;
 use message_body::Body;
-use mux_history::{Cause, DropJournal, Out};
+use mux_history::{Cause, Out};
+use mux_steps::DropJournal;
 use mux_hub::{Hub, Limits};
 use std::alloc::Global;
 use std::env;

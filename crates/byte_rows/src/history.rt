@@ -1,5 +1,6 @@
 use message_body::Body;
-use mux_history::{Cause, DropJournal, Entry, Journal, JournalFault, MemJournal, Out, Outs};
+use mux_history::{Cause, Entry, Out, Outs};
+use mux_steps::{DropJournal, Journal, JournalFault, MemJournal};
 use std::alloc::{AllocError, Global};
 use std::test::Fail;
 

@@ -1,11 +1,12 @@
 // A journal of lines.
 ghost use Rattle.std.specs.Prelude.{◌≡◌, ℕ, None, OnOk, IsErrOf, take};
 ghost use Rattle.std.specs.Io.KnownBytes.{append_known};
-ghost use Rattle.mux_history.specs.Journals.{AppendCause};
+ghost use Rattle.mux_steps.specs.Journals.{AppendCause};
 ghost use Rattle.drive_text.specs.Spellings.{entry_lines};
 
 use crate::write::write_entry;
-use mux_history::{Entry, Journal, JournalFault};
+use mux_history::Entry;
+use mux_steps::{Journal, JournalFault};
 use outside_io::{Sink, write_whole};
 use std::alloc::Global;
 

@@ -7,7 +7,8 @@ ghost use Rattle.drive_text.specs.Forms.{within, cause_within, IsRefused};
 
 use crate::read::cause_of;
 use message_body::Memory;
-use mux_history::{Cause, Steps};
+use mux_history::Cause;
+use mux_steps::Steps;
 use std::alloc::Global;
 
 /// Why a line gave no cause.

@@ -2,8 +2,8 @@
 use Rattle.std.proofs.Common.{◌≡◌, ℕ, ◌≤◌, Bool, true, false, not, List, [], ◌++◌, refl, sym, ap, arith, Option, Some, None}
 use Rattle.outside_io.specs.Faults.{Rose}
 use Rattle.mux_history.specs.declared.entry.Entry.{Entry}
-use Rattle.mux_history.specs.declared.steps.StepFault.{StepFault}
-use Rattle.mux_history.specs.declared.steps.StepFault.TheVariants as fault
+use Rattle.mux_steps.specs.declared.fault.StepFault.{StepFault}
+use Rattle.mux_steps.specs.declared.fault.StepFault.TheVariants as fault
 use Rattle.lane_lists.specs.Seats.{Seats}
 use Rattle.lane_lists.specs.Deeds.{start}
 use Rattle.lane_queue.specs.Ends.{HubSide}

@@ -2,8 +2,8 @@
 use Rattle.std.specs.Prelude.{◌≡◌, ℕ, ◌+◌, ◌≤◌, Bool, true, false, List, [], ◌++◌, ◌∷◌, if◌then◌else◌, length, slice_get, slice_set, Option, Some, None}
 use Rattle.outside_io.specs.Faults.{Rose}
 use Rattle.mux_history.specs.declared.entry.Entry.{Entry}
-use Rattle.mux_history.specs.declared.steps.StepFault.{StepFault}
-use Rattle.mux_history.specs.declared.steps.StepFault.TheVariants as fault
+use Rattle.mux_steps.specs.declared.fault.StepFault.{StepFault}
+use Rattle.mux_steps.specs.declared.fault.StepFault.TheVariants as fault
 use Rattle.mux_history.specs.Cores.{spawns}
 use Rattle.lane_lists.specs.declared.item.LaneName.{LaneName}
 use Rattle.lane_lists.specs.declared.item.Order.{Order}

@@ -11,7 +11,7 @@ use crate::seats::Seats;
 use crate::woken::Woken;
 use lane_lists::LaneName;
 use lane_queue::HubEnds;
-use mux_history::{StepFault, Steps};
+use mux_steps::{StepFault, Steps};
 use std::alloc::Global;
 use std::marker::{Brand, Model, PhantomData};
 use std::sync::{Mutex, Wait};

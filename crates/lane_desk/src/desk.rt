@@ -16,7 +16,8 @@ use crate::seats::Seats;
 use crate::woken::Woken;
 use lane_lists::{Item, LaneName, Meaning, Order};
 use lane_queue::HubEnds;
-use mux_history::{Cause, Outs, StepFault, Steps};
+use mux_history::{Cause, Outs};
+use mux_steps::{StepFault, Steps};
 use std::sync::Wait;
 
 // Takes an item of a lane: first what is said of its orders.

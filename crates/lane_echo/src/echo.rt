@@ -4,7 +4,8 @@ ghost use Rattle.mux_history.specs.Cores.{joins, spawns_of_outs};
 ghost use Rattle.lane_echo.specs.Stops.{is_stop, spawns_by, starts_of};
 
 use message_body::{Body, Memory};
-use mux_history::{Cause, Out, Outs, StepFault, Steps};
+use mux_history::{Cause, Out, Outs};
+use mux_steps::{StepFault, Steps};
 use std::alloc::Global;
 
 /// The core. An empty body of an editor asks it to stop: it goes back, and behind it that editor is closed and each start is ended.

@@ -3,7 +3,8 @@ ghost use Rattle.mux_history.specs.Cores.{joins};
 
 use drive_text::{LineFault, LineJournal, cause_of_line, make, read_line, write_outs};
 use message_body::Body;
-use mux_history::{Cause, Entry, Journal, JournalFault, Out, Outs, StepFault, Steps, Why};
+use mux_history::{Cause, Entry, Out, Outs, Why};
+use mux_steps::{Journal, JournalFault, StepFault, Steps};
 use outside_io::MemSink;
 use std::alloc::{AllocError, Global};
 use std::test::Fail;

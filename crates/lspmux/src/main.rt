@@ -7,7 +7,7 @@ mod words;
 use crate::streams::{Reading, Writing};
 use crate::words::words;
 use lspmux_program::{Outside, lspmux};
-use mux_history::DropJournal;
+use mux_steps::DropJournal;
 use std::process::ExitCode;
 
 fn main(rt: HostRuntime) -> ExitCode {

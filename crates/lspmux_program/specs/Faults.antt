@@ -1,6 +1,6 @@
 -- What a step's fault becomes, and which faults leave all outs written.
-use Rattle.mux_hub.specs.declared.fault.StepFault.{StepFault}
-use Rattle.mux_hub.specs.declared.fault.StepFault.TheVariants as step_fault
+use Rattle.mux_steps.specs.declared.fault.StepFault.{StepFault}
+use Rattle.mux_steps.specs.declared.fault.StepFault.TheVariants as step_fault
 use Rattle.lspmux_program.specs.declared.step.TakeFault.{TakeFault}
 use Rattle.lspmux_program.specs.declared.step.TakeFault.TheVariants as take_fault
 

@@ -8,7 +8,7 @@ use crate::buffer::Buffer;
 use crate::line::{InputLine, next_line};
 use crate::step::take_line;
 use crate::stop::{Stop, fault_at, stop_at};
-use mux_history::Journal;
+use mux_steps::Journal;
 use mux_hub::Hub;
 use outside_io::{Sink, Source};
 use std::alloc::Global;

@@ -10,7 +10,7 @@ use crate::all_lines::drive;
 use crate::report::{report, write_fault};
 use crate::stop::Stop;
 use message_body::{Body, Memory};
-use mux_history::Journal;
+use mux_steps::Journal;
 use mux_hub::{Hub, Limits, Server};
 use outside_io::{Sink, Source};
 use std::alloc::Global;

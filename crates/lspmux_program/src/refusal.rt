@@ -5,7 +5,8 @@ ghost use Rattle.mux_hub.specs.Hubs.{HubStands};
 ghost use Rattle.mux_model.specs.Fits.{fits};
 ghost use Rattle.lspmux_program.specs.Runs.{judged};
 
-use mux_history::{Cause, Journal};
+use mux_history::Cause;
+use mux_steps::Journal;
 use mux_hub::Hub;
 
 /// The most bytes of a body.

@@ -5,7 +5,7 @@ ghost use Rattle.mux_daemon.specs.Events.{ServedLaw};
 ghost use Rattle.mux_daemon.specs.Causes.{EventsLaw};
 
 use lane_lists::{origins_law, sessions_law, sides_law, start_sessions_law};
-use mux_history::Steps;
+use mux_steps::Steps;
 use outside_io::{Berth, Clock, MemPort, Port};
 
 /// The links of a served port are, in their order, those of the editors that the history has from its lane, perhaps one whose

@@ -1,2 +1,1 @@
 pub mod Cores
-pub mod Journals

@@ -5,7 +5,7 @@ use Rattle.std.proofs.lemmas.List.Sums.{fold-append}
 use Rattle.mux_history.specs.declared.cause.Cause.{Cause}
 use Rattle.mux_history.specs.declared.out.Out.{Out}
 use Rattle.mux_history.specs.declared.entry.Entry.{Entry}
-use Rattle.mux_history.specs.Journals.{append_told}
+use Rattle.mux_steps.specs.Journals.{append_told}
 use Rattle.event_model.specs.Event.{Event, behind, events_of, with_cause, with_entry}
 use Rattle.event_model.specs.Settings.{Settings}
 use Rattle.mux_facts.specs.Ranges.{InRange}
@@ -23,10 +23,10 @@ use Rattle.mux_causes.specs.mux_turns.specs.Carried.{CarriedStand, CarriesView}
 use Rattle.group_sessions.specs.group_facts.specs.Ceilings.{HaveCeilings}
 use Rattle.mux_causes.specs.Backlogs.{BacklogsStand}
 use Rattle.mux_hub.specs.Entries.{emits, entry_of, most_events, passes}
-use Rattle.mux_hub.specs.Faults.{Counted, step_fault_of}
-use Rattle.mux_hub.specs.declared.fault.StepFault.{StepFault}
-use Rattle.mux_history.specs.declared.journal.JournalFault.{JournalFault}
-use Rattle.mux_history.specs.declared.journal.JournalFault.TheVariants.{Failed, Memory}
+use Rattle.mux_steps.specs.Faults.{Counted, step_fault_of}
+use Rattle.mux_steps.specs.declared.fault.StepFault.{StepFault}
+use Rattle.mux_steps.specs.declared.journal.JournalFault.{JournalFault}
+use Rattle.mux_steps.specs.declared.journal.JournalFault.TheVariants.{Failed, Memory}
 use Rattle.mux_hub.proofs.OwnTexts.{own_more}
 use Rattle.mux_hub.proofs.Quick.{none_slow}
 use Rattle.mux_hub.proofs.Counting.{at_most, entry_counts, few_of, passes_by, too_many}

@@ -1,5 +1,4 @@
 pub mod Entries
-pub mod Faults
 pub mod Hubs
 pub mod Sessions
 pub mod Starts

@@ -11,17 +11,17 @@ ghost use Rattle.group_sessions.specs.group_facts.specs.Facts.{Known};
 ghost use Rattle.group_sessions.specs.group_facts.specs.Settled.{Settled};
 ghost use Rattle.group_sessions.specs.group_facts.specs.SlowRows.{entry_outs};
 ghost use Rattle.mux_hub.specs.Entries.{emits, entry_of, most_events, passes, was_stopped};
-ghost use Rattle.mux_hub.specs.Faults.{Counted};
+ghost use Rattle.mux_steps.specs.Faults.{Counted};
 ghost use Rattle.mux_hub.specs.Hubs.{HubView, HubStands, TablesStand, Tells};
 ghost use Rattle.mux_hub.specs.Starts.{servers_of};
 
-use crate::fault::StepFault;
 use crate::starts::note_spawns;
 use event_model::{Limits, Server};
 use message_body::Memory;
 use mux_causes::mux_tables::Tables;
 use mux_causes::{Backlogs, Carries};
-use mux_history::{Cause, Entry, Journal, Outs, StepFault as CoreFault, Steps};
+use mux_history::{Cause, Entry, Outs};
+use mux_steps::{Journal, StepFault, Steps};
 use std::alloc::Global;
 use std::marker::Model;
 
@@ -235,7 +235,7 @@ impl<J: Journal> Hub<J> {
 /// What threads may know of the hub: an editor that is there asks it to stop (E6).
 impl<J: Journal> Steps for Hub<J> {
     ghost use Rattle.mux_model.specs.Fits.{fits};
-    ghost use Rattle.mux_hub.specs.Entries.{asks_stop, was_stopped};
+    ghost use Rattle.mux_hub.specs.Entries.{asks_stop, passes, was_stopped};
     ghost use Rattle.mux_hub.specs.Hubs.{HubStands};
 
     ghost stands = { λ hub history. HubStands J.told hub history };
@@ -245,6 +245,8 @@ impl<J: Journal> Steps for Hub<J> {
     ghost spent = { λ hub. hub.spent };
 
     ghost allows = { fits };
+
+    ghost passes = { λ hub history cause. passes hub.settings history cause };
 
     ghost asks_stop = { asks_stop };
 
@@ -266,13 +268,7 @@ impl<J: Journal> Steps for Hub<J> {
         Hub::server_of(self, start)
     }
 
-    fn step(&mut self, cause: Cause) -> Result<Outs, CoreFault> {
-        match Hub::step(self, cause) {
-            Ok(outs) => Ok(outs),
-            Err(StepFault::Memory) => Err(CoreFault::Memory),
-            Err(StepFault::Journal) => Err(CoreFault::Journal),
-            Err(StepFault::Numbers) => Err(CoreFault::Numbers),
-            Err(StepFault::Spent) => Err(CoreFault::Spent),
-        }
+    fn step(&mut self, cause: Cause) -> Result<Outs, StepFault> {
+        Hub::step(self, cause)
     }
 }

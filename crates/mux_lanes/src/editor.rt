@@ -12,7 +12,7 @@ use crate::session::{Ends, Link, Ran, is_whole, run_session};
 use crate::switchboard::Switchboard;
 use lane_desk::Naming;
 use lane_lists::{LaneName, Posted};
-use mux_history::Steps;
+use mux_steps::Steps;
 use outside_io::{Arrival, Port};
 use std::alloc::Global;
 use std::sync::Wait;

@@ -5,7 +5,7 @@ use crate::switchboard::Switchboard;
 use lane_desk::Naming;
 use lane_lists::Posted;
 use lane_queue::LaneIn;
-use mux_history::Steps;
+use mux_steps::Steps;
 use std::sync::Wait;
 
 /// Posts an item. One that was refused, since memory ran out, makes the core go on no more.

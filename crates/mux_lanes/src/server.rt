@@ -14,7 +14,7 @@ use crate::switchboard::Switchboard;
 use lane_desk::Naming;
 use lane_lists::{LaneName, Order, Posted};
 use lane_queue::LaneOut;
-use mux_history::Steps;
+use mux_steps::Steps;
 use outside_io::{Berth, StartFault};
 use std::alloc::Global;
 use std::sync::Wait;

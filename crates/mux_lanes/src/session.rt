@@ -11,7 +11,7 @@ use crate::switchboard::Switchboard;
 use lane_desk::Naming;
 use lane_lists::{LaneName, Order};
 use lane_queue::{LaneIn, LaneOut};
-use mux_history::Steps;
+use mux_steps::Steps;
 use outside_io::{Sink, Source};
 use session_io::{Core, End, Stop, Wrote, read_session, write_session};
 use std::alloc::Global;

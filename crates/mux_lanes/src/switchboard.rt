@@ -6,7 +6,7 @@ use crate::bell::{Bell, bells};
 use crate::lane_end::LaneEnd;
 use lane_desk::{Deck, Naming, Took, Woken};
 use lane_lists::LaneName;
-use mux_history::Steps;
+use mux_steps::Steps;
 use std::alloc::Global;
 use std::sync::Wait;
 

@@ -9,7 +9,7 @@ use crate::switchboard::Switchboard;
 use lane_desk::Naming;
 use lane_lists::{LaneName, Posted};
 use lane_queue::LaneIn;
-use mux_history::Steps;
+use mux_steps::Steps;
 use outside_io::Clock;
 use std::sync::Wait;
 

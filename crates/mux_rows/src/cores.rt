@@ -5,7 +5,8 @@ ghost use Rattle.mux_history.specs.Cores.{body_length};
 use crate::play::limits;
 use lspmux_program::Hub;
 use message_body::Body;
-use mux_history::{Cause, MemJournal, StepFault, Steps};
+use mux_history::Cause;
+use mux_steps::{MemJournal, StepFault, Steps};
 use std::test::Fail;
 
 // How many outs a core gives to a cause that can come; None where it can't come.

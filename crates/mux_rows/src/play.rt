@@ -3,7 +3,7 @@ ghost use Rattle.std.specs.Prelude.{◌≡◌, ◌≤◌, IfOk};
 
 use lspmux_program::{Hub, Limits, Server, Stop, drive};
 use message_body::Body;
-use mux_history::MemJournal;
+use mux_steps::MemJournal;
 use outside_io::{MemSink, MemSource};
 use std::alloc::{AllocError, Global};
 use std::process::Abort;

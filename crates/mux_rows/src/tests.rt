@@ -5,7 +5,8 @@ use crate::slow::{BOTH_SLOW, FILLED, TAKEN, TOO_MANY_TAKEN};
 use crate::statuses::STATUSES;
 use crate::stops::{STOPPED, UNSTOPPED};
 use lspmux_program::{Hub, Refusal, StepFault, Stop};
-use mux_history::{Cause, Journal, MemJournal};
+use mux_history::Cause;
+use mux_steps::{Journal, MemJournal};
 use std::test::Fail;
 
 pub const MOST: u32 = 2_147_483_647;

@@ -3,7 +3,7 @@ ghost use Rattle.std.specs.Prelude.{[], Some};
 ghost use Rattle.lspmux_program.specs.Program.{JournalTells};
 
 use lspmux_program::{Outside, lspmux};
-use mux_history::{DropJournal, Journal, MemJournal};
+use mux_steps::{DropJournal, Journal, MemJournal};
 use outside_io::{MemSink, MemSource};
 use std::alloc::{AllocError, Global};
 use std::process::Abort;

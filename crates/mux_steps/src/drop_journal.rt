@@ -1,8 +1,8 @@
 // A journal that keeps nothing.
 ghost use Rattle.std.specs.Prelude.{◌≡◌, None, IsOk};
 
-use crate::entry::Entry;
 use crate::journal::{Journal, JournalFault};
+use mux_history::Entry;
 
 /// A journal that keeps and tells nothing, and whose append always succeeds.
 #[derive(Debug, Drop)]

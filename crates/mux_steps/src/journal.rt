@@ -1,10 +1,10 @@
 // Where entries are kept.
 ghost use Rattle.std.specs.Prelude.{◌≡◌, ℕ, List, [], ◌∷◌, OnOk, OnErr, Option};
 ghost use Rattle.mux_history.specs.declared.entry.Entry.{Entry};
-ghost use Rattle.mux_history.specs.declared.journal.JournalFault.TheVariants as fault;
-ghost use Rattle.mux_history.specs.Journals.{append_told, AppendCause};
+ghost use Rattle.mux_steps.specs.declared.journal.JournalFault.TheVariants as fault;
+ghost use Rattle.mux_steps.specs.Journals.{append_told, AppendCause};
 
-use crate::entry::Entry;
+use mux_history::Entry;
 
 /// An append that added nothing: the outside failed, or memory was wanted.
 #[derive(Clone, Copy, Debug, PartialEq, Eq)]

@@ -1,8 +1,8 @@
 // A journal in memory.
 ghost use Rattle.std.specs.Prelude.{◌≡◌, Some, []};
 
-use crate::entry::Entry;
 use crate::journal::{Journal, JournalFault};
+use mux_history::Entry;
 use std::alloc::Global;
 
 /// A journal that keeps its entries and tells them; the appends whose numbers, from 0, stand in `fails` fail.

@@ -1,8 +1,8 @@
 // Why a step gave no outs.
+use crate::journal::JournalFault;
 use message_body::Memory;
-use mux_history::JournalFault;
 
-/// A step that gave no outs. The hub is spent from then on.
+/// Why a step of a core gave no outs. The core is spent from then on.
 #[derive(Clone, Copy, Debug, PartialEq, Eq)]
 pub enum StepFault {
     /// Memory was wanted.
@@ -17,7 +17,7 @@ pub enum StepFault {
 
 impl From<Memory> for StepFault {
     ghost use Rattle.std.specs.Prelude.{◌≡◌};
-    ghost use Rattle.mux_hub.specs.declared.fault.StepFault.TheVariants as step_fault;
+    ghost use Rattle.mux_steps.specs.declared.fault.StepFault.TheVariants as step_fault;
 
     ghost from_gives = { λ _ e. e ≡ step_fault.Memory };
 
@@ -28,7 +28,7 @@ impl From<Memory> for StepFault {
 
 impl From<JournalFault> for StepFault {
     ghost use Rattle.std.specs.Prelude.{◌≡◌};
-    ghost use Rattle.mux_hub.specs.Faults.{step_fault_of};
+    ghost use Rattle.mux_steps.specs.Faults.{step_fault_of};
 
     ghost from_gives = { λ fault e. e ≡ step_fault_of fault };
 

@@ -1,8 +1,8 @@
 -- What an append does to the entries that a journal tells, and to its count of faults.
 use Rattle.std.specs.Prelude.{ℕ, ◌≤◌, List, ◌++◌, Option, option_map, Result, IsErrOf}
 use Rattle.mux_history.specs.declared.entry.Entry.{Entry}
-use Rattle.mux_history.specs.declared.journal.JournalFault.{JournalFault}
-use Rattle.mux_history.specs.declared.journal.JournalFault.TheVariants.{Failed}
+use Rattle.mux_steps.specs.declared.journal.JournalFault.{JournalFault}
+use Rattle.mux_steps.specs.declared.journal.JournalFault.TheVariants.{Failed}
 use Rattle.outside_io.specs.Faults.{Rose}
 
 -- the told entries, and then these

@@ -1,25 +1,13 @@
 // A core of the multiplexer, as the threads and the lines of `drive` use one.
-ghost use Rattle.std.specs.Prelude.{◌≡◌, ◌≢◌, ℕ, ◌≤◌, ◌↔◌, List, [], ◌∷◌, ◌++◌, Bool, true, false, IsTrue, IsNone, IfOk, OnOk, OnErr, IsErrOf};
+ghost use Rattle.std.specs.Prelude.{◌≡◌, ◌≢◌, ℕ, ◌≤◌, ◌↔◌, List, [], ◌∷◌, ◌++◌, Bool, true, false, IsTrue, IsNone, IfOk, OnOk, OnErr, IsErrOf, IsOkUnless};
 ghost use Rattle.outside_io.specs.Faults.{Rose};
 ghost use Rattle.mux_history.specs.declared.entry.Entry.{Entry};
 ghost use Rattle.mux_history.specs.declared.cause.Cause.{Cause};
 ghost use Rattle.mux_history.specs.Cores.{joined, spawns, body_length};
+ghost use Rattle.mux_steps.specs.Faults.{Counted};
 
-use crate::cause::Cause;
-use crate::outs::Outs;
-
-/// Why a step of a core gave no outs. The core is spent from then on.
-#[derive(Clone, Copy, Debug, PartialEq, Eq)]
-pub enum StepFault {
-    /// Memory was wanted.
-    Memory,
-    /// The journal's append failed.
-    Journal,
-    /// The causes and outs would number more than 2^63 - 1.
-    Numbers,
-    /// An earlier step had a fault.
-    Spent,
-}
+use crate::fault::StepFault;
+use mux_history::{Cause, Outs};
 
 /// A core of the multiplexer: it stands for a history, and each step that answers Ok adds one entry to that history,
 /// with the step's cause and the answered outs.
@@ -37,6 +25,9 @@ pub trait Steps {
 
     /// Which causes can come behind a history.
     ghost allows: { List Entry → Cause → Bool };
+
+    /// Which causes, with their outs behind a history, would be more than it can number.
+    ghost passes: { Self → List Entry → Cause → Bool };
 
     /// Which causes ask it to stop.
     ghost asks_stop: { List Entry → Cause → Bool };
@@ -77,6 +68,10 @@ pub trait Steps {
         ensures ready { OnOk result (spent self.new ≡ false) }
         ensures over { OnErr result (spent self.new ≡ true) }
         ensures spent_only { IsErrOf result StepFault.Spent ↔ (spent self.old ≡ true) }
+        ensures numbers { (history : List Entry) → stands self.old history → spent self.old ≡ false
+            → Counted (passes self.old history cause) result }
         ensures journal_only { IsErrOf result StepFault.Journal → Rose (faults self.old) (faults self.new) }
-        ensures later { faults self.old ≤ faults self.new };
+        ensures later { faults self.old ≤ faults self.new }
+        ensures complete { (history : List Entry) → stands self.old history → spent self.old ≡ false
+            → passes self.old history cause ≡ false → ¬ Rose (faults self.old) (faults self.new) → IsOkUnless result StepFault.Memory };
 }
