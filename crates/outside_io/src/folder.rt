@@ -1,5 +1,5 @@
 // A folder of files.
-ghost use Rattle.std.specs.Prelude.{◌≡◌, ℕ, ◌≤◌, List, IfOk, IsErrOf, IfSome, Option, Some};
+ghost use Rattle.std.specs.Prelude.{◌≡◌, ℕ, ◌≤◌, List, length, IfOk, IsErrOf, IfSome, Option, Some};
 ghost use Rattle.outside_io.specs.Faults.{Rose};
 ghost use Rattle.outside_io.specs.Files.{File, bytes_at};
 
@@ -33,8 +33,10 @@ pub trait Folder {
     /// How many reads failed.
     ghost faults: { Self → ℕ };
 
-    /// The bytes of the first file of that path. `Failed` comes only where the count rose.
-    fn read(&mut self, path: &str) -> Result<Vec<u8>, FolderFault>
+    /// The bytes of the first file of that path, at most `most`. A longer file is a failed read. `Failed` comes only where
+    /// the count rose.
+    fn read(&mut self, path: &str, most: u64) -> Result<Vec<u8>, FolderFault>
+        ensures most { IfOk result (λ bytes. length bytes.items ≤ most) }
         ensures bytes { IfOk result (λ bytes. IfSome (files self.old) (λ files. bytes_at path.now files ≡ Some bytes.items)) }
         ensures files { files self.new ≡ files self.old }
         ensures failed { IsErrOf result FolderFault.Failed → Rose (faults self.old) (faults self.new) }

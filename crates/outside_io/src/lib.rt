@@ -5,6 +5,7 @@
 mod berth;
 mod clock;
 mod door;
+mod ending;
 mod folder;
 mod memory;
 mod meter;
@@ -15,6 +16,7 @@ mod source;
 pub use berth::{Berth, StartFault};
 pub use clock::Clock;
 pub use door::{Door, DoorFault, Place};
+pub use ending::{Ending, Endings};
 pub use folder::{Folder, FolderFault};
 pub use memory::berth::MemBerth;
 pub use memory::clock::SetClock;

@@ -3,6 +3,8 @@ ghost use Rattle.std.specs.Prelude.{◌≡◌, ℕ, ◌≤◌, ◌<◌, List, le
 ghost use Rattle.std.specs.Io.KnownBytes.{append_known};
 ghost use Rattle.outside_io.specs.Faults.{HasCause, Rose};
 
+use crate::ending::Ending;
+
 /// A write that took nothing, because the outside failed.
 #[derive(Clone, Copy, Debug, PartialEq, Eq)]
 pub enum WriteFault {
@@ -19,6 +21,15 @@ pub trait Sink {
 
     /// How many writes failed or took nothing of a piece that wasn't empty.
     ghost faults: { Self → ℕ };
+
+    /// Tells whose session it is written in, before the first write. A write may fail once the end of that session was
+    /// ordered.
+    fn heed(&mut self, ending: Ending)
+        ensures kept { written self.new ≡ written self.old }
+        ensures same { faults self.new ≡ faults self.old }
+    {
+        drop(ending);
+    }
 
     /// Takes bytes off the front of `bytes` and answers how many.
     fn write(&mut self, bytes: &[u8]) -> Result<usize, WriteFault>

@@ -128,11 +128,12 @@ fn a_folder_gives_the_first_file_of_a_path(rt: HostRuntime) -> Result<(), Fail> 
     let mut folder = MemFolder::new(files);
     assert_eq!(rt;
         folder
-            .read("b.toml")
+            .read("b.toml", 1)
             .map(|bytes| bytes.as_slice() == b"2".as_slice()),
         Ok(true)
     );
-    assert_eq!(rt; folder.read("b"), Err(FolderFault::Failed));
+    assert_eq!(rt; folder.read("b", 1), Err(FolderFault::Failed));
+    assert_eq!(rt; folder.read("b.toml", 0), Err(FolderFault::Failed));
     Ok(())
 }
 

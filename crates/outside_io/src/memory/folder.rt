@@ -1,12 +1,12 @@
 // A folder in memory.
-ghost use Rattle.std.specs.Prelude.{◌≡◌, ℕ, ◌≤◌, List, IfOk, IsErrOf, IfSome, Option, Some, map, option_map, string_bytes};
+ghost use Rattle.std.specs.Prelude.{◌≡◌, ℕ, ◌≤◌, List, length, IfOk, IsErrOf, IfSome, Option, Some, map, option_map, string_bytes};
 ghost use Rattle.outside_io.specs.Files.{File, bytes_at, file_of};
 
 use crate::folder::{Folder, FolderFault};
 
 /// A folder whose files, each a path and its bytes, lie in memory.
 ///
-/// A read of a path that no file has fails. Where no memory is left for the bytes, a read answers `Memory`.
+/// A read of a path that no file has fails, and so does one of a file that is too long. Where no memory is left for the bytes, a read answers `Memory`.
 #[derive(Drop)]
 pub struct MemFolder {
     files: Vec<(String, Vec<u8>)>,
@@ -40,11 +40,13 @@ impl Folder for MemFolder {
 
     ghost faults = { λ f. f.faults };
 
-    fn read(&mut self, path: &str) -> Result<Vec<u8>, FolderFault> {
-        let Some(bytes) = find(&self.files, path) else {
-            self.faults = self.faults.saturating_add(1);
-            return Err(FolderFault::Failed);
-        };
-        Ok(bytes.clone()?)
+    fn read(&mut self, path: &str, most: u64) -> Result<Vec<u8>, FolderFault> {
+        match find(&self.files, path) {
+            Some(bytes) if bytes.len() as u64 <= most => Ok(bytes.clone()?),
+            _ => {
+                self.faults = self.faults.saturating_add(1);
+                Err(FolderFault::Failed)
+            }
+        }
     }
 }
