@@ -54,6 +54,13 @@ pub enum Took {
     Over,
 }
 
+// The sessions of all lanes are to end, since the core goes on no more.
+fn end_all(ends: &[HubEnds]) {
+    for lane in ends {
+        lane.end_all();
+    }
+}
+
 /// What lies under the lock.
 #[derive(Drop)]
 pub struct Desk<K: Steps + Drop, N: Naming> {
@@ -106,6 +113,9 @@ impl<K: Steps + Drop, N: Naming> Desk<K, N> {
         );
         self.spent = turned.spent;
         self.why = turned.why;
+        if turned.spent {
+            end_all(&self.ends);
+        }
         if turned.took {
             Took::Item
         } else if turned.spent {
@@ -135,6 +145,7 @@ impl<K: Steps + Drop, N: Naming> Desk<K, N> {
     pub fn fail(&mut self)
         ensures { self.new ≡ record self.old { spent = true } }
     {
+        end_all(&self.ends);
         self.spent = true;
     }
 }

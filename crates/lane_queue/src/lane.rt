@@ -6,6 +6,7 @@ use crate::line;
 use crate::line::{PutEnd, TakeEnd};
 use lane_lists::{Order, Posted, Side};
 use message_body::Memory;
+use outside_io::{Ending, Endings};
 use std::alloc::Global;
 use std::marker::Model;
 use std::sync::Wait;
@@ -35,6 +36,9 @@ impl Model for LaneIn {
 pub struct LaneOut {
     orders: TakeEnd<Order>,
     sides: PutEnd<Side>,
+    endings: Endings,
+    // How many sessions were begun.
+    begun: u64,
 }
 
 impl Model for LaneOut {
@@ -54,6 +58,7 @@ pub struct HubEnds {
     posted: TakeEnd<Posted>,
     sides: TakeEnd<Side>,
     orders: PutEnd<Order>,
+    endings: Endings,
 }
 
 impl Model for HubEnds {
@@ -78,16 +83,25 @@ impl Lane {
         let (post, posted) = line::new(alloc)?;
         let (put_side, sides) = line::new(alloc)?;
         let (orders, take_order) = line::new(alloc)?;
+        let Ok(endings) = Endings::new(alloc) else {
+            return Err(Memory);
+        };
+        let Ok(theirs) = endings.share() else {
+            return Err(Memory);
+        };
         Ok((
             LaneIn { posted: post },
             LaneOut {
                 orders: take_order,
                 sides: put_side,
+                endings: theirs,
+                begun: 0,
             },
             HubEnds {
                 posted,
                 sides,
                 orders,
+                endings,
             },
         ))
     }
@@ -105,6 +119,18 @@ impl LaneIn {
 }
 
 impl LaneOut {
+    /// The end of the next session, which is ordered as soon as a `Close` or a `Done` that ends it stands in the queue, whatever
+    /// orders stand before it.
+    pub fn begin(&mut self) -> Result<Ending, Memory>
+        ensures { self.new ≡ self.old }
+    {
+        let Ok(ending) = self.endings.of_session(self.begun) else {
+            return Err(Memory);
+        };
+        self.begun = self.begun.saturating_add(1);
+        Ok(ending)
+    }
+
     /// Takes the foremost order. None comes only where the queue held none at that step.
     pub fn take<R: Wait>(&mut self, rt: &R) -> Option<Order>
         ensures queue { (self.new.orders.queue ≡ self.old.orders.queue) × (self.new.sides ≡ self.old.sides) }
@@ -155,7 +181,17 @@ impl HubEnds {
         ensures ok { OnOk result (self.new.orders.pushed ≡ self.old.orders.pushed ++ order ∷ []) }
         ensures err { IfErr result (λ x. (x ≡ order) × (self.new ≡ self.old)) }
     {
-        self.orders.push(rt, order)
+        let ends = matches!(&order, Order::Close | Order::Done);
+        self.orders.push(rt, order)?;
+        if ends {
+            self.endings.raise();
+        }
+        Ok(())
+    }
+
+    /// The ends of all sessions of the lane are ordered, since no order comes any more.
+    pub fn end_all(&self) {
+        self.endings.raise_all();
     }
 }
 
@@ -213,11 +249,13 @@ pub fn settle<R: Wait>(rt: &R, inn: LaneIn, out: LaneOut, hub: HubEnds) -> Settl
     let LaneOut {
         orders: take_order,
         sides: put_side,
+        ..
     } = out;
     let HubEnds {
         posted,
         sides,
         orders,
+        ..
     } = hub;
     Settled {
         posted: line::settle(rt, post, posted),

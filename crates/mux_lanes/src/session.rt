@@ -115,6 +115,23 @@ fn tell<K: Steps + Drop, N: Naming, R: Wait>(rt: &R, desk: &SessionDesk<'_, K, N
     }
 }
 
+// Tells a sink whose session it is written in.
+fn heed<K: Steps + Drop, N: Naming, S: Sink, R: Wait>(
+    rt: &R,
+    desk: &SessionDesk<'_, K, N>,
+    sink: &mut S,
+    out: &mut LaneOut,
+)
+    ensures written { S.written sink.new ≡ S.written sink.old }
+    ensures faults { S.faults sink.new ≡ S.faults sink.old }
+    ensures same { out.new ≡ out.old }
+{
+    match out.begin() {
+        Ok(ending) => sink.heed(ending),
+        Err(_) => desk.board.fail(rt),
+    }
+}
+
 // Writes the session, and closes the sink.
 #[tactic(auto, using(crate::proofs::Sessions::closed_behind))]
 fn write_part<K: Steps + Drop, N: Naming, S: Sink + Drop, R: Wait>(
@@ -130,6 +147,7 @@ fn write_part<K: Steps + Drop, N: Naming, S: Sink + Drop, R: Wait>(
 {
     let mut sink = sink;
     let mut out = out;
+    heed(rt, desk, &mut sink, &mut out);
     let wrote = write_session(rt, alloc, desk, &mut sink, &mut out);
     tell(rt, desk, &wrote);
     sink.close();
