@@ -1,7 +1,7 @@
 // A core that gives each editor and each start its bodies back, ends all of them when it is asked to stop, and spawns starts.
-ghost use Rattle.std.specs.Prelude.{◌≡◌, ◌+◌, [], ◌∷◌, ◌++◌, ℕ, IfOk, IfSome, false, ◌||◌};
+ghost use Rattle.std.specs.Prelude.{◌≡◌, ◌+◌, [], ◌∷◌, ◌++◌, ℕ, IfOk, IfSome, IfNone, false, true, nat_lt, ◌||◌};
 ghost use Rattle.mux_history.specs.Cores.{joins, spawns_of_outs};
-ghost use Rattle.lane_echo.specs.Stops.{is_stop, spawns_by, starts_of};
+ghost use Rattle.lane_echo.specs.Stops.{is_stop, most, spawns_by, starts_of};
 
 use message_body::{Body, Memory};
 use mux_history::{Cause, Out, Outs};
@@ -102,7 +102,8 @@ fn stopped_behind(stopped: bool, cause: &Cause) -> bool
 
 // How many starts were spawned behind this cause.
 fn spawned_behind(spawned: u64, cause: &Cause) -> Option<u64>
-    ensures { IfSome result (λ n. n ≡ spawned + starts_of cause.now) }
+    ensures some { IfSome result (λ n. (n ≡ spawned + starts_of cause.now) × (nat_lt most (spawned + starts_of cause.now) ≡ false)) }
+    ensures none { IfNone result (nat_lt most (spawned + starts_of cause.now) ≡ true) }
 {
     match cause {
         Cause::FromEditor(_, body) if body.bytes().len() == 1 => spawned.checked_add(1),
@@ -112,7 +113,8 @@ fn spawned_behind(spawned: u64, cause: &Cause) -> Option<u64>
 
 // How many editors joined behind this cause.
 fn joined_behind(joined: u64, cause: &Cause) -> Option<u64>
-    ensures { IfSome result (λ n. n ≡ joined + joins cause.now) }
+    ensures some { IfSome result (λ n. (n ≡ joined + joins cause.now) × (nat_lt most (joined + joins cause.now) ≡ false)) }
+    ensures none { IfNone result (nat_lt most (joined + joins cause.now) ≡ true) }
 {
     match cause {
         Cause::Joined(_) => joined.checked_add(1),
@@ -123,7 +125,7 @@ fn joined_behind(joined: u64, cause: &Cause) -> Option<u64>
 impl Steps for Echo {
     ghost use Rattle.std.specs.Prelude.{◌≡◌, ℕ, true, false};
     ghost use Rattle.mux_history.specs.Cores.{joined};
-    ghost use Rattle.lane_echo.specs.Stops.{Spawned, has_stop, is_stop};
+    ghost use Rattle.lane_echo.specs.Stops.{Spawned, has_stop, is_stop, passes_behind};
 
     ghost stands = { λ e history. (e.joined ≡ joined history) × (e.stopped ≡ has_stop history) × Spawned e.spawned history };
 
@@ -132,6 +134,8 @@ impl Steps for Echo {
     ghost spent = { λ e. e.spent };
 
     ghost allows = { λ history cause. true };
+
+    ghost passes = { λ e history cause. passes_behind e.joined e.spawned cause };
 
     ghost asks_stop = { λ history cause. is_stop cause };
 

@@ -24,6 +24,8 @@ impl Steps for Closed {
 
     ghost allows = { λ _ cause. nat_eq (joins cause) 1 };
 
+    ghost passes = { λ _ _ _. false };
+
     ghost asks_stop = { λ _ _. false };
 
     ghost stops = { λ _. false };
