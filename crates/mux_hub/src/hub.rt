@@ -13,6 +13,7 @@ ghost use Rattle.group_sessions.specs.group_facts.specs.SlowRows.{entry_outs};
 ghost use Rattle.mux_hub.specs.Entries.{emits, entry_of, most_events, passes, was_stopped};
 ghost use Rattle.mux_steps.specs.Faults.{Counted};
 ghost use Rattle.mux_hub.specs.Hubs.{HubView, HubStands, TablesStand, Tells};
+ghost use Rattle.mux_hub.specs.Sessions.{Sessions};
 ghost use Rattle.mux_hub.specs.Starts.{servers_of};
 
 use crate::starts::note_spawns;
@@ -146,6 +147,12 @@ impl<J: Journal> Hub<J> {
     {
         let Hub { journal, .. } = self;
         journal
+    }
+
+    /// The history that it stands for is one of conforming sessions.
+    pub fn sessions_law(&self)
+        ensures { (history : List Entry) → HubStands J.told self.now history → Sessions self.now.settings history }
+    {
     }
 
     /// Whether this cause can come behind the history.
