@@ -96,6 +96,7 @@ fn no_program(rt: HostRuntime) -> Result<(), Fail> {
         started == Err(StartFault::Failed),
         "an absent program started",
     )?;
+    let (mut source, mut sink) = (None, None);
     let started = berth.start(&[], &mut source, &mut sink);
     holds(
         started == Err(StartFault::Failed),
