@@ -13,9 +13,9 @@ ghost use Rattle.outside_io.specs.contracts.memory.port.MemPortPort.TheImpl as m
 use crate::open::{Hubs, Lanes, open_lanes};
 use crate::settle::settle_lanes;
 use lane_desk::{Closed, Deck, Naming};
-use mux_steps::{StepFault, Steps};
 use mux_lanes::{Ends, LaneEnd, Switchboard};
 use mux_serve::{Editors, LaneJob, Others, Ran, run_lanes};
+use mux_steps::{StepFault, Steps};
 use outside_io::{Berth, Clock, MemPort, Port};
 use std::alloc::Global;
 use std::marker::Brand;

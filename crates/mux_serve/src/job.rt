@@ -4,8 +4,8 @@ ghost use Rattle.mux_lanes.specs.declared.session.Ends.{Ends};
 ghost use Rattle.mux_serve.specs.Jobs.{BerthRan, PortRan};
 
 use lane_desk::Naming;
-use mux_steps::Steps;
 use mux_lanes::{Ends, LaneEnd, Switchboard, editor_lane, server_lane};
+use mux_steps::Steps;
 use outside_io::{Berth, Port};
 use std::alloc::Global;
 use std::sync::Wait;

@@ -9,8 +9,8 @@ ghost use Rattle.mux_serve.specs.Jobs.{AllBerthsRan, AllPortsRan, AllThrough, Po
 use crate::job::{LaneJob, run_berths, run_port, run_ports};
 use lane_desk::Naming;
 use lane_queue::LaneIn;
-use mux_steps::Steps;
 use mux_lanes::{LaneEnd, Switchboard, ticker_lane};
+use mux_steps::Steps;
 use outside_io::{Berth, Clock, MemPort, Port};
 use std::alloc::Global;
 use std::sync::Wait;

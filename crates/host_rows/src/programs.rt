@@ -1,0 +1,116 @@
+// Programs.
+use crate::pairs::{holds, passed, reads};
+use outside_io::{Berth, Endings, Sink, Source, StartFault, write_whole};
+use real_host::{ProgramInput, ProgramOutput, Reading, RealBerth, Writing};
+use std::alloc::Global;
+use std::fs;
+use std::test::Fail;
+use std::time::Instant;
+
+type Run = (Reading<ProgramOutput>, Writing<ProgramInput>);
+
+fn words(alloc: Global, all: &[&str]) -> Result<Vec<String>, Fail> {
+    let mut words = Vec::new(alloc);
+    for word in all {
+        words.push(String::from_str(alloc, word)?)?;
+    }
+    Ok(words)
+}
+
+// Starts the program of these words.
+fn start(rt: HostRuntime, all: &[&str]) -> Result<Run, Fail> {
+    let words = words(rt.alloc(), all)?;
+    let (mut source, mut sink) = (None, None);
+    let started = RealBerth::new(rt).start(words.as_slice(), &mut source, &mut sink);
+    match (started, source, sink) {
+        (Ok(()), Some(source), Some(sink)) => Ok((source, sink)),
+        _ => Err(Fail::new("the program doesn't start")),
+    }
+}
+
+// Whether the system has the number of a program still, as it has where nobody waited for its end.
+fn is_there(rt: HostRuntime, id: u32) -> Result<bool, Fail> {
+    let path = format!(in rt.alloc(); "/proc/{id}")?;
+    Ok(fs::exists(&rt, path.as_str())?)
+}
+
+#[test]
+fn a_program_that_hears_its_end(rt: HostRuntime) -> Result<(), Fail> {
+    let (mut inn, mut out) = start(rt, &["cat"])?;
+    let id = out.inner().id();
+    holds(write_whole(&mut out, b"word").is_ok(), "a write failed")?;
+    holds(reads(&mut inn, b"word"), "no echo")?;
+    out.close();
+    holds(reads(&mut inn, b""), "its output doesn't end")?;
+    holds(!is_there(rt, id)?, "it is there still")
+}
+
+// What a program started has the output still, for longer than a test may take.
+#[test]
+fn a_program_whose_child_stays(rt: HostRuntime) -> Result<(), Fail> {
+    let (mut inn, mut out) = start(rt, &["sh", "-c", "sleep 90 2>/dev/null & exec cat"])?;
+    holds(write_whole(&mut out, b"word").is_ok(), "a write failed")?;
+    holds(reads(&mut inn, b"word"), "no echo")?;
+    out.close();
+    holds(reads(&mut inn, b""), "its output doesn't end")
+}
+
+#[test]
+fn a_program_that_ignores_its_end(rt: HostRuntime) -> Result<(), Fail> {
+    let (mut inn, mut out) = start(rt, &["sleep", "1000"])?;
+    let id = out.inner().id();
+    let start = Instant::now(&rt)?;
+    out.close();
+    holds(reads(&mut inn, b""), "its output doesn't end")?;
+    holds(passed(rt, start)? >= 1_900, "it had less than two seconds")?;
+    holds(!is_there(rt, id)?, "it is there still")
+}
+
+// A write to it fails once the end of its session was ordered, and a run that nobody ends is gone when it is dropped.
+#[test]
+fn a_program_that_reads_nothing(rt: HostRuntime) -> Result<(), Fail> {
+    let (inn, mut out) = start(rt, &["sleep", "1000"])?;
+    let id = out.inner().id();
+    let endings = Endings::new(rt.alloc())?;
+    out.heed(endings.of_session(0)?);
+    endings.raise_all();
+    let mut bytes = Vec::new(rt.alloc());
+    bytes.resize(4_000_000, b'x')?;
+    let start = Instant::now(&rt)?;
+    holds(
+        write_whole(&mut out, bytes.as_slice()).is_err(),
+        "it took all",
+    )?;
+    holds(passed(rt, start)? >= 1_900, "it was cut off too early")?;
+    drop((inn, out));
+    holds(!is_there(rt, id)?, "it is there still")
+}
+
+#[test]
+fn no_program(rt: HostRuntime) -> Result<(), Fail> {
+    let mut berth = RealBerth::new(rt);
+    let (mut source, mut sink) = (None, None);
+    let absent = words(rt.alloc(), &["no-such-program"])?;
+    let started = berth.start(absent.as_slice(), &mut source, &mut sink);
+    holds(
+        started == Err(StartFault::Failed),
+        "an absent program started",
+    )?;
+    let (mut source, mut sink) = (None, None);
+    let started = berth.start(&[], &mut source, &mut sink);
+    holds(
+        started == Err(StartFault::Failed),
+        "no words started a program",
+    )
+}
+
+// A shell that is started isn't the first, so it reads no start file of its own.
+#[test]
+fn the_level_of_a_shell(rt: HostRuntime) -> Result<(), Fail> {
+    let (mut inn, _out) = start(rt, &["printenv", "SHLVL"])?;
+    let mut buf = [0u8; 64];
+    let Ok(count) = inn.read(&mut buf) else {
+        return Err(Fail::new("a read failed"));
+    };
+    holds(count >= 2 && buf[0] != b'0', "no level")
+}

@@ -1,0 +1,146 @@
+// Writes whose peer takes nothing, or little.
+use crate::pairs::{Link, Pair, holds, pair_at, passed, remove, tcp, unix};
+use outside_io::{Endings, Place, Sink, Source, write_whole};
+use real_host::{Reading, Wire};
+use std::test::Fail;
+use std::thread;
+use std::thread::Threads;
+use std::time::{Duration, Instant};
+
+// More than the system keeps between the two sides of a link.
+const MUCH: usize = 16_000_000;
+
+fn much(rt: HostRuntime) -> Result<Vec<u8>, Fail> {
+    let mut bytes = Vec::new(rt.alloc());
+    bytes.resize(MUCH, b'x')?;
+    Ok(bytes)
+}
+
+// Reads to the end, and says how many bytes came. Between the reads, each of up to 4,096 bytes, lie so many milliseconds.
+fn read_all(rt: HostRuntime, source: &mut Reading<Wire>, pause: u64) -> u64 {
+    let mut buf = [0u8; 4096];
+    let mut all = 0u64;
+    for _ in 0..1_000_000 {
+        match source.read(&mut buf) {
+            Ok(0) | Err(_) => break,
+            Ok(count) => all = all.saturating_add(count as u64),
+        }
+        if pause > 0 {
+            thread::sleep(&rt, Duration::from_millis(pause));
+        }
+    }
+    all
+}
+
+// A link that the other side opened, in a session whose end this orders.
+fn session(rt: HostRuntime, place: &Place) -> Result<(Pair, Endings), Fail> {
+    let mut pair = pair_at(rt, place)?;
+    let endings = Endings::new(rt.alloc())?;
+    pair.far.1.heed(endings.of_session(0)?);
+    Ok((pair, endings))
+}
+
+// A peer that reads nothing for longer than two limits gets all in the end.
+fn try_late<R: Threads + Sync>(threads: &R, rt: HostRuntime, place: &Place) -> Result<(), Fail> {
+    let (pair, endings) = session(rt, place)?;
+    let bytes = much(rt)?;
+    let (near, far) = (pair.near, pair.far);
+    let (whole, count) = thread::join(
+        threads,
+        move || -> bool {
+            let (source, mut sink) = far;
+            let whole = write_whole(&mut sink, bytes.as_slice()).is_ok();
+            sink.close();
+            drop(source);
+            whole
+        },
+        move || -> u64 {
+            let (mut source, sink) = near;
+            thread::sleep(&rt, Duration::from_millis(2_500));
+            let all = read_all(rt, &mut source, 0);
+            drop(sink);
+            all
+        },
+    );
+    drop(endings);
+    holds(whole, "the write was cut off")?;
+    holds(count == MUCH as u64, "bytes are missing")
+}
+
+// A write to a peer that reads nothing fails two seconds after the end of its session was ordered, and so does each later one.
+fn try_never<R: Threads + Sync>(threads: &R, rt: HostRuntime, place: &Place) -> Result<(), Fail> {
+    let (pair, endings) = session(rt, place)?;
+    let bytes = much(rt)?;
+    let far = pair.far;
+    let start = Instant::now(&rt)?;
+    let (cut, _) = thread::join(
+        threads,
+        move || -> bool {
+            let (source, mut sink) = far;
+            let cut = write_whole(&mut sink, bytes.as_slice()).is_err();
+            let later = sink.write(b"x").is_err();
+            drop(source);
+            cut && later
+        },
+        move || {
+            thread::sleep(&rt, Duration::from_millis(2_500));
+            endings.raise();
+        },
+    );
+    drop((pair.door, pair.port, pair.near));
+    holds(cut, "the write wasn't cut off")?;
+    holds(passed(rt, start)? >= 4_500, "it was cut off too early")
+}
+
+// A peer that takes a little at a time doesn't hold a write whose session was ordered to end.
+fn try_little<R: Threads + Sync>(threads: &R, rt: HostRuntime, place: &Place) -> Result<(), Fail> {
+    let (pair, endings) = session(rt, place)?;
+    endings.raise();
+    let bytes = much(rt)?;
+    let (near, far) = (pair.near, pair.far);
+    let (cut, _) = thread::join(
+        threads,
+        move || -> bool {
+            let (source, mut sink) = far;
+            let cut = write_whole(&mut sink, bytes.as_slice()).is_err();
+            sink.close();
+            drop(source);
+            cut
+        },
+        move || -> u64 {
+            let (mut source, sink) = near;
+            let all = read_all(rt, &mut source, 20);
+            drop(sink);
+            all
+        },
+    );
+    holds(cut, "the write wasn't cut off")
+}
+
+#[test]
+fn a_peer_that_reads_late_over_unix(rt: HostRuntime) -> Result<(), Fail> {
+    try_late(&rt, rt, &unix(rt, "late.sock")?)?;
+    remove(rt, "late.sock")
+}
+
+#[test]
+fn a_peer_that_reads_late_over_tcp(rt: HostRuntime) -> Result<(), Fail> {
+    try_late(&rt, rt, &tcp(rt)?)
+}
+
+#[test]
+fn a_peer_that_never_reads_over_unix(rt: HostRuntime) -> Result<(), Fail> {
+    try_never(&rt, rt, &unix(rt, "never.sock")?)?;
+    remove(rt, "never.sock")
+}
+
+#[test]
+fn a_peer_that_never_reads_over_tcp(rt: HostRuntime) -> Result<(), Fail> {
+    try_never(&rt, rt, &tcp(rt)?)
+}
+
+#[test]
+fn a_peer_that_reads_little(rt: HostRuntime) -> Result<(), Fail> {
+    try_little(&rt, rt, &unix(rt, "little.sock")?)?;
+    remove(rt, "little.sock")
+}

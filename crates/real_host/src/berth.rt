@@ -1,0 +1,84 @@
+// A berth for programs of this machine.
+ghost use Rattle.std.specs.Prelude.{◌≡◌, ℕ, ◌+◌, ◌<◌, List, Option, None};
+ghost use Rattle.outside_io.specs.Sessions.{Session};
+
+use crate::program;
+use crate::program::{ProgramInput, ProgramOutput};
+use crate::reading::Reading;
+use crate::writing::Writing;
+use outside_io::{Berth, Sink, StartFault};
+use std::io::ErrorKind;
+
+/// A berth for programs of this machine.
+///
+/// A program starts in this program's folder, with its environment and its standard error; `SHLVL` is 1 where it would be
+/// none. A start without words fails. A run that is handed back is ended, if it wasn't.
+#[derive(Drop)]
+pub struct RealBerth {
+    rt: HostRuntime,
+    held: u64,
+    faults: u64,
+}
+
+impl RealBerth {
+    /// A berth in which no start failed yet.
+    pub fn new(rt: HostRuntime) -> RealBerth
+        ensures { ⟦<RealBerth as Berth>⟧.faults result ≡ 0 }
+    {
+        RealBerth {
+            rt,
+            held: 0,
+            faults: 0,
+        }
+    }
+}
+
+impl Berth for RealBerth {
+    type In = Reading<ProgramOutput>;
+
+    type Out = Writing<ProgramInput>;
+
+    ghost runs = { λ _. None };
+
+    ghost left = { λ _. None };
+
+    ghost held = { λ b. b.held };
+
+    ghost faults = { λ b. b.faults };
+
+    fn start(
+        &mut self,
+        words: &[String],
+        inn: &mut Option<Reading<ProgramOutput>>,
+        out: &mut Option<Writing<ProgramInput>>,
+    ) -> Result<(), StartFault> {
+        let Some(held) = self.held.checked_add(1) else {
+            return Err(StartFault::Memory);
+        };
+        match program::start(&self.rt, self.rt.alloc(), words) {
+            Ok((output, input)) => {
+                self.held = held;
+                *inn = Some(Reading::new(output));
+                *out = Some(Writing::new(self.rt, input));
+                Ok(())
+            }
+            Err(error) if error.kind() == ErrorKind::OutOfMemory => Err(StartFault::Memory),
+            Err(_) => {
+                self.faults = self.faults.saturating_add(1);
+                Err(StartFault::Failed)
+            }
+        }
+    }
+
+    fn finish(
+        &mut self,
+        inn: &mut Option<Reading<ProgramOutput>>,
+        out: &mut Option<Writing<ProgramInput>>,
+    ) {
+        drop(inn.take());
+        if let Some(mut sink) = out.take() {
+            sink.close();
+        }
+        self.held -= 1;
+    }
+}

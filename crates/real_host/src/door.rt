@@ -1,0 +1,131 @@
+// A door to places on this machine.
+ghost use Rattle.std.specs.Prelude.{◌≡◌, ℕ, ◌≤◌, List, ◌++◌, length, All, IfOk, OnErr, Option, None};
+ghost use Rattle.outside_io.specs.Doors.{Call, PortTold};
+ghost use Rattle.outside_io.specs.Faults.{Rose};
+
+use crate::link_over::LinkOver;
+use crate::listener::Listener;
+use crate::place;
+use crate::place::Opened;
+use crate::port::RealPort;
+use crate::socket_file::SocketFile;
+use outside_io::{Door, DoorFault, Place, Port};
+use std::alloc::Global;
+use std::io;
+use std::io::ErrorKind;
+use std::time::Duration;
+
+// How many milliseconds an accept waits for a link.
+const ACCEPT_MILLIS: u64 = 200;
+
+/// A door to Unix sockets and to TCP ports of the loopback address.
+///
+/// A socket's file is its user's alone, and a lock lies beside it, in the file of its name and `.lock`. Where the file is
+/// there and nobody listens it is removed first; where somebody listens, or the file is none of a socket of this user,
+/// `open` fails. With the door the files end that it made; the locks' files stay. `dial` wants a socket's file of this user.
+#[derive(Drop)]
+pub struct RealDoor {
+    rt: HostRuntime,
+    alloc: Global,
+    // The files of the sockets that were opened.
+    files: Vec<SocketFile>,
+    // What is told where the next link that is dialled is over.
+    over: Option<LinkOver>,
+    faults: u64,
+}
+
+impl RealDoor {
+    /// A door of which no call failed yet. The first link that is dialled tells `over` where it is over.
+    pub fn new(rt: HostRuntime, over: Option<LinkOver>) -> RealDoor
+        ensures { ⟦<RealDoor as Door>⟧.faults result ≡ 0 }
+    {
+        let alloc = rt.alloc();
+        RealDoor {
+            rt,
+            alloc,
+            files: Vec::new(alloc),
+            over,
+            faults: 0,
+        }
+    }
+
+    // Why a call gives nothing.
+    fn fault(&mut self, error: &io::Error) -> DoorFault
+        ensures failed { result ≡ DoorFault.Failed → Rose self.old.faults self.new.faults }
+        ensures later { self.old.faults ≤ self.new.faults }
+    {
+        if error.kind() == ErrorKind::OutOfMemory {
+            return DoorFault::Memory;
+        }
+        self.faults = self.faults.saturating_add(1);
+        DoorFault::Failed
+    }
+}
+
+// So many ports of one listener.
+fn ports_of(
+    rt: HostRuntime,
+    alloc: Global,
+    listener: &Listener,
+    n: u32,
+) -> io::Result<Vec<RealPort>>
+    ensures fresh { IfOk result (λ ports. All (λ port. ⟦<RealPort as Port>⟧.faults port ≡ 0) ports.items) }
+    ensures count { IfOk result (λ ports. length ports.items ≡ n) }
+{
+    let mut ports = Vec::with_capacity(alloc, n as usize)?;
+    for _ in 0..n {
+        ports.push_reserved(RealPort::listening(rt, listener.share()?));
+    }
+    Ok(ports)
+}
+
+// Opens a place, and gives so many ports of it.
+fn open_ports(
+    rt: HostRuntime,
+    alloc: Global,
+    place: &Place,
+    n: u32,
+) -> io::Result<(Vec<RealPort>, Option<SocketFile>)>
+    ensures fresh { IfOk result (λ opened. All (λ port. ⟦<RealPort as Port>⟧.faults port ≡ 0) opened.0.items) }
+    ensures count { IfOk result (λ opened. length opened.0.items ≡ n) }
+{
+    let Opened { listener, file } = place::open(&rt, alloc, place)?;
+    let listener = listener.limited(Duration::from_millis(ACCEPT_MILLIS))?;
+    let ports = ports_of(rt, alloc, &listener, n)?;
+    Ok((ports, file))
+}
+
+impl Door for RealDoor {
+    type Port = RealPort;
+
+    ghost calls = { λ _. None };
+
+    ghost left = { λ _. None };
+
+    ghost faults = { λ d. d.faults };
+
+    #[tactic(auto, using(crate::proofs::Gifts::gave_untold))]
+    fn open(&mut self, place: &Place, n: u32, ports: &mut Vec<RealPort>) -> Result<(), DoorFault> {
+        self.files.reserve(1)?;
+        let opened = match open_ports(self.rt, self.alloc, place, n) {
+            Ok(opened) => opened,
+            Err(error) => return Err(self.fault(&error)),
+        };
+        let (mut given, file) = opened;
+        ports.append(&mut given)?;
+        if let Some(file) = file {
+            self.files.push_reserved(file);
+        }
+        Ok(())
+    }
+
+    fn dial(&mut self, place: &Place, port: &mut Option<RealPort>) -> Result<(), DoorFault> {
+        match place::dial(&self.rt, place) {
+            Ok(wire) => {
+                *port = Some(RealPort::dialled(self.rt, wire, self.over.take()));
+                Ok(())
+            }
+            Err(error) => Err(self.fault(&error)),
+        }
+    }
+}

@@ -1,0 +1,34 @@
+//! The real outside: Unix sockets, loopback TCP, programs, the clock, files and the standard streams behind the traits of
+//! `outside_io`, each but the clock with a count of its faults. None tells what it carries.
+#![tactic(auto)]
+
+mod berth;
+mod clock;
+mod door;
+mod folder;
+mod guarded;
+mod input;
+mod link_over;
+mod listener;
+mod patience;
+mod place;
+mod port;
+mod program;
+mod reading;
+mod socket_file;
+mod standard;
+mod wire;
+mod writing;
+
+pub use berth::RealBerth;
+pub use clock::RealClock;
+pub use door::RealDoor;
+pub use folder::RealFolder;
+pub use input::Input;
+pub use link_over::LinkOver;
+pub use port::RealPort;
+pub use program::{ProgramInput, ProgramOutput};
+pub use reading::Reading;
+pub use standard::Standard;
+pub use wire::Wire;
+pub use writing::{Channel, Writing};

@@ -1,0 +1,149 @@
+// A port over sockets.
+ghost use Rattle.std.specs.Prelude.{◌≡◌, ◌+◌, ◌≤◌, ℕ, OnErr, Option, None};
+ghost use Rattle.outside_io.specs.Sessions.{Session};
+
+use crate::link_over::LinkOver;
+use crate::listener::Listener;
+use crate::reading::Reading;
+use crate::wire::Wire;
+use crate::writing::Writing;
+use outside_io::{Arrival, Port, Sink};
+use std::time::Duration;
+use std::{io, thread};
+
+// How many milliseconds an accept that failed waits.
+const PAUSE_MILLIS: u64 = 100;
+
+/// Where a port's links come from.
+#[derive(Drop)]
+enum Supply {
+    // A listener, which it shares with other ports.
+    Listener(Listener),
+    // The one link that was dialled, until it is given.
+    Dialled(Option<Wire>, Option<LinkOver>),
+}
+
+/// A port over a listener that it shares with other ports, or over a link that was dialled.
+///
+/// An accept at a listener waits for 0.2 seconds and then answers `Nobody`. One that fails raises the count, pauses for 0.1
+/// seconds and answers `Nobody` too, since the next may find descriptors free. Behind the link that was dialled it answers
+/// `Closed`.
+///
+/// A link that is handed back is shut, and what its peer wrote is taken off it, up to 4 MB: where bytes were left unread, the
+/// system would have the peer's reads fail behind what was written to it, and not end.
+#[derive(Drop)]
+pub struct RealPort {
+    rt: HostRuntime,
+    supply: Supply,
+    held: u64,
+    faults: u64,
+}
+
+/// The two halves of a link.
+type Halves = (Reading<Wire>, Writing<Wire>);
+
+// The halves of a link that came.
+fn halves(rt: HostRuntime, wire: Wire, over: Option<LinkOver>) -> io::Result<Halves> {
+    wire.set_limits()?;
+    let sink = wire.share()?;
+    Ok((Reading::telling(wire, over), Writing::new(rt, sink)))
+}
+
+/// What an accept found.
+enum Found {
+    Link(Halves),
+    Nobody,
+    Closed,
+}
+
+impl Supply {
+    fn next(&mut self, rt: HostRuntime) -> io::Result<Found> {
+        match self {
+            Supply::Listener(listener) => match listener.accept()? {
+                Some(wire) => Ok(Found::Link(halves(rt, wire, None)?)),
+                None => Ok(Found::Nobody),
+            },
+            Supply::Dialled(link, over) => match link.take() {
+                Some(wire) => Ok(Found::Link(halves(rt, wire, over.take())?)),
+                None => Ok(Found::Closed),
+            },
+        }
+    }
+}
+
+impl RealPort {
+    fn new(rt: HostRuntime, supply: Supply) -> RealPort
+        ensures { ⟦<RealPort as Port>⟧.faults result ≡ 0 }
+    {
+        RealPort {
+            rt,
+            supply,
+            held: 0,
+            faults: 0,
+        }
+    }
+
+    /// A port over a listener.
+    pub(crate) fn listening(rt: HostRuntime, listener: Listener) -> RealPort
+        ensures { ⟦<RealPort as Port>⟧.faults result ≡ 0 }
+    {
+        RealPort::new(rt, Supply::Listener(listener))
+    }
+
+    /// A port over a link that was dialled.
+    pub(crate) fn dialled(rt: HostRuntime, wire: Wire, over: Option<LinkOver>) -> RealPort
+        ensures { ⟦<RealPort as Port>⟧.faults result ≡ 0 }
+    {
+        RealPort::new(rt, Supply::Dialled(Some(wire), over))
+    }
+}
+
+impl Port for RealPort {
+    type In = Reading<Wire>;
+
+    type Out = Writing<Wire>;
+
+    ghost sessions = { λ _. None };
+
+    ghost links = { λ _. None };
+
+    ghost held = { λ p. p.held };
+
+    ghost faults = { λ p. p.faults };
+
+    fn accept(
+        &mut self,
+        inn: &mut Option<Reading<Wire>>,
+        out: &mut Option<Writing<Wire>>,
+    ) -> Arrival {
+        let Some(held) = self.held.checked_add(1) else {
+            self.faults = self.faults.saturating_add(1);
+            return Arrival::Closed;
+        };
+        match self.supply.next(self.rt) {
+            Ok(Found::Link((source, sink))) => {
+                self.held = held;
+                *inn = Some(source);
+                *out = Some(sink);
+                Arrival::Link
+            }
+            Ok(Found::Nobody) => Arrival::Nobody,
+            Ok(Found::Closed) => Arrival::Closed,
+            Err(_) => {
+                self.faults = self.faults.saturating_add(1);
+                thread::sleep(&self.rt, Duration::from_millis(PAUSE_MILLIS));
+                Arrival::Nobody
+            }
+        }
+    }
+
+    fn hang_up(&mut self, inn: &mut Option<Reading<Wire>>, out: &mut Option<Writing<Wire>>) {
+        if let Some(mut sink) = out.take() {
+            sink.close();
+        }
+        if let Some(mut source) = inn.take() {
+            source.take_left();
+        }
+        self.held -= 1;
+    }
+}
