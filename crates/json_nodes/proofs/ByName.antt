@@ -18,8 +18,11 @@ use Rattle.json_text.specs.declared.span.Span.{Span}
 use Rattle.json_text.specs.Json.{Json, object, Members, no_members, member}
 use Rattle.json_text.specs.Named.{values_list, named, if_named, or_else}
 use Rattle.json_nodes.specs.At.{At, ChildAt, Found, FoundChild, sizes}
+use Rattle.json_nodes.specs.declared.index.Indexed.{Indexed}
+use Rattle.json_nodes.specs.declared.values.Values.{Values}
+use Rattle.json_nodes.specs.Values.{doc_of}
 use Rattle.json_nodes.specs.Doc.{Doc}
-use Rattle.json_nodes.specs.Index.{either, last_number, number_of, KeepsLast}
+use Rattle.json_nodes.specs.Index.{either, last_number, number_of, is_number, KeepsLast}
 use Rattle.json_nodes.specs.Nodes.{size}
 use Rattle.json_nodes.specs.Same.{drop_members, has_name}
 use Rattle.json_nodes.specs.Steps.{some_if}
@@ -209,11 +212,6 @@ number_above cs i (member s ds j ms) x e = go (last_number cs (i + size j) ms) (
     go None h true f = let same : i ≡ x = cc in omega arith
     go None h false f = absurd (cc)
 
--- whether it is this number
-abbrev pub is_number : Option ℕ → ℕ → Bool
-is_number None m = false
-is_number (Some k) m = k == m
-
 number_self : (m k : ℕ) → k ≡ m → (k == m) ≡ true
 number_self m k e = (Decides-eqb k m).1 e
 
@@ -272,3 +270,7 @@ number_is doc k s ms cs (Some last) (Some o) found i e h a = let same : found �
 pub kept_ok : {X E : Type 0} (P : X → Type 0) (r : Result X E) → IfOk r P → IfSome (result_ok r) P
 kept_ok P (Ok x) h = h
 kept_ok P (Err e) h = tt
+
+-- a value of an object's text
+pub at_indexed : (o : Indexed) (v : Values) (k : ℕ) (t : Json) → o.values ≡ v → o.node ≡ k → At (doc_of v) k t → At (doc_of o.values) o.node t
+at_indexed o v k t e f a = rw (e, f) a

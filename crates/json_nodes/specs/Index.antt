@@ -1,5 +1,5 @@
 -- The last members of the names of an object, by the names' characters in UTF-8.
-use Rattle.std.specs.Prelude.{◌≡◌, ℕ, ◌+◌, List, Vec, bytes_eq, encode_utf8_all}
+use Rattle.std.specs.Prelude.{◌≡◌, ℕ, ◌+◌, ◌<◌, ◌==◌, Bool, false, List, length, Vec, bytes_eq, encode_utf8_all}
 use Rattle.std.specs.Prelude.{Option, Some, None}
 use Rattle.std.specs.Global.{Global}
 use Rattle.std.specs.Option.{IfSome}
@@ -12,7 +12,8 @@ use Rattle.json_nodes.specs.At.{At}
 use Rattle.json_nodes.specs.Doc.{Doc}
 use Rattle.json_nodes.specs.Nodes.{size}
 use Rattle.json_nodes.specs.Steps.{some_if}
-use Rattle.json_nodes.specs.declared.index.NameIndex.{NameIndex}
+use Rattle.json_nodes.specs.declared.index.Indexed.{Indexed}
+use Rattle.json_nodes.specs.Values.{doc_of}
 
 abbrev pub either : Option ℕ → Option ℕ → Option ℕ
 either (Some m) other = Some m
@@ -27,9 +28,14 @@ last_number cs i (member s ds j ms) = either (last_number cs (i + size j) ms) (s
 abbrev pub number_of : BTreeMap (Vec ℕ Global) ℕ → List ℕ → Option ℕ
 number_of last cs = get_by (λ name. slice_cmp nat_cmp (encode_utf8_all cs) name.items) last
 
+-- whether the number is this one
+abbrev pub is_number : Option ℕ → ℕ → Bool
+is_number None m = false
+is_number (Some k) m = k == m
+
 -- the numbers that are kept are those of value number k, if that is an object
 abbrev pub KeepsLast : BTreeMap (Vec ℕ Global) ℕ → Doc → ℕ → Type 0
 KeepsLast last doc k = (s : Span) (ms : Members) (cs : List ℕ) → At doc k (object s ms) → number_of last cs ≡ last_number cs (k + 1) ms
 
-abbrev pub IsIndex : NameIndex → Doc → ℕ → Type 0
-IsIndex index doc k = IfSome index.last (λ last. KeepsLast last doc k)
+abbrev pub IsIndexed : Indexed → Type 0
+IsIndexed o = IfSome o.last (λ last. KeepsLast last (doc_of o.values) o.node)

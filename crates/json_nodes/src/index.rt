@@ -1,5 +1,5 @@
 ghost use Rattle.json_nodes.specs.At.{At, ChildAt, Found};
-ghost use Rattle.json_nodes.specs.Index.{IsIndex, KeepsLast, number_of};
+ghost use Rattle.json_nodes.specs.Index.{IsIndexed, KeepsLast, is_number, number_of};
 ghost use Rattle.json_nodes.specs.Same.{drop_members, has_name};
 ghost use Rattle.json_nodes.specs.Texts.{names};
 ghost use Rattle.json_nodes.specs.Values.{doc_of};
@@ -19,61 +19,81 @@ use std::collections::BTreeMap;
 // Objects of up to so many members are searched from the first on, which takes no memory.
 const FEW: usize = 8;
 
-/// The values of the last members of the names of one object, by the names' characters in UTF-8. There are none where the object
-/// has few members, or where there was no memory for them: its members are then searched one by one.
+/// An object of a text with the values of the last members of its names, by the names' characters in UTF-8. Those are not kept where
+/// the object has few members, or where there was no memory for them: its members are then searched one by one.
 #[derive(Drop)]
-pub struct NameIndex {
-    pub last: Option<BTreeMap<Vec<u8>, u32>>,
+pub struct Indexed<'a> {
+    pub values: Values<'a>,
+    pub node: u32,
+    alloc: Global,
+    last: Option<BTreeMap<Vec<u8>, u32>>,
 }
 
-impl<'a> Values<'a> {
-    /// The members of an object by their names. It takes n log n comparisons of n names, and memory for a copy of each.
-    pub fn index(self, alloc: Global, node: u32) -> NameIndex
-        requires { node < length self.nodes.now }
-        ensures { IsIndex result (doc_of self.entry) node }
+impl<'a> Indexed<'a> {
+    /// An object with its members by their names. It takes n log n comparisons of n names, and memory for a copy of each.
+    pub fn new(alloc: Global, values: Values<'a>, node: u32) -> Indexed<'a>
+        requires { node < length values.nodes.now }
+        ensures indexed { IsIndexed result }
+        ensures values { result.values ≡ values.entry }
+        ensures node { result.node ≡ node }
     {
-        if has_few(self, node) {
-            return NameIndex { last: None };
-        }
-        NameIndex {
-            last: last_members(alloc, self, node).ok(),
+        let last = many_by_name(alloc, values, node);
+        Indexed {
+            values,
+            node,
+            alloc,
+            last,
         }
     }
 
-    /// The last member of an object whose name is spelled so, by the object's index. Where the index has the names it takes log n
-    /// comparisons of n names, else n.
-    pub fn last_named(
-        self,
-        alloc: Global,
-        node: u32,
-        index: &NameIndex,
-        raw: &[u8],
-    ) -> Option<u32>
-        requires node { node < length self.nodes.now }
-        requires index { IsIndex index.now (doc_of self) node }
-        ensures named { (s : Span) (ms : Members) (cs : List ℕ) → At (doc_of self.entry) node (object s ms) → SpellsCharacters cs raw.now
-            → Found (doc_of self.entry) (named cs ms) result }
-        ensures inside { MatchOption result (Unit {0}) (λ member. member < length self.entry.nodes.now) }
+    /// The last member whose name is spelled so. Where the names are kept it takes log n comparisons of n names, else n.
+    pub fn last_named(&self, raw: &[u8]) -> Option<u32>
+        requires node { self.now.node < length self.now.values.nodes.now }
+        requires indexed { IsIndexed self.now }
+        ensures named { (s : Span) (ms : Members) (cs : List ℕ) → At (doc_of self.now.values) self.now.node (object s ms) → SpellsCharacters cs raw.now
+            → Found (doc_of self.now.values) (named cs ms) result }
+        ensures inside { MatchOption result (Unit {0}) (λ member. member < length self.now.values.nodes.now) }
     {
-        match kept(alloc, index, raw) {
-            Some(found) => self.within(found),
-            None => self.last_spelled(raw, self.first(node)),
+        match self.kept(raw) {
+            Some(found) => self.values.within(found),
+            None => self.values.last_spelled(raw, self.values.first(self.node)),
         }
     }
 
-    /// Whether a member of an object is the last one of its name, by the object's index. The cost is that of `last_named`.
-    pub fn is_last(self, alloc: Global, node: u32, index: &NameIndex, member: u32) -> bool
-        requires node { node < length self.nodes.now }
-        requires index { IsIndex index.now (doc_of self) node }
-        requires member { member < length self.nodes.now }
-        ensures { (n : ℕ) (s : Span) (u : Json) (ms : Members) (cs : List ℕ) → ChildAt (doc_of self.entry) node (object s ms) n member u
+    /// Whether a member is the last one of its name. The cost is that of `last_named`.
+    pub fn is_last(&self, member: u32) -> bool
+        requires node { self.now.node < length self.now.values.nodes.now }
+        requires indexed { IsIndexed self.now }
+        requires member { member < length self.now.values.nodes.now }
+        ensures { (n : ℕ) (s : Span) (u : Json) (ms : Members) (cs : List ℕ)
+            → ChildAt (doc_of self.now.values) self.now.node (object s ms) n member u
             → slice_get (names (object s ms)) n ≡ Some cs → result ≡ not (has_name cs (drop_members (n + 1) ms)) }
     {
-        match kept(alloc, index, self.name(member)) {
-            Some(Some(last)) => last == member,
-            Some(None) => false,
-            None => !self.is_named_again(member, self.next(member)),
+        let values = self.values;
+        match self.kept(values.name(member)) {
+            Some(found) => is_number(found, member),
+            None => !values.is_named_again(member, values.next(member)),
         }
+    }
+
+    // What is kept under a name that is spelled so, where the names are kept.
+    fn kept(&self, raw: &[u8]) -> Option<Option<u32>>
+        ensures { (cs : List ℕ) → SpellsCharacters cs raw.now → IfSome result (λ found. IsSomeAnd self.now.last (λ last. found ≡ number_of last cs)) }
+    {
+        match &self.last {
+            Some(last) => number_of(self.alloc, last, raw),
+            None => None,
+        }
+    }
+}
+
+// Whether the number is this one.
+fn is_number(found: Option<u32>, member: u32) -> bool
+    ensures { result ≡ is_number found member }
+{
+    match found {
+        Some(number) => number == member,
+        None => false,
     }
 }
 
@@ -89,14 +109,15 @@ fn has_few(values: Values, node: u32) -> bool
     next.is_none()
 }
 
-// What an index keeps under a name that is spelled so, where it has the names.
-fn kept(alloc: Global, index: &NameIndex, raw: &[u8]) -> Option<Option<u32>>
-    ensures { (cs : List ℕ) → SpellsCharacters cs raw.now → IfSome result (λ found. IsSomeAnd index.now.last (λ last. found ≡ number_of last cs)) }
+// The last members of an object by their names, if it has many and there is memory for them.
+fn many_by_name(alloc: Global, values: Values, node: u32) -> Option<BTreeMap<Vec<u8>, u32>>
+    requires { node < length values.nodes.now }
+    ensures { IfSome result (λ last. KeepsLast last (doc_of values.entry) node) }
 {
-    match &index.last {
-        Some(last) => number_of(alloc, last, raw),
-        None => None,
+    if has_few(values, node) {
+        return None;
     }
+    last_members(alloc, values, node).ok()
 }
 
 // What is kept under a name that is spelled so; none where there is no memory for the name.

@@ -13,7 +13,7 @@ mod span_bytes;
 mod steps;
 mod values;
 
-pub use index::NameIndex;
+pub use index::Indexed;
 pub use json_token;
 pub use node::{Node, Place};
 pub use puts::Put;

@@ -1,5 +1,5 @@
 ghost use Rattle.json_nodes.specs.At.{At, ChildAt};
-ghost use Rattle.json_nodes.specs.Index.{IsIndex};
+ghost use Rattle.json_nodes.specs.Index.{IsIndexed};
 ghost use Rattle.json_nodes.specs.Same.{drop_members, has_name, if_some, names_within, same, same_items, same_kind, same_members};
 ghost use Rattle.json_nodes.specs.SameTree.{Same};
 ghost use Rattle.json_nodes.specs.Values.{OfArrays, OfObjects, OfValues, bytes_at, doc_of};
@@ -11,7 +11,7 @@ ghost use Rattle.json_text.specs.Named.{named};
 ghost use Rattle.std.specs.Prelude.{◌≡◌, ◌+◌, ◌<◌, ◌↔◌, ◌||◌, ℕ, List, length, bytes_eq, true, IsTrue, Some};
 ghost use Rattle.std.specs.List.{slice_get};
 
-use crate::index::NameIndex;
+use crate::index::Indexed;
 use crate::values::Values;
 use json_text::Kind;
 use json_token::same_characters;
@@ -71,10 +71,9 @@ fn same_objects(alloc: Global, left: Values, node: u32, right: Values, other: u3
     ensures { (s r : Span) (ms ns : Members) → At (doc_of left.entry) node (object s ms) → At (doc_of right.entry) other (object r ns)
         → result ≡ same (object s ms) (object r ns) }
 {
-    let mine = left.index(alloc, node);
-    let theirs = right.index(alloc, other);
-    same_members(alloc, left, node, &mine, right, other, &theirs)
-        && names_within(alloc, right, other, left, node, &mine)
+    let left = Indexed::new(alloc, left, node);
+    let right = Indexed::new(alloc, right, other);
+    same_members(alloc, &left, &right) && names_within(&right, &left)
 }
 
 // Whether two arrays have the same items.
@@ -97,85 +96,60 @@ fn same_items(alloc: Global, left: Values, node: u32, right: Values, other: u32)
     beside.is_none()
 }
 
-// Whether each member of an object, unless a later one has its name, says the same as the last one of its name in another. Each
-// object comes with its index.
+// Whether each member of an object, unless a later one has its name, says the same as the last one of its name in another.
 #[cycle(same)]
-fn same_members(
-    alloc: Global,
-    left: Values,
-    node: u32,
-    mine: &NameIndex,
-    right: Values,
-    other: u32,
-    theirs: &NameIndex,
-) -> bool
-    requires node { node < length left.nodes.now }
-    requires mine { IsIndex mine.now (doc_of left) node }
-    requires other { other < length right.nodes.now }
-    requires theirs { IsIndex theirs.now (doc_of right) other }
-    ensures { OfObjects left.entry node right.entry other (λ ms ns. result ≡ same_members ms ns) }
+fn same_members(alloc: Global, left: &Indexed, right: &Indexed) -> bool
+    requires node { left.now.node < length left.now.values.nodes.now }
+    requires left { IsIndexed left.now }
+    requires other { right.now.node < length right.now.values.nodes.now }
+    requires right { IsIndexed right.now }
+    ensures { OfObjects left.now.values left.now.node right.now.values right.now.node (λ ms ns. result ≡ same_members ms ns) }
 {
-    let mut next = left.first(node);
+    let mut next = left.values.first(left.node);
     while let Some(member) = next {
-        if !same_member(alloc, left, node, mine, member, right, other, theirs) {
+        if !same_member(alloc, left, member, right) {
             return false;
         }
-        next = left.next(member);
+        next = left.values.next(member);
     }
     true
 }
 
 // The same for one member.
 #[cycle(same)]
-fn same_member(
-    alloc: Global,
-    left: Values,
-    node: u32,
-    mine: &NameIndex,
-    member: u32,
-    right: Values,
-    other: u32,
-    theirs: &NameIndex,
-) -> bool
-    requires node { node < length left.nodes.now }
-    requires mine { IsIndex mine.now (doc_of left) node }
-    requires member { member < length left.nodes.now }
-    requires other { other < length right.nodes.now }
-    requires theirs { IsIndex theirs.now (doc_of right) other }
-    ensures { (n : ℕ) (s r : Span) (u : Json) (ms ns : Members) (cs : List ℕ) → ChildAt (doc_of left.entry) node (object s ms) n member u
-        → slice_get (names (object s ms)) n ≡ Some cs → At (doc_of right.entry) other (object r ns)
+fn same_member(alloc: Global, left: &Indexed, member: u32, right: &Indexed) -> bool
+    requires node { left.now.node < length left.now.values.nodes.now }
+    requires left { IsIndexed left.now }
+    requires member { member < length left.now.values.nodes.now }
+    requires other { right.now.node < length right.now.values.nodes.now }
+    requires right { IsIndexed right.now }
+    ensures { (n : ℕ) (s r : Span) (u : Json) (ms ns : Members) (cs : List ℕ)
+        → ChildAt (doc_of left.now.values) left.now.node (object s ms) n member u → slice_get (names (object s ms)) n ≡ Some cs
+        → At (doc_of right.now.values) right.now.node (object r ns)
         → result ≡ (has_name cs (drop_members (n + 1) ms) || if_some (named cs ns) (λ v. same u v)) }
 {
-    if !left.is_last(alloc, node, mine, member) {
+    if !left.is_last(member) {
         return true;
     }
-    match right.last_named(alloc, other, theirs, left.name(member)) {
-        Some(twin) => same_values(alloc, left, member, right, twin),
+    match right.last_named(left.values.name(member)) {
+        Some(twin) => same_values(alloc, left.values, member, right.values, twin),
         None => false,
     }
 }
 
-// Whether each name in an object is one in another, which comes with its index.
-fn names_within(
-    alloc: Global,
-    left: Values,
-    node: u32,
-    right: Values,
-    other: u32,
-    theirs: &NameIndex,
-) -> bool
-    requires node { node < length left.nodes.now }
-    requires other { other < length right.nodes.now }
-    requires theirs { IsIndex theirs.now (doc_of right) other }
-    ensures { OfObjects left.entry node right.entry other (λ ms ns. result ≡ names_within ms ns) }
+// Whether each name in an object is one in another.
+fn names_within(left: &Indexed, right: &Indexed) -> bool
+    requires node { left.now.node < length left.now.values.nodes.now }
+    requires other { right.now.node < length right.now.values.nodes.now }
+    requires right { IsIndexed right.now }
+    ensures { OfObjects left.now.values left.now.node right.now.values right.now.node (λ ms ns. result ≡ names_within ms ns) }
 {
-    let mut next = left.first(node);
+    let mut next = left.values.first(left.node);
     while let Some(member) = next {
-        let twin = right.last_named(alloc, other, theirs, left.name(member));
-        if twin.is_none() {
+        if right.last_named(left.values.name(member)).is_none() {
             return false;
         }
-        next = left.next(member);
+        next = left.values.next(member);
     }
     true
 }

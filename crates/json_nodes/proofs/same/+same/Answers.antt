@@ -8,6 +8,7 @@ use Rattle.json_nodes.specs.At.{At}
 use Rattle.json_nodes.specs.Doc.{Doc}
 use Rattle.json_nodes.specs.Nodes.{kind_of}
 use Rattle.json_nodes.specs.Same.{drop_members, has_name, names_within, same, same_members}
+use Rattle.json_nodes.proofs.ByName.{at_indexed}
 use Rattle.json_nodes.proofs.Numbers.{child_at}
 use Rattle.json_nodes.proofs.Sames.{none_answer, same_words, comparing_on, comparing_differs, comparing_longer, comparing_ends, walk_on, walk_fails, walk_holds, members_by, members_first, member_later, member_last, member_missing, other_kind, second_kind, same_numbers, same_strings, same_arrays, same_objects}
 use Rattle.json_nodes.proofs.Spelling.{decided}
@@ -41,7 +42,7 @@ same_items-returns t c =
     λ s r js ks a b. none_answer c.is_none.result c.loop-next.beside c.is_none.ensures ∙ comparing_ends d e c.args.node c.args.other c.loop-next.next c.loop-next.beside c.loop-next.invariant c.in_default.is s r js ks a b
 
 pub same_members-returns : goal.same_members-returns
-same_members-returns t c = walk_holds (doc_of c.args.left) (doc_of c.args.right) c.args.node c.args.other same_members c.loop-next.next (λ ns. refl) c.loop-next.invariant c.in_default.is
+same_members-returns t c = walk_holds (doc_of c.args.left.now.values) (doc_of c.args.right.now.values) c.args.left.now.node c.args.right.now.node same_members c.loop-next.next (λ ns. refl) c.loop-next.invariant c.in_default.is
 
 pub same_values-returns-then-not-same_kind : goal.same_values-returns-then-not-same_kind
 same_values-returns-then-not-same_kind z c =
@@ -96,30 +97,32 @@ same_member-returns-then-not-is_last t c = λ n s r u ms ns cs m g a.
 
 pub same_member-returns-in-Some : goal.same_member-returns-in-Some
 same_member-returns-in-Some t c = λ n s r u ms ns cs m g a.
-    member_last (doc_of c.args.left) (doc_of c.args.right) (named cs (drop_members (n + 1) ms)) (named cs ns) c.args.member c.in-Some.twin u c.is_last.result c.last_named.result c.same_values.result
+    member_last (doc_of c.args.left.now.values) (doc_of c.args.right.now.values) (named cs (drop_members (n + 1) ms)) (named cs ns) c.args.member c.in-Some.twin u c.is_last.result c.last_named.result c.same_values.result
     (c.is_last.ensures n s u ms cs m g) c.if-not-is_last.false (child_at m)
-    (c.last_named.ensures.named r ns cs a (c.name.ensures.spelled c.args.node n (object s ms) u cs m g)) c.in-Some.is c.same_values.ensures
+    (c.last_named.ensures.named r ns cs a (c.name.ensures.spelled c.args.left.now.node n (object s ms) u cs m g)) c.in-Some.is c.same_values.ensures
 
 pub same_member-returns-in-None : goal.same_member-returns-in-None
 same_member-returns-in-None t c = λ n s r u ms ns cs m g a.
-    member_missing (doc_of c.args.right) (named cs (drop_members (n + 1) ms)) (named cs ns) u c.is_last.result c.last_named.result
+    member_missing (doc_of c.args.right.now.values) (named cs (drop_members (n + 1) ms)) (named cs ns) u c.is_last.result c.last_named.result
     (c.is_last.ensures n s u ms cs m g) c.if-not-is_last.false
-    (c.last_named.ensures.named r ns cs a (c.name.ensures.spelled c.args.node n (object s ms) u cs m g)) c.in-None.is
+    (c.last_named.ensures.named r ns cs a (c.name.ensures.spelled c.args.left.now.node n (object s ms) u cs m g)) c.in-None.is
 
 pub same_members-returns-then-not-same_member : goal.same_members-returns-then-not-same_member
 same_members-returns-then-not-same_member t c =
-    walk_fails (doc_of c.args.left) (doc_of c.args.right) c.args.node c.args.other same_members members_first c.in-Some.member c.loop-next.next c.same_member.result members_by c.loop-next.invariant c.in-Some.is
+    walk_fails (doc_of c.args.left.now.values) (doc_of c.args.right.now.values) c.args.left.now.node c.args.right.now.node same_members members_first c.in-Some.member c.loop-next.next c.same_member.result members_by c.loop-next.invariant c.in-Some.is
     (λ s r ms ns a n u cs m g. c.same_member.ensures n s r u ms ns cs m g a) c.if-not-same_member.true
 
 pub same_members-loop-next-preserved : goal.same_members-loop-next-preserved
 same_members-loop-next-preserved t c =
-    walk_on (doc_of c.args.left) (doc_of c.args.right) c.args.node c.args.other same_members members_first c.in-Some.member c.loop-next.next c.next-next.result c.same_member.result members_by c.loop-next.invariant c.in-Some.is
+    walk_on (doc_of c.args.left.now.values) (doc_of c.args.right.now.values) c.args.left.now.node c.args.right.now.node same_members members_first c.in-Some.member c.loop-next.next c.next-next.result c.same_member.result members_by c.loop-next.invariant c.in-Some.is
     (λ s r ms ns a n u cs m g. c.same_member.ensures n s r u ms ns cs m g a) c.if-not-same_member.false
     (λ k n t u a. c.next-next.ensures.next k n t u a) c.next-next.ensures.inside
 
 pub same_objects-returns : goal.same_objects-returns
 same_objects-returns z c = λ s r ms ns a b.
+    let first = at_indexed c.new-left.result c.args.left c.args.node (object s ms) c.new-left.ensures.values c.new-left.ensures.node a in
+    let second = at_indexed c.new-right.result c.args.right c.args.other (object r ns) c.new-right.ensures.values c.new-right.ensures.node b in
     elim c.if-same_members.branch [
-      | same_objects-then-same_members w ↦ w.result-is ∙ w.names_within.ensures r s ns ms b a ∙ ap (λ x. x && names_within ns ms) (sym w.if-same_members.true ∙ c.same_members.ensures s r ms ns a b)
-      | same_objects-else-same_members w ↦ w.result-is ∙ w.if-same_members.false ∙ ap (λ x. x && names_within ns ms) (sym w.if-same_members.false ∙ c.same_members.ensures s r ms ns a b)
+      | same_objects-then-same_members w ↦ w.result-is ∙ w.names_within.ensures r s ns ms second first ∙ ap (λ x. x && names_within ns ms) (sym w.if-same_members.true ∙ c.same_members.ensures s r ms ns first second)
+      | same_objects-else-same_members w ↦ w.result-is ∙ w.if-same_members.false ∙ ap (λ x. x && names_within ns ms) (sym w.if-same_members.false ∙ c.same_members.ensures s r ms ns first second)
     ]

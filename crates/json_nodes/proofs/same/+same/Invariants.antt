@@ -15,10 +15,10 @@ abbrev pub decreases-same_items : goal.decreases-same_items
 decreases-same_items l = 4 * (length l.left.nodes.now - l.node)
 
 abbrev pub decreases-same_members : goal.decreases-same_members
-decreases-same_members l = 4 * (length l.left.nodes.now - l.node)
+decreases-same_members l = 4 * (length l.left.now.values.nodes.now - l.left.now.node)
 
 abbrev pub decreases-same_member : goal.decreases-same_member
-decreases-same_member l = 4 * (length l.left.nodes.now - l.member) + 3
+decreases-same_member l = 4 * (length l.left.now.values.nodes.now - l.member) + 3
 
 abbrev pub invariant-same_items-loop-next : goal.invariant-same_items-loop-next
 invariant-same_items-loop-next l = Comparing (doc_of l.left) (doc_of l.right) l.node l.other l.next l.beside
@@ -27,7 +27,7 @@ abbrev pub decreases-same_items-loop-next : goal.decreases-same_items-loop-next
 decreases-same_items-loop-next l = left (length l.left.nodes.now) l.next
 
 abbrev pub invariant-same_members-loop-next : goal.invariant-same_members-loop-next
-invariant-same_members-loop-next l = MembersWalk (doc_of l.left) (doc_of l.right) l.node l.other same_members l.next
+invariant-same_members-loop-next l = MembersWalk (doc_of l.left.values) (doc_of l.right.values) l.left.node l.right.node same_members l.next
 
 abbrev pub decreases-same_members-loop-next : goal.decreases-same_members-loop-next
-decreases-same_members-loop-next l = left (length l.left.nodes.now) l.next
+decreases-same_members-loop-next l = left (length l.left.values.nodes.now) l.next

@@ -1,9 +1,0 @@
-use Rattle.std.proofs.Common.{subst, sym}
-use Rattle.std.specs.Option.{IfSome}
-use Rattle.json_nodes.specs.Index.{KeepsLast}
-use Rattle.json_nodes.specs.Values.{doc_of}
-use Rattle.json_nodes.proofs.ByName.{kept_ok}
-use Rattle.json_nodes.proofs.values.Values.index.Goals as goal
-
-pub returns : goal.returns
-returns c = subst (λ o. IfSome o (λ last. KeepsLast last (doc_of c.args.self) c.args.node)) (sym c.ok.ensures.value) (kept_ok (λ last. KeepsLast last (doc_of c.args.self) c.args.node) c.last_members.result c.last_members.ensures)
