@@ -1,6 +1,5 @@
 pub mod Bares
 pub mod BelowLaws
-pub mod BelowStep
 pub mod Compacts
 pub mod Declares
 pub mod Equals
