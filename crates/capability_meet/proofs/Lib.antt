@@ -4,6 +4,7 @@ pub mod Compacts
 pub mod Declares
 pub mod Equals
 pub mod Letters
+pub mod Lists
 pub mod MemberBelow
 pub mod MeetLaws
 pub mod MeetSays

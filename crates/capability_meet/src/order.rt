@@ -8,9 +8,11 @@ ghost use Rattle.json_nodes.specs.At.{At, ChildAt, FoundChild};
 ghost use Rattle.json_nodes.specs.Index.{IsIndexed};
 ghost use Rattle.json_nodes.specs.Same.{drop_members, has_name, if_some};
 ghost use Rattle.json_nodes.specs.Texts.{names};
+ghost use Rattle.capability_meet.specs.IndexedArray.{IsIndexedArray};
 ghost use Rattle.capability_meet.specs.Order.{below, is_among, is_least, items_below, members_below};
 ghost use Rattle.json_nodes.specs.Values.{OfArrays, OfObjects, doc_of};
 
+use crate::indexed_array::IndexedArray;
 use crate::kinds::{Pair, pair_of};
 use json_nodes::{Indexed, Values};
 use json_span::Tape;
@@ -23,9 +25,8 @@ use std::alloc::Global;
 /// below the other's member of that name, where the last member of a name counts. An array is below an array if each of its
 /// items says the same as some item of the other. Any other value is below a value that says the same.
 ///
-/// It takes n log n comparisons of n names in all, and memory for the names of the objects that are open; where there is none, the
-/// members of an object are looked up one by one. For each pair of arrays that are compared the time is at worst the product of the
-/// numbers of their items and their sizes.
+/// It takes n log n comparisons of n names and items in all, and memory for the names and the items of what is open; where there is
+/// none, members and items are looked up one by one. An item that is an array or an object is compared with each of the other's.
 pub fn below(a: &Tape, x: u32, b: &Tape, y: u32) -> bool
     requires node { x < length a.now.nodes }
     requires other { y < length b.now.nodes }
@@ -56,14 +57,25 @@ fn items_below(alloc: Global, left: Values, node: u32, right: Values, other: u32
     requires other { other < length right.nodes.now }
     ensures { OfArrays left.entry node right.entry other (λ js ks. result ≡ items_below js ks) }
 {
+    let right = IndexedArray::new(alloc, right, other);
+    items_among(alloc, left, node, &right)
+}
+
+// The same where the other comes with the texts of its items.
+fn items_among(alloc: Global, left: Values, node: u32, right: &IndexedArray) -> bool
+    requires node { node < length left.nodes.now }
+    requires other { right.now.node < length right.now.values.nodes.now }
+    requires right { IsIndexedArray right.now }
+    ensures { OfArrays left.entry node right.now.values right.now.node (λ js ks. result ≡ items_below js ks) }
+{
     let mut next = left.first(node);
-    let mut beside = right.first(other);
+    let mut beside = right.values.first(right.node);
     while let Some(item) = next {
-        if !is_beside_or_among(alloc, left, item, right, beside, other) {
+        if !is_beside_or_among(alloc, left, item, right, beside) {
             return false;
         }
         next = left.next(item);
-        beside = right.maybe_next(beside);
+        beside = right.values.maybe_next(beside);
     }
     true
 }
@@ -73,22 +85,23 @@ fn is_beside_or_among(
     alloc: Global,
     left: Values,
     node: u32,
-    right: Values,
+    right: &IndexedArray,
     beside: Option<u32>,
-    other: u32,
 ) -> bool
     requires node { node < length left.nodes.now }
-    requires beside { MatchOption beside (Unit {0}) (λ m. m < length right.nodes.now) }
-    requires other { other < length right.nodes.now }
-    ensures { (t : Json) (r : Span) (ks : Items) (n : ℕ) → At (doc_of left.entry) node t → At (doc_of right.entry) other (array r ks)
-        → FoundChild (doc_of right.entry) other (array r ks) n beside → result ≡ is_among t ks }
+    requires beside { MatchOption beside (Unit {0}) (λ m. m < length right.now.values.nodes.now) }
+    requires other { right.now.node < length right.now.values.nodes.now }
+    requires right { IsIndexedArray right.now }
+    ensures { (t : Json) (r : Span) (ks : Items) (n : ℕ) → At (doc_of left.entry) node t
+        → At (doc_of right.now.values) right.now.node (array r ks)
+        → FoundChild (doc_of right.now.values) right.now.node (array r ks) n beside → result ≡ is_among t ks }
 {
     if let Some(item) = beside {
-        if left.same(alloc, node, right, item) {
+        if left.same(alloc, node, right.values, item) {
             return true;
         }
     }
-    is_among(alloc, left, node, right, other)
+    right.has(left, node)
 }
 
 // Whether a value says the same as some item of an array.

@@ -9,14 +9,15 @@ ghost use Rattle.json_nodes.specs.Index.{IsIndexed};
 ghost use Rattle.json_nodes.specs.Same.{drop_members};
 ghost use Rattle.json_nodes.specs.Texts.{member_names};
 ghost use Rattle.capability_meet.specs.declared.spot.Spot.TheVariants as spot;
+ghost use Rattle.capability_meet.specs.IndexedArray.{IsIndexedArray};
 ghost use Rattle.capability_meet.specs.Meet.{meets, named_meets};
 ghost use Rattle.capability_meet.specs.OnePass.{items_met, pairs_at, required, text_at};
 ghost use Rattle.capability_meet.specs.Parts.{listed};
 ghost use Rattle.json_nodes.specs.Values.{OfArrays, OfObjects, OfValues, doc_of};
 
 use crate::compact::{write_compact, write_name};
+use crate::indexed_array::IndexedArray;
 use crate::kinds::{Pair, pair_of};
-use crate::order::is_among;
 use crate::parts::{write, write_comma};
 use crate::spot::{Spot, spot_of};
 use crate::twins::{named_meets, twin_of};
@@ -58,8 +59,9 @@ fn write_array(
     ensures { (s r : Span) (js ks : Items) → At (doc_of left.entry) node (array s js) → At (doc_of right.entry) other (array r ks)
         → OnOk result (out.new.items ≡ out.old.items ++ text_at (doc_of left.entry).bytes spot.Elsewhere (array s js) (array r ks)) }
 {
+    let right = IndexedArray::new(*out.allocator(), right, other);
     write(out, b"[")?;
-    write_items(out, left, node, right, other)?;
+    write_items(out, left, node, &right)?;
     write(out, b"]")
 }
 
@@ -68,18 +70,18 @@ fn write_items(
     out: &mut Vec<u8>,
     left: Values,
     node: u32,
-    right: Values,
-    other: u32,
+    right: &IndexedArray,
 ) -> Result<(), Memory>
     requires node { node < length left.nodes.now }
-    requires other { other < length right.nodes.now }
-    ensures { OfArrays left.entry node right.entry other (λ js ks. OnOk result (out.new.items
+    requires other { right.now.node < length right.now.values.nodes.now }
+    requires right { IsIndexedArray right.now }
+    ensures { OfArrays left.entry node right.now.values right.now.node (λ js ks. OnOk result (out.new.items
         ≡ out.old.items ++ listed false (items_met (doc_of left.entry).bytes js ks))) }
 {
     let mut started = false;
     let mut next = left.first(node);
     while let Some(item) = next {
-        started = write_item(out, started, left, item, right, other)?;
+        started = write_item(out, started, left, item, right)?;
         next = left.next(item);
     }
     Ok(())
@@ -91,16 +93,16 @@ fn write_item(
     started: bool,
     left: Values,
     node: u32,
-    right: Values,
-    other: u32,
+    right: &IndexedArray,
 ) -> Result<bool, Memory>
     requires node { node < length left.nodes.now }
-    requires other { other < length right.nodes.now }
-    ensures { (r : Span) (u : Json) (rest ks : Items) → At (doc_of left.entry) node u → At (doc_of right.entry) other (array r ks)
+    requires other { right.now.node < length right.now.values.nodes.now }
+    requires right { IsIndexedArray right.now }
+    ensures { (r : Span) (u : Json) (rest ks : Items) → At (doc_of left.entry) node u → At (doc_of right.now.values) right.now.node (array r ks)
         → IfOk result (λ now. out.new.items ++ listed now (items_met (doc_of left.entry).bytes rest ks)
         ≡ out.old.items ++ listed started (items_met (doc_of left.entry).bytes (item u rest) ks)) }
 {
-    if !is_among(*out.allocator(), left, node, right, other) {
+    if !right.has(left, node) {
         return Ok(started);
     }
     write_comma(out, started)?;

@@ -39,7 +39,7 @@ use Rattle.json_nodes.proofs.Tree.{size_shape}
 abbrev at : List ℕ → Vec ℕ Global → Bool
 at u k = is_eq (slice_cmp nat_cmp u k.items)
 
-equal_items : (xs ys : List ℕ) → slice_cmp nat_cmp xs ys ≡ Equal → xs ≡ ys
+pub equal_items : (xs ys : List ℕ) → slice_cmp nat_cmp xs ys ≡ Equal → xs ≡ ys
 equal_items xs ys e = (bytes_eq-Decides xs ys).0 (sym (is_eq-slice_cmp xs ys) ∙ ap is_eq e)
 
 not_both : (u : List ℕ) (xs ys : List ℕ) → slice_cmp nat_cmp xs ys ≡ Greater → bytes_eq u xs ≡ true → is_eq (slice_cmp nat_cmp u ys) ≡ true → true ≡ false
@@ -71,7 +71,7 @@ put_key u key x (e ∷ es) = go (slice_cmp nat_cmp key.items e.0.items) refl (pu
     go Greater h r = other_one (at u e.0) (bytes_eq u key.items) x e.1 (lookup (at u) (insert_entry (λ a b. slice_cmp nat_cmp a.items b.items) es key x)) (lookup (at u) es) (not_both u key.items e.0.items h) r
 
 -- texts are equal where their characters are
-texts_equal : (cs ds : List ℕ) → bytes_eq (encode_utf8_all cs) (encode_utf8_all ds) ≡ bytes_eq cs ds
+pub texts_equal : (cs ds : List ℕ) → bytes_eq (encode_utf8_all cs) (encode_utf8_all ds) ≡ bytes_eq cs ds
 texts_equal cs ds =
     let d : IsTrue (bytes_eq (encode_utf8_all cs) (encode_utf8_all ds)) ↔ (encode_utf8_all cs ≡ encode_utf8_all ds) = bytes_eq-Decides (encode_utf8_all cs) (encode_utf8_all ds) in
     decided (bytes_eq (encode_utf8_all cs) (encode_utf8_all ds)) cs ds ((λ t. encodes_same cs ds (d.0 t)), (λ e. d.1 (ap encode_utf8_all e)))
