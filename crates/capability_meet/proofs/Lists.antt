@@ -1,12 +1,12 @@
 -- The items of an array by their texts.
-use Rattle.std.proofs.Common.{◌≡◌, ℕ, Bool, true, false, ◌||◌, ◌&&◌, List, [], ◌∷◌, Vec, Global, refl, sym, ◌∙◌, ap, ap₂, ◌⊎◌, inl, inr}
-use Rattle.std.specs.Prelude.{Option, Some, None, Result, Ok, Err, bytes_eq, encode_utf8_all}
+use Rattle.std.proofs.Common.{◌≡◌, ℕ, Bool, true, false, ◌||◌, List, [], ◌∷◌, Vec, Global, refl, sym, ◌∙◌, ap, ap₂, ◌⊎◌, inl, inr}
+use Rattle.std.specs.Prelude.{Option, Some, None, encode_utf8_all}
 use Rattle.std.specs.declared.cmp.Ordering.{Ordering}
 use Rattle.std.specs.declared.cmp.Ordering.TheVariants.{Less, Equal, Greater}
 use Rattle.std.specs.Ordering.{nat_cmp, is_eq, match_ordering}
 use Rattle.std.specs.Cmp.Lexicographic.{slice_cmp}
 use Rattle.std.specs.List.{list_any}
-use Rattle.std.specs.Option.{IfSome, IsSomeAnd, option_map}
+use Rattle.std.specs.Option.{IfSome, IsSomeAnd}
 use Rattle.std.specs.BTreeSet.{BTreeSet, insert_key}
 use Rattle.std.proofs.lemmas.Map.Text.{is_eq-slice_cmp}
 use Rattle.json_text.specs.declared.kind.Kind.{Kind}

@@ -1,7 +1,7 @@
 -- What two values have in common, step by step.
 use Rattle.std.proofs.Common.{◌≡◌, ℕ, Bool, true, false, not, ◌||◌, List, [], ◌∷◌, ◌++◌, refl, sym, ◌∙◌, ap, subst, append_assoc, append-nil}
 use Rattle.std.specs.Prelude.{Option, Some, None, if◌then◌else◌}
-use Rattle.std.specs.Option.{is_some, option_and_then, option_map}
+use Rattle.std.specs.Option.{option_and_then, option_map}
 use Rattle.json_text.specs.Json.{Json, Members}
 use Rattle.json_text.specs.Named.{named}
 use Rattle.json_text.specs.Tree.{tree_of}

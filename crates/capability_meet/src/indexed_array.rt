@@ -77,7 +77,9 @@ fn has_leaf(alloc: Global, texts: &BTreeSet<Vec<u8>>, left: Values, item: u32) -
     ensures { (t : Json) → At (doc_of left.entry) item t
         → IfSome result (λ answer. (text : List ℕ) × (leaf_text t ≡ Some text) × (answer ≡ has_text texts.now text)) }
 {
-    let Ok(text) = leaf_text(alloc, left, item) else { return None };
+    let Ok(text) = leaf_text(alloc, left, item) else {
+        return None
+    };
     match text {
         Some(text) => Some(texts.contains(text.as_slice())),
         None => None,

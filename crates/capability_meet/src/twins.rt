@@ -33,7 +33,13 @@ pub fn meets(alloc: Global, left: Values, node: u32, right: Values, other: u32) 
 }
 
 // What a member is met with.
-pub fn twin_of(alloc: Global, left: &Indexed, member: u32, right: &Indexed, spot: Spot) -> Option<u32>
+pub fn twin_of(
+    alloc: Global,
+    left: &Indexed,
+    member: u32,
+    right: &Indexed,
+    spot: Spot,
+) -> Option<u32>
     requires node { left.now.node < length left.now.values.nodes.now }
     requires left { IsIndexed left.now }
     requires member { member < length left.now.values.nodes.now }
@@ -59,13 +65,7 @@ pub fn twin_of(alloc: Global, left: &Indexed, member: u32, right: &Indexed, spot
 }
 
 // A value of the other, where the two have something in common.
-pub fn if_meets(
-    alloc: Global,
-    left: Values,
-    node: u32,
-    right: Values,
-    other: u32,
-) -> Option<u32>
+pub fn if_meets(alloc: Global, left: Values, node: u32, right: Values, other: u32) -> Option<u32>
     requires node { node < length left.nodes.now }
     requires other { other < length right.nodes.now }
     ensures twin { (t u : Json) → At (doc_of left.entry) node t → At (doc_of right.entry) other u → Found (doc_of right.entry) (if_meets t (Some u)) result }

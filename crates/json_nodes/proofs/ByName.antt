@@ -129,10 +129,10 @@ kept_step doc k m s ms kept more raw next w put follows =
       count = suc w.count;
       next_is = subst (λ i. FoundChild doc k (object s ms) i next) (add-one w.count) (follows k w.count (object s ms) c.0 c.1);
       all = λ cs. w.all cs
-        ∙ ap (λ xs. either (last_number cs (k + 1 + sizes w.count (values_list ms)) xs) (kept cs)) e.whole
-        ∙ either_more (last_number cs (k + 1 + sizes w.count (values_list ms) + size c.0) (drop_members (suc w.count) ms)) (kept cs) (bytes_eq cs e.name) (k + 1 + sizes w.count (values_list ms))
-        ∙ ap (λ i. either (last_number cs i (drop_members (suc w.count) ms)) (cond (bytes_eq cs e.name) (Some (k + 1 + sizes w.count (values_list ms))) (kept cs))) rest
-        ∙ ap (either (last_number cs (k + 1 + sizes (suc w.count) (values_list ms)) (drop_members (suc w.count) ms))) (ap (λ i. cond (bytes_eq cs e.name) (Some i) (kept cs)) (sym place) ∙ sym (put w.count c.0 e.name c.1 e.named cs));
+          ∙ ap (λ xs. either (last_number cs (k + 1 + sizes w.count (values_list ms)) xs) (kept cs)) e.whole
+          ∙ either_more (last_number cs (k + 1 + sizes w.count (values_list ms) + size c.0) (drop_members (suc w.count) ms)) (kept cs) (bytes_eq cs e.name) (k + 1 + sizes w.count (values_list ms))
+          ∙ ap (λ i. either (last_number cs i (drop_members (suc w.count) ms)) (cond (bytes_eq cs e.name) (Some (k + 1 + sizes w.count (values_list ms))) (kept cs))) rest
+          ∙ ap (either (last_number cs (k + 1 + sizes (suc w.count) (values_list ms)) (drop_members (suc w.count) ms))) (ap (λ i. cond (bytes_eq cs e.name) (Some i) (kept cs)) (sym place) ∙ sym (put w.count c.0 e.name c.1 e.named cs));
     }
 
 pub keeping_on : (doc : Doc) (k m : ℕ) (kept more : List ℕ → Option ℕ) (here next : Option ℕ) → Keeping doc k kept here → here ≡ Some m

@@ -1,6 +1,5 @@
 pub mod Absent
 pub mod Bounds
-pub mod InStep
 pub mod ByName
 pub mod Induction
 pub mod Looks

@@ -124,7 +124,9 @@ fn many_by_name(alloc: Global, values: Values, node: u32) -> Option<BTreeMap<Vec
 fn number_of(alloc: Global, last: &BTreeMap<Vec<u8>, u32>, raw: &[u8]) -> Option<Option<u32>>
     ensures { (cs : List ℕ) → SpellsCharacters cs raw.now → IfSome result (λ found. found ≡ number_of last.now cs) }
 {
-    let Ok(name) = decode(alloc, raw) else { return None };
+    let Ok(name) = decode(alloc, raw) else {
+        return None
+    };
     Some(last.get(name.as_slice()).copied())
 }
 

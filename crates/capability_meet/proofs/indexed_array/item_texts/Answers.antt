@@ -1,4 +1,4 @@
-use Rattle.std.proofs.Common.{ℕ, List, ◌||◌, ◌∙◌, sym, ap, refl}
+use Rattle.std.proofs.Common.{ℕ, List, ◌||◌, ◌∙◌, sym, ap}
 use Rattle.json_nodes.specs.Values.{doc_of}
 use Rattle.capability_meet.specs.IndexedArray.{any_text, has_text, is_text, leaf_text}
 use Rattle.capability_meet.proofs.Lists.{no_text, or_false, text_turn}

@@ -1,4 +1,4 @@
-use Rattle.std.proofs.Common.{refl, ◌+◌, false, ◌&&◌, ◌||◌, sym, ◌∙◌, ap, subst}
+use Rattle.std.proofs.Common.{◌+◌, false, ◌&&◌, ◌||◌, sym, ◌∙◌, ap, subst}
 use Rattle.json_text.specs.declared.span.Span.{Span}
 use Rattle.json_text.specs.Json.{Json, object}
 use Rattle.json_text.specs.Named.{named}

@@ -1,4 +1,4 @@
-use Rattle.std.proofs.Common.{false, ◌||◌, refl, sym, ◌+◌, ◌≡◌, ◌∙◌, ap, subst, ◌&&◌}
+use Rattle.std.proofs.Common.{refl, sym, ◌+◌, ◌≡◌, ◌∙◌, ap, subst, ◌&&◌}
 use Rattle.json_text.specs.declared.kind.Kind.{Kind}
 use Rattle.json_text.specs.declared.kind.Kind.TheVariants as kind
 use Rattle.json_text.specs.Json.{Json, object, number}
@@ -7,7 +7,7 @@ use Rattle.json_nodes.specs.Values.{doc_of}
 use Rattle.json_nodes.specs.At.{At}
 use Rattle.json_nodes.specs.Doc.{Doc}
 use Rattle.json_nodes.specs.Nodes.{kind_of}
-use Rattle.json_nodes.specs.Same.{drop_members, has_name, names_within, same, same_members}
+use Rattle.json_nodes.specs.Same.{drop_members, names_within, same_members}
 use Rattle.json_nodes.proofs.ByName.{at_indexed}
 use Rattle.json_nodes.proofs.Numbers.{child_at}
 use Rattle.json_nodes.proofs.Sames.{none_answer, same_words, comparing_on, comparing_differs, comparing_longer, comparing_ends, walk_on, walk_fails, walk_holds, members_by, members_first, member_later, member_last, member_missing, other_kind, second_kind, same_numbers, same_strings, same_arrays, same_objects}

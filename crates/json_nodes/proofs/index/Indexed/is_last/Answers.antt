@@ -2,7 +2,6 @@ use Rattle.std.proofs.Common.{ap, not, ◌∙◌}
 use Rattle.json_text.specs.Json.{object}
 use Rattle.json_nodes.specs.Values.{doc_of}
 use Rattle.json_nodes.proofs.ByName.{is_last, number_is}
-use Rattle.json_nodes.proofs.Numbers.{child_at}
 use Rattle.json_nodes.proofs.index.Indexed.is_last.Goals as goal
 
 pub returns-in-Some : goal.returns-in-Some
