@@ -1,10 +1,10 @@
 pub mod Bares
 pub mod BelowLaws
-pub mod BelowStep
 pub mod Compacts
 pub mod Declares
 pub mod Equals
 pub mod Letters
+pub mod Lists
 pub mod MemberBelow
 pub mod MeetLaws
 pub mod MeetSays

@@ -1,14 +1,13 @@
 -- What two values have in common, step by step.
-use Rattle.std.proofs.Common.{◌≡◌, ℕ, Bool, true, false, ◌||◌, List, [], ◌∷◌, ◌++◌, refl, sym, ◌∙◌, ap, subst, append_assoc, append-nil}
+use Rattle.std.proofs.Common.{◌≡◌, ℕ, Bool, true, false, not, ◌||◌, List, [], ◌∷◌, ◌++◌, refl, sym, ◌∙◌, ap, subst, append_assoc, append-nil}
 use Rattle.std.specs.Prelude.{Option, Some, None, if◌then◌else◌}
-use Rattle.std.specs.Option.{is_some, option_and_then, option_map}
+use Rattle.std.specs.Option.{option_and_then, option_map}
 use Rattle.json_text.specs.Json.{Json, Members}
 use Rattle.json_text.specs.Named.{named}
 use Rattle.json_text.specs.Tree.{tree_of}
 use Rattle.json_nodes.specs.At.{At, Found}
 use Rattle.json_nodes.specs.Doc.{Doc, Holds}
 use Rattle.json_nodes.specs.Same.{has_name}
-use Rattle.json_nodes.proofs.Sames.{found_some}
 use Rattle.capability_meet.specs.Answers.{IsRead}
 use Rattle.capability_meet.specs.declared.spot.Spot.{Spot}
 use Rattle.capability_meet.specs.Meet.{if_meets, meets}
@@ -33,8 +32,14 @@ none_if e x o h = subst (λ z. Found e (if z then None else o) None) (sym h) tt
 rest_if : (e : Doc) (x : Bool) (o : Option Json) (r : Option ℕ) → x ≡ false → Found e o r → Found e (if x then None else o) r
 rest_if e x o r h f = subst (λ z. Found e (if z then None else o) r) (sym h) f
 
-pub twin_later : (d e : Doc) (s : Spot) (cs : List ℕ) (u : Json) (ms ns : Members) (found : Option ℕ) → Found d (named cs ms) found → is_some found ≡ true → Found e (twin_at s cs u ms ns) None
-twin_later d e s cs u ms ns found f h = none_if e (has_name cs ms || is_left_out s cs) (if_meets u (named cs ns)) (ap (λ v. v || is_left_out s cs) (sym (found_some d (named cs ms) found f) ∙ h))
+turned : (l b : Bool) → l ≡ not b → b ≡ not l
+turned true true h = cc
+turned true false h = refl
+turned false true h = refl
+turned false false h = cc
+
+pub twin_later : (e : Doc) (s : Spot) (cs : List ℕ) (u : Json) (ms ns : Members) (l : Bool) → l ≡ not (has_name cs ms) → l ≡ false → Found e (twin_at s cs u ms ns) None
+twin_later e s cs u ms ns l f h = none_if e (has_name cs ms || is_left_out s cs) (if_meets u (named cs ns)) (ap (λ v. v || is_left_out s cs) (turned l (has_name cs ms) f ∙ ap not h))
 
 pub twin_left_out : (e : Doc) (s : Spot) (cs : List ℕ) (u : Json) (ms ns : Members) (b : Bool) → b ≡ is_left_out s cs → b ≡ true → Found e (twin_at s cs u ms ns) None
 twin_left_out e s cs u ms ns b f h = none_if e (has_name cs ms || is_left_out s cs) (if_meets u (named cs ns)) (or_true (has_name cs ms) (is_left_out s cs) (sym f ∙ h))
@@ -47,15 +52,15 @@ a_twin : (e : Doc) (u : Json) (o : Option Json) (r answer : Option ℕ) (n : ℕ
 a_twin e u None r answer n f h g = absurd (subst (λ z. Found e None z) h f)
 a_twin e u (Some v) r answer n f h g = g v (subst (λ z. Found e (Some v) z) h f)
 
-stays : (d : Doc) (s : Spot) (cs : List ℕ) (ms : Members) (found : Option ℕ) (b : Bool) → Found d (named cs ms) found → is_some found ≡ false → b ≡ is_left_out s cs → b ≡ false → (has_name cs ms || is_left_out s cs) ≡ false
-stays d s cs ms found b f h g k = ap (λ v. v || is_left_out s cs) (sym (found_some d (named cs ms) found f) ∙ h) ∙ sym g ∙ k
+stays : (s : Spot) (cs : List ℕ) (ms : Members) (l b : Bool) → l ≡ not (has_name cs ms) → l ≡ true → b ≡ is_left_out s cs → b ≡ false → (has_name cs ms || is_left_out s cs) ≡ false
+stays s cs ms l b f h g k = ap (λ v. v || is_left_out s cs) (turned l (has_name cs ms) f ∙ ap not h) ∙ sym g ∙ k
 
-pub twin_none : (d e : Doc) (s : Spot) (cs : List ℕ) (u : Json) (ms ns : Members) (found r : Option ℕ) (b : Bool) → Found d (named cs ms) found → is_some found ≡ false → b ≡ is_left_out s cs → b ≡ false → Found e (named cs ns) r → r ≡ None → Found e (twin_at s cs u ms ns) None
-twin_none d e s cs u ms ns found r b f h g k t is = rest_if e (has_name cs ms || is_left_out s cs) (if_meets u (named cs ns)) None (stays d s cs ms found b f h g k) (no_twin e u (named cs ns) r t is)
+pub twin_none : (e : Doc) (s : Spot) (cs : List ℕ) (u : Json) (ms ns : Members) (l : Bool) (r : Option ℕ) (b : Bool) → l ≡ not (has_name cs ms) → l ≡ true → b ≡ is_left_out s cs → b ≡ false → Found e (named cs ns) r → r ≡ None → Found e (twin_at s cs u ms ns) None
+twin_none e s cs u ms ns l r b f h g k t is = rest_if e (has_name cs ms || is_left_out s cs) (if_meets u (named cs ns)) None (stays s cs ms l b f h g k) (no_twin e u (named cs ns) r t is)
 
-pub twin_some : (d e : Doc) (s : Spot) (cs : List ℕ) (u : Json) (ms ns : Members) (found r answer : Option ℕ) (n : ℕ) (b : Bool) → Found d (named cs ms) found → is_some found ≡ false → b ≡ is_left_out s cs → b ≡ false → Found e (named cs ns) r → r ≡ Some n
+pub twin_some : (e : Doc) (s : Spot) (cs : List ℕ) (u : Json) (ms ns : Members) (l : Bool) (r answer : Option ℕ) (n : ℕ) (b : Bool) → l ≡ not (has_name cs ms) → l ≡ true → b ≡ is_left_out s cs → b ≡ false → Found e (named cs ns) r → r ≡ Some n
     → ((v : Json) → At e n v → Found e (if_meets u (Some v)) answer) → Found e (twin_at s cs u ms ns) answer
-twin_some d e s cs u ms ns found r answer n b f h g k t is m = rest_if e (has_name cs ms || is_left_out s cs) (if_meets u (named cs ns)) answer (stays d s cs ms found b f h g k) (a_twin e u (named cs ns) r answer n t is m)
+twin_some e s cs u ms ns l r answer n b f h g k t is m = rest_if e (has_name cs ms || is_left_out s cs) (if_meets u (named cs ns)) answer (stays s cs ms l b f h g k) (a_twin e u (named cs ns) r answer n t is m)
 
 pub met_so : (e : Doc) (t u : Json) (n : ℕ) (b : Bool) → At e n u → b ≡ meets t u → b ≡ true → Found e (if_meets t (Some u)) (Some n)
 met_so e t u n b a f h = subst (λ z. Found e (if z then Some u else None) (Some n)) (sym h ∙ f) a

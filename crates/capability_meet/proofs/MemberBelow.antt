@@ -1,19 +1,20 @@
 -- One member in the order: a later one has its name, or it is least, or it is below the last one of its name in the other.
-use Rattle.std.proofs.Common.{◌≡◌, ℕ, Bool, true, false, ◌||◌, refl, sym, ◌∙◌, ap, subst}
+use Rattle.std.proofs.Common.{◌≡◌, ℕ, Bool, true, false, ◌||◌, not, refl, sym, ◌∙◌, ap, subst}
 use Rattle.std.specs.Prelude.{Option, Some, None}
 use Rattle.std.specs.Option.{is_some}
 use Rattle.json_text.specs.Json.{Json}
 use Rattle.json_nodes.specs.At.{At, Found}
 use Rattle.json_nodes.specs.Doc.{Doc}
 use Rattle.json_nodes.specs.Same.{if_some}
-use Rattle.json_nodes.proofs.Sames.{found_some}
 use Rattle.capability_meet.specs.Order.{below, is_least}
 
-pub member_later : (d : Doc) (o : Option Json) (found : Option ℕ) (x : Bool) → Found d o found → is_some found ≡ true → true ≡ (is_some o || x)
-member_later d o found x h e = sym (ap (λ v. v || x) (sym (found_some d o found h) ∙ e))
+pub member_later : (l : Bool) (o : Option Json) (x : Bool) → l ≡ not (is_some o) → l ≡ false → true ≡ (is_some o || x)
+member_later l (Some j) x h e = refl
+member_later l None x h e = cc
 
-pub member_first : (d : Doc) (o : Option Json) (found : Option ℕ) (x : Bool) → Found d o found → is_some found ≡ false → x ≡ (is_some o || x)
-member_first d o found x h e = sym (ap (λ v. v || x) (sym (found_some d o found h) ∙ e))
+pub member_first : (l : Bool) (o : Option Json) (x : Bool) → l ≡ not (is_some o) → l ≡ true → x ≡ (is_some o || x)
+member_first l (Some j) x h e = cc
+member_first l None x h e = refl
 
 pub member_least : (u : Json) (b x : Bool) → b ≡ is_least u → b ≡ true → true ≡ (is_least u || x)
 member_least u b x e h = sym (ap (λ v. v || x) (sym e ∙ h))

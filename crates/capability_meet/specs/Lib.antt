@@ -2,6 +2,7 @@ pub mod Answers
 pub mod Bounds
 pub mod Compact
 pub mod DeclaredTree
+pub mod IndexedArray
 pub mod Kinds
 pub mod Meet
 pub mod MeetTree

@@ -4,6 +4,7 @@
 
 mod compact;
 mod fault;
+mod indexed_array;
 mod kinds;
 mod laws;
 mod meeting;

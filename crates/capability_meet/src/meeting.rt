@@ -22,8 +22,8 @@ use std::alloc::Global;
 /// own place. Arrays keep the first's items that say the same as some item of the second. Values that say the same stay.
 /// All else is least, and a least whole is `{}`.
 ///
-/// The time is at worst the product of the numbers of members, or of items and their sizes, for each pair of objects or arrays
-/// that are met. It answers `NotJson` just where one of the two is no JSON text that nests at most 1,024 deep.
+/// It takes n log n comparisons of n names and items in all; an item that is an array or an object is compared with each of the
+/// other's. It answers `NotJson` just where one of the two is no JSON text that nests at most 1,024 deep.
 pub fn meet(alloc: Global, a: &[u8], b: &[u8]) -> Result<Body, CapFault>
     requires first { length a.now ≤ 268435456 }
     requires second { length b.now ≤ 268435456 }
@@ -96,7 +96,7 @@ fn write_whole(
     ensures { OfValues left.entry node right.entry other (λ t u. IfOk result (λ out. out.items ≡ whole_at (doc_of left.entry).bytes spot t u)) }
 {
     let mut out = Vec::new(alloc);
-    if meets(left, node, right, other) {
+    if meets(alloc, left, node, right, other) {
         write_met(&mut out, left, node, right, other, spot)?;
     } else {
         write(&mut out, b"{}")?;

@@ -5,16 +5,19 @@ ghost use Rattle.json_text.specs.declared.span.Span.{Span};
 ghost use Rattle.json_text.specs.Json.{Items, Json, Members, array, object};
 ghost use Rattle.json_text.specs.Named.{named};
 ghost use Rattle.json_nodes.specs.At.{At, ChildAt, FoundChild};
-ghost use Rattle.json_nodes.specs.InStep.{in_step};
+ghost use Rattle.json_nodes.specs.Index.{IsIndexed};
 ghost use Rattle.json_nodes.specs.Same.{drop_members, has_name, if_some};
 ghost use Rattle.json_nodes.specs.Texts.{names};
+ghost use Rattle.capability_meet.specs.IndexedArray.{IsIndexedArray};
 ghost use Rattle.capability_meet.specs.Order.{below, is_among, is_least, items_below, members_below};
 ghost use Rattle.json_nodes.specs.Values.{OfArrays, OfObjects, doc_of};
 
+use crate::indexed_array::IndexedArray;
 use crate::kinds::{Pair, pair_of};
-use json_nodes::Values;
+use json_nodes::{Indexed, Values};
 use json_span::Tape;
 use json_text::Kind;
+use std::alloc::Global;
 
 /// Whether a value of one text is below a value of another in the order of capabilities (LSP 3.17, Initialize Request).
 ///
@@ -22,9 +25,8 @@ use json_text::Kind;
 /// below the other's member of that name, where the last member of a name counts. An array is below an array if each of its
 /// items says the same as some item of the other. Any other value is below a value that says the same.
 ///
-/// The time is linear in the two where their objects have the same names in the same order, none doubled, and arrays are short;
-/// else it is at worst the product of the numbers of members, or of items and their sizes, for each pair of objects or arrays
-/// that are compared. It takes no memory.
+/// It takes n log n comparisons of n names and items in all, and memory for the names and the items of what is open; where there is
+/// none, members and items are looked up one by one. An item that is an array or an object is compared with each of the other's.
 pub fn below(a: &Tape, x: u32, b: &Tape, y: u32) -> bool
     requires node { x < length a.now.nodes }
     requires other { y < length b.now.nodes }
@@ -32,72 +34,85 @@ pub fn below(a: &Tape, x: u32, b: &Tape, y: u32) -> bool
 {
     let left = a.values();
     let right = b.values();
-    left.same_bytes(x, right, y) || values_below(left, x, right, y)
+    left.same_bytes(x, right, y) || values_below(a.allocator(), left, x, right, y)
 }
 
 #[cycle(below)]
-fn values_below(left: Values, node: u32, right: Values, other: u32) -> bool
+fn values_below(alloc: Global, left: Values, node: u32, right: Values, other: u32) -> bool
     requires node { node < length left.nodes.now }
     requires other { other < length right.nodes.now }
     ensures { (t u : Json) → At (doc_of left.entry) node t → At (doc_of right.entry) other u → result ≡ below t u }
 {
     match pair_of(left.kind(node), right.kind(other)) {
         Pair::Least => true,
-        Pair::Arrays => items_below(left, node, right, other),
-        Pair::Objects => members_below(left, node, right, other),
-        Pair::Others => left.same(node, right, other),
+        Pair::Arrays => items_below(alloc, left, node, right, other),
+        Pair::Objects => objects_below(alloc, left, node, right, other),
+        Pair::Others => left.same(alloc, node, right, other),
     }
 }
 
 // Whether each item of an array says the same as some item of another.
-fn items_below(left: Values, node: u32, right: Values, other: u32) -> bool
+fn items_below(alloc: Global, left: Values, node: u32, right: Values, other: u32) -> bool
     requires node { node < length left.nodes.now }
     requires other { other < length right.nodes.now }
     ensures { OfArrays left.entry node right.entry other (λ js ks. result ≡ items_below js ks) }
 {
+    let right = IndexedArray::new(alloc, right, other);
+    items_among(alloc, left, node, &right)
+}
+
+// The same where the other comes with the texts of its items.
+fn items_among(alloc: Global, left: Values, node: u32, right: &IndexedArray) -> bool
+    requires node { node < length left.nodes.now }
+    requires other { right.now.node < length right.now.values.nodes.now }
+    requires right { IsIndexedArray right.now }
+    ensures { OfArrays left.entry node right.now.values right.now.node (λ js ks. result ≡ items_below js ks) }
+{
     let mut next = left.first(node);
-    let mut beside = right.first(other);
+    let mut beside = right.values.first(right.node);
     while let Some(item) = next {
-        if !is_beside_or_among(left, item, right, beside, other) {
+        if !is_beside_or_among(alloc, left, item, right, beside) {
             return false;
         }
         next = left.next(item);
-        beside = right.maybe_next(beside);
+        beside = right.values.maybe_next(beside);
     }
     true
 }
 
 // Whether a value says the same as this item of an array, or as some item of it.
 fn is_beside_or_among(
+    alloc: Global,
     left: Values,
     node: u32,
-    right: Values,
+    right: &IndexedArray,
     beside: Option<u32>,
-    other: u32,
 ) -> bool
     requires node { node < length left.nodes.now }
-    requires beside { MatchOption beside (Unit {0}) (λ m. m < length right.nodes.now) }
-    requires other { other < length right.nodes.now }
-    ensures { (t : Json) (r : Span) (ks : Items) (n : ℕ) → At (doc_of left.entry) node t → At (doc_of right.entry) other (array r ks)
-        → FoundChild (doc_of right.entry) other (array r ks) n beside → result ≡ is_among t ks }
+    requires beside { MatchOption beside (Unit {0}) (λ m. m < length right.now.values.nodes.now) }
+    requires other { right.now.node < length right.now.values.nodes.now }
+    requires right { IsIndexedArray right.now }
+    ensures { (t : Json) (r : Span) (ks : Items) (n : ℕ) → At (doc_of left.entry) node t
+        → At (doc_of right.now.values) right.now.node (array r ks)
+        → FoundChild (doc_of right.now.values) right.now.node (array r ks) n beside → result ≡ is_among t ks }
 {
     if let Some(item) = beside {
-        if left.same(node, right, item) {
+        if left.same(alloc, node, right.values, item) {
             return true;
         }
     }
-    is_among(left, node, right, other)
+    right.has(left, node)
 }
 
 // Whether a value says the same as some item of an array.
-pub fn is_among(left: Values, node: u32, right: Values, other: u32) -> bool
+pub fn is_among(alloc: Global, left: Values, node: u32, right: Values, other: u32) -> bool
     requires node { node < length left.nodes.now }
     requires other { other < length right.nodes.now }
     ensures { (t : Json) (r : Span) (ks : Items) → At (doc_of left.entry) node t → At (doc_of right.entry) other (array r ks) → result ≡ is_among t ks }
 {
     let mut next = right.first(other);
     while let Some(item) = next {
-        if left.same(node, right, item) {
+        if left.same(alloc, node, right, item) {
             return true;
         }
         next = right.next(item);
@@ -107,96 +122,56 @@ pub fn is_among(left: Values, node: u32, right: Values, other: u32) -> bool
 
 // Whether each member of an object, unless a later one has its name, is below the last one of its name in another.
 #[cycle(below)]
-fn members_below(left: Values, node: u32, right: Values, other: u32) -> bool
+fn objects_below(alloc: Global, left: Values, node: u32, right: Values, other: u32) -> bool
     requires node { node < length left.nodes.now }
     requires other { other < length right.nodes.now }
     ensures { OfObjects left.entry node right.entry other (λ ms ns. result ≡ members_below ms ns) }
 {
-    if left.same_names(node, right, other) {
-        members_in_step(left, node, right, other)
-    } else {
-        members_by_name(left, node, right, other)
-    }
+    let left = Indexed::new(alloc, left, node);
+    let right = Indexed::new(alloc, right, other);
+    members_below(alloc, &left, &right)
 }
 
-// The same where the two have the same names in the same order.
+// The same for two objects with their members by their names.
 #[cycle(below)]
-fn members_in_step(left: Values, node: u32, right: Values, other: u32) -> bool
-    requires node { node < length left.nodes.now }
-    requires other { other < length right.nodes.now }
-    ensures { OfObjects left.entry node right.entry other (λ ms ns. result ≡ in_step below ms ns) }
+fn members_below(alloc: Global, left: &Indexed, right: &Indexed) -> bool
+    requires node { left.now.node < length left.now.values.nodes.now }
+    requires left { IsIndexed left.now }
+    requires other { right.now.node < length right.now.values.nodes.now }
+    requires right { IsIndexed right.now }
+    ensures { OfObjects left.now.values left.now.node right.now.values right.now.node (λ ms ns. result ≡ members_below ms ns) }
 {
-    let mut next = left.first(node);
-    let mut beside = right.first(other);
+    let mut next = left.values.first(left.node);
     while let Some(member) = next {
-        let Some(twin) = beside else { return false };
-        let following = left.next(member);
-        if !below_beside(left, member, following, right, twin) {
+        if !member_below(alloc, left, member, right) {
             return false;
         }
-        next = following;
-        beside = right.next(twin);
+        next = left.values.next(member);
     }
     true
 }
 
-// Whether a member is below a value, or one that follows has its name.
+// The same for one member.
 #[cycle(below)]
-fn below_beside(left: Values, member: u32, following: Option<u32>, right: Values, twin: u32) -> bool
-    requires member { member < length left.nodes.now }
-    requires following { MatchOption following (Unit {0}) (λ m. m < length left.nodes.now) }
-    requires twin { twin < length right.nodes.now }
-    ensures { (k n : ℕ) (s : Span) (u v : Json) (ms : Members) (cs : List ℕ) → ChildAt (doc_of left.entry) k (object s ms) n member u
-        → slice_get (names (object s ms)) n ≡ Some cs → FoundChild (doc_of left.entry) k (object s ms) (n + 1) following
-        → At (doc_of right.entry) twin v → result ≡ (below u v || has_name cs (drop_members (n + 1) ms)) }
-{
-    values_below(left, member, right, twin) || left.is_named_again(member, following)
-}
-
-// The same for any two, each member looked up by its name.
-#[cycle(below)]
-fn members_by_name(left: Values, node: u32, right: Values, other: u32) -> bool
-    requires node { node < length left.nodes.now }
-    requires other { other < length right.nodes.now }
-    ensures { OfObjects left.entry node right.entry other (λ ms ns. result ≡ members_below ms ns) }
-{
-    let mut next = left.first(node);
-    while let Some(member) = next {
-        let following = left.next(member);
-        if !member_below(left, member, following, right, other) {
-            return false;
-        }
-        next = following;
-    }
-    true
-}
-
-// The same for one member, and the one that follows it.
-#[cycle(below)]
-fn member_below(
-    left: Values,
-    member: u32,
-    following: Option<u32>,
-    right: Values,
-    other: u32,
-) -> bool
-    requires member { member < length left.nodes.now }
-    requires following { MatchOption following (Unit {0}) (λ m. m < length left.nodes.now) }
-    requires other { other < length right.nodes.now }
-    ensures { (k n : ℕ) (s r : Span) (u : Json) (ms ns : Members) (cs : List ℕ) → ChildAt (doc_of left.entry) k (object s ms) n member u
-        → slice_get (names (object s ms)) n ≡ Some cs → FoundChild (doc_of left.entry) k (object s ms) (n + 1) following
-        → At (doc_of right.entry) other (object r ns)
+fn member_below(alloc: Global, left: &Indexed, member: u32, right: &Indexed) -> bool
+    requires node { left.now.node < length left.now.values.nodes.now }
+    requires left { IsIndexed left.now }
+    requires member { member < length left.now.values.nodes.now }
+    requires other { right.now.node < length right.now.values.nodes.now }
+    requires right { IsIndexed right.now }
+    ensures { (n : ℕ) (s r : Span) (u : Json) (ms ns : Members) (cs : List ℕ)
+        → ChildAt (doc_of left.now.values) left.now.node (object s ms) n member u → slice_get (names (object s ms)) n ≡ Some cs
+        → At (doc_of right.now.values) right.now.node (object r ns)
         → result ≡ (has_name cs (drop_members (n + 1) ms) || (is_least u || if_some (named cs ns) (λ v. below u v))) }
 {
-    let name = left.name(member);
-    if left.last_spelled(name, following).is_some() {
+    if !left.is_last(member) {
         return true;
     }
-    if is_least(left, member) {
+    if is_least(left.values, member) {
         return true;
     }
-    match right.last_spelled(name, right.first(other)) {
-        Some(twin) => values_below(left, member, right, twin),
+    match right.last_named(left.values.name(member)) {
+        Some(twin) => values_below(alloc, left.values, member, right.values, twin),
         None => false,
     }
 }

@@ -5,7 +5,8 @@ ghost use Rattle.std.specs.Str.{chars};
 ghost use Rattle.json_text.specs.declared.span.Span.{Span};
 ghost use Rattle.json_text.specs.Json.{Json, Members, object};
 ghost use Rattle.json_text.specs.Named.{named_in};
-ghost use Rattle.json_nodes.specs.At.{At, ChildAt, Found, FoundChild};
+ghost use Rattle.json_nodes.specs.At.{At, ChildAt, Found};
+ghost use Rattle.json_nodes.specs.Index.{IsIndexed};
 ghost use Rattle.json_nodes.specs.Same.{drop_members, if_some};
 ghost use Rattle.json_nodes.specs.Texts.{member_names};
 ghost use Rattle.capability_meet.specs.Meet.{if_meets, meets};
@@ -14,10 +15,11 @@ ghost use Rattle.json_nodes.specs.Values.{OfValues, doc_of};
 
 use crate::kinds::{Pair, pair_of};
 use crate::spot::{Spot, is_left_out};
-use json_nodes::Values;
+use json_nodes::{Indexed, Values};
+use std::alloc::Global;
 
 // Whether two values have more in common than the least value.
-pub fn meets(left: Values, node: u32, right: Values, other: u32) -> bool
+pub fn meets(alloc: Global, left: Values, node: u32, right: Values, other: u32) -> bool
     requires node { node < length left.nodes.now }
     requires other { other < length right.nodes.now }
     ensures { (t u : Json) → At (doc_of left.entry) node t → At (doc_of right.entry) other u → result ≡ meets t u }
@@ -26,48 +28,50 @@ pub fn meets(left: Values, node: u32, right: Values, other: u32) -> bool
         Pair::Least => false,
         Pair::Arrays => true,
         Pair::Objects => true,
-        Pair::Others => left.same(node, right, other),
+        Pair::Others => left.same(alloc, node, right, other),
     }
 }
 
 // What a member is met with.
 pub fn twin_of(
-    left: Values,
-    node: u32,
-    following: Option<u32>,
-    right: Values,
-    other: u32,
+    alloc: Global,
+    left: &Indexed,
+    member: u32,
+    right: &Indexed,
     spot: Spot,
 ) -> Option<u32>
-    requires node { node < length left.nodes.now }
-    requires following { MatchOption following (Unit {0}) (λ m. m < length left.nodes.now) }
-    requires other { other < length right.nodes.now }
-    ensures twin { (k n : ℕ) (s r : Span) (ms ns : Members) (cs : List ℕ) (u : Json) → ChildAt (doc_of left.entry) k (object s ms) n node u
-        → slice_get (member_names ms) n ≡ Some cs → FoundChild (doc_of left.entry) k (object s ms) (n + 1) following
-        → At (doc_of right.entry) other (object r ns) → Found (doc_of right.entry) (twin_at spot cs u (drop_members (n + 1) ms) ns) result }
-    ensures inside { MatchOption result (Unit {0}) (λ m. m < length right.entry.nodes.now) }
+    requires node { left.now.node < length left.now.values.nodes.now }
+    requires left { IsIndexed left.now }
+    requires member { member < length left.now.values.nodes.now }
+    requires other { right.now.node < length right.now.values.nodes.now }
+    requires right { IsIndexed right.now }
+    ensures twin { (n : ℕ) (s r : Span) (ms ns : Members) (cs : List ℕ) (u : Json)
+        → ChildAt (doc_of left.now.values) left.now.node (object s ms) n member u → slice_get (member_names ms) n ≡ Some cs
+        → At (doc_of right.now.values) right.now.node (object r ns)
+        → Found (doc_of right.now.values) (twin_at spot cs u (drop_members (n + 1) ms) ns) result }
+    ensures inside { MatchOption result (Unit {0}) (λ m. m < length right.now.values.nodes.now) }
 {
-    let name = left.name(node);
-    if left.last_spelled(name, following).is_some() {
+    if !left.is_last(member) {
         return None;
     }
+    let name = left.values.name(member);
     if is_left_out(spot, name) {
         return None;
     }
-    match right.last_spelled(name, right.first(other)) {
-        Some(twin) => if_meets(left, node, right, twin),
+    match right.last_named(name) {
+        Some(twin) => if_meets(alloc, left.values, member, right.values, twin),
         None => None,
     }
 }
 
 // A value of the other, where the two have something in common.
-pub fn if_meets(left: Values, node: u32, right: Values, other: u32) -> Option<u32>
+pub fn if_meets(alloc: Global, left: Values, node: u32, right: Values, other: u32) -> Option<u32>
     requires node { node < length left.nodes.now }
     requires other { other < length right.nodes.now }
     ensures twin { (t u : Json) → At (doc_of left.entry) node t → At (doc_of right.entry) other u → Found (doc_of right.entry) (if_meets t (Some u)) result }
     ensures inside { MatchOption result (Unit {0}) (λ m. m < length right.entry.nodes.now) }
 {
-    if meets(left, node, right, other) {
+    if meets(alloc, left, node, right, other) {
         Some(other)
     } else {
         None
@@ -75,17 +79,17 @@ pub fn if_meets(left: Values, node: u32, right: Values, other: u32) -> Option<u3
 }
 
 // Whether two objects have something in common under this name.
-pub fn named_meets(left: Values, node: u32, right: Values, other: u32, name: &str) -> bool
-    requires node { node < length left.nodes.now }
-    requires other { other < length right.nodes.now }
-    ensures { OfValues left.entry node right.entry other (λ t u. result
+pub fn named_meets(alloc: Global, left: &Indexed, right: &Indexed, name: &str) -> bool
+    requires node { left.now.node < length left.now.values.nodes.now }
+    requires other { right.now.node < length right.now.values.nodes.now }
+    ensures { OfValues left.now.values left.now.node right.now.values right.now.node (λ t u. result
         ≡ if_some (named_in (chars name.now) t) (λ j. if_some (named_in (chars name.now) u) (λ k. meets j k))) }
 {
-    let Some(mine) = left.member(node, name) else {
+    let Some(mine) = left.values.member(left.node, name) else {
         return false
     };
-    match right.member(other, name) {
-        Some(twin) => meets(left, mine, right, twin),
+    match right.values.member(right.node, name) {
+        Some(twin) => meets(alloc, left.values, mine, right.values, twin),
         None => false,
     }
 }

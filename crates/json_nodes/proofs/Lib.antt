@@ -1,6 +1,6 @@
 pub mod Absent
 pub mod Bounds
-pub mod InStep
+pub mod ByName
 pub mod Induction
 pub mod Looks
 pub mod Members

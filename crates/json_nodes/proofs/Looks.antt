@@ -86,7 +86,7 @@ next_is_none : (ns : List Node) (m : ℕ) (x : Node) (tail : List Node) → slic
 next_is_none ns m x [] h g l low lt = rw (h, g) refl
 next_is_none ns m x (y ∷ tail) h g l low lt = let other : ((y.level == x.level) && nat_lt m x.after) ≡ false = grind (arith, nat_tests) in rw (h, g, other) refl
 
-more_sizes : (js : List Json) (n : ℕ) (c : Json) → slice_get js n ≡ Some c → sizes (suc n) js ≡ sizes n js + size c
+pub more_sizes : (js : List Json) (n : ℕ) (c : Json) → slice_get js n ≡ Some c → sizes (suc n) js ≡ sizes n js + size c
 more_sizes [] n c h = cc
 more_sizes (j ∷ js) zero c h = let same : j ≡ c = cc in rw same (omega arith)
 more_sizes (j ∷ js) (suc n) c h = omega (arith, more_sizes js n c h)

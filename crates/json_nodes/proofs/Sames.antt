@@ -355,18 +355,19 @@ found_some doc (Some t) None h = absurd h
 
 -- one member: a later one has its name, or the last one of the other object says the same or not
 
-pub member_later : (d : Doc) (o p : Option Json) (u : Json) (found : Option ℕ) → Found d o found → is_some found ≡ true → true ≡ (is_some o || if_some p (λ v. same u v))
-member_later d o p u found h e = rw (← found_some d o found h, e) refl
+pub member_later : (b : Bool) (o p : Option Json) (u : Json) → b ≡ not (is_some o) → b ≡ false → true ≡ (is_some o || if_some p (λ v. same u v))
+member_later b (Some j) p u h e = refl
+member_later b None p u h e = cc
 
-pub member_last : (d e : Doc) (o p : Option Json) (m n : ℕ) (u : Json) (found twin : Option ℕ) (b : Bool) → Found d o found → is_some found ≡ false → At d m u → Found e p twin → twin ≡ Some n → Answers d e m n b → b ≡ (is_some o || if_some p (λ v. same u v))
-member_last d e o None m n u found twin b h f a g is answers = let z : Found e None (Some n) = subst (λ q. Found e None q) is g in absurd z
-member_last d e o (Some v) m n u found twin b h f a g is answers =
-    let z : At e n v = subst (λ q. Found e (Some v) q) is g in
-    rw (← found_some d o found h, f, answers u v a z) refl
+pub member_last : (d e : Doc) (o p : Option Json) (m n : ℕ) (u : Json) (l : Bool) (twin : Option ℕ) (b : Bool) → l ≡ not (is_some o) → l ≡ true → At d m u → Found e p twin → twin ≡ Some n → Answers d e m n b → b ≡ (is_some o || if_some p (λ v. same u v))
+member_last d e (Some j) p m n u l twin b h f a g is answers = cc
+member_last d e None None m n u l twin b h f a g is answers = let z : Found e None (Some n) = subst (λ q. Found e None q) is g in absurd z
+member_last d e None (Some v) m n u l twin b h f a g is answers = answers u v a (subst (λ q. Found e (Some v) q) is g)
 
-pub member_missing : (d e : Doc) (o p : Option Json) (u : Json) (found twin : Option ℕ) → Found d o found → is_some found ≡ false → Found e p twin → twin ≡ None → false ≡ (is_some o || if_some p (λ v. same u v))
-member_missing d e o None u found twin h f g is = rw (← found_some d o found h, f) refl
-member_missing d e o (Some v) u found twin h f g is = let z : Found e (Some v) None = subst (λ q. Found e (Some v) q) is g in absurd z
+pub member_missing : (e : Doc) (o p : Option Json) (u : Json) (l : Bool) (twin : Option ℕ) → l ≡ not (is_some o) → l ≡ true → Found e p twin → twin ≡ None → false ≡ (is_some o || if_some p (λ v. same u v))
+member_missing e (Some j) p u l twin h f g is = cc
+member_missing e None None u l twin h f g is = refl
+member_missing e None (Some v) u l twin h f g is = let z : Found e (Some v) None = subst (λ q. Found e (Some v) q) is g in absurd z
 
 -- answers of the code
 

@@ -1,8 +1,7 @@
 ghost use Rattle.json_nodes.specs.At.{At, ChildAt, Found, FoundChild};
-ghost use Rattle.json_nodes.specs.InStep.{same_names};
 ghost use Rattle.json_nodes.specs.Same.{drop_members, has_name};
 ghost use Rattle.json_nodes.specs.Texts.{names};
-ghost use Rattle.json_nodes.specs.Values.{OfObjects, doc_of};
+ghost use Rattle.json_nodes.specs.Values.{doc_of};
 ghost use Rattle.json_text.specs.declared.span.Span.{Span};
 ghost use Rattle.json_text.specs.Json.{Json, Members, object};
 ghost use Rattle.json_text.specs.Named.{named};
@@ -14,25 +13,6 @@ use crate::values::Values;
 use json_token::same_characters;
 
 impl<'a> Values<'a> {
-    /// Whether two objects have the same names in the same order, doubled ones too. The time is linear in the bytes of the names.
-    pub fn same_names(self, node: u32, right: Values, other: u32) -> bool
-        requires node { node < length self.nodes.now }
-        requires other { other < length right.nodes.now }
-        ensures { OfObjects self.entry node right.entry other (λ ms ns. result ≡ same_names ms ns) }
-    {
-        let mut next = self.first(node);
-        let mut beside = right.first(other);
-        while let Some(member) = next {
-            let Some(twin) = beside else { return false };
-            if !same_characters(self.name(member), right.name(twin)) {
-                return false;
-            }
-            next = self.next(member);
-            beside = right.next(twin);
-        }
-        beside.is_none()
-    }
-
     /// Whether a member that follows, from this one on, has the name of a member too. The time is linear in the members from that
     /// one on and in the bytes of their names.
     pub fn is_named_again(self, member: u32, following: Option<u32>) -> bool

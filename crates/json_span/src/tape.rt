@@ -98,6 +98,11 @@ impl<'a> Tape<'a> {
         }
     }
 
+    /// The allocator that its nodes are from.
+    pub fn allocator(&self) -> Global {
+        *self.nodes.allocator()
+    }
+
     /// The text's value.
     pub fn root(&self) -> u32
         ensures first { result ≡ 0 }
@@ -208,5 +213,6 @@ pub fn same(left: &Tape, node: u32, right: &Tape, other: u32) -> bool
     ensures test { (t u : Json) → At left.now node t → At right.now other u → result ≡ same t u }
     ensures relation { (t u : Json) → At left.now node t → At right.now other u → (IsTrue result ↔ Same t u) }
 {
-    left.values().same(node, right.values(), other)
+    left.values()
+        .same(left.allocator(), node, right.values(), other)
 }

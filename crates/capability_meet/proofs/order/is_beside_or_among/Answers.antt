@@ -3,7 +3,7 @@ use Rattle.capability_meet.proofs.Equals.{beside_among}
 use Rattle.capability_meet.proofs.order.is_beside_or_among.Goals as goal
 
 pub returns-then-same : goal.returns-then-same
-returns-then-same c = λ t r ks n a b f. beside_among (doc_of c.args.right) c.args.other n c.in-Some.item t r ks c.args.beside c.same.result c.in-Some.is f (λ u h. c.same.ensures.test t u a h) c.if-same.true
+returns-then-same c = λ t r ks n a b f. beside_among (doc_of c.args.right.now.values) c.args.right.now.node n c.in-Some.item t r ks c.args.beside c.same.result c.in-Some.is f (λ u h. c.same.ensures.test t u a h) c.if-same.true
 
 pub returns : goal.returns
-returns c = λ t r ks n a b f. c.is_among.ensures t r ks a b
+returns c = λ t r ks n a b f. c.has.ensures t r ks a b

@@ -17,13 +17,13 @@ abbrev pub decreases-write_object : goal.decreases-write_object
 decreases-write_object l = 4 * (length l.left.nodes.now - l.node) + 1
 
 abbrev pub decreases-write_pairs : goal.decreases-write_pairs
-decreases-write_pairs l = 4 * (length l.left.nodes.now - l.node)
+decreases-write_pairs l = 4 * (length l.left.now.values.nodes.now - l.left.now.node)
 
 abbrev pub decreases-write_pair : goal.decreases-write_pair
-decreases-write_pair l = 4 * (length l.left.nodes.now - l.node) + 3
+decreases-write_pair l = 4 * (length l.left.now.values.nodes.now - l.pair) + 3
 
 abbrev pub invariant-write_pairs-loop-next : goal.invariant-write_pairs-loop-next
-invariant-write_pairs-loop-next l = MembersWalk (doc_of l.left) l.node (λ (b : Beside). (r : Span) × At (doc_of l.right) l.other (object r b.others)) (λ b ms. l.initial.out.items ++ listed false (pairs_at (doc_of l.left).bytes l.spot ms b.others ++ b.more)) (λ b ms. l.out.items ++ listed l.started (pairs_at (doc_of l.left).bytes l.spot ms b.others ++ b.more)) l.next
+invariant-write_pairs-loop-next l = MembersWalk (doc_of l.left.values) l.left.node (λ (b : Beside). (r : Span) × At (doc_of l.right.values) l.right.node (object r b.others)) (λ b ms. l.initial.out.items ++ listed false (pairs_at (doc_of l.left.values).bytes l.spot ms b.others ++ b.more)) (λ b ms. l.out.items ++ listed l.started (pairs_at (doc_of l.left.values).bytes l.spot ms b.others ++ b.more)) l.next
 
 abbrev pub decreases-write_pairs-loop-next : goal.decreases-write_pairs-loop-next
-decreases-write_pairs-loop-next l = left (length l.left.nodes.now) l.next
+decreases-write_pairs-loop-next l = left (length l.left.values.nodes.now) l.next

@@ -10,7 +10,7 @@ use Rattle.capability_meet.proofs.Walks.{ItemsWalk}
 use Rattle.capability_meet.proofs.written.write_items.Given as goal
 
 abbrev pub invariant-loop-next : goal.invariant-loop-next
-invariant-loop-next l = ItemsWalk (doc_of l.left) l.node (λ ks. (r : Span) × At (doc_of l.right) l.other (array r ks)) (λ ks js. l.initial.out.items ++ listed false (items_met (doc_of l.left).bytes js ks)) (λ ks js. l.out.items ++ listed l.started (items_met (doc_of l.left).bytes js ks)) l.next
+invariant-loop-next l = ItemsWalk (doc_of l.left) l.node (λ ks. (r : Span) × At (doc_of l.right.values) l.right.node (array r ks)) (λ ks js. l.initial.out.items ++ listed false (items_met (doc_of l.left).bytes js ks)) (λ ks js. l.out.items ++ listed l.started (items_met (doc_of l.left).bytes js ks)) l.next
 
 abbrev pub decreases-loop-next : goal.decreases-loop-next
 decreases-loop-next l = left (length l.left.nodes.now) l.next

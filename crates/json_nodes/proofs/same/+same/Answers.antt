@@ -1,4 +1,4 @@
-use Rattle.std.proofs.Common.{false, ◌||◌, refl, sym, ◌+◌, ◌≡◌, ◌∙◌, ap, subst, ◌&&◌}
+use Rattle.std.proofs.Common.{refl, sym, ◌+◌, ◌≡◌, ◌∙◌, ap, subst, ◌&&◌}
 use Rattle.json_text.specs.declared.kind.Kind.{Kind}
 use Rattle.json_text.specs.declared.kind.Kind.TheVariants as kind
 use Rattle.json_text.specs.Json.{Json, object, number}
@@ -7,13 +7,13 @@ use Rattle.json_nodes.specs.Values.{doc_of}
 use Rattle.json_nodes.specs.At.{At}
 use Rattle.json_nodes.specs.Doc.{Doc}
 use Rattle.json_nodes.specs.Nodes.{kind_of}
-use Rattle.json_nodes.specs.InStep.{in_step}
-use Rattle.json_nodes.specs.Same.{drop_members, has_name, names_within, same, same_members}
+use Rattle.json_nodes.specs.Same.{drop_members, names_within, same_members}
+use Rattle.json_nodes.proofs.ByName.{at_indexed}
 use Rattle.json_nodes.proofs.Numbers.{child_at}
 use Rattle.json_nodes.proofs.Sames.{none_answer, same_words, comparing_on, comparing_differs, comparing_longer, comparing_ends, walk_on, walk_fails, walk_holds, members_by, members_first, member_later, member_last, member_missing, other_kind, second_kind, same_numbers, same_strings, same_arrays, same_objects}
-use Rattle.json_nodes.proofs.InStep.{objects_step, pairs_go, pairs_short, pairs_stop, steps_done}
 use Rattle.json_nodes.proofs.Spelling.{decided}
 use Rattle.json_nodes.proofs.same.+same.Goals as goal
+use Rattle.json_nodes.proofs.same.+same.Goals.{same_objects-then-same_members, same_objects-else-same_members}
 
 pub same_items-returns-in_default-beside : goal.same_items-returns-in_default-beside
 same_items-returns-in_default-beside t c =
@@ -41,48 +41,8 @@ same_items-returns t c =
     let e : Doc = doc_of c.args.right in
     λ s r js ks a b. none_answer c.is_none.result c.loop-next.beside c.is_none.ensures ∙ comparing_ends d e c.args.node c.args.other c.loop-next.next c.loop-next.beside c.loop-next.invariant c.in_default.is s r js ks a b
 
-pub same_member-returns-then-is_some : goal.same_member-returns-then-is_some
-same_member-returns-then-is_some t c =
-    let d : Doc = doc_of c.args.left in
-    λ k n s r u ms ns cs m g f a. member_later d (named cs (drop_members (n + 1) ms)) (named cs ns) u c.last_spelled.result (c.last_spelled.ensures.named k (n + 1) s ms cs (c.name-name.ensures.spelled k n (object s ms) u cs m g) f) (sym c.is_some.ensures ∙ c.if-is_some.true)
-
-pub same_member-returns-in-Some : goal.same_member-returns-in-Some
-same_member-returns-in-Some t c = λ k n s r u ms ns cs m g f a.
-    let d : Doc = doc_of c.args.left in
-    let e : Doc = doc_of c.args.right in
-    let spelled = c.name-name.ensures.spelled k n (object s ms) u cs m g in
-    member_last d e (named cs (drop_members (n + 1) ms)) (named cs ns) c.args.member c.in-Some.twin u c.last_spelled.result c.last_spelled-2.result c.same_values.result
-    (c.last_spelled.ensures.named k (n + 1) s ms cs spelled f) (sym c.is_some.ensures ∙ c.if-is_some.false) (child_at m)
-    (c.last_spelled-2.ensures.named c.args.other 0 r ns cs spelled (c.first.ensures.first (object r ns) a)) c.in-Some.is c.same_values.ensures
-
-pub same_member-returns-in-None : goal.same_member-returns-in-None
-same_member-returns-in-None t c = λ k n s r u ms ns cs m g f a.
-    let d : Doc = doc_of c.args.left in
-    let e : Doc = doc_of c.args.right in
-    let spelled = c.name-name.ensures.spelled k n (object s ms) u cs m g in
-    member_missing d e (named cs (drop_members (n + 1) ms)) (named cs ns) u c.last_spelled.result c.last_spelled-2.result
-    (c.last_spelled.ensures.named k (n + 1) s ms cs spelled f) (sym c.is_some.ensures ∙ c.if-is_some.false)
-    (c.last_spelled-2.ensures.named c.args.other 0 r ns cs spelled (c.first.ensures.first (object r ns) a)) c.in-None.is
-
-pub same_members-returns-then-not-same_member : goal.same_members-returns-then-not-same_member
-same_members-returns-then-not-same_member t c =
-    let d : Doc = doc_of c.args.left in
-    let e : Doc = doc_of c.args.right in
-    walk_fails d e c.args.node c.args.other same_members members_first c.in-Some.member c.loop-next.next c.same_member.result members_by c.loop-next.invariant c.in-Some.is
-    (λ s r ms ns a n u cs m g. c.same_member.ensures c.args.node n s r u ms ns cs m g (c.next-following.ensures.next c.args.node n (object s ms) u m) a)
-    c.if-not-same_member.true
-
-pub same_members-loop-next-preserved : goal.same_members-loop-next-preserved
-same_members-loop-next-preserved t c =
-    let d : Doc = doc_of c.args.left in
-    let e : Doc = doc_of c.args.right in
-    walk_on d e c.args.node c.args.other same_members members_first c.in-Some.member c.loop-next.next c.next-following.result c.same_member.result members_by c.loop-next.invariant c.in-Some.is
-    (λ s r ms ns a n u cs m g. c.same_member.ensures c.args.node n s r u ms ns cs m g (c.next-following.ensures.next c.args.node n (object s ms) u m) a)
-    c.if-not-same_member.false
-    (λ k n t u a. c.next-following.ensures.next k n t u a) c.next-following.ensures.inside
-
 pub same_members-returns : goal.same_members-returns
-same_members-returns t c = walk_holds (doc_of c.args.left) (doc_of c.args.right) c.args.node c.args.other same_members c.loop-next.next (λ ns. refl) c.loop-next.invariant c.in_default.is
+same_members-returns t c = walk_holds (doc_of c.args.left.now.values) (doc_of c.args.right.now.values) c.args.left.now.node c.args.right.now.node same_members c.loop-next.next (λ ns. refl) c.loop-next.invariant c.in_default.is
 
 pub same_values-returns-then-not-same_kind : goal.same_values-returns-then-not-same_kind
 same_values-returns-then-not-same_kind z c =
@@ -122,13 +82,6 @@ same_values-returns-in-Array z c = λ t u a b.
     same_arrays t u c.same_items.result first second
     (λ s r js ks p q. c.same_items.ensures s r js ks (subst (λ (v : Json). At d c.args.node v) p a) (subst (λ (v : Json). At e c.args.other v) q b))
 
-pub same_in_step-returns-in_default-beside : goal.same_in_step-returns-in_default-beside
-same_in_step-returns-in_default-beside t c =
-    pairs_short (doc_of c.args.left) (doc_of c.args.right) c.args.node c.args.other (in_step same) c.loop-next.next c.loop-next.beside c.in-Some.member false c.loop-next.invariant c.in-Some.is c.in_default-beside.is (λ p cs t rest. refl)
-
-pub same_in_step-returns : goal.same_in_step-returns
-same_in_step-returns t c = steps_done (doc_of c.args.left) (doc_of c.args.right) c.args.node c.args.other same c.loop-next.next c.loop-next.beside c.loop-next.invariant c.in_default.is
-
 pub same_values-returns-in-Object : goal.same_values-returns-in-Object
 same_values-returns-in-Object z c = λ t u a b.
     let d : Doc = doc_of c.args.left in
@@ -138,32 +91,38 @@ same_values-returns-in-Object z c = λ t u a b.
     same_objects t u c.same_objects.result first second
     (λ s r ms ns p q. c.same_objects.ensures s r ms ns (subst (λ (v : Json). At d c.args.node v) p a) (subst (λ (v : Json). At e c.args.other v) q b))
 
-pub same_objects-returns-then-same_names : goal.same_objects-returns-then-same_names
-same_objects-returns-then-same_names z c = λ s r ms ns a b. c.same_in_step.ensures s r ms ns a b ∙ objects_step s r ms ns (sym (c.same_names.ensures s r ms ns a b) ∙ c.if-same_names.true)
+pub same_member-returns-then-not-is_last : goal.same_member-returns-then-not-is_last
+same_member-returns-then-not-is_last t c = λ n s r u ms ns cs m g a.
+    member_later c.is_last.result (named cs (drop_members (n + 1) ms)) (named cs ns) u (c.is_last.ensures n s u ms cs m g) c.if-not-is_last.true
 
-pub same_in_step-returns-then-not-same_beside : goal.same_in_step-returns-then-not-same_beside
-same_in_step-returns-then-not-same_beside z c =
-    pairs_stop (doc_of c.args.left) (doc_of c.args.right) c.args.node c.args.other (in_step same) c.loop-next.next c.loop-next.beside c.in-Some.member c.in-Some-beside.twin false c.loop-next.invariant c.in-Some.is c.in-Some-beside.is
-    (λ s r p q ms ns cs ds t u rest others a b w. ap (λ v. v && in_step same rest others)
-    (ap (λ z. same t u || has_name cs z) w.after ∙ sym (c.same_beside.ensures c.args.node w.count s t u ms cs w.first w.name (c.next-following.ensures.next c.args.node w.count (object s ms) t w.first) (child_at w.second)) ∙ c.if-not-same_beside.true))
+pub same_member-returns-in-Some : goal.same_member-returns-in-Some
+same_member-returns-in-Some t c = λ n s r u ms ns cs m g a.
+    member_last (doc_of c.args.left.now.values) (doc_of c.args.right.now.values) (named cs (drop_members (n + 1) ms)) (named cs ns) c.args.member c.in-Some.twin u c.is_last.result c.last_named.result c.same_values.result
+    (c.is_last.ensures n s u ms cs m g) c.if-not-is_last.false (child_at m)
+    (c.last_named.ensures.named r ns cs a (c.name.ensures.spelled c.args.left.now.node n (object s ms) u cs m g)) c.in-Some.is c.same_values.ensures
 
-pub same_in_step-loop-next-preserved : goal.same_in_step-loop-next-preserved
-same_in_step-loop-next-preserved z c =
-    pairs_go (doc_of c.args.left) (doc_of c.args.right) c.args.node c.args.other (in_step same) c.loop-next.next c.loop-next.beside c.next-following.result c.next-beside.result c.in-Some.member c.in-Some-beside.twin c.loop-next.invariant c.in-Some.is c.in-Some-beside.is
-    (λ s r p q ms ns cs ds t u rest others a b w. ap (λ v. v && in_step same rest others)
-    (ap (λ z. same t u || has_name cs z) w.after ∙ sym (c.same_beside.ensures c.args.node w.count s t u ms cs w.first w.name (c.next-following.ensures.next c.args.node w.count (object s ms) t w.first) (child_at w.second)) ∙ c.if-not-same_beside.false))
-    (λ k n t u a. c.next-following.ensures.next k n t u a) c.next-following.ensures.inside
-    (λ k n t u a. c.next-beside.ensures.next k n t u a) c.next-beside.ensures.inside
+pub same_member-returns-in-None : goal.same_member-returns-in-None
+same_member-returns-in-None t c = λ n s r u ms ns cs m g a.
+    member_missing (doc_of c.args.right.now.values) (named cs (drop_members (n + 1) ms)) (named cs ns) u c.is_last.result c.last_named.result
+    (c.is_last.ensures n s u ms cs m g) c.if-not-is_last.false
+    (c.last_named.ensures.named r ns cs a (c.name.ensures.spelled c.args.left.now.node n (object s ms) u cs m g)) c.in-None.is
 
-pub same_beside-returns-then-same_values : goal.same_beside-returns-then-same_values
-same_beside-returns-then-same_values z c = λ k n s u v ms cs m g f b. c.if-same_values.true ∙ ap (λ x. x || has_name cs (drop_members (n + 1) ms)) (sym c.if-same_values.true ∙ c.same_values.ensures u v (child_at m) b)
+pub same_members-returns-then-not-same_member : goal.same_members-returns-then-not-same_member
+same_members-returns-then-not-same_member t c =
+    walk_fails (doc_of c.args.left.now.values) (doc_of c.args.right.now.values) c.args.left.now.node c.args.right.now.node same_members members_first c.in-Some.member c.loop-next.next c.same_member.result members_by c.loop-next.invariant c.in-Some.is
+    (λ s r ms ns a n u cs m g. c.same_member.ensures n s r u ms ns cs m g a) c.if-not-same_member.true
 
-pub same_beside-returns-else-same_values : goal.same_beside-returns-else-same_values
-same_beside-returns-else-same_values z c = λ k n s u v ms cs m g f b.
-    c.is_named_again.ensures k n s u ms cs m g f ∙ ap (λ x. x || has_name cs (drop_members (n + 1) ms)) (sym c.if-same_values.false ∙ c.same_values.ensures u v (child_at m) b)
+pub same_members-loop-next-preserved : goal.same_members-loop-next-preserved
+same_members-loop-next-preserved t c =
+    walk_on (doc_of c.args.left.now.values) (doc_of c.args.right.now.values) c.args.left.now.node c.args.right.now.node same_members members_first c.in-Some.member c.loop-next.next c.next-next.result c.same_member.result members_by c.loop-next.invariant c.in-Some.is
+    (λ s r ms ns a n u cs m g. c.same_member.ensures n s r u ms ns cs m g a) c.if-not-same_member.false
+    (λ k n t u a. c.next-next.ensures.next k n t u a) c.next-next.ensures.inside
 
-pub same_objects-returns-then-same_members : goal.same_objects-returns-then-same_members
-same_objects-returns-then-same_members z c = λ s r ms ns a b. c.names_within.ensures r s ns ms b a ∙ ap (λ x. x && names_within ns ms) (sym c.if-same_members.true ∙ c.same_members.ensures s r ms ns a b)
-
-pub same_objects-returns-else-same_members : goal.same_objects-returns-else-same_members
-same_objects-returns-else-same_members z c = λ s r ms ns a b. c.if-same_members.false ∙ ap (λ x. x && names_within ns ms) (sym c.if-same_members.false ∙ c.same_members.ensures s r ms ns a b)
+pub same_objects-returns : goal.same_objects-returns
+same_objects-returns z c = λ s r ms ns a b.
+    let first = at_indexed c.new-left.result c.args.left c.args.node (object s ms) c.new-left.ensures.values c.new-left.ensures.node a in
+    let second = at_indexed c.new-right.result c.args.right c.args.other (object r ns) c.new-right.ensures.values c.new-right.ensures.node b in
+    elim c.if-same_members.branch [
+      | same_objects-then-same_members w ↦ w.result-is ∙ w.names_within.ensures r s ns ms second first ∙ ap (λ x. x && names_within ns ms) (sym w.if-same_members.true ∙ c.same_members.ensures s r ms ns first second)
+      | same_objects-else-same_members w ↦ w.result-is ∙ w.if-same_members.false ∙ ap (λ x. x && names_within ns ms) (sym w.if-same_members.false ∙ c.same_members.ensures s r ms ns first second)
+    ]

@@ -10,20 +10,18 @@ use Rattle.json_nodes.proofs.same.names_within.Goals as goal
 
 pub returns-then-is_none : goal.returns-then-is_none
 returns-then-is_none c =
-    let d : Doc = doc_of c.args.left in
-    let e : Doc = doc_of c.args.right in
-    walk_fails d e c.args.node c.args.other names_within within_first c.in-Some.member c.loop-next.next (is_some c.last_spelled.result) names_by c.loop-next.invariant c.in-Some.is
-    (λ s r ms ns a n u cs m g. found_some e (named cs ns) c.last_spelled.result (c.last_spelled.ensures.named c.args.other 0 r ns cs (c.name-name.ensures.spelled c.args.node n (object s ms) u cs m g) (c.first.ensures.first (object r ns) a)))
+    let e : Doc = doc_of c.args.right.now.values in
+    walk_fails (doc_of c.args.left.now.values) e c.args.left.now.node c.args.right.now.node names_within within_first c.in-Some.member c.loop-next.next (is_some c.last_named.result) names_by c.loop-next.invariant c.in-Some.is
+    (λ s r ms ns a n u cs m g. found_some e (named cs ns) c.last_named.result (c.last_named.ensures.named r ns cs a (c.name.ensures.spelled c.args.left.now.node n (object s ms) u cs m g)))
     (c.is_none.ensures ∙ ap not c.if-is_none.true)
 
 pub loop-next-preserved : goal.loop-next-preserved
 loop-next-preserved c =
-    let d : Doc = doc_of c.args.left in
-    let e : Doc = doc_of c.args.right in
-    walk_on d e c.args.node c.args.other names_within within_first c.in-Some.member c.loop-next.next c.next-next.result (is_some c.last_spelled.result) names_by c.loop-next.invariant c.in-Some.is
-    (λ s r ms ns a n u cs m g. found_some e (named cs ns) c.last_spelled.result (c.last_spelled.ensures.named c.args.other 0 r ns cs (c.name-name.ensures.spelled c.args.node n (object s ms) u cs m g) (c.first.ensures.first (object r ns) a)))
+    let e : Doc = doc_of c.args.right.now.values in
+    walk_on (doc_of c.args.left.now.values) e c.args.left.now.node c.args.right.now.node names_within within_first c.in-Some.member c.loop-next.next c.next-next.result (is_some c.last_named.result) names_by c.loop-next.invariant c.in-Some.is
+    (λ s r ms ns a n u cs m g. found_some e (named cs ns) c.last_named.result (c.last_named.ensures.named r ns cs a (c.name.ensures.spelled c.args.left.now.node n (object s ms) u cs m g)))
     (c.is_none.ensures ∙ ap not c.if-is_none.false)
     (λ k n t u a. c.next-next.ensures.next k n t u a) c.next-next.ensures.inside
 
 pub returns : goal.returns
-returns c = walk_holds (doc_of c.args.left) (doc_of c.args.right) c.args.node c.args.other names_within c.loop-next.next (λ ns. refl) c.loop-next.invariant c.in_default.is
+returns c = walk_holds (doc_of c.args.left.now.values) (doc_of c.args.right.now.values) c.args.left.now.node c.args.right.now.node names_within c.loop-next.next (λ ns. refl) c.loop-next.invariant c.in_default.is

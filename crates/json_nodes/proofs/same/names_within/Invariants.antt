@@ -6,7 +6,7 @@ use Rattle.json_nodes.proofs.Sames.{MembersWalk}
 use Rattle.json_nodes.proofs.same.names_within.Given as goal
 
 abbrev pub invariant-loop-next : goal.invariant-loop-next
-invariant-loop-next l = MembersWalk (doc_of l.left) (doc_of l.right) l.node l.other names_within l.next
+invariant-loop-next l = MembersWalk (doc_of l.left.values) (doc_of l.right.values) l.left.node l.right.node names_within l.next
 
 abbrev pub decreases-loop-next : goal.decreases-loop-next
-decreases-loop-next l = left (length l.left.nodes.now) l.next
+decreases-loop-next l = left (length l.left.values.nodes.now) l.next
