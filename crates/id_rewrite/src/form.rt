@@ -1,9 +1,9 @@
 //! What the bytes of an identifier stand for, without memory (JSON-RPC 2.0, section 4).
-ghost use Rattle.std.specs.Prelude.{◌≡◌, bytes_eq};
+ghost use Rattle.std.specs.Prelude.{◌≡◌, bytes_eq, encode_utf8, encode_utf8_all};
 ghost use Rattle.id_rewrite.specs.Forms.{characters_of, form, inner, same_form};
-ghost use Rattle.id_rewrite.specs.Fingerprints.{Adds, fingerprint, front, word, words};
+ghost use Rattle.id_rewrite.specs.Fingerprints.{Adds, fingerprint, front};
 
-use json_token::next_character;
+use json_token::{next_character, plain_ascii_end};
 use response_route::rpc_message::is_quoted;
 use sha2::{Digest, Sha256};
 
@@ -37,41 +37,62 @@ fn same_characters(a: &[u8], b: &[u8]) -> bool
     next_character(other).is_none()
 }
 
+// The same, at once where the bytes are the same.
+fn same_inside(a: &[u8], b: &[u8]) -> bool
+    ensures { result ≡ bytes_eq (characters_of a.now) (characters_of b.now) }
+{
+    a == b || same_characters(a, b)
+}
+
 /// Whether two identifiers stand for the same, by what their bytes are: strings by the characters that are read of them, and
 /// all others byte by byte.
 pub fn same_form(a: &[u8], b: &[u8]) -> bool
     ensures { result ≡ same_form a.now b.now }
 {
     if is_quoted(a) && is_quoted(b) {
-        same_characters(inner(a), inner(b))
+        same_inside(inner(a), inner(b))
     } else {
         a == b
     }
 }
 
-// Behind a message, a character in four bytes.
-fn add(hasher: &mut Sha256, character: u32)
-    ensures { Adds hasher.old hasher.new (word character) }
+// Behind a message, a character in UTF-8.
+fn add(hasher: &mut Sha256, character: char)
+    ensures { Adds hasher.old hasher.new (encode_utf8 character) }
 {
-    hasher.update(&character.to_be_bytes());
+    let mut buffer = [0; 4];
+    hasher.update(character.encode_utf8(&mut buffer).as_bytes());
 }
 
-// Behind a message, the characters that the bytes between a string's quotation marks stand for.
+// Behind a message, the characters that the bytes between a string's quotation marks stand for. Runs of ASCII are added as they are.
 fn add_characters(hasher: &mut Sha256, raw: &[u8])
-    ensures { Adds hasher.old hasher.new (words (characters_of raw.now)) }
+    ensures { Adds hasher.old hasher.new (encode_utf8_all (characters_of raw.now)) }
 {
     let mut rest = raw;
-    while let Some((character, more)) = next_character(rest) {
-        add(hasher, u32::from(character));
+    loop {
+        let end = plain_ascii_end(rest, 0);
+        hasher.update(&rest[..end]);
+        let Some((character, more)) = next_character(&rest[end..]) else {
+            return;
+        };
+        add(hasher, character);
         rest = more;
     }
 }
 
+// Behind a message, each byte as the character of this code.
 fn add_bytes(hasher: &mut Sha256, bytes: &[u8])
-    ensures { Adds hasher.old hasher.new (words bytes.now) }
+    ensures { Adds hasher.old hasher.new (encode_utf8_all bytes.now) }
 {
-    for byte in bytes {
-        add(hasher, u32::from(*byte));
+    let mut rest = bytes;
+    loop {
+        let end = plain_ascii_end(rest, 0);
+        hasher.update(&rest[..end]);
+        let Some((byte, more)) = rest[end..].split_first() else {
+            return;
+        };
+        add(hasher, char::from(*byte));
+        rest = more;
     }
 }
 
@@ -87,10 +108,10 @@ fn front(digest: &[u8; 32]) -> u128
 
 // Behind a message, what an identifier stands for.
 fn add_form(hasher: &mut Sha256, id: &[u8])
-    ensures { Adds hasher.old hasher.new (words (form id.now)) }
+    ensures { Adds hasher.old hasher.new (encode_utf8_all (form id.now)) }
 {
     if is_quoted(id) {
-        add(hasher, 34);
+        add(hasher, '"');
         add_characters(hasher, inner(id));
     } else {
         add_bytes(hasher, id);
