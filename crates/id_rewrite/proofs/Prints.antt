@@ -6,9 +6,9 @@ use Rattle.std.proofs.lemmas.Bool.Decides.{nat_tests}
 use Rattle.std.proofs.lemmas.List.{take-append-drop}
 use Rattle.std.proofs.lemmas.Str.{encode_ascii, encodes-append}
 use Rattle.std.specs.Int.{w64, to_be_bytes}
-use Rattle.sha2.specs.declared.Sha256.{Sha256}
-use Rattle.sha2.specs.Hashers.{Holds256}
-use Rattle.sha2.specs.Sha256.{sha256}
+use Rattle.sha2.specs.declared.Sha512.{Sha512}
+use Rattle.sha2.specs.Hashers.{Holds512}
+use Rattle.sha2.specs.Sha512.{sha512}
 use Rattle.json_token.specs.Characters.{next_character, escape_front, plain_front, two_front, three_front, four_front}
 use Rattle.json_token.specs.Runs.{is_plain_ascii}
 use Rattle.response_route.specs.rpc_message.specs.Ids.{is_quoted}
@@ -16,11 +16,11 @@ use Rattle.id_rewrite.specs.Fingerprints.{Adds, fingerprint, front}
 use Rattle.id_rewrite.specs.Forms.{characters_of, form, inner}
 use Rattle.id_rewrite.proofs.Forming.{first_is, none_is}
 
-pub adds_nothing : (h : Sha256) → Adds h h []
-adds_nothing h = λ m held. subst (Holds256 h) (sym (append-nil m)) held
+pub adds_nothing : (h : Sha512) → Adds h h []
+adds_nothing h = λ m held. subst (Holds512 h) (sym (append-nil m)) held
 
-pub adds_both : (a b c : Sha256) (xs ys : List ℕ) → Adds a b xs → Adds b c ys → Adds a c (xs ++ ys)
-adds_both a b c xs ys f g = λ m held. subst (Holds256 c) (append_assoc m xs ys) (g (m ++ xs) (f m held))
+pub adds_both : (a b c : Sha512) (xs ys : List ℕ) → Adds a b xs → Adds b c ys → Adds a c (xs ++ ys)
+adds_both a b c xs ys f g = λ m held. subst (Holds512 c) (append_assoc m xs ys) (g (m ++ xs) (f m held))
 
 -- a run of ASCII stands for itself
 
@@ -68,15 +68,15 @@ run_encoded (b ∷ rest) = go (is_plain_ascii b) refl (run_encoded rest)
     go false h more = subst Same (sym (run_more b rest false h)) refl
 
 -- what `raw` is read as was added up to `rest`
-pub record Fed (read : List ℕ → List ℕ) (raw rest : List ℕ) (old now : Sha256) : Type 0 where
+pub record Fed (read : List ℕ → List ℕ) (raw rest : List ℕ) (old now : Sha512) : Type 0 where
   pub fed : List ℕ
   pub adds : Adds old now (encode_utf8_all fed)
   pub left : fed ++ read rest ≡ read raw
 
-pub fed_first : (read : List ℕ → List ℕ) (raw : List ℕ) (h : Sha256) → Fed read raw raw h h
+pub fed_first : (read : List ℕ → List ℕ) (raw : List ℕ) (h : Sha512) → Fed read raw raw h h
 fed_first read raw h = record { fed = []; adds = adds_nothing h; left = refl }
 
-module _ (read : List ℕ → List ℕ) (raw rest : List ℕ) (a b c : Sha256) (f : Fed read raw rest a b) where
+module _ (read : List ℕ → List ℕ) (raw rest : List ℕ) (a b c : Sha512) (f : Fed read raw rest a b) where
   fed_part : (part more : List ℕ) → part ++ read more ≡ read rest → Adds b c (encode_utf8_all part) → Fed read raw more a c
   fed_part part more is g = record {
     fed = f.fed ++ part;
@@ -94,13 +94,13 @@ module _ (read : List ℕ → List ℕ) (raw rest : List ℕ) (a b c : Sha256) (
 
 -- the characters of a string's bytes
 
-pub characters_run : (raw rest : List ℕ) (a b c : Sha256) (n : ℕ) → Fed characters_of raw rest a b → n ≡ 0 + run rest → Adds b c (take n rest) → Fed characters_of raw (drop n rest) a c
+pub characters_run : (raw rest : List ℕ) (a b c : Sha512) (n : ℕ) → Fed characters_of raw rest a b → n ≡ 0 + run rest → Adds b c (take n rest) → Fed characters_of raw (drop n rest) a c
 characters_run raw rest a b c n f is g = fed_run characters_of raw rest a b c f n (omega (arith, is)) (run_characters rest) g
 
-pub characters_more : (raw rest more : List ℕ) (a b c : Sha256) (code : ℕ) → Fed characters_of raw rest a b → next_character rest ≡ Some (code, more) → Adds b c (encode_utf8 code) → Fed characters_of raw more a c
+pub characters_more : (raw rest more : List ℕ) (a b c : Sha512) (code : ℕ) → Fed characters_of raw rest a b → next_character rest ≡ Some (code, more) → Adds b c (encode_utf8 code) → Fed characters_of raw more a c
 characters_more raw rest more a b c code f e g = fed_one characters_of raw rest a b c f code more (sym (first_is rest more code e)) g
 
-pub characters_all : (raw rest : List ℕ) (a b : Sha256) → Fed characters_of raw rest a b → next_character rest ≡ None → Adds a b (encode_utf8_all (characters_of raw))
+pub characters_all : (raw rest : List ℕ) (a b : Sha512) → Fed characters_of raw rest a b → next_character rest ≡ None → Adds a b (encode_utf8_all (characters_of raw))
 characters_all raw rest a b f e = subst (λ cs. Adds a b (encode_utf8_all cs)) (sym (append-nil f.fed) ∙ (ap (λ cs. f.fed ++ cs) (sym (none_is rest e)) ∙ f.left)) f.adds
 
 -- other bytes
@@ -108,23 +108,23 @@ characters_all raw rest a b f e = subst (λ cs. Adds a b (encode_utf8_all cs)) (
 abbrev pub itself : List ℕ → List ℕ
 itself bytes = bytes
 
-pub bytes_run : (raw rest : List ℕ) (a b c : Sha256) (n : ℕ) → Fed itself raw rest a b → n ≡ 0 + run rest → Adds b c (take n rest) → Fed itself raw (drop n rest) a c
+pub bytes_run : (raw rest : List ℕ) (a b c : Sha512) (n : ℕ) → Fed itself raw rest a b → n ≡ 0 + run rest → Adds b c (take n rest) → Fed itself raw (drop n rest) a c
 bytes_run raw rest a b c n f is g = fed_run itself raw rest a b c f n (omega (arith, is)) (take-append-drop (run rest) rest) g
 
-pub bytes_more : (raw rest more : List ℕ) (a b c : Sha256) (code : ℕ) → Fed itself raw rest a b → rest ≡ code ∷ more → Adds b c (encode_utf8 code) → Fed itself raw more a c
+pub bytes_more : (raw rest more : List ℕ) (a b c : Sha512) (code : ℕ) → Fed itself raw rest a b → rest ≡ code ∷ more → Adds b c (encode_utf8 code) → Fed itself raw more a c
 bytes_more raw rest more a b c code f e g = fed_one itself raw rest a b c f code more (sym e) g
 
-pub bytes_all : (raw rest : List ℕ) (a b : Sha256) → Fed itself raw rest a b → rest ≡ [] → Adds a b (encode_utf8_all raw)
+pub bytes_all : (raw rest : List ℕ) (a b : Sha512) → Fed itself raw rest a b → rest ≡ [] → Adds a b (encode_utf8_all raw)
 bytes_all raw rest a b f e = subst (λ cs. Adds a b (encode_utf8_all cs)) (sym (append-nil f.fed) ∙ (ap (λ cs. f.fed ++ cs) (sym e) ∙ f.left)) f.adds
 
 -- of a string, and of other bytes
-pub string_added : (a b c : Sha256) (id raw : List ℕ) → is_quoted id ≡ true → raw ≡ inner id → Adds a b (encode_utf8 34) → Adds b c (encode_utf8_all (characters_of raw)) → Adds a c (encode_utf8_all (form id))
+pub string_added : (a b c : Sha512) (id raw : List ℕ) → is_quoted id ≡ true → raw ≡ inner id → Adds a b (encode_utf8 34) → Adds b c (encode_utf8_all (characters_of raw)) → Adds a c (encode_utf8_all (form id))
 string_added a b c id raw q e f g =
     subst (λ t. Adds a c (encode_utf8_all (cond t (34 ∷ characters_of (inner id)) id))) (sym q) (subst (λ r. Adds a c (encode_utf8 34 ++ encode_utf8_all (characters_of r))) e (adds_both a b c (encode_utf8 34) (encode_utf8_all (characters_of raw)) f g))
 
-pub bytes_added : (a b : Sha256) (id : List ℕ) → is_quoted id ≡ false → Adds a b (encode_utf8_all id) → Adds a b (encode_utf8_all (form id))
+pub bytes_added : (a b : Sha512) (id : List ℕ) → is_quoted id ≡ false → Adds a b (encode_utf8_all id) → Adds a b (encode_utf8_all (form id))
 bytes_added a b id q f = subst (λ t. Adds a b (encode_utf8_all (cond t (34 ∷ characters_of (inner id)) id))) (sym q) f
 
-pub is_print : (editor : ℕ) (id bytes digest : List ℕ) → bytes ≡ to_be_bytes w64 editor → digest ≡ sha256 (bytes ++ encode_utf8_all (form id)) → front digest ≡ fingerprint editor id
+pub is_print : (editor : ℕ) (id bytes digest : List ℕ) → bytes ≡ to_be_bytes w64 editor → digest ≡ sha512 (bytes ++ encode_utf8_all (form id)) → front digest ≡ fingerprint editor id
 unfolding fingerprint
-is_print editor id bytes digest is e = ap front e ∙ ap (λ xs. front (sha256 (xs ++ encode_utf8_all (form id)))) is
+is_print editor id bytes digest is e = ap front e ∙ ap (λ xs. front (sha512 (xs ++ encode_utf8_all (form id)))) is

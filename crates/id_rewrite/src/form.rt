@@ -5,7 +5,7 @@ ghost use Rattle.id_rewrite.specs.Fingerprints.{Adds, fingerprint, front};
 
 use json_token::{next_character, plain_ascii_end};
 use response_route::rpc_message::is_quoted;
-use sha2::{Digest, Sha256};
+use sha2::{Digest, Sha512};
 
 // What is between the quotation marks of a string.
 fn inner(id: &[u8]) -> &[u8]
@@ -57,7 +57,7 @@ pub fn same_form(a: &[u8], b: &[u8]) -> bool
 }
 
 // Behind a message, a character in UTF-8.
-fn add(hasher: &mut Sha256, character: char)
+fn add(hasher: &mut Sha512, character: char)
     ensures { Adds hasher.old hasher.new (encode_utf8 character) }
 {
     let mut buffer = [0; 4];
@@ -65,7 +65,7 @@ fn add(hasher: &mut Sha256, character: char)
 }
 
 // Behind a message, the characters that the bytes between a string's quotation marks stand for. Runs of ASCII are added as they are.
-fn add_characters(hasher: &mut Sha256, raw: &[u8])
+fn add_characters(hasher: &mut Sha512, raw: &[u8])
     ensures { Adds hasher.old hasher.new (encode_utf8_all (characters_of raw.now)) }
 {
     let mut rest = raw;
@@ -81,7 +81,7 @@ fn add_characters(hasher: &mut Sha256, raw: &[u8])
 }
 
 // Behind a message, each byte as the character of this code.
-fn add_bytes(hasher: &mut Sha256, bytes: &[u8])
+fn add_bytes(hasher: &mut Sha512, bytes: &[u8])
     ensures { Adds hasher.old hasher.new (encode_utf8_all bytes.now) }
 {
     let mut rest = bytes;
@@ -97,7 +97,7 @@ fn add_bytes(hasher: &mut Sha256, bytes: &[u8])
 }
 
 // The number that the first sixteen bytes of a digest write.
-fn front(digest: &[u8; 32]) -> u128
+fn front(digest: &[u8; 64]) -> u128
     ensures { result ≡ front digest.now }
 {
     match digest.first_chunk::<16>() {
@@ -107,7 +107,7 @@ fn front(digest: &[u8; 32]) -> u128
 }
 
 // Behind a message, what an identifier stands for.
-fn add_form(hasher: &mut Sha256, id: &[u8])
+fn add_form(hasher: &mut Sha512, id: &[u8])
     ensures { Adds hasher.old hasher.new (encode_utf8_all (form id.now)) }
 {
     if is_quoted(id) {
@@ -118,13 +118,13 @@ fn add_form(hasher: &mut Sha256, id: &[u8])
     }
 }
 
-/// A number of an editor and of what its identifier stands for, by their SHA-256 digest (FIPS 180-4): the same for
+/// A number of an editor and of what its identifier stands for, by their SHA-512 digest (FIPS 180-4): the same for
 /// identifiers that `same_form` takes for the same, and, as far as anyone can find, for no others. Its time is linear in
 /// the identifier.
 pub fn fingerprint(editor: u64, id: &[u8]) -> u128
     ensures { result ≡ fingerprint editor id.now }
 {
-    let mut hasher = Sha256::new();
+    let mut hasher = Sha512::new();
     hasher.update(&editor.to_be_bytes());
     add_form(&mut hasher, id);
     front(&hasher.finalize())
