@@ -1,6 +1,6 @@
 -- Looking for the request of an editor under an id: by its fingerprint, and what the ids mean.
 use Rattle.std.proofs.Common.{◌≡◌, ℕ, suc, ◌+◌, ◌-◌, ◌≤◌, Bool, true, false, cond, not, ◌&&◌, List, [], ◌∷◌, ◌++◌, length, find, take, nat_eq, refl, sym, ◌∙◌, ap, ap₂, subst, arith}
-use Rattle.std.specs.Prelude.{Option, Some, None, option_map, bytes_eq, IfSome}
+use Rattle.std.specs.Prelude.{Option, Some, None, encode_utf8_all, option_map, bytes_eq, IfSome}
 use Rattle.std.specs.Map.{lookup}
 use Rattle.std.proofs.lemmas.Bool.Decides.{nat_tests}
 use Rattle.response_route.specs.rpc_message.specs.Ids.{is_quoted}
@@ -9,10 +9,10 @@ use Rattle.response_route.specs.rpc_message.specs.ValueTexts.{IsIdText}
 use Rattle.response_route.specs.rpc_message.proofs.SameIds.{Shape, id_shape, others_same, shape_quoted}
 use Rattle.id_rewrite.specs.declared.pending.Pending.{Pending}
 use Rattle.id_rewrite.specs.declared.pending.Numbered.{Numbered}
-use Rattle.id_rewrite.specs.Fingerprints.{fingerprint, front, words}
+use Rattle.id_rewrite.specs.Fingerprints.{fingerprint, front}
 use Rattle.id_rewrite.specs.Forms.{characters_of, form, inner, same_form}
 use Rattle.std.specs.Int.{w64, to_be_bytes}
-use Rattle.sha2.specs.Sha256.{sha256}
+use Rattle.sha2.specs.Sha512.{sha512}
 use Rattle.id_rewrite.specs.Slots.{AreKnown}
 use Rattle.id_rewrite.specs.Tables.{AreIds, RiseWithin, cancelled, has_number, is_of, is_under, number_of, number_under, pending_of, with_cancelled, without}
 use Rattle.id_rewrite.proofs.Forming.{spelled_is}
@@ -32,7 +32,7 @@ bytes_are (x ∷ xs) (y ∷ ys) e = let b = both (nat_eq x y) (bytes_eq xs ys) e
 
 pub alike : (editor other : ℕ) (id key : List ℕ) → other ≡ editor → form id ≡ form key → fingerprint editor id ≡ fingerprint other key
 unfolding fingerprint
-alike editor other id key e f = ap₂ (λ n xs. front (sha256 (to_be_bytes w64 n ++ words xs))) (sym e) f
+alike editor other id key e f = ap₂ (λ n xs. front (sha512 (to_be_bytes w64 n ++ encode_utf8_all xs))) (sym e) f
 
 pub one_key : (editor : ℕ) (id : List ℕ) (r : Numbered) → is_under editor id r ≡ true → fingerprint editor id ≡ fingerprint r.pending.editor r.pending.id
 one_key editor id r e = let b = both (is_of editor r) (same_form id r.pending.id) e in alike editor r.pending.editor id r.pending.id (same editor r.pending.editor b.0) (bytes_are (form id) (form r.pending.id) b.1)

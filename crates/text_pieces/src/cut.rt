@@ -1,5 +1,5 @@
 //! Where a place is in a list of pieces.
-ghost use Rattle.std.specs.Prelude.{◌≡◌, IfOk};
+ghost use Rattle.std.specs.Prelude.{◌≡◌, true, IfOk};
 ghost use Rattle.doc_text.specs.Changes.{offset_in, place_in};
 ghost use Rattle.doc_text.specs.declared.change.Extent.TheVariants.{Part};
 ghost use Rattle.text_pieces.specs.Pieces.{text_of, cut_at, cut_before, IsCut};
@@ -54,6 +54,13 @@ pub fn find(pieces: &[Piece], encoding: Encoding, place: Position) -> Result<Cut
     })
 }
 
+// Whether two places are one.
+fn is_one(place: Position, other: Position) -> bool
+    ensures { result ≡ true → place ≡ other }
+{
+    place.line == other.line && place.character == other.character
+}
+
 /// Where the range starts and ends. An end before the start stands for the start.
 pub fn find_range(pieces: &[Piece], encoding: Encoding, range: Range) -> Result<(Cut, Cut), Memory>
     ensures start { IfOk result (λ cuts. cut_at pieces.now cuts.0 ≡ (place_in encoding (Part range) (text_of pieces.now)).0) }
@@ -62,6 +69,9 @@ pub fn find_range(pieces: &[Piece], encoding: Encoding, range: Range) -> Result<
     ensures end_is { IfOk result (λ cuts. IsCut pieces.now cuts.1) }
 {
     let start = find(pieces, encoding, range.start)?;
+    if is_one(range.start, range.end) {
+        return Ok((start, start));
+    }
     let end = find(pieces, encoding, range.end)?;
     if end.is_before(start) {
         Ok((start, start))

@@ -1,7 +1,7 @@
 //! A piece of a text, which knows what it adds to a place.
-ghost use Rattle.std.specs.Prelude.{◌≡◌, IfOk, IfSome, IsUtf8};
+ghost use Rattle.std.specs.Prelude.{◌≡◌, false, true, IfOk, IfSome, IsUtf8};
 ghost use Rattle.std.specs.Str.{chars};
-ghost use Rattle.position_codec.specs.Spots.{spot_behind};
+ghost use Rattle.position_codec.specs.Spots.{spot_at, spot_behind};
 ghost use Rattle.text_pieces.specs.Pieces.{text_of};
 ghost use Rattle.text_pieces.specs.Sums.{sums_of};
 
@@ -37,6 +37,23 @@ impl Model for Piece {
     ghost invariant = { λ p. IsMeasured p.encoding (arc_value p.text).bytes.items p.fresh p.returned p.sums };
 }
 
+// Where a text leads from behind a `\r`, where it leads from the first spot to this one: to the same, if it doesn't begin with a `\n`.
+fn behind_return(encoding: Encoding, text: &str, fresh: Spot) -> Option<Spot>
+    ensures { fresh ≡ spot_behind encoding (spot_at 0 0 false) (chars text.now) → IfSome result (λ s. s ≡ spot_behind encoding (spot_at 0 0 true) (chars text.now)) }
+{
+    if let Some((byte, _)) = text.as_bytes().split_first() {
+        if *byte != b'\n' {
+            return Some(fresh);
+        }
+    }
+    let returned = Spot {
+        line: 0,
+        column: 0,
+        returned: true,
+    };
+    returned.behind(encoding, text)
+}
+
 impl Piece {
     /// A piece of this text, counted by the encoding. The time is linear in the text.
     pub fn new(alloc: Global, encoding: Encoding, text: &str) -> Result<Piece, Memory>
@@ -45,12 +62,7 @@ impl Piece {
         let Some(fresh) = Spot::first().behind(encoding, text) else {
             return Err(Memory)
         };
-        let behind_return = Spot {
-            line: 0,
-            column: 0,
-            returned: true,
-        };
-        let Some(returned) = behind_return.behind(encoding, text) else {
+        let Some(returned) = behind_return(encoding, text, fresh) else {
             return Err(Memory)
         };
         let Some(sums) = Sums::of(text.as_bytes()) else {

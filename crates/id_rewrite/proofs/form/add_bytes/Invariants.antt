@@ -1,6 +1,9 @@
-use Rattle.std.proofs.Common.{take}
-use Rattle.id_rewrite.specs.Fingerprints.{Adds, words}
+use Rattle.std.proofs.Common.{length}
+use Rattle.id_rewrite.proofs.Prints.{Fed, itself}
 use Rattle.id_rewrite.proofs.form.add_bytes.Given as goal
 
 abbrev pub invariant-loop-byte : goal.invariant-loop-byte
-invariant-loop-byte l = Adds l.initial.hasher l.hasher (words (take l.byte-index l.bytes))
+invariant-loop-byte l = Fed itself l.bytes l.rest l.initial.hasher l.hasher
+
+abbrev pub decreases-loop-byte : goal.decreases-loop-byte
+decreases-loop-byte l = length l.rest
