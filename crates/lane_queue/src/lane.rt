@@ -37,8 +37,8 @@ pub struct LaneOut {
     orders: TakeEnd<Order>,
     sides: PutEnd<Side>,
     endings: Endings,
-    // How many sessions were begun.
-    begun: u64,
+    // How many sessions were ended by the orders that were taken.
+    ended: u64,
 }
 
 impl Model for LaneOut {
@@ -95,7 +95,7 @@ impl Lane {
                 orders: take_order,
                 sides: put_side,
                 endings: theirs,
-                begun: 0,
+                ended: 0,
             },
             HubEnds {
                 posted,
@@ -119,16 +119,13 @@ impl LaneIn {
 }
 
 impl LaneOut {
-    /// The end of the next session, which is ordered as soon as a `Close` or a `Done` that ends it stands in the queue, whatever
-    /// orders stand before it.
-    pub fn begin(&mut self) -> Result<Ending, Memory>
-        ensures { self.new ≡ self.old }
-    {
-        let Ok(ending) = self.endings.of_session(self.begun) else {
-            return Err(Memory);
-        };
-        self.begun = self.begun.saturating_add(1);
-        Ok(ending)
+    /// The end of the session that goes on or comes next, which is ordered as soon as a `Close` or a `Done` that ends it stands
+    /// in the queue, whatever orders stand before it.
+    pub fn ending(&self) -> Result<Ending, Memory> {
+        match self.endings.of_session(self.ended) {
+            Ok(ending) => Ok(ending),
+            Err(_) => Err(Memory),
+        }
     }
 
     /// Takes the foremost order. None comes only where the queue held none at that step.
@@ -138,7 +135,11 @@ impl LaneOut {
         ensures seen { IsSome result → Begins self.new.orders.known self.new.orders.taken }
         ensures none { IsNone result → Begins self.old.orders.taken self.old.orders.known }
     {
-        self.orders.take(rt)
+        let order = self.orders.take(rt);
+        if matches!(&order, Some(Order::Close | Order::Done)) {
+            self.ended = self.ended.saturating_add(1);
+        }
+        order
     }
 
     /// Puts what became of an order behind those before. Running out of memory hands it back and changes nothing.

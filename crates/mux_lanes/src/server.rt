@@ -100,9 +100,6 @@ fn refuse_start<K: Steps + Drop, N: Naming, R: Wait>(
     ensures sides { ends.new.out.sides ≡ ends.old.out.sides }
     ensures refused { RefusedAs ends.old.inn.pushed ends.new.inn.pushed ends.old.out.orders.taken ends.new.out.orders.taken result }
 {
-    if ends.out.begin().is_err() {
-        board.fail(rt);
-    }
     if !post(rt, board, &mut ends.inn, Posted::NoStart) {
         return false;
     }

@@ -120,13 +120,12 @@ fn heed<K: Steps + Drop, N: Naming, S: Sink, R: Wait>(
     rt: &R,
     desk: &SessionDesk<'_, K, N>,
     sink: &mut S,
-    out: &mut LaneOut,
+    out: &LaneOut,
 )
     ensures written { S.written sink.new ≡ S.written sink.old }
     ensures faults { S.faults sink.new ≡ S.faults sink.old }
-    ensures same { out.new ≡ out.old }
 {
-    match out.begin() {
+    match out.ending() {
         Ok(ending) => sink.heed(ending),
         Err(_) => desk.board.fail(rt),
     }
@@ -147,7 +146,7 @@ fn write_part<K: Steps + Drop, N: Naming, S: Sink + Drop, R: Wait>(
 {
     let mut sink = sink;
     let mut out = out;
-    heed(rt, desk, &mut sink, &mut out);
+    heed(rt, desk, &mut sink, &out);
     let wrote = write_session(rt, alloc, desk, &mut sink, &mut out);
     tell(rt, desk, &wrote);
     sink.close();
