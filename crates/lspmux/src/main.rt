@@ -6,13 +6,14 @@ mod words;
 use crate::words::words;
 use lspmux_program::lspmux;
 use mux_steps::DropJournal;
-use outside_io::Sink;
 use real_host::{
     Input, LinkOver, Reading, RealBerth, RealClock, RealDoor, RealFolder, Standard, Writing,
 };
 use serve_program::{Command, command_of, serve_command};
 use std::io;
 use std::process::ExitCode;
+use std::sync::Wait;
+use std::thread::Threads;
 
 // How many programs of servers run at one time.
 const BERTHS: usize = 16;
@@ -26,28 +27,32 @@ fn berths(rt: HostRuntime) -> io::Result<Vec<RealBerth>> {
     Ok(berths)
 }
 
-// Serves, and gives the status.
-fn serve(rt: &HostRuntime, command: Command<'_>) -> io::Result<u8> {
+// Serves in these threads, and gives the status.
+fn serve<R: Threads + Wait + Sync>(
+    threads: &R,
+    rt: HostRuntime,
+    command: Command<'_>,
+) -> io::Result<u8> {
     let outside = serve_program::Outside {
-        door: RealDoor::new(*rt, None),
+        door: RealDoor::new(rt, None),
         ports: Vec::new(rt.alloc()),
-        berths: berths(*rt)?,
-        clock: RealClock::new(*rt)?,
+        berths: berths(rt)?,
+        clock: RealClock::new(rt)?,
         journal: DropJournal::new(),
-        folder: RealFolder::new(*rt),
-        output: Writing::new(*rt, Standard::Output(rt.stdout())),
+        folder: RealFolder::new(rt),
+        output: Writing::new(rt, Standard::Output(rt.stdout())),
     };
-    let (status, _) = serve_command(rt, rt.alloc(), command, outside);
+    let (status, _) = serve_command(threads, rt.alloc(), command, outside);
     Ok(status)
 }
 
 // Drives one hub over lines of the standard input, and gives the status.
-fn drive(rt: &HostRuntime, words: &[String]) -> io::Result<u8> {
+fn drive(rt: HostRuntime, words: &[String]) -> io::Result<u8> {
     let over = LinkOver::new(rt.alloc())?;
     let mut outside = lspmux_program::Outside {
         journal: Some(DropJournal::new()),
         input: Reading::new(Input::new(rt.stdin(), over)),
-        output: Writing::new(*rt, Standard::Output(rt.stdout())),
+        output: Writing::new(rt, Standard::Output(rt.stdout())),
     };
     Ok(lspmux(rt.alloc(), words, &mut outside))
 }
@@ -57,8 +62,8 @@ fn main(rt: HostRuntime) -> ExitCode {
         return ExitCode::from(5);
     };
     let ran = match command_of(words.as_slice()) {
-        Some(command) => serve(&rt, command),
-        None => drive(&rt, words.as_slice()),
+        Some(command) => serve(&rt, rt, command),
+        None => drive(rt, words.as_slice()),
     };
     ExitCode::from(ran.unwrap_or(5))
 }
