@@ -151,8 +151,9 @@ impl<J: Journal> Hub<J> {
 
     /// The history that it stands for is one of conforming sessions.
     pub fn sessions_law(&self)
-        ensures { (history : List Entry) → HubStands J.told self.now history → Sessions self.now.settings history }
+        ensures sessions { (history : List Entry) → HubStands J.told self.now history → Sessions self.now.settings history }
     {
+        let _ = self.spent;
     }
 
     /// Whether this cause can come behind the history.

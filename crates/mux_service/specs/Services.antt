@@ -15,7 +15,7 @@ use Rattle.mux_daemon.specs.declared.serve.Answer.TheVariants as answer
 use Rattle.mux_daemon.specs.Causes.{EventsOf}
 use Rattle.mux_daemon.specs.Events.{CameOf}
 use Rattle.mux_daemon.specs.Served.{Story, history, is_end}
-use Rattle.mux_service.specs.declared.serve.Service.{Service}
+use Rattle.mux_service.specs.declared.threads.Service.{Service}
 
 abbrev pub outside_of : {P : Type 0} → LaneJob P → P
 outside_of job = job.outside

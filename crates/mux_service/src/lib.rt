@@ -3,7 +3,7 @@
 
 mod jobs;
 mod named;
-mod serve;
+mod threads;
 
 pub use mux_daemon::Answer;
-pub use serve::{Daemon, Service, serve};
+pub use threads::{Daemon, Service, serve};

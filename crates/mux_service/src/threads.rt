@@ -158,17 +158,38 @@ pub fn serve<
         Vec::with_capacity(alloc, berths.len()),
         own_port(alloc),
     ) else {
-        return not_begun(hub, Service { ports, berths, clock });
+        return not_begun(
+            hub,
+            Service {
+                ports,
+                berths,
+                clock,
+            },
+        );
     };
     let port_jobs = match jobs_of(alloc, ports) {
         Ok(jobs) => jobs,
-        Err(ports) => return not_begun(hub, Service { ports, berths, clock }),
+        Err(ports) => return not_begun(
+            hub,
+            Service {
+                ports,
+                berths,
+                clock,
+            },
+        ),
     };
     let berth_jobs = match jobs_of(alloc, berths) {
         Ok(jobs) => jobs,
         Err(berths) => {
             let ports = served_of(port_jobs, ports_room);
-            return not_begun(hub, Service { ports, berths, clock });
+            return not_begun(
+                hub,
+                Service {
+                    ports,
+                    berths,
+                    clock,
+                },
+            );
         }
     };
     let lanes = Lanes {

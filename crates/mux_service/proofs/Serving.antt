@@ -1,0 +1,52 @@
+-- What served lanes say of the hub's history.
+use Rattle.std.proofs.Common.{◌≡◌, ℕ, Bool, true, false, ◌&&◌, List, [], refl, sym, subst}
+use Rattle.std.specs.Prelude.{Option}
+use Rattle.outside_io.specs.Sessions.{Session}
+use Rattle.mux_history.specs.declared.entry.Entry.{Entry}
+use Rattle.event_model.specs.Settings.{Settings}
+use Rattle.lane_desk.specs.Stops.{is_idle}
+use Rattle.lane_lists.specs.Deeds.{seats_of}
+use Rattle.mux_hub.specs.group_facts.specs.Legal.{Legal}
+use Rattle.mux_hub.specs.Entries.{was_stopped}
+use Rattle.mux_hub.specs.Hubs.{HubView, HubStands, Tells}
+use Rattle.mux_hub.specs.Sessions.{Sessions}
+use Rattle.mux_daemon.specs.declared.open.Lanes.{Lanes}
+use Rattle.mux_daemon.specs.declared.serve.Answer.{Answer}
+use Rattle.mux_daemon.specs.Causes.{EventsOf}
+use Rattle.mux_daemon.specs.Events.{CameOf}
+use Rattle.mux_daemon.specs.Served.{ServedAs, history}
+use Rattle.mux_service.specs.Services.{HubHistory, LanesServed}
+
+and_left : (a b : Bool) → (a && b) ≡ true → a ≡ true
+and_left true b h = refl
+and_left false b h = cc
+
+-- the history that a hub stands for, under the name of its settings
+pub hub_history : {J : Type 0} (told : J → Option (List Entry)) (settings : Settings) (hub : HubView J) (journal : J) (entries : List Entry)
+    → hub.settings ≡ settings → journal ≡ hub.journal → HubStands told hub entries → Sessions hub.settings entries → HubHistory told settings journal entries
+hub_history told settings hub journal entries e j h s = record {
+  legal = subst (λ (x : Settings). Legal x entries) e h.legal;
+  sessions = subst (λ (x : Settings). Sessions x entries) e s;
+  few = h.few;
+  told_by = subst (λ k. Tells (told k) entries) (sym j) h.told_by;
+}
+
+module _ {J K P B C : Type 0} (told : J → Option (List Entry)) (links_back links : P → Option (List Session)) (faults : P → ℕ) (runs left : B → Option (List Session)) (misses : B → ℕ) (given moments : C → Option (List ℕ)) (limit : ℕ) (settings : Settings) (hub_of : K → HubView J) where
+  pub lanes_served : (core : K) (journal : J) (old new : Lanes P B C) (x : Answer)
+      → (hub_of core).settings ≡ settings → journal ≡ (hub_of core).journal
+      → (f : ServedAs (λ (k : K) (entries : List Entry). HubStands told (hub_of k) entries) was_stopped links_back links faults runs left misses given moments limit core old new x)
+      → ((entries : List Entry) → HubStands told (hub_of core) entries → Sessions (hub_of core).settings entries)
+      → CameOf links_back links runs left misses given moments limit f.story x old new
+      → EventsOf links_back links runs left misses limit f.story x old new
+      → LanesServed told links_back links runs left misses given moments limit settings journal old new x
+  lanes_served core journal old new x e j f s came events = record {
+    story = f.story;
+    editors = f.editors;
+    servers = f.servers;
+    had = hub_history told settings (hub_of core) journal (history f.story) e j f.stands_for (s (history f.story) f.stands_for);
+    came = came;
+    events = events;
+    ports_len = f.ports_len;
+    berths_len = f.berths_len;
+    stopped = λ h. and_left (was_stopped (history f.story)) (is_idle (seats_of f.story.editors f.story.servers f.story.deeds)) ((f.over h).1.0);
+  }

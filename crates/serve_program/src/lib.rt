@@ -1,0 +1,11 @@
+//! The command `serve`: its settings, its door, and the daemon behind it.
+#![tactic(auto)]
+
+mod command;
+mod fault;
+mod program;
+mod settings;
+
+pub use command::{Command, command_of};
+pub use fault::ServeFault;
+pub use program::{Ended, Outside, serve_command};
