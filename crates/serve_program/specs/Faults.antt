@@ -1,5 +1,7 @@
 -- The statuses of a daemon that doesn't serve, or serves no longer.
-use Rattle.std.specs.Prelude.{ℕ}
+use Rattle.std.specs.Prelude.{ℕ, Result, Ok, Err}
+use Rattle.mux_daemon.specs.declared.serve.Answer.{Answer}
+use Rattle.mux_daemon.specs.declared.serve.Answer.TheVariants as answer
 use Rattle.serve_program.specs.declared.fault.ServeFault.{ServeFault}
 use Rattle.serve_program.specs.declared.fault.ServeFault.TheVariants as fault
 
@@ -10,3 +12,16 @@ status_of fault.Door = 4
 status_of fault.Memory = 5
 status_of fault.Journal = 6
 status_of fault.Numbers = 9
+
+-- the status of what a daemon's work came to
+abbrev pub ended_status : Result (Unit {0}) ServeFault → ℕ
+ended_status (Ok done) = 0
+ended_status (Err why) = status_of why
+
+-- what a daemon's answer comes to
+abbrev pub result_of : Answer → Result (Unit {0}) ServeFault
+result_of answer.Stopped = Ok tt
+result_of answer.PortsClosed = Ok tt
+result_of answer.Memory = Err fault.Memory
+result_of answer.Journal = Err fault.Journal
+result_of answer.Numbers = Err fault.Numbers

@@ -1,1 +1,2 @@
+pub mod Daemons
 pub mod Faults

@@ -1,4 +1,13 @@
 // The daemon of some settings.
+ghost use Rattle.std.specs.Prelude.{◌≡◌, ℕ, ◌≤◌, [], ◌∷◌, Ok, OnOk, OnErr, IsErrOf, IsOk, Result, option_map};
+ghost use Rattle.serve_program.specs.declared.fault.ServeFault.{ServeFault};
+ghost use Rattle.outside_io.specs.Doors.{Gave, address_of, opened, told_of};
+ghost use Rattle.outside_io.specs.Faults.{Rose};
+ghost use Rattle.outside_io.specs.Told.{append_to};
+ghost use Rattle.mux_hub.specs.Hubs.{Tells};
+ghost use Rattle.serve_program.specs.Daemons.{CommandRan, PortsServed};
+ghost use Rattle.serve_program.specs.Faults.{ended_status, result_of};
+
 use crate::command::Command;
 use crate::fault::ServeFault;
 use crate::settings::settings;
@@ -24,18 +33,23 @@ pub struct Outside<D: Door, B, C, J, F, O> {
     pub output: O,
 }
 
-// A door that was opened, or why it wasn't; and whether links were asked of it.
-fn open<D: Door>(
-    door: &mut D,
-    config: &Config,
-    ports: &mut Vec<D::Port>,
-) -> Result<(), ServeFault> {
+// Opens the place of these settings for their number of links.
+fn open<D: Door>(door: &mut D, config: &Config, ports: &mut Vec<D::Port>) -> Result<(), ServeFault>
+    ensures ports { OnOk result
+        (Gave (told_of D.Port.Port.sessions D.Port.Port.links) D.Port.Port.faults config.now.links ports.old.items ports.new.items
+        (D.left door.old) (D.left door.new)) }
+    ensures called { IsOk result → D.calls door.new ≡ append_to (D.calls door.old) (opened (address_of config.now.place) config.now.links ∷ []) }
+    ensures kept { OnErr result (ports.new.items ≡ ports.old.items) }
+    ensures failed { IsErrOf result ServeFault.Door → Rose (D.faults door.old) (D.faults door.new) }
+{
     door.open(&config.place, config.links, ports)?;
     Ok(())
 }
 
 // Why a daemon ended, but by a stop or behind closed ports.
-fn fault_of(answer: Answer) -> Result<(), ServeFault> {
+fn fault_of(answer: Answer) -> Result<(), ServeFault>
+    ensures { result ≡ result_of answer }
+{
     match answer {
         Answer::Stopped | Answer::PortsClosed => Ok(()),
         Answer::Memory => Err(ServeFault::Memory),
@@ -65,7 +79,15 @@ fn serve_ports<
     alloc: Global,
     config: Config,
     outside: Outside<D, B, C, J, F, O>,
-) -> Ended<D, B, C, J, F, O> {
+) -> Ended<D, B, C, J, F, O>
+    requires told { Tells (J.told outside.journal) [] }
+    ensures served { PortsServed J.told D.Port.Port.sessions D.Port.Port.links B.runs B.left B.faults C.given C.left config
+        outside.journal result.outside.journal
+        (record { ports = outside.ports; berths = outside.berths; clock = outside.clock })
+        (record { ports = result.outside.ports; berths = result.outside.berths; clock = result.outside.clock })
+        result.result }
+    ensures door { result.outside.door ≡ outside.door }
+{
     let Outside {
         door,
         ports,
@@ -139,7 +161,13 @@ fn run<
     alloc: Global,
     command: Command<'_>,
     outside: Outside<D, B, C, J, F, O>,
-) -> Ended<D, B, C, J, F, O> {
+) -> Ended<D, B, C, J, F, O>
+    requires told { Tells (J.told outside.journal) [] }
+    ensures ran { CommandRan D.calls D.left D.faults J.told D.Port.Port.sessions D.Port.Port.links D.Port.Port.faults B.runs B.left B.faults C.given C.left
+        (F.files outside.folder) (option_map (λ path. path.now) command.config) outside.door result.outside.door outside.journal result.outside.journal
+        (record { ports = outside.ports; berths = outside.berths; clock = outside.clock })
+        (record { ports = result.outside.ports; berths = result.outside.berths; clock = result.outside.clock }) result.result }
+{
     let mut outside = outside;
     let config = match settings(alloc, &mut outside.folder, command.config) {
         Ok(config) => config,
@@ -199,7 +227,14 @@ pub fn serve_command<
     alloc: Global,
     command: Command<'_>,
     outside: Outside<D, B, C, J, F, O>,
-) -> (u8, Outside<D, B, C, J, F, O>) {
+) -> (u8, Outside<D, B, C, J, F, O>)
+    requires told { Tells (J.told outside.journal) [] }
+    ensures ran { (end : Result (Unit {0}) ServeFault) × (result.0 ≡ ended_status end)
+        × CommandRan D.calls D.left D.faults J.told D.Port.Port.sessions D.Port.Port.links D.Port.Port.faults B.runs B.left B.faults C.given C.left
+        (F.files outside.folder) (option_map (λ path. path.now) command.config) outside.door result.1.door outside.journal result.1.journal
+        (record { ports = outside.ports; berths = outside.berths; clock = outside.clock })
+        (record { ports = result.1.ports; berths = result.1.berths; clock = result.1.clock }) end }
+{
     let Ended { result, outside } = run(rt, alloc, command, outside);
     let mut outside = outside;
     let Err(fault) = result else {
