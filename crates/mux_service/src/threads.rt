@@ -204,10 +204,17 @@ pub fn serve<
         journal,
         lanes,
     } = left;
+    let Lanes {
+        ports,
+        own: _,
+        berths,
+        clock,
+    } = lanes;
+    let LaneJob { outside: clock, .. } = clock;
     let service = Service {
-        ports: served_of(lanes.ports, ports_room),
-        berths: served_of(lanes.berths, berths_room),
-        clock: lanes.clock.outside,
+        ports: served_of(ports, ports_room),
+        berths: served_of(berths, berths_room),
+        clock,
     };
     Daemon {
         answer,
