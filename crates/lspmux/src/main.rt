@@ -35,15 +35,13 @@ fn serve<R: Threads + Wait + Sync>(
 ) -> io::Result<u8> {
     let outside = serve_program::Outside {
         door: RealDoor::new(rt, None),
-        ports: Vec::new(rt.alloc()),
         berths: berths(rt)?,
         clock: RealClock::new(rt)?,
         journal: DropJournal::new(),
         folder: RealFolder::new(rt),
         output: Writing::new(rt, Standard::Output(rt.stdout())),
     };
-    let (status, _) = serve_command(threads, rt.alloc(), command, outside);
-    Ok(status)
+    Ok(serve_command(threads, rt.alloc(), command, outside))
 }
 
 // Drives one hub over lines of the standard input, and gives the status.

@@ -151,7 +151,7 @@ impl<J: Journal> Hub<J> {
 
     /// The history that it stands for is one of conforming sessions.
     pub fn sessions_law(&self)
-        ensures sessions { (history : List Entry) → HubStands J.told self.now history → Sessions self.now.settings history }
+        ensures { (history : List Entry) → HubStands J.told self.now history → Sessions self.now.settings history }
     {
         let _ = self.spent;
     }

@@ -32,21 +32,22 @@ hub_history told settings hub journal entries e j h s = record {
 }
 
 module _ {J K P B C : Type 0} (told : J → Option (List Entry)) (links_back links : P → Option (List Session)) (faults : P → ℕ) (runs left : B → Option (List Session)) (misses : B → ℕ) (given moments : C → Option (List ℕ)) (limit : ℕ) (settings : Settings) (hub_of : K → HubView J) where
-  pub lanes_served : (core : K) (journal : J) (old new : Lanes P B C) (x : Answer)
-      → (hub_of core).settings ≡ settings → journal ≡ (hub_of core).journal
+  pub lanes_served : (core : K) (hub : HubView J) (journal : J) (old new : Lanes P B C) (x : Answer)
+      → hub ≡ hub_of core → hub.settings ≡ settings → journal ≡ hub.journal
       → (f : ServedAs (λ (k : K) (entries : List Entry). HubStands told (hub_of k) entries) was_stopped links_back links faults runs left misses given moments limit core old new x)
-      → ((entries : List Entry) → HubStands told (hub_of core) entries → Sessions (hub_of core).settings entries)
+      → ((entries : List Entry) → HubStands told hub entries → Sessions hub.settings entries)
       → CameOf links_back links runs left misses given moments limit f.story x old new
       → EventsOf links_back links runs left misses limit f.story x old new
       → LanesServed told links_back links runs left misses given moments limit settings journal old new x
-  lanes_served core journal old new x e j f s came events = record {
-    story = f.story;
-    editors = f.editors;
-    servers = f.servers;
-    had = hub_history told settings (hub_of core) journal (history f.story) e j f.stands_for (s (history f.story) f.stands_for);
-    came = came;
-    events = events;
-    ports_len = f.ports_len;
-    berths_len = f.berths_len;
-    stopped = λ h. and_left (was_stopped (history f.story)) (is_idle (seats_of f.story.editors f.story.servers f.story.deeds)) ((f.over h).1.0);
-  }
+  lanes_served core hub journal old new x same e j f s came events =
+      let stands : HubStands told hub (history f.story) = subst (λ (h : HubView J). HubStands told h (history f.story)) (sym same) f.stands_for in record {
+        story = f.story;
+        editors = f.editors;
+        servers = f.servers;
+        had = hub_history told settings hub journal (history f.story) e j stands (s (history f.story) stands);
+        came = came;
+        events = events;
+        ports_len = f.ports_len;
+        berths_len = f.berths_len;
+        stopped = λ h. and_left (was_stopped (history f.story)) (is_idle (seats_of f.story.editors f.story.servers f.story.deeds)) ((f.over h).1.0);
+      }

@@ -1,5 +1,5 @@
 -- What a daemon did over a hub: a legal history of conforming sessions, and what each link and each program carried by it.
-use Rattle.std.specs.Prelude.{◌≡◌, ℕ, ◌+◌, ◌≤◌, true, List, [], Option, length, map}
+use Rattle.std.specs.Prelude.{◌≡◌, ℕ, ◌+◌, ◌≤◌, true, List, Option, length}
 use Rattle.outside_io.specs.Sessions.{Session}
 use Rattle.mux_history.specs.declared.entry.Entry.{Entry}
 use Rattle.event_model.specs.Event.{events_of}
@@ -8,24 +8,11 @@ use Rattle.mux_hub.specs.group_facts.specs.Legal.{Legal}
 use Rattle.mux_hub.specs.Entries.{most_events, was_stopped}
 use Rattle.mux_hub.specs.Hubs.{Tells}
 use Rattle.mux_hub.specs.Sessions.{Sessions}
-use Rattle.mux_serve.specs.declared.job.LaneJob.{LaneJob}
 use Rattle.mux_daemon.specs.declared.open.Lanes.{Lanes}
 use Rattle.mux_daemon.specs.declared.serve.Answer.{Answer}
-use Rattle.mux_daemon.specs.declared.serve.Answer.TheVariants as answer
 use Rattle.mux_daemon.specs.Causes.{EventsOf}
 use Rattle.mux_daemon.specs.Events.{CameOf}
 use Rattle.mux_daemon.specs.Served.{Story, history, is_end}
-use Rattle.mux_service.specs.declared.threads.Service.{Service}
-
-abbrev pub outside_of : {P : Type 0} → LaneJob P → P
-outside_of job = job.outside
-
--- these lanes serve what a daemon serves, each in its place
-module _ {P B C : Type 0} where
-  pub record AreLanesOf (served : Service P B C) (lanes : Lanes P B C) : Type 0 where
-    pub ports : map (outside_of {P}) lanes.ports.items ≡ served.ports.items
-    pub berths : map (outside_of {B}) lanes.berths.items ≡ served.berths.items
-    pub clock : lanes.clock.outside ≡ served.clock
 
 -- a history that a hub with these settings had: it is legal, each part of it is a conforming session, its causes and outs are at most 2^63 - 1, and the journal tells it where it tells
 pub record HubHistory {J : Type 0} (told : J → Option (List Entry)) (settings : Settings) (journal : J) (entries : List Entry) : Type 0 where
@@ -46,8 +33,3 @@ module _ {J P B C : Type 0} (told : J → Option (List Entry)) (links_back links
     pub ports_len : length new.ports.items ≡ length old.ports.items
     pub berths_len : length new.berths.items ≡ length old.berths.items
     pub stopped : is_end x ≡ true → was_stopped (history story) ≡ true
-
-  -- a daemon's work: memory was wanted before it began, and all is as it was; or its lanes served
-  pub data ServiceOf (journal : J) (old new : Service P B C) (x : Answer) : Type 0 where
-    not_begun : x ≡ answer.Memory → new ≡ old → HubHistory told settings journal [] → ServiceOf journal old new x
-    served : (before after : Lanes P B C) → AreLanesOf old before → AreLanesOf new after → LanesServed journal before after x → ServiceOf journal old new x

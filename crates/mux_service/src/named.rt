@@ -39,6 +39,15 @@ impl<J: Journal, N: Named> NamedHub<J, N> {
             of: PhantomData,
         }
     }
+
+    /// The hub.
+    pub fn into_hub(self) -> Hub<J>
+        ensures same { result ≡ self.hub }
+        ensures settings { result.settings ≡ N.settings }
+    {
+        let NamedHub { hub, .. } = self;
+        hub
+    }
 }
 
 impl<J: Journal, N: Named> Steps for NamedHub<J, N> {

@@ -13,11 +13,6 @@ status_of fault.Memory = 5
 status_of fault.Journal = 6
 status_of fault.Numbers = 9
 
--- the status of what a daemon's work came to
-abbrev pub ended_status : Result (Unit {0}) ServeFault → ℕ
-ended_status (Ok done) = 0
-ended_status (Err why) = status_of why
-
 -- what a daemon's answer comes to
 abbrev pub result_of : Answer → Result (Unit {0}) ServeFault
 result_of answer.Stopped = Ok tt

@@ -1,2 +1,1 @@
-pub mod Daemons
 pub mod Faults

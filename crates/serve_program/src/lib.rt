@@ -8,4 +8,4 @@ mod settings;
 
 pub use command::{Command, command_of};
 pub use fault::ServeFault;
-pub use program::{Ended, Outside, serve_command};
+pub use program::{Outside, serve_command};

@@ -1,31 +1,29 @@
 // The daemon of some settings.
-ghost use Rattle.std.specs.Prelude.{◌≡◌, ℕ, ◌≤◌, [], ◌∷◌, Ok, OnOk, OnErr, IsErrOf, IsOk, Result, option_map};
-ghost use Rattle.serve_program.specs.declared.fault.ServeFault.{ServeFault};
+ghost use Rattle.std.specs.Prelude.{◌≡◌, ℕ, ◌≤◌, [], ◌∷◌, Ok, OnOk, OnErr, IsErrOf, IsOk, IfOk, false};
 ghost use Rattle.outside_io.specs.Doors.{Gave, address_of, opened, told_of};
 ghost use Rattle.outside_io.specs.Faults.{Rose};
 ghost use Rattle.outside_io.specs.Told.{append_to};
-ghost use Rattle.mux_hub.specs.Hubs.{Tells};
-ghost use Rattle.serve_program.specs.Daemons.{CommandRan, PortsServed};
-ghost use Rattle.serve_program.specs.Faults.{ended_status, result_of};
+ghost use Rattle.mux_hub.specs.Hubs.{HubStands, HubView, Tells};
+ghost use Rattle.serve_program.specs.Faults.{result_of};
 
 use crate::command::Command;
 use crate::fault::ServeFault;
 use crate::settings::settings;
+use message_body::Memory;
 use mux_config::{Config, ConfigFault};
 use mux_hub::Hub;
-use mux_service::{Answer, Daemon, Service, serve};
+use mux_service::{Answer, LaneJob, Lanes, own_port, serve};
 use mux_steps::Journal;
-use outside_io::{Berth, Clock, Door, Folder, Sink, write_whole};
+use outside_io::{Berth, Clock, Door, Folder, Port, Sink, write_whole};
 use std::alloc::Global;
 use std::sync::Wait;
 use std::thread::Threads;
 
 /// All that the daemon meets outside of itself.
 #[derive(Drop)]
-pub struct Outside<D: Door, B, C, J, F, O> {
+pub struct Outside<D, B, C, J, F, O> {
     pub door: D,
-    /// What the door gave.
-    pub ports: Vec<D::Port>,
+    /// Where servers' programs run, one in each at one time.
     pub berths: Vec<B>,
     pub clock: C,
     pub journal: J,
@@ -58,45 +56,37 @@ fn fault_of(answer: Answer) -> Result<(), ServeFault>
     }
 }
 
-/// What a daemon leaves: its outside, and why it ended, or didn't begin, where it was by a fault.
-#[derive(Drop)]
-pub struct Ended<D: Door, B, C, J, F, O> {
-    pub result: Result<(), ServeFault>,
-    pub outside: Outside<D, B, C, J, F, O>,
+// A lane for each of these, in their order.
+fn jobs_of<P: Drop>(alloc: Global, served: Vec<P>) -> Result<Vec<LaneJob<P>>, Memory> {
+    let mut jobs = Vec::new(alloc);
+    for one in served {
+        jobs.push(LaneJob::new(one))?;
+    }
+    Ok(jobs)
 }
 
-// Serves at the ports of an outside by these settings.
-fn serve_ports<
-    R: Threads + Wait + Sync,
-    D: Door + Drop,
-    B: Berth + Send + Drop,
-    C: Clock + Send + Drop,
-    J: Journal + Send + Drop,
-    F: Folder + Drop,
-    O: Sink + Drop,
->(
-    rt: &R,
+// The lanes of a daemon.
+fn lanes_of<P: Port + Drop, B: Berth + Drop, C: Clock + Drop>(
     alloc: Global,
-    config: Config,
-    outside: Outside<D, B, C, J, F, O>,
-) -> Ended<D, B, C, J, F, O>
-    requires told { Tells (J.told outside.journal) [] }
-    ensures served { PortsServed J.told D.Port.Port.sessions D.Port.Port.links B.runs B.left B.faults C.given C.left config
-        outside.journal result.outside.journal
-        (record { ports = outside.ports; berths = outside.berths; clock = outside.clock })
-        (record { ports = result.outside.ports; berths = result.outside.berths; clock = result.outside.clock })
-        result.result }
-    ensures door { result.outside.door ≡ outside.door }
+    ports: Vec<P>,
+    berths: Vec<B>,
+    clock: C,
+) -> Result<Lanes<P, B, C>, Memory> {
+    Ok(Lanes {
+        ports: jobs_of(alloc, ports)?,
+        own: LaneJob::new(own_port(alloc)?),
+        berths: jobs_of(alloc, berths)?,
+        clock: LaneJob::new(clock),
+    })
+}
+
+// A hub with these settings' limits and servers.
+#[tactic(auto, using(crate::proofs::Ceilings::have_ceilings))]
+fn hub_of<J: Journal>(alloc: Global, config: Config, journal: J) -> Result<Settled<J>, Memory>
+    requires { Tells (J.told journal) [] }
+    ensures stands { IfOk result (λ settled. HubStands J.told settled.hub []) }
+    ensures ready { IfOk result (λ settled. settled.hub.spent ≡ false) }
 {
-    let Outside {
-        door,
-        ports,
-        berths,
-        clock,
-        journal,
-        folder,
-        output,
-    } = outside;
     let Config {
         content,
         limits,
@@ -105,46 +95,22 @@ fn serve_ports<
         commands,
         ..
     } = config;
-    let hub = match Hub::new(alloc, limits, servers, default, journal) {
-        Ok(hub) => hub,
-        Err(journal) => {
-            return Ended {
-                result: Err(ServeFault::Memory),
-                outside: Outside {
-                    door,
-                    ports,
-                    berths,
-                    clock,
-                    journal,
-                    folder,
-                    output,
-                },
-            };
-        }
-    };
-    let service = Service {
-        ports,
-        berths,
-        clock,
-    };
-    let daemon = serve(rt, alloc, hub, content, commands.as_slice(), service);
-    let Daemon {
-        answer,
-        journal,
-        service,
-    } = daemon;
-    Ended {
-        result: fault_of(answer),
-        outside: Outside {
-            door,
-            ports: service.ports,
-            berths: service.berths,
-            clock: service.clock,
-            journal,
-            folder,
-            output,
-        },
+    match Hub::new(alloc, limits, servers, default, journal) {
+        Ok(hub) => Ok(Settled {
+            hub,
+            content,
+            commands,
+        }),
+        Err(_) => Err(Memory),
     }
+}
+
+// A hub, and what its daemon gets of the settings beside it.
+#[derive(Drop)]
+struct Settled<J: Journal> {
+    hub: Hub<J>,
+    content: u32,
+    commands: Vec<Vec<String>>,
 }
 
 // Reads the settings, opens the door, and serves.
@@ -154,37 +120,31 @@ fn run<
     B: Berth + Send + Drop,
     C: Clock + Send + Drop,
     J: Journal + Send + Drop,
-    F: Folder + Drop,
-    O: Sink + Drop,
+    F: Folder,
 >(
     rt: &R,
     alloc: Global,
     command: Command<'_>,
-    outside: Outside<D, B, C, J, F, O>,
-) -> Ended<D, B, C, J, F, O>
-    requires told { Tells (J.told outside.journal) [] }
-    ensures ran { CommandRan D.calls D.left D.faults J.told D.Port.Port.sessions D.Port.Port.links D.Port.Port.faults B.runs B.left B.faults C.given C.left
-        (F.files outside.folder) (option_map (λ path. path.now) command.config) outside.door result.outside.door outside.journal result.outside.journal
-        (record { ports = outside.ports; berths = outside.berths; clock = outside.clock })
-        (record { ports = result.outside.ports; berths = result.outside.berths; clock = result.outside.clock }) result.result }
+    folder: &mut F,
+    door: &mut D,
+    berths: Vec<B>,
+    clock: C,
+    journal: J,
+) -> Result<(), ServeFault>
+    requires { Tells (J.told journal) [] }
 {
-    let mut outside = outside;
-    let config = match settings(alloc, &mut outside.folder, command.config) {
-        Ok(config) => config,
-        Err(fault) => {
-            return Ended {
-                result: Err(fault),
-                outside,
-            };
-        }
-    };
-    if let Err(fault) = open(&mut outside.door, &config, &mut outside.ports) {
-        return Ended {
-            result: Err(fault),
-            outside,
-        };
-    }
-    serve_ports(rt, alloc, config, outside)
+    let config = settings(alloc, folder, command.config)?;
+    let mut ports = Vec::new(alloc);
+    open(door, &config, &mut ports)?;
+    let lanes = lanes_of(alloc, ports, berths, clock)?;
+    let settled = hub_of(alloc, config, journal)?;
+    let Settled {
+        hub,
+        content,
+        commands,
+    } = settled;
+    let left = serve(rt, alloc, hub, content, commands.as_slice(), lanes);
+    fault_of(left.answer)
 }
 
 // The fault line of a fault; none of one that has none.
@@ -211,7 +171,7 @@ fn line_of(alloc: Global, fault: &ServeFault) -> Option<String> {
 }
 
 /// Runs the daemon of a command: reads the settings, opens their place for their number of links, and serves at all ports that
-/// the door gave, until a stop is done, each port is closed, or a fault. The status and what the outside is then.
+/// the door gave, until a stop is done, each port is closed, or a fault. It answers the program's status.
 ///
 /// The status is 0 behind a stop or closed ports, and else that of the fault, whose line was written to the output.
 pub fn serve_command<
@@ -222,26 +182,32 @@ pub fn serve_command<
     J: Journal + Send + Drop,
     F: Folder + Drop,
     O: Sink + Drop,
->(
-    rt: &R,
-    alloc: Global,
-    command: Command<'_>,
-    outside: Outside<D, B, C, J, F, O>,
-) -> (u8, Outside<D, B, C, J, F, O>)
-    requires told { Tells (J.told outside.journal) [] }
-    ensures ran { (end : Result (Unit {0}) ServeFault) × (result.0 ≡ ended_status end)
-        × CommandRan D.calls D.left D.faults J.told D.Port.Port.sessions D.Port.Port.links D.Port.Port.faults B.runs B.left B.faults C.given C.left
-        (F.files outside.folder) (option_map (λ path. path.now) command.config) outside.door result.1.door outside.journal result.1.journal
-        (record { ports = outside.ports; berths = outside.berths; clock = outside.clock })
-        (record { ports = result.1.ports; berths = result.1.berths; clock = result.1.clock }) end }
+>(rt: &R, alloc: Global, command: Command<'_>, outside: Outside<D, B, C, J, F, O>) -> u8
+    requires { Tells (J.told outside.journal) [] }
 {
-    let Ended { result, outside } = run(rt, alloc, command, outside);
-    let mut outside = outside;
-    let Err(fault) = result else {
-        return (0, outside);
+    let Outside {
+        mut door,
+        berths,
+        clock,
+        journal,
+        mut folder,
+        mut output,
+    } = outside;
+    let ran = run(
+        rt,
+        alloc,
+        command,
+        &mut folder,
+        &mut door,
+        berths,
+        clock,
+        journal,
+    );
+    let Err(fault) = ran else {
+        return 0;
     };
     if let Some(line) = line_of(alloc, &fault) {
-        let _ = write_whole(&mut outside.output, line.as_bytes());
+        let _ = write_whole(&mut output, line.as_bytes());
     }
-    (fault.status(), outside)
+    fault.status()
 }

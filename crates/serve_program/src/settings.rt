@@ -1,7 +1,4 @@
 // The settings of a daemon, from their file.
-ghost use Rattle.std.specs.Prelude.{◌≡◌, IfOk, option_map};
-ghost use Rattle.serve_program.specs.Daemons.{AreSettings};
-
 use crate::fault::ServeFault;
 use mux_config::Config;
 use outside_io::Folder;
@@ -15,9 +12,7 @@ pub fn settings<F: Folder>(
     alloc: Global,
     folder: &mut F,
     file: Option<&str>,
-) -> Result<Config, ServeFault>
-    ensures settings { IfOk result (λ config. AreSettings (F.files folder.old) (option_map (λ path. path.now) file) config) }
-{
+) -> Result<Config, ServeFault> {
     match file {
         None => Ok(Config::built_in(alloc)?),
         Some(path) => {
