@@ -82,7 +82,11 @@ fn lanes_of<P: Port + Drop, B: Berth + Drop, C: Clock + Drop>(
 
 // A hub with these settings' limits and servers.
 #[tactic(auto, using(crate::proofs::Ceilings::have_ceilings))]
-fn hub_of<J: Journal>(alloc: Global, config: Config, journal: J) -> Result<Settled<J>, Memory>
+fn hub_of<J: Journal + Drop>(
+    alloc: Global,
+    config: Config,
+    journal: J,
+) -> Result<Settled<J>, Memory>
     requires { Tells (J.told journal) [] }
     ensures stands { IfOk result (λ settled. HubStands J.told settled.hub []) }
     ensures ready { IfOk result (λ settled. settled.hub.spent ≡ false) }
