@@ -277,6 +277,9 @@ impl<J: Journal> Steps for Hub<J> {
     }
 
     fn step(&mut self, cause: Cause) -> Result<Outs, StepFault> {
-        Hub::step(self, cause)
+        match Hub::step(self, cause) {
+            Ok(outs) => Ok(outs),
+            Err(fault) => Err(fault),
+        }
     }
 }

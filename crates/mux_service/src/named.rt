@@ -86,6 +86,9 @@ impl<J: Journal, N: Named> Steps for NamedHub<J, N> {
     }
 
     fn step(&mut self, cause: Cause) -> Result<Outs, StepFault> {
-        Steps::step(&mut self.hub, cause)
+        match self.hub.step(cause) {
+            Ok(outs) => Ok(outs),
+            Err(fault) => Err(fault),
+        }
     }
 }
