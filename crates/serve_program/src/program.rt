@@ -81,7 +81,6 @@ fn lanes_of<P: Port + Drop, B: Berth + Drop, C: Clock + Drop>(
 }
 
 // A hub with these settings' limits and servers.
-#[tactic(auto, using(crate::proofs::Ceilings::have_ceilings))]
 fn hub_of<J: Journal + Drop>(
     alloc: Global,
     config: Config,
