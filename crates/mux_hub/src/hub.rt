@@ -153,7 +153,7 @@ impl<J: Journal> Hub<J> {
     pub fn sessions_law(&self)
         ensures { (history : List Entry) → HubStands J.told self.now history → Sessions self.now.settings history }
     {
-        let _ = self.spent;
+        let _spent = self.spent;
     }
 
     /// Whether this cause can come behind the history.
