@@ -62,13 +62,15 @@ fn restore(
         → OnOk result (Does (λ k events. AllStand settings k events)
         (register_any (live_of settings x.life.start (behind base outs.old)) e) base (tables.old, owed) outs.old (tables.new, owed) outs.new) }
 {
-    if tables.live(g).is_empty() {
+    let live = tables.live(g)?;
+    let items = live.as_slice();
+    if items.is_empty() {
         return Ok(());
     }
     let Some(n) = tables.next_ask(e) else {
         return Ok(());
     };
-    let text = register_text(alloc, tables.live(g), n)?;
+    let text = register_text(alloc, items, n)?;
     tables.call(outs, e, text)?;
     Ok(())
 }

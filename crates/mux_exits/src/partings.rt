@@ -11,7 +11,6 @@ ghost use Rattle.mux_tables.specs.Stands.{Stands};
 use crate::losses::{Loss, lose_all_requests, lose_all_starts};
 use group_rows::registrations::Registration;
 use message_body::Memory;
-use mux_starts::copies;
 use mux_tables::Tables;
 use mux_turns::stage_at;
 use std::alloc::Global;
@@ -50,7 +49,7 @@ pub fn gather(tables: &Tables, alloc: Global, g: usize) -> Result<Parting, Memor
     }
     let running = tables.running(group)?;
     lose_all_starts(tables, alloc, &mut losses, g, &running)?;
-    let live = copies(alloc, tables.live(g))?;
+    let live = tables.live(g)?;
     Ok(Parting {
         members,
         losses,

@@ -73,25 +73,13 @@ pub fn decline(
     Ok(())
 }
 
-// A registration once more.
-fn copy(alloc: Global, item: &Registration) -> Result<Registration, Memory>
-    ensures { IfOk result (λ r. r ≡ item.now) }
-{
-    Ok(Registration {
-        name: item.name.copy(alloc)?,
-        id: item.id.copy(alloc)?,
-        method: item.method.copy(alloc)?,
-        item: item.item.copy(alloc)?,
-    })
-}
-
 /// These once more.
 pub fn copies(alloc: Global, items: &[Registration]) -> Result<Vec<Registration>, Memory>
     ensures { IfOk result (λ v. v.items ≡ items.now) }
 {
     let mut all = Vec::new(alloc);
     for item in items {
-        all.push(copy(alloc, item)?)?;
+        all.push(item.copy(alloc)?)?;
     }
     Ok(all)
 }

@@ -28,13 +28,14 @@ use message_body::{Body, Memory};
 use mux_history::{Out, Outs};
 
 impl Tables {
-    /// What is registered at the group's last start, which is ready, in the order of registration.
-    pub fn live(&self, g: usize) -> &[Registration]
+    /// What is registered at the group's last start, which is ready, in the order of registration, once more. It takes time in its bytes.
+    pub fn live(&self, g: usize) -> Result<Vec<Registration>, Memory>
         requires { g < length self.now.lasts.items }
         ensures { (settings : Settings) (events : List Event) (x : Start) → slice_get self.now.lasts.items g ≡ Some x → x.life.stage ≡ Ready
-            → Stands settings self.now events → result.now ≡ live_of settings x.life.start events }
+            → Stands settings self.now events → IfOk result (λ live. live.items ≡ live_of settings x.life.start events) }
     {
-        self.lasts[g].live.all()
+        let live = self.lasts[g].live.all()?;
+        Ok(live)
     }
 
     /// S6: a request that registers these came from the group's last start, which is ready, under an id that no open request has. Those of

@@ -12,7 +12,7 @@ use Rattle.number_index.specs.Numbers.{numbers_under, with_number, without_numbe
 use Rattle.numbered_rows.specs.Rows.{row_at, numbers_with, Rise, Indexes}
 use Rattle.numbered_rows.proofs.Numbering.{rise_le, hit_self, hit_below}
 
-bytes_sym : (a b : List ℕ) → bytes_eq a b ≡ bytes_eq b a
+pub bytes_sym : (a b : List ℕ) → bytes_eq a b ≡ bytes_eq b a
 bytes_sym a b = go (bytes_eq a b) (bytes_eq b a) refl refl
   where
     go : (c d : Bool) → bytes_eq a b ≡ c → bytes_eq b a ≡ d → c ≡ d

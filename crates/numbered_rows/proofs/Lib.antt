@@ -1,2 +1,4 @@
 pub mod Numbering
 pub mod Keeping
+pub mod Kept
+pub mod Taking

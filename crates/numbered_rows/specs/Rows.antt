@@ -1,10 +1,10 @@
 -- Rows by numbers that rise in the order in which they are put, and what an index says of these.
-use Rattle.std.specs.Prelude.{◌≡◌, ℕ, ◌+◌, ◌≤◌, Bool, false, List, [], ◌∷◌, ◌++◌, bytes_eq, if◌then◌else◌}
+use Rattle.std.specs.Prelude.{◌≡◌, ℕ, ◌+◌, ◌≤◌, Bool, true, false, List, [], ◌∷◌, ◌++◌, bytes_eq, if◌then◌else◌}
 use Rattle.std.specs.Prelude.{Option, Some, None}
 use Rattle.std.specs.Map.{lookup}
 use Rattle.std.specs.Ordering.{nat_cmp}
 use Rattle.std.specs.BTreeMap.{is_at}
-use Rattle.number_index.specs.Numbers.{numbers_under}
+use Rattle.number_index.specs.Numbers.{numbers_under, with_number}
 
 -- the row of a number
 abbrev pub row_at : {X : Type 0} → ℕ → List (ℕ × X) → Option X
@@ -51,3 +51,18 @@ row_with test (Some x) = if test x then x ∷ [] else []
 abbrev pub rows_among : {X : Type 0} → (X → Bool) → List (ℕ × X) → List ℕ → List X
 rows_among test rows [] = []
 rows_among test rows (n ∷ ns) = row_with test (row_at n rows) ++ rows_among test rows ns
+
+-- rows below the number that comes next, and the index of these
+pub record IsKept {X : Type 0} (key : X → List ℕ) (rows : List (ℕ × X)) (next : ℕ) (index : List (List ℕ × List ℕ)) : Type 0 where
+  pub rise : Rise 0 next rows
+  pub indexed : Indexes key rows index
+
+-- rising numbers with more of them, each in its place
+abbrev pub with_numbers : List ℕ → List ℕ → List ℕ
+with_numbers [] numbers = numbers
+with_numbers (n ∷ ns) numbers = with_numbers ns (with_number n numbers)
+
+-- some number is there
+abbrev pub is_some_number : List ℕ → Bool
+is_some_number [] = false
+is_some_number (n ∷ ns) = true

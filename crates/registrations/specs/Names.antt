@@ -1,11 +1,8 @@
 -- Names of registrations, as an index keeps them.
-use Rattle.std.specs.Prelude.{ℕ, Bool, true, false, List, [], ◌∷◌, bytes_eq}
+use Rattle.std.specs.Prelude.{ℕ, Bool, List, bytes_eq}
 use Rattle.number_index.specs.Numbers.{numbers_under}
+use Rattle.numbered_rows.specs.Rows.{is_some_number}
 use Rattle.registrations.specs.declared.registration.Registration.{Registration}
-
-abbrev pub is_some_number : List ℕ → Bool
-is_some_number [] = false
-is_some_number (n ∷ ns) = true
 
 -- the name is a key of the index
 abbrev pub stands_under : List (List ℕ × List ℕ) → List ℕ → Bool

@@ -5,6 +5,7 @@ mod items;
 mod live;
 mod names;
 mod registration;
+mod rows;
 
 pub use items::{registered, unregistered};
 pub use live::Live;

@@ -1,45 +1,54 @@
 // The live registrations.
-ghost use Rattle.std.specs.Prelude.{◌≡◌, ◌++◌, [], Some, None, ◌∷◌, List, ℕ, false, filter, not, option_map, IfOk, OnOk, if◌then◌else◌};
-ghost use Rattle.std.specs.List.{list_all};
+ghost use Rattle.std.specs.Prelude.{◌≡◌, ◌++◌, [], Some, None, option_map, IfOk, OnOk, if◌then◌else◌};
+ghost use Rattle.std.specs.Map.{values_of};
 ghost use Rattle.registrations.specs.Items.{again, are_live, others};
-ghost use Rattle.registrations.specs.Names.{is_named, stands_under};
-ghost use Rattle.registrations.specs.declared.registration.Registration.{Registration};
 
-use crate::names::{Names, names_of};
 use crate::registration::Registration;
+use crate::rows::Rows;
 use message_body::Memory;
 use std::alloc::Global;
 use std::marker::Model;
 
 /// The live registrations of one start of a server, in the order in which they were registered.
 ///
-/// A call takes time in its items and in those that are live, times the logarithm of how many. Where memory runs out the table may
-/// only be dropped.
+/// A call that registers or takes back takes time in its items and in those that it gives, times the logarithm of how many are live.
+/// Where memory runs out the table may only be dropped.
 #[derive(Drop)]
 pub struct Live {
     alloc: Global,
-    items: Vec<Registration>,
+    rows: Rows,
 }
 
 impl Model for Live {
     ghost use Rattle.std.specs.Prelude.{List};
+    ghost use Rattle.std.specs.Map.{values_of};
     ghost use Rattle.registrations.specs.declared.registration.Registration.{Registration};
 
     ghost Value = { List Registration };
 
-    ghost view = { λ l. l.items.items };
+    ghost view = { λ l. values_of l.rows.rows };
 }
 
-// Whether each of these has one of the names.
-fn are_all_named(items: &[Registration], names: &Names) -> bool
-    ensures { result ≡ list_all (λ r. stands_under names.now r.name) items.now }
+// Whether each of these is live.
+fn are_live(items: &[Registration], rows: &Rows) -> bool
+    ensures { result ≡ are_live items.now (values_of rows.now.rows) }
 {
     for item in items {
-        if !names.contains(item.name.bytes()) {
+        if !rows.has(item.name.bytes()) {
             return false;
         }
     }
     true
+}
+
+// Registrations come behind all others, in this order.
+fn push_all(rows: &mut Rows, items: Vec<Registration>) -> Result<(), Memory>
+    ensures { OnOk result (values_of rows.new.rows ≡ values_of rows.old.rows ++ items.items) }
+{
+    for item in items {
+        rows.push(item)?;
+    }
+    Ok(())
 }
 
 impl Live {
@@ -49,34 +58,15 @@ impl Live {
     {
         Live {
             alloc,
-            items: Vec::new(alloc),
+            rows: Rows::new(alloc),
         }
     }
 
-    /// All of them, in their order.
-    pub fn all(&self) -> &[Registration]
-        ensures { result.now ≡ self.now }
+    /// All of them once more, in their order. It takes time in their bytes.
+    pub fn all(&self) -> Result<Vec<Registration>, Memory>
+        ensures { IfOk result (λ all. all.items ≡ self.now) }
     {
-        &self.items
-    }
-
-    // Takes those out that have one of the names, and gives them in their order.
-    fn take(&mut self, names: &Names) -> Result<Vec<Registration>, Memory>
-        ensures gone { IfOk result (λ gone. gone.items ≡ filter (λ r. stands_under names.now r.name) self.old) }
-        ensures left { OnOk result (self.new ≡ filter (λ r. not (stands_under names.now r.name)) self.old) }
-    {
-        let mut gone = Vec::new(self.alloc);
-        let mut left = Vec::new(self.alloc);
-        let items = std::mem::replace(&mut self.items, Vec::new(self.alloc));
-        for item in items {
-            if names.contains(item.name.bytes()) {
-                gone.push(item)?;
-            } else {
-                left.push(item)?;
-            }
-        }
-        self.items = left;
-        Ok(gone)
+        self.rows.copies()
     }
 
     /// S6: these are registered, behind the others. Those of their ids that were live are no more, and are given in their order.
@@ -84,10 +74,8 @@ impl Live {
         ensures gone { IfOk result (λ gone. gone.items ≡ again items.items self.old) }
         ensures left { OnOk result (self.new ≡ others items.items self.old ++ items.items) }
     {
-        let names = names_of(self.alloc, &items)?;
-        let gone = self.take(&names)?;
-        let mut items = items;
-        self.items.append(&mut items)?;
+        let gone = self.rows.take_named(&items)?;
+        push_all(&mut self.rows, items)?;
         Ok(gone)
     }
 
@@ -100,18 +88,16 @@ impl Live {
         ensures gone { IfOk result (λ gone. option_map (λ v. v.items) gone ≡ (if are_live items.now self.old then Some (again items.now self.old) else None)) }
         ensures left { OnOk result (self.new ≡ (if are_live items.now self.old then others items.now self.old else self.old)) }
     {
-        let live = names_of(self.alloc, &self.items)?;
-        if !are_all_named(items, &live) {
+        if !are_live(items, &self.rows) {
             return Ok(None);
         }
-        let names = names_of(self.alloc, items)?;
-        Ok(Some(self.take(&names)?))
+        Ok(Some(self.rows.take_named(items)?))
     }
 
     /// The start is gone: all its registrations end. It takes no memory.
     pub fn over(&mut self)
         ensures { self.new ≡ [] }
     {
-        self.items = Vec::new(self.alloc);
+        self.rows = Rows::new(self.alloc);
     }
 }

@@ -1,15 +1,23 @@
 // The names of registrations.
 ghost use Rattle.std.specs.Prelude.{◌≡◌, ◌||◌, List, ℕ, false, bytes_eq, IfOk, OnOk};
-ghost use Rattle.std.specs.List.{list_any};
-ghost use Rattle.registrations.specs.declared.registration.Registration.{Registration};
 ghost use Rattle.registrations.specs.Items.{are_distinct};
-ghost use Rattle.registrations.specs.Names.{is_named, stands_under};
+ghost use Rattle.registrations.specs.Names.{stands_under};
 
 use crate::registration::Registration;
 use message_body::Memory;
 use number_index::Index;
 use std::alloc::Global;
 use std::marker::Model;
+
+/// Whether a name is a key of an index.
+pub fn is_key(index: &Index, name: &[u8]) -> bool
+    ensures { result ≡ stands_under index.now name.now }
+{
+    match index.get(name) {
+        Some(numbers) => !numbers.is_empty(),
+        None => false,
+    }
+}
 
 /// Names, of which each stands once.
 #[derive(Drop)]
@@ -41,10 +49,7 @@ impl Names {
     pub fn contains(&self, name: &[u8]) -> bool
         ensures { result ≡ stands_under self.now name.now }
     {
-        match self.index.get(name) {
-            Some(numbers) => !numbers.is_empty(),
-            None => false,
-        }
+        is_key(&self.index, name)
     }
 
     /// One name more.
@@ -53,17 +58,6 @@ impl Names {
     {
         self.index.add(self.alloc, name, 0)
     }
-}
-
-/// The names of registrations.
-pub fn names_of(alloc: Global, items: &[Registration]) -> Result<Names, Memory>
-    ensures { IfOk result (λ names. (name : List ℕ) → stands_under names name ≡ list_any (is_named name) items.now) }
-{
-    let mut names = Names::new(alloc);
-    for item in items {
-        names.add(item.name.bytes())?;
-    }
-    Ok(names)
 }
 
 /// Whether no two registrations have one name.

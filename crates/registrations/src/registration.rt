@@ -1,4 +1,8 @@
-use message_body::Body;
+// A registration.
+ghost use Rattle.std.specs.Prelude.{◌≡◌, IfOk};
+
+use message_body::{Body, Memory};
+use std::alloc::Global;
 
 /// A registration, or what is taken back of one: the characters of its id in UTF-8, and the texts of its id, of its method and of
 /// the whole item as they came (LSP 3.17, Registration and Unregistration).
@@ -8,4 +12,18 @@ pub struct Registration {
     pub id: Body,
     pub method: Body,
     pub item: Body,
+}
+
+impl Registration {
+    /// The same once more. The time is linear in its bytes.
+    pub fn copy(&self, alloc: Global) -> Result<Registration, Memory>
+        ensures { IfOk result (λ r. r ≡ self.now) }
+    {
+        Ok(Registration {
+            name: self.name.copy(alloc)?,
+            id: self.id.copy(alloc)?,
+            method: self.method.copy(alloc)?,
+            item: self.item.copy(alloc)?,
+        })
+    }
 }

@@ -33,8 +33,9 @@ fn registers(live: &mut Live, items: Vec<Registration>) -> Result<bool, Fail> {
     Ok(live.register(items)?.is_empty())
 }
 
-fn is_all(live: &Live, item: &str) -> bool {
-    matches!(live.all(), [one] if one.item.bytes() == item.as_bytes())
+fn is_all(live: &Live, item: &str) -> Result<bool, Fail> {
+    let all = live.all()?;
+    Ok(matches!(all.as_slice(), [one] if one.item.bytes() == item.as_bytes()))
 }
 
 // How many items are taken back.
@@ -53,7 +54,7 @@ fn a_registration_is_live_until_it_is_taken_back(rt: HostRuntime) -> Result<(), 
     let named = named_by(alloc, UNREGISTERS)?.expect(&rt, "items");
     let mut live = Live::new(alloc);
     assert!(rt; registers(&mut live, items)?);
-    assert!(rt; is_all(&live, ITEM));
+    assert!(rt; is_all(&live, ITEM)?);
     assert!(rt; count_back(&mut live, named.as_slice())? == Some(1));
     assert!(rt; count_back(&mut live, named.as_slice())?.is_none());
     live.over();

@@ -21,8 +21,8 @@ returns-then-is_empty-clause-does c = λ settings owed base x here ready runs no
     let e = c.args.e in
     let xs = c.args.outs.now in
     does_knowing (λ k.
-    subst (λ rs. Does (λ k events. AllStand settings k events) (register_any rs e) base (t, owed) xs (t, owed) xs) (c.live.ensures settings (behind base xs) x here ready k.0)
-    (unchosen {b = has_some c.live.result.now} refl (none_there c.live.result.now c.is_empty.result c.is_empty.ensures c.if-is_empty.true) does_nothing))
+    subst (λ rs. Does (λ k events. AllStand settings k events) (register_any rs e) base (t, owed) xs (t, owed) xs) (c.as_slice-items.ensures.value ∙ c.in_ok-live.ensures settings (behind base xs) x here ready k.0)
+    (unchosen {b = has_some c.as_slice-items.result.now} refl (none_there c.as_slice-items.result.now c.is_empty.result c.is_empty.ensures c.if-is_empty.true) does_nothing))
 
 pub returns-in_default-clause-does : goal.returns-in_default-clause-does
 returns-in_default-clause-does c = λ settings owed base x here ready runs none.
@@ -31,9 +31,9 @@ returns-in_default-clause-does c = λ settings owed base x here ready runs none.
     let xs = c.args.outs.now in
     let now = behind base xs in
     does_knowing (λ k.
-    subst (λ rs. Does (λ k events. AllStand settings k events) (register_any rs e) base (t, owed) xs (t, owed) xs) (c.live.ensures settings now x here ready k.0)
-    (chosen {b = has_some c.live.result.now} refl (some_there c.live.result.now c.is_empty.result c.is_empty.ensures c.if-is_empty.false)
-    (none_numbered (λ k events. AllStand settings k events) (λ n. send (ToEditor e (register_text c.live.result.now n))) e base xs (t, owed) (λ st. c.in_default.ensures settings now runs st.0))))
+    subst (λ rs. Does (λ k events. AllStand settings k events) (register_any rs e) base (t, owed) xs (t, owed) xs) (c.as_slice-items.ensures.value ∙ c.in_ok-live.ensures settings now x here ready k.0)
+    (chosen {b = has_some c.as_slice-items.result.now} refl (some_there c.as_slice-items.result.now c.is_empty.result c.is_empty.ensures c.if-is_empty.false)
+    (none_numbered (λ k events. AllStand settings k events) (λ n. send (ToEditor e (register_text c.as_slice-items.result.now n))) e base xs (t, owed) (λ st. c.in_default.ensures settings now runs st.0))))
 
 pub returns-clause-does : goal.returns-clause-does
 returns-clause-does c = λ settings owed base x here ready runs none.
@@ -47,8 +47,8 @@ returns-clause-does c = λ settings owed base x here ready runs none.
     let live = live_of settings x.life.start now in
     let called = register_call live (live_written settings x.life.start now) in
     does_knowing (λ k.
-    let is = c.in_ok-text.ensures ∙ ap (λ rs. register_text rs n) (c.live-2.ensures settings now x here ready k.0) in
-    chosen {b = has_some live} refl (ap has_some (sym (c.live.ensures settings now x here ready k.0)) ∙ some_there c.live.result.now c.is_empty.result c.is_empty.ensures c.if-is_empty.false)
+    let is = c.in_ok-text.ensures ∙ ap (λ rs. register_text rs n) (c.as_slice-items.ensures.value ∙ c.in_ok-live.ensures settings now x here ready k.0) in
+    chosen {b = has_some live} refl (ap has_some (sym (c.as_slice-items.ensures.value ∙ c.in_ok-live.ensures settings now x here ready k.0)) ∙ some_there c.as_slice-items.result.now c.is_empty.result c.is_empty.ensures c.if-is_empty.false)
     (one_numbered (λ k events. AllStand settings k events) (λ n. send (ToEditor e (register_text live n))) e base xs (t, owed) n (λ st. c.in-Some.ensures settings now runs st.0) (u, owed) ys
     (λ left next.
     let one = next_call (register_text live) called e n now c.in_ok-text.text is left next in

@@ -44,7 +44,7 @@ returns-clause-parts c = λ settings before x here st.
       losses = parts_ready settings before s h c.deref.result.now c.new-losses.result.items c.lose_all_requests.new.losses.items (c.deref.ensures.value ∙ those) c.new-losses.ensures.items
           (c.in_ok-lose_all_requests.ensures.lost settings before s at st) c.deref-2.result.now c.lose_all_starts.new.losses.items on (c.deref-2.ensures.value ∙ these)
           (c.in_ok-lose_all_starts.ensures.lost settings before x here ready (those_run settings before h c.deref-2.result.now (c.deref-2.ensures.value ∙ these)) st);
-      live = live_ready settings before s c.in_ok-live.live.items on (c.in_ok-live.ensures ∙ c.live.ensures settings before x here ready st);
+      live = live_ready settings before s c.in_ok-live.live.items on (c.in_ok-live.ensures settings before x here ready st);
     }
 
 pub returns-clause-inside : goal.returns-clause-inside

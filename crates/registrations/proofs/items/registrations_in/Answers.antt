@@ -1,5 +1,4 @@
 use Rattle.std.proofs.Common.{sym, ◌∙◌, subst}
-use Rattle.std.specs.Prelude.{Some}
 use Rattle.registrations.proofs.Gathering.{Gathering, gathering_ends, gathering_on, gathering_stops}
 use Rattle.registrations.proofs.Lists.{a_list, no_list}
 use Rattle.registrations.proofs.items.registrations_in.Goals as goal
