@@ -1,6 +1,9 @@
 -- What a daemon did over a hub: a legal history of conforming sessions, and what each link and each program carried by it.
-use Rattle.std.specs.Prelude.{◌≡◌, ℕ, ◌+◌, ◌≤◌, true, List, Option, length}
+use Rattle.std.specs.Prelude.{◌≡◌, ℕ, ◌+◌, ◌≤◌, true, List, [], ◌∷◌, Option, Some, codes, length}
+use Rattle.base_frame.specs.Frames.{framed}
 use Rattle.outside_io.specs.Sessions.{Session}
+use Rattle.outside_io.specs.declared.memory.port.MemPort.{MemPort}
+use Rattle.outside_io.specs.contracts.memory.port.MemPortPort.TheImpl as port
 use Rattle.mux_history.specs.declared.entry.Entry.{Entry}
 use Rattle.event_model.specs.Event.{events_of}
 use Rattle.event_model.specs.Settings.{Settings}
@@ -13,6 +16,15 @@ use Rattle.mux_daemon.specs.declared.serve.Answer.{Answer}
 use Rattle.mux_daemon.specs.Causes.{EventsOf}
 use Rattle.mux_daemon.specs.Events.{CameOf}
 use Rattle.mux_daemon.specs.Served.{Story, history, is_end}
+
+-- the request of the daemon's own link
+abbrev pub stop_request : List ℕ
+stop_request = codes "{\"jsonrpc\":\"2.0\",\"id\":1,\"method\":\"lspmux/stop\"}"
+
+-- a port that has one link, whose source gives this request in its frame and then its end
+abbrev pub AsksStop : MemPort → Type 0
+AsksStop own = (port.ghosts.sessions own ≡ Some [])
+    × (port.ghosts.links own ≡ Some (record { read = Some []; left = Some (framed stop_request); written = Some []; source_faults = 0; sink_faults = 0 } ∷ []))
 
 -- a history that a hub with these settings had: it is legal, each part of it is a conforming session, its causes and outs are at most 2^63 - 1, and the journal tells it where it tells
 pub record HubHistory {J : Type 0} (told : J → Option (List Entry)) (settings : Settings) (journal : J) (entries : List Entry) : Type 0 where

@@ -1,8 +1,8 @@
 // The daemon's threads over a hub.
-ghost use Rattle.std.specs.Prelude.{◌≡◌, ◌≤◌, false, [], OnOk, IfOk};
+ghost use Rattle.std.specs.Prelude.{◌≡◌, ◌≤◌, false, [], IfOk};
 ghost use Rattle.outside_io.specs.Faults.{Rose};
 ghost use Rattle.mux_hub.specs.Hubs.{HubView, HubStands};
-ghost use Rattle.mux_service.specs.Services.{LanesServed};
+ghost use Rattle.mux_service.specs.Services.{AsksStop, LanesServed};
 
 use crate::named::{Named, NamedHub};
 use base_frame::frame;
@@ -20,7 +20,9 @@ use std::thread::Threads;
 const STOP: &[u8] = b"{\"jsonrpc\":\"2.0\",\"id\":1,\"method\":\"lspmux/stop\"}";
 
 /// The port of the daemon's own link, which asks for a stop, once. It is served where each port was closed.
-pub fn own_port(alloc: Global) -> Result<MemPort, Memory> {
+pub fn own_port(alloc: Global) -> Result<MemPort, Memory>
+    ensures { IfOk result AsksStop }
+{
     let request = frame(alloc, STOP)?;
     let bytes = Vec::from_slice(alloc, request.bytes())?;
     let source = MemSource::new(bytes, Vec::new(alloc), None);

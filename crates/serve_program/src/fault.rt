@@ -1,18 +1,12 @@
 // Why a daemon doesn't serve, or served no longer.
 ghost use Rattle.std.specs.Prelude.{◌≡◌, ℕ};
-ghost use Rattle.serve_program.specs.Faults.{status_of};
+ghost use Rattle.serve_program.specs.Faults.{ended_line, ended_status, fault_line, result_of, status_of};
 
-use message_body::Memory;
-use mux_config::ConfigFault;
-use outside_io::{DoorFault, FolderFault};
+use mux_service::Answer;
 
 /// Why a daemon doesn't serve, or served no longer.
-#[derive(Debug, Drop)]
+#[derive(Clone, Copy, Debug, PartialEq, Eq)]
 pub enum ServeFault {
-    /// The settings' file can't be read, or has more than 1,048,576 bytes.
-    Unread,
-    /// The settings are refused.
-    Settings(ConfigFault),
     /// No link can come at the settings' place.
     Door,
     /// Memory was wanted.
@@ -24,54 +18,59 @@ pub enum ServeFault {
 }
 
 impl ServeFault {
-    /// The program's status: 3 for the settings, 4 for the door, 5 for memory, 6 for the journal, and 9 for numbers.
-    pub fn status(&self) -> u8
-        ensures { result ≡ status_of self.now }
+    /// The program's status: 4 for the door, 5 for memory, 6 for the journal, and 9 for numbers.
+    fn status(self) -> u8
+        ensures { result ≡ status_of self }
     {
         match self {
-            ServeFault::Unread | ServeFault::Settings(_) => 3,
             ServeFault::Door => 4,
             ServeFault::Memory => 5,
             ServeFault::Journal => 6,
             ServeFault::Numbers => 9,
         }
     }
-}
 
-impl From<Memory> for ServeFault {
-    ghost use Rattle.std.specs.Prelude.{◌≡◌};
-    ghost use Rattle.serve_program.specs.declared.fault.ServeFault.TheVariants as serve_fault;
-
-    ghost from_gives = { λ _ e. e ≡ serve_fault.Memory };
-
-    fn from(_: Memory) -> Self {
-        ServeFault::Memory
-    }
-}
-
-impl From<FolderFault> for ServeFault {
-    fn from(fault: FolderFault) -> Self {
-        match fault {
-            FolderFault::Failed => ServeFault::Unread,
-            FolderFault::Memory => ServeFault::Memory,
+    // The fault line; none where memory was wanted.
+    fn line(self) -> &'static str
+        ensures { result.now ≡ fault_line self }
+    {
+        match self {
+            ServeFault::Door => "!door\n",
+            ServeFault::Memory => "",
+            ServeFault::Journal => "!journal\n",
+            ServeFault::Numbers => "!numbers\n",
         }
     }
 }
 
-impl From<ConfigFault> for ServeFault {
-    fn from(fault: ConfigFault) -> Self {
-        match fault {
-            ConfigFault::Memory => ServeFault::Memory,
-            fault => ServeFault::Settings(fault),
-        }
+/// The status of what a daemon's work came to: 0, or that of its fault.
+pub fn status(ended: Result<(), ServeFault>) -> u8
+    ensures { result ≡ ended_status ended }
+{
+    match ended {
+        Ok(()) => 0,
+        Err(fault) => fault.status(),
     }
 }
 
-impl From<DoorFault> for ServeFault {
-    fn from(fault: DoorFault) -> Self {
-        match fault {
-            DoorFault::Failed => ServeFault::Door,
-            DoorFault::Memory => ServeFault::Memory,
-        }
+/// The fault line of what a daemon's work came to; empty where it has none.
+pub fn line(ended: Result<(), ServeFault>) -> &'static str
+    ensures { result.now ≡ ended_line ended }
+{
+    match ended {
+        Ok(()) => "",
+        Err(fault) => fault.line(),
+    }
+}
+
+/// What a daemon's answer comes to: a fault, but behind a stop and behind closed ports.
+pub fn fault_of(answer: Answer) -> Result<(), ServeFault>
+    ensures { result ≡ result_of answer }
+{
+    match answer {
+        Answer::Stopped | Answer::PortsClosed => Ok(()),
+        Answer::Memory => Err(ServeFault::Memory),
+        Answer::Journal => Err(ServeFault::Journal),
+        Answer::Numbers => Err(ServeFault::Numbers),
     }
 }

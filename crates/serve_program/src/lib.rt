@@ -2,10 +2,11 @@
 #![tactic(auto)]
 
 mod command;
+mod daemon;
 mod fault;
 mod program;
-mod settings;
 
 pub use command::{Command, command_of};
+pub use daemon::{Ended, serve_by};
 pub use fault::ServeFault;
-pub use program::{Outside, serve_command};
+pub use program::{Outside, Ran, serve_command};

@@ -1,20 +1,17 @@
-// The daemon of some settings.
-ghost use Rattle.std.specs.Prelude.{◌≡◌, ℕ, ◌≤◌, [], ◌∷◌, Ok, OnOk, OnErr, IsErrOf, IsOk, IfOk, false};
-ghost use Rattle.outside_io.specs.Doors.{Gave, address_of, opened, told_of};
+// The command `serve`, from its words to its status.
+ghost use Rattle.std.specs.Prelude.{◌≡◌, ℕ, ◌≤◌, [], option_map};
 ghost use Rattle.outside_io.specs.Faults.{Rose};
-ghost use Rattle.outside_io.specs.Told.{append_to};
-ghost use Rattle.mux_hub.specs.Hubs.{HubStands, HubView, Tells};
-ghost use Rattle.serve_program.specs.Faults.{result_of};
+ghost use Rattle.mux_hub.specs.Hubs.{Tells};
+ghost use Rattle.program_settings.specs.Lines.{line_of};
+ghost use Rattle.serve_program.specs.Commands.{CommandRan, Said, settings_status};
 
 use crate::command::Command;
-use crate::fault::ServeFault;
-use crate::settings::settings;
-use message_body::Memory;
-use mux_config::{Config, ConfigFault};
-use mux_hub::Hub;
-use mux_service::{Answer, LaneJob, Lanes, own_port, serve};
+use crate::daemon::{Ended, serve_by};
+use crate::fault::{line, status};
+use mux_service::Lanes;
 use mux_steps::Journal;
-use outside_io::{Berth, Clock, Door, Folder, Port, Sink, write_whole};
+use outside_io::{Berth, Clock, Door, Folder, Sink};
+use program_settings::{SettingsFault, settings, write_line};
 use std::alloc::Global;
 use std::sync::Wait;
 use std::thread::Threads;
@@ -31,152 +28,45 @@ pub struct Outside<D, B, C, J, F, O> {
     pub output: O,
 }
 
-// Opens the place of these settings for their number of links.
-fn open<D: Door>(door: &mut D, config: &Config, ports: &mut Vec<D::Port>) -> Result<(), ServeFault>
-    ensures ports { OnOk result
-        (Gave (told_of D.Port.Port.sessions D.Port.Port.links) D.Port.Port.faults config.now.links ports.old.items ports.new.items
-        (D.left door.old) (D.left door.new)) }
-    ensures called { IsOk result → D.calls door.new ≡ append_to (D.calls door.old) (opened (address_of config.now.place) config.now.links ∷ []) }
-    ensures kept { OnErr result (ports.new.items ≡ ports.old.items) }
-    ensures failed { IsErrOf result ServeFault.Door → Rose (D.faults door.old) (D.faults door.new) }
-{
-    door.open(&config.place, config.links, ports)?;
-    Ok(())
-}
-
-// Why a daemon ended, but by a stop or behind closed ports.
-fn fault_of(answer: Answer) -> Result<(), ServeFault>
-    ensures { result ≡ result_of answer }
-{
-    match answer {
-        Answer::Stopped | Answer::PortsClosed => Ok(()),
-        Answer::Memory => Err(ServeFault::Memory),
-        Answer::Journal => Err(ServeFault::Journal),
-        Answer::Numbers => Err(ServeFault::Numbers),
-    }
-}
-
-// A lane for each of these, in their order.
-fn jobs_of<P: Drop>(alloc: Global, served: Vec<P>) -> Result<Vec<LaneJob<P>>, Memory> {
-    let mut jobs = Vec::new(alloc);
-    for one in served {
-        jobs.push(LaneJob::new(one))?;
-    }
-    Ok(jobs)
-}
-
-// The lanes of a daemon.
-fn lanes_of<P: Port + Drop, B: Berth + Drop, C: Clock + Drop>(
-    alloc: Global,
-    ports: Vec<P>,
-    berths: Vec<B>,
-    clock: C,
-) -> Result<Lanes<P, B, C>, Memory> {
-    Ok(Lanes {
-        ports: jobs_of(alloc, ports)?,
-        own: LaneJob::new(own_port(alloc)?),
-        berths: jobs_of(alloc, berths)?,
-        clock: LaneJob::new(clock),
-    })
-}
-
-// A hub with these settings' limits and servers.
-fn hub_of<J: Journal + Drop>(
-    alloc: Global,
-    config: Config,
-    journal: J,
-) -> Result<Settled<J>, Memory>
-    requires { Tells (J.told journal) [] }
-    ensures stands { IfOk result (λ settled. HubStands J.told settled.hub []) }
-    ensures ready { IfOk result (λ settled. settled.hub.spent ≡ false) }
-{
-    let Config {
-        content,
-        limits,
-        default,
-        servers,
-        commands,
-        ..
-    } = config;
-    match Hub::new(alloc, limits, servers, default, journal) {
-        Ok(hub) => Ok(Settled {
-            hub,
-            content,
-            commands,
-        }),
-        Err(_) => Err(Memory),
-    }
-}
-
-// A hub, and what its daemon gets of the settings beside it.
+/// What the command leaves.
 #[derive(Drop)]
-struct Settled<J: Journal> {
-    hub: Hub<J>,
-    content: u32,
-    commands: Vec<Vec<String>>,
+pub struct Ran<D: Door, B, C, J, F, O> {
+    pub status: u8,
+    pub door: D,
+    /// The lanes that served; none where the daemon didn't begin to.
+    pub lanes: Option<Lanes<D::Port, B, C>>,
+    pub journal: J,
+    pub folder: F,
+    pub output: O,
 }
 
-// Reads the settings, opens the door, and serves.
-fn run<
-    R: Threads + Wait + Sync,
-    D: Door + Drop,
-    B: Berth + Send + Drop,
-    C: Clock + Send + Drop,
-    J: Journal + Send + Drop,
-    F: Folder,
->(
-    rt: &R,
-    alloc: Global,
-    command: Command<'_>,
-    folder: &mut F,
-    door: &mut D,
-    berths: Vec<B>,
-    clock: C,
-    journal: J,
-) -> Result<(), ServeFault>
-    requires { Tells (J.told journal) [] }
+// The status of settings.
+fn settings_status(fault: &SettingsFault) -> u8
+    ensures { result ≡ settings_status fault.now }
 {
-    let config = settings(alloc, folder, command.config)?;
-    let mut ports = Vec::new(alloc);
-    open(door, &config, &mut ports)?;
-    let lanes = lanes_of(alloc, ports, berths, clock)?;
-    let settled = hub_of(alloc, config, journal)?;
-    let Settled {
-        hub,
-        content,
-        commands,
-    } = settled;
-    let left = serve(rt, alloc, hub, content, commands.as_slice(), lanes);
-    fault_of(left.answer)
+    match fault {
+        SettingsFault::Memory => 5,
+        _ => 3,
+    }
 }
 
-// The fault line of a fault; none of one that has none.
-fn line_of(alloc: Global, fault: &ServeFault) -> Option<String> {
-    match fault {
-        ServeFault::Unread => format!(in alloc; "!settings unread\n").ok(),
-        ServeFault::Settings(ConfigFault::NotToml) => {
-            format!(in alloc; "!settings not toml\n").ok()
-        }
-        ServeFault::Settings(ConfigFault::Unknown(key)) => {
-            format!(in alloc; "!settings unknown {key}\n").ok()
-        }
-        ServeFault::Settings(ConfigFault::Missing(key)) => {
-            format!(in alloc; "!settings missing {key}\n").ok()
-        }
-        ServeFault::Settings(ConfigFault::Range(key)) => {
-            format!(in alloc; "!settings range {key}\n").ok()
-        }
-        ServeFault::Door => format!(in alloc; "!door\n").ok(),
-        ServeFault::Journal => format!(in alloc; "!journal\n").ok(),
-        ServeFault::Numbers => format!(in alloc; "!numbers\n").ok(),
-        ServeFault::Settings(ConfigFault::Memory) | ServeFault::Memory => None,
-    }
+// Writes the fault line of refused settings and gives the status, which is 5 where memory is wanted for the line.
+fn refuse<O: Sink>(alloc: Global, output: &mut O, fault: &SettingsFault) -> u8
+    ensures said { Said result (settings_status fault.now) (O.written output.old) (O.written output.new) (line_of fault.now) (Rose (O.faults output.old) (O.faults output.new)) }
+    ensures later { O.faults output.old ≤ O.faults output.new }
+{
+    let Ok(text) = fault.line(alloc) else {
+        return 5;
+    };
+    write_line(output, text.as_bytes());
+    settings_status(fault)
 }
 
 /// Runs the daemon of a command: reads the settings, opens their place for their number of links, and serves at all ports that
-/// the door gave, until a stop is done, each port is closed, or a fault. It answers the program's status.
+/// the door gave, until a stop is done, each port is closed, or a fault.
 ///
-/// The status is 0 behind a stop or closed ports, and else that of the fault, whose line was written to the output.
+/// The status is 0 behind a stop or closed ports, and else that of the fault, whose line was written to the output: 3 for refused
+/// settings, 4 for the door, 5 where memory was wanted, 6 for the journal, 9 for numbers.
 pub fn serve_command<
     R: Threads + Wait + Sync,
     D: Door + Drop,
@@ -185,8 +75,17 @@ pub fn serve_command<
     J: Journal + Send + Drop,
     F: Folder + Drop,
     O: Sink + Drop,
->(rt: &R, alloc: Global, command: Command<'_>, outside: Outside<D, B, C, J, F, O>) -> u8
+>(
+    rt: &R,
+    alloc: Global,
+    command: Command<'_>,
+    outside: Outside<D, B, C, J, F, O>,
+) -> Ran<D, B, C, J, F, O>
     requires { Tells (J.told outside.journal) [] }
+    ensures ran { CommandRan D.calls D.left D.faults J.told J.faults D.Port.Port.sessions D.Port.Port.links D.Port.Port.faults B.runs B.left B.faults
+        C.given C.left (F.files outside.folder) (option_map (λ path. path.now) command.config) (Rose (F.faults outside.folder) (F.faults result.folder))
+        outside.door result.door outside.journal result.journal outside.berths.items outside.clock result.lanes
+        (O.written outside.output) (O.written result.output) (Rose (O.faults outside.output) (O.faults result.output)) result.status }
 {
     let Outside {
         mut door,
@@ -196,21 +95,31 @@ pub fn serve_command<
         mut folder,
         mut output,
     } = outside;
-    let ran = run(
-        rt,
-        alloc,
-        command,
-        &mut folder,
-        &mut door,
-        berths,
-        clock,
-        journal,
-    );
-    let Err(fault) = ran else {
-        return 0;
+    let config = match settings(alloc, &mut folder, command.config) {
+        Ok(config) => config,
+        Err(fault) => {
+            return Ran {
+                status: refuse(alloc, &mut output, &fault),
+                door,
+                lanes: None,
+                journal,
+                folder,
+                output,
+            };
+        }
     };
-    if let Some(line) = line_of(alloc, &fault) {
-        let _ = write_whole(&mut output, line.as_bytes());
+    let Ended {
+        result,
+        journal,
+        lanes,
+    } = serve_by(rt, alloc, config, &mut door, berths, clock, journal);
+    write_line(&mut output, line(result).as_bytes());
+    Ran {
+        status: status(result),
+        door,
+        lanes,
+        journal,
+        folder,
+        output,
     }
-    fault.status()
 }

@@ -1,0 +1,24 @@
+-- Fault lines.
+use Rattle.std.specs.Prelude.{◌≡◌, ◌⊎◌, ℕ, List, [], ◌∷◌, ◌++◌, Option, codes, string_bytes, take}
+use Rattle.std.specs.Io.KnownBytes.{append_known}
+use Rattle.program_settings.specs.declared.fault.SettingsFault.{SettingsFault}
+use Rattle.program_settings.specs.declared.fault.SettingsFault.TheVariants as fault
+
+-- the line of settings that are refused
+abbrev pub line_of : SettingsFault → List ℕ
+line_of fault.Unread = codes "!settings unread" ++ 10 ∷ []
+line_of fault.NotToml = codes "!settings not toml" ++ 10 ∷ []
+line_of (fault.Unknown path) = (codes "!settings unknown " ++ string_bytes path) ++ 10 ∷ []
+line_of (fault.Missing path) = (codes "!settings missing " ++ string_bytes path) ++ 10 ∷ []
+line_of (fault.Range path) = (codes "!settings range " ++ string_bytes path) ++ 10 ∷ []
+line_of fault.Memory = []
+
+-- a front of the text was written
+pub record WroteFront (before now : Option (List ℕ)) (text : List ℕ) : Type 0 where
+  pub count : ℕ
+  pub wrote : now ≡ append_known before (take count text)
+
+-- a front of the text was written, and all of it unless the sink failed
+pub record Wrote (before now : Option (List ℕ)) (text : List ℕ) (failed : Type 0) : Type 0 where
+  pub front : WroteFront before now text
+  pub whole : (now ≡ append_known before text) ⊎ failed
