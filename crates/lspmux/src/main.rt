@@ -4,7 +4,7 @@
 mod words;
 
 use crate::words::words;
-use lspmux_program::lspmux;
+use drive_program::lspmux;
 use mux_steps::DropJournal;
 use real_host::{
     Input, LinkOver, Reading, RealBerth, RealClock, RealDoor, RealFolder, Standard, Writing,
@@ -47,7 +47,7 @@ fn serve<R: Threads + Wait + Sync>(
 // Drives one hub over lines of the standard input, and gives the status.
 fn drive(rt: HostRuntime, words: &[String]) -> io::Result<u8> {
     let over = LinkOver::new(rt.alloc())?;
-    let mut outside = lspmux_program::Outside {
+    let mut outside = drive_program::Outside {
         journal: Some(DropJournal::new()),
         input: Reading::new(Input::new(rt.stdin(), over)),
         output: Writing::new(rt, Standard::Output(rt.stdout())),

@@ -3,7 +3,7 @@ ghost use Rattle.std.specs.Prelude.{◌≤◌};
 ghost use Rattle.mux_history.specs.Cores.{body_length};
 
 use crate::play::limits;
-use lspmux_program::Hub;
+use drive_program::Hub;
 use message_body::Body;
 use mux_history::Cause;
 use mux_steps::{MemJournal, StepFault, Steps};

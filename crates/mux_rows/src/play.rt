@@ -1,7 +1,7 @@
 // A session is played: its lines are driven through a hub, and what was written is compared.
 ghost use Rattle.std.specs.Prelude.{◌≡◌, ◌≤◌, IfOk};
 
-use lspmux_program::{Hub, Limits, Server, Stop, drive};
+use drive_program::{Hub, Limits, Server, Stop, drive};
 use message_body::Body;
 use mux_steps::MemJournal;
 use outside_io::{MemSink, MemSource};

@@ -2,7 +2,7 @@
 use crate::exits::BEGUN;
 use crate::play::{limits, play};
 use crate::tests::{MOST, OPENING, TWO_EDITORS};
-use lspmux_program::{Refusal, Stop};
+use drive_program::{Refusal, Stop};
 use std::test::Fail;
 
 // The same exit, where a new start may come, which nothing reaches that answers the gone one. An editor that joins meanwhile waits.

@@ -4,7 +4,7 @@ use crate::play::{limits, play};
 use crate::slow::{BOTH_SLOW, FILLED, TAKEN, TOO_MANY_TAKEN};
 use crate::statuses::STATUSES;
 use crate::stops::{STOPPED, UNSTOPPED};
-use lspmux_program::{Hub, Refusal, StepFault, Stop};
+use drive_program::{Hub, Refusal, StepFault, Stop};
 use mux_history::Cause;
 use mux_steps::{Journal, MemJournal};
 use std::test::Fail;

@@ -1,8 +1,8 @@
 // A long session brings the same lines whether its entries are kept or not.
 ghost use Rattle.std.specs.Prelude.{[], Some};
-ghost use Rattle.lspmux_program.specs.Program.{JournalTells};
+ghost use Rattle.drive_program.specs.Program.{JournalTells};
 
-use lspmux_program::{Outside, lspmux};
+use drive_program::{Outside, lspmux};
 use mux_steps::{DropJournal, Journal, MemJournal};
 use outside_io::{MemSink, MemSource};
 use std::alloc::{AllocError, Global};

@@ -1,7 +1,7 @@
 ghost use Rattle.std.specs.Prelude.{[], IfOk};
-ghost use Rattle.lspmux_program.specs.Program.{JournalTells};
+ghost use Rattle.drive_program.specs.Program.{JournalTells};
 
-use lspmux_program::{Outside, drive, lspmux};
+use drive_program::{Outside, drive, lspmux};
 use mux_steps::{Journal, MemJournal};
 use outside_io::{MemSink, MemSource};
 use std::alloc::{AllocError, Global};

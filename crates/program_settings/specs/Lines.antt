@@ -22,3 +22,8 @@ pub record WroteFront (before now : Option (List ℕ)) (text : List ℕ) : Type 
 pub record Wrote (before now : Option (List ℕ)) (text : List ℕ) (failed : Type 0) : Type 0 where
   pub front : WroteFront before now text
   pub whole : (now ≡ append_known before text) ⊎ failed
+
+-- the fault line of this status was written, or memory was wanted for it and nothing was
+pub data Reported (status told : ℕ) (before now : Option (List ℕ)) (line : List ℕ) (failed : Type 0) : Type 0 where
+  said : status ≡ told → Wrote before now line failed → Reported status told before now line failed
+  unsaid : status ≡ 5 → now ≡ before → Reported status told before now line failed

@@ -2,9 +2,9 @@
 #![tactic(auto)]
 
 mod fault;
+mod file;
 mod line;
-mod settings;
 
 pub use fault::SettingsFault;
+pub use file::settings;
 pub use line::write_line;
-pub use settings::settings;

@@ -8,7 +8,7 @@ use Rattle.mux_config.specs.declared.config.Config.{Config}
 use Rattle.mux_daemon.specs.declared.open.Lanes.{Lanes}
 use Rattle.program_settings.specs.declared.fault.SettingsFault.{SettingsFault}
 use Rattle.program_settings.specs.declared.fault.SettingsFault.TheVariants as settings
-use Rattle.program_settings.specs.Lines.{Wrote, line_of}
+use Rattle.program_settings.specs.Lines.{Reported, line_of}
 use Rattle.program_settings.specs.Readings.{IsReading}
 use Rattle.serve_program.specs.declared.fault.ServeFault.{ServeFault}
 use Rattle.serve_program.specs.Daemons.{CameOfSettings}
@@ -23,18 +23,13 @@ settings_status (settings.Missing path) = 3
 settings_status (settings.Range path) = 3
 settings_status settings.Memory = 5
 
--- a status, and what was written of it: its fault line, or what an output that failed took of it, or nothing where memory was wanted for the line
-pub data Said (status told : ℕ) (before now : Option (List ℕ)) (line : List ℕ) (failed : Type 0) : Type 0 where
-  said : status ≡ told → Wrote before now line failed → Said status told before now line failed
-  unsaid : status ≡ 5 → now ≡ before → Said status told before now line failed
-
 module _ {D J P B C : Type 0} (calls : D → Option (List Call)) (ports_left : D → Option (List PortTold)) (refusals : D → ℕ) (told : J → Option (List Entry)) (faults_of : J → ℕ) (links_back links : P → Option (List Session)) (faults : P → ℕ) (runs left : B → Option (List Session)) (misses : B → ℕ) (given moments : C → Option (List ℕ)) where
   -- what a command did, with the file that it names: its settings were refused, before anything else; or they were read, and this came of them
   pub data CommandRan (files : Option (List File)) (file : Option (List ℕ)) (unread : Type 0) (door door' : D) (journal now : J) (berths : List B) (clock : C) (lanes : Option (Lanes P B C)) (before written : Option (List ℕ)) (unwritten : Type 0) (status : ℕ) : Type 0 where
     refused : (why : SettingsFault) → IsReading files file unread (Err why) → door' ≡ door → now ≡ journal → lanes ≡ None
-        → Said status (settings_status why) before written (line_of why) unwritten
+        → Reported status (settings_status why) before written (line_of why) unwritten
         → CommandRan files file unread door door' journal now berths clock lanes before written unwritten status
     ran : (config : Config) → IsReading files file unread (Ok config) → (ended : Result (Unit {0}) ServeFault)
         → CameOfSettings calls ports_left refusals told faults_of links_back links faults runs left misses given moments config door door' journal now berths clock lanes ended
-        → Said status (ended_status ended) before written (ended_line ended) unwritten
+        → Reported status (ended_status ended) before written (ended_line ended) unwritten
         → CommandRan files file unread door door' journal now berths clock lanes before written unwritten status

@@ -6,19 +6,15 @@ use Rattle.outside_io.specs.Faults.{Rose}
 use Rattle.outside_io.specs.Sessions.{Session}
 use Rattle.outside_io.specs.Told.{append_to}
 use Rattle.mux_history.specs.declared.entry.Entry.{Entry}
-use Rattle.event_model.specs.Settings.{Settings}
 use Rattle.mux_config.specs.declared.config.Config.{Config}
 use Rattle.mux_serve.specs.declared.job.LaneJob.{LaneJob}
 use Rattle.mux_daemon.specs.declared.open.Lanes.{Lanes}
 use Rattle.mux_daemon.specs.declared.serve.Answer.{Answer}
 use Rattle.mux_service.specs.Services.{AsksStop, LanesServed}
+use Rattle.settled_hub.specs.Settings.{hub_settings}
 use Rattle.serve_program.specs.declared.fault.ServeFault.{ServeFault}
 use Rattle.serve_program.specs.declared.fault.ServeFault.TheVariants as fault
 use Rattle.serve_program.specs.Faults.{result_of}
-
--- the settings of a hub
-abbrev pub hub_settings : Config → Settings
-hub_settings config = record { limits = config.limits; servers = config.servers.items; default = config.default }
 
 -- what lanes serve, in their order
 abbrev pub outsides : {P : Type 0} → List (LaneJob P) → List P

@@ -1,18 +1,15 @@
 // The daemon of some settings.
-ghost use Rattle.std.specs.Prelude.{◌≡◌, ℕ, ◌≤◌, [], ◌∷◌, IfOk, IfErr, OnOk, OnErr, IsErrOf, IsOk, false};
-ghost use Rattle.outside_io.specs.Doors.{Gave, address_of, opened, told_of};
-ghost use Rattle.outside_io.specs.Faults.{Rose};
-ghost use Rattle.outside_io.specs.Told.{append_to};
-ghost use Rattle.mux_hub.specs.Hubs.{HubStands, HubView, Tells};
-ghost use Rattle.serve_program.specs.Daemons.{CameOfPorts, CameOfSettings, LanesOf, hub_settings, outsides};
+ghost use Rattle.std.specs.Prelude.{◌≡◌, ◌≤◌, [], IfOk};
+ghost use Rattle.mux_hub.specs.Hubs.{Tells};
+ghost use Rattle.serve_program.specs.Daemons.{CameOfPorts, CameOfSettings, LanesOf, outsides};
 
 use crate::fault::{ServeFault, fault_of};
 use message_body::Memory;
 use mux_config::Config;
-use mux_hub::Hub;
 use mux_service::{LaneJob, Lanes, own_port, serve};
 use mux_steps::Journal;
 use outside_io::{Berth, Clock, Door, DoorFault, Port};
+use settled_hub::{Settled, hub_of};
 use std::alloc::Global;
 use std::sync::Wait;
 use std::thread::Threads;
@@ -54,40 +51,6 @@ fn lanes_of<P: Port + Drop, B: Berth + Drop, C: Clock + Drop>(
     })
 }
 
-// A hub, and what its daemon gets of the settings beside it.
-#[derive(Drop)]
-struct Settled<J: Journal> {
-    hub: Hub<J>,
-    content: u32,
-    commands: Vec<Vec<String>>,
-}
-
-// A hub with these settings' limits and servers. Where memory is wanted the journal comes back.
-fn settle<J: Journal + Drop>(alloc: Global, config: Config, journal: J) -> Result<Settled<J>, J>
-    requires { Tells (J.told journal) [] }
-    ensures stands { IfOk result (λ settled. HubStands J.told settled.hub []) }
-    ensures ready { IfOk result (λ settled. settled.hub.spent ≡ false) }
-    ensures settings { IfOk result (λ settled. settled.hub.settings ≡ hub_settings config) }
-    ensures content { IfOk result (λ settled. settled.content ≡ config.content) }
-    ensures faults { IfOk result (λ settled. J.faults settled.hub.journal ≡ J.faults journal) }
-    ensures back { IfErr result (λ back. back ≡ journal) }
-{
-    let Config {
-        content,
-        limits,
-        default,
-        servers,
-        commands,
-        ..
-    } = config;
-    let hub = Hub::new(alloc, limits, servers, default, journal)?;
-    Ok(Settled {
-        hub,
-        content,
-        commands,
-    })
-}
-
 // Serves at these ports.
 fn serve_ports<
     R: Threads + Wait + Sync,
@@ -116,7 +79,7 @@ fn serve_ports<
             lanes: None,
         };
     };
-    let settled = match settle(alloc, config, journal) {
+    let settled = match hub_of(alloc, config, journal) {
         Ok(settled) => settled,
         Err(journal) => {
             return Ended {

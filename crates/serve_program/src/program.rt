@@ -2,8 +2,8 @@
 ghost use Rattle.std.specs.Prelude.{◌≡◌, ℕ, ◌≤◌, [], option_map};
 ghost use Rattle.outside_io.specs.Faults.{Rose};
 ghost use Rattle.mux_hub.specs.Hubs.{Tells};
-ghost use Rattle.program_settings.specs.Lines.{line_of};
-ghost use Rattle.serve_program.specs.Commands.{CommandRan, Said, settings_status};
+ghost use Rattle.program_settings.specs.Lines.{Reported, line_of};
+ghost use Rattle.serve_program.specs.Commands.{CommandRan, settings_status};
 
 use crate::command::Command;
 use crate::daemon::{Ended, serve_by};
@@ -52,7 +52,7 @@ fn settings_status(fault: &SettingsFault) -> u8
 
 // Writes the fault line of refused settings and gives the status, which is 5 where memory is wanted for the line.
 fn refuse<O: Sink>(alloc: Global, output: &mut O, fault: &SettingsFault) -> u8
-    ensures said { Said result (settings_status fault.now) (O.written output.old) (O.written output.new) (line_of fault.now) (Rose (O.faults output.old) (O.faults output.new)) }
+    ensures said { Reported result (settings_status fault.now) (O.written output.old) (O.written output.new) (line_of fault.now) (Rose (O.faults output.old) (O.faults output.new)) }
     ensures later { O.faults output.old ≤ O.faults output.new }
 {
     let Ok(text) = fault.line(alloc) else {
