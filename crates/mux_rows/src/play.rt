@@ -72,7 +72,7 @@ pub fn play(
         None,
     );
     let mut output = MemSink::new(alloc, Vec::new(alloc), None);
-    let answer = drive(alloc, &mut hub, &mut input, &mut output);
+    let answer = drive(alloc, &mut hub, 67_108_864, &mut input, &mut output);
     assert_eq!(rt; answer, end);
     assert_eq!(rt; output.bytes(), outs.as_bytes());
     Ok(())

@@ -1,8 +1,9 @@
 // A long session brings the same lines whether its entries are kept or not.
-ghost use Rattle.std.specs.Prelude.{[], Some};
-ghost use Rattle.drive_program.specs.Program.{JournalTells};
+ghost use Rattle.std.specs.Prelude.{[]};
+ghost use Rattle.mux_hub.specs.Hubs.{Tells};
 
-use drive_program::{Outside, lspmux};
+use drive_program::drive_command;
+use mux_config::Config;
 use mux_steps::{DropJournal, Journal, MemJournal};
 use outside_io::{MemSink, MemSource};
 use std::alloc::{AllocError, Global};
@@ -134,20 +135,18 @@ fn brings<J: Journal + Drop>(
     lines: &str,
     outs: &str,
 ) -> Result<(), Fail>
-    requires { JournalTells J.told (Some journal) [] }
+    requires { Tells (J.told journal) [] }
 {
-    let words = vec![in alloc; String::from_str(alloc, "drive")?]?;
-    let mut outside = Outside {
-        journal: Some(journal),
-        input: MemSource::new(
-            Vec::from_slice(alloc, lines.as_bytes())?,
-            Vec::new(alloc),
-            None,
-        ),
-        output: MemSink::new(alloc, Vec::new(alloc), None),
-    };
-    assert_eq!(rt; lspmux(alloc, &words, &mut outside), 0);
-    assert_eq!(rt; outside.output.bytes(), outs.as_bytes());
+    let config = Config::built_in(alloc)?;
+    let mut input = MemSource::new(
+        Vec::from_slice(alloc, lines.as_bytes())?,
+        Vec::new(alloc),
+        None,
+    );
+    let mut output = MemSink::new(alloc, Vec::new(alloc), None);
+    let (_journal, status) = drive_command(alloc, config, journal, &mut input, &mut output);
+    assert_eq!(rt; status, 0);
+    assert_eq!(rt; output.bytes(), outs.as_bytes());
     Ok(())
 }
 

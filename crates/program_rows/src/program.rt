@@ -1,7 +1,8 @@
 ghost use Rattle.std.specs.Prelude.{[], IfOk};
-ghost use Rattle.drive_program.specs.Program.{JournalTells};
+ghost use Rattle.mux_hub.specs.Hubs.{Tells};
 
-use drive_program::{Outside, drive, lspmux};
+use drive_program::drive_command;
+use mux_config::Config;
 use mux_steps::{Journal, MemJournal};
 use outside_io::{MemSink, MemSource};
 use std::alloc::{AllocError, Global};
@@ -221,30 +222,50 @@ const BY_CHARACTERS: [(&str, &str); 7] = [
     ),
 ];
 
-type InMemory = Outside<MemJournal, MemSource, MemSink>;
+// What a run stands on.
+#[derive(Drop)]
+struct InMemory {
+    journal: MemJournal,
+    input: MemSource,
+    output: MemSink,
+}
 
 // The input in memory, where the appends, reads and writes with these numbers fail.
 fn outside_of(alloc: Global, input: &str, fails: [Vec<u64>; 3]) -> Result<InMemory, AllocError>
-    ensures { IfOk result (λ outside. JournalTells ⟦<MemJournal as Journal>⟧.told outside.journal []) }
+    ensures { IfOk result (λ outside. Tells (⟦<MemJournal as Journal>⟧.told outside.journal) []) }
 {
     let [appends, reads, writes] = fails;
-    Ok(Outside {
-        journal: Some(MemJournal::new(alloc, appends)),
+    Ok(InMemory {
+        journal: MemJournal::new(alloc, appends),
         input: MemSource::new(Vec::from_slice(alloc, input.as_bytes())?, reads, None),
         output: MemSink::new(alloc, writes, None),
     })
 }
 
-fn drive_word(alloc: Global) -> Result<Vec<String>, AllocError> {
-    Ok(vec![in alloc; String::from_str(alloc, "drive")?]?)
+// Drives the input by the built-in settings. The status, and what is left.
+fn driven(alloc: Global, outside: InMemory) -> Result<(u8, InMemory), Fail>
+    requires { Tells (⟦<MemJournal as Journal>⟧.told outside.journal) [] }
+{
+    let config = Config::built_in(alloc)?;
+    let InMemory {
+        journal,
+        mut input,
+        mut output,
+    } = outside;
+    let (journal, status) = drive_command(alloc, config, journal, &mut input, &mut output);
+    Ok((
+        status,
+        InMemory {
+            journal,
+            input,
+            output,
+        },
+    ))
 }
 
 // How many entries the journal has.
 fn entries(outside: &InMemory) -> usize {
-    outside
-        .journal
-        .as_ref()
-        .map_or(0, |journal| journal.entries().len())
+    outside.journal.entries().len()
 }
 
 // The lines of a session, and the first `count` of what they bring.
@@ -269,33 +290,9 @@ fn sound(alloc: Global) -> [Vec<u64>; 3] {
     [Vec::new(alloc), Vec::new(alloc), Vec::new(alloc)]
 }
 
-// The status of a run over the line `hello`, and what it leaves.
-fn over_hello(alloc: Global, words: &[String]) -> Result<(u8, InMemory), AllocError> {
-    let mut outside = outside_of(alloc, "hello\n", sound(alloc))?;
-    let status = lspmux(alloc, words, &mut outside);
-    Ok((status, outside))
-}
-
-#[test]
-fn takes_no_words_but_drive(rt: HostRuntime) -> Result<(), Fail> {
-    let alloc = rt.alloc();
-    let mut words = drive_word(alloc)?;
-    words.push(String::from_str(alloc, "x")?)?;
-    let (status, outside) = over_hello(alloc, &[])?;
-    assert_eq!(rt; status, 2);
-    assert_eq!(rt; outside.output.bytes(), b"!words\n".as_slice());
-    assert_eq!(rt; outside.input.taken(), b"".as_slice());
-    assert_eq!(rt; entries(&outside), 0);
-    let (status, outside) = over_hello(alloc, &words)?;
-    assert_eq!(rt; status, 2);
-    assert_eq!(rt; outside.output.bytes(), b"!words\n".as_slice());
-    Ok(())
-}
-
 #[test]
 fn refuses_the_first_line_that_it_cannot_take(rt: HostRuntime) -> Result<(), Fail> {
     let alloc = rt.alloc();
-    let words = drive_word(alloc)?;
     for (input, status, output, count) in [
         ("", 0, "", 0),
         ("join 1\n", 1, "!line 1 absent\n", 0),
@@ -310,8 +307,9 @@ fn refuses_the_first_line_that_it_cannot_take(rt: HostRuntime) -> Result<(), Fai
         ("join 0\njoin 0", 1, "!line 2 absent\n", 1),
         ("join 0\ned 0", 1, "!line 2 form\n", 1),
     ] {
-        let mut outside = outside_of(alloc, input, sound(alloc))?;
-        assert_eq!(rt; lspmux(alloc, &words, &mut outside), status, "at {input}");
+        let begun = outside_of(alloc, input, sound(alloc))?;
+        let (answer, outside) = driven(alloc, begun)?;
+        assert_eq!(rt; answer, status, "at {input}");
         assert_eq!(rt; outside.output.bytes(), output.as_bytes(), "at {input}");
         assert_eq!(rt; entries(&outside), count, "at {input}");
     }
@@ -321,7 +319,6 @@ fn refuses_the_first_line_that_it_cannot_take(rt: HostRuntime) -> Result<(), Fai
 #[test]
 fn drives_a_session(rt: HostRuntime) -> Result<(), Fail> {
     let alloc = rt.alloc();
-    let words = drive_word(alloc)?;
     for session in [
         SESSION.as_slice(),
         &SPELLED,
@@ -335,8 +332,9 @@ fn drives_a_session(rt: HostRuntime) -> Result<(), Fail> {
             lines.as_str(),
             lines.as_str().strip_suffix("\n").unwrap_or(""),
         ] {
-            let mut outside = outside_of(alloc, input, sound(alloc))?;
-            assert_eq!(rt; lspmux(alloc, &words, &mut outside), 0);
+            let begun = outside_of(alloc, input, sound(alloc))?;
+            let (answer, outside) = driven(alloc, begun)?;
+            assert_eq!(rt; answer, 0);
             assert_eq!(rt; outside.output.bytes(), outs.as_bytes());
             assert_eq!(rt; entries(&outside), session.len());
         }
@@ -348,19 +346,19 @@ fn drives_a_session(rt: HostRuntime) -> Result<(), Fail> {
 #[test]
 fn reads_nothing_behind_the_end(rt: HostRuntime) -> Result<(), Fail> {
     let alloc = rt.alloc();
-    let words = drive_word(alloc)?;
     for (input, read, status, count) in [
         ("join 0", 2, 0, 1),
         ("join 0\n", 2, 0, 1),
         ("join 0\n", 1, 7, 1),
         ("join 0", 1, 7, 0),
     ] {
-        let mut outside = outside_of(
+        let begun = outside_of(
             alloc,
             input,
             [Vec::new(alloc), vec![in alloc; read]?, Vec::new(alloc)],
         )?;
-        assert_eq!(rt; lspmux(alloc, &words, &mut outside), status, "at {input}");
+        let (answer, outside) = driven(alloc, begun)?;
+        assert_eq!(rt; answer, status, "at {input}");
         assert_eq!(rt; entries(&outside), count, "at {input}");
     }
     Ok(())
@@ -370,18 +368,18 @@ fn reads_nothing_behind_the_end(rt: HostRuntime) -> Result<(), Fail> {
 #[test]
 fn drops_a_line_that_a_failed_read_cuts_off(rt: HostRuntime) -> Result<(), Fail> {
     let alloc = rt.alloc();
-    let words = drive_word(alloc)?;
     let mut input = String::from_str(alloc, "join 0\ned 0 ")?;
     for _ in 0..70_000 {
         input.push(' ')?;
     }
     input.push_str("\n")?;
-    let mut outside = outside_of(
+    let begun = outside_of(
         alloc,
         &input,
         [Vec::new(alloc), vec![in alloc; 1]?, Vec::new(alloc)],
     )?;
-    assert_eq!(rt; lspmux(alloc, &words, &mut outside), 7);
+    let (answer, outside) = driven(alloc, begun)?;
+    assert_eq!(rt; answer, 7);
     assert_eq!(rt; outside.output.bytes(), b"!input\n".as_slice());
     assert_eq!(rt; entries(&outside), 1);
     Ok(())
@@ -390,16 +388,16 @@ fn drops_a_line_that_a_failed_read_cuts_off(rt: HostRuntime) -> Result<(), Fail>
 #[test]
 fn keeps_the_lines_before_a_failed_read(rt: HostRuntime) -> Result<(), Fail> {
     let alloc = rt.alloc();
-    let words = drive_word(alloc)?;
     for (read, count) in [(0, 0), (1, SESSION.len())] {
         let (lines, mut want) = texts(alloc, &SESSION, count)?;
         want.push_str("!input\n")?;
-        let mut outside = outside_of(
+        let begun = outside_of(
             alloc,
             &lines,
             [Vec::new(alloc), vec![in alloc; read]?, Vec::new(alloc)],
         )?;
-        assert_eq!(rt; lspmux(alloc, &words, &mut outside), 7);
+        let (answer, outside) = driven(alloc, begun)?;
+        assert_eq!(rt; answer, 7);
         assert_eq!(rt; outside.output.bytes(), want.as_bytes());
         assert_eq!(rt; entries(&outside), count);
     }
@@ -409,11 +407,10 @@ fn keeps_the_lines_before_a_failed_read(rt: HostRuntime) -> Result<(), Fail> {
 #[test]
 fn keeps_the_lines_before_a_failed_append(rt: HostRuntime) -> Result<(), Fail> {
     let alloc = rt.alloc();
-    let words = drive_word(alloc)?;
     for count in 0..SESSION.len() {
         let (lines, mut want) = texts(alloc, &SESSION, count)?;
         want.push_str("!journal\n")?;
-        let mut outside = outside_of(
+        let begun = outside_of(
             alloc,
             &lines,
             [
@@ -422,7 +419,8 @@ fn keeps_the_lines_before_a_failed_append(rt: HostRuntime) -> Result<(), Fail> {
                 Vec::new(alloc),
             ],
         )?;
-        assert_eq!(rt; lspmux(alloc, &words, &mut outside), 6);
+        let (answer, outside) = driven(alloc, begun)?;
+        assert_eq!(rt; answer, 6);
         assert_eq!(rt; outside.output.bytes(), want.as_bytes());
         assert_eq!(rt; entries(&outside), count);
     }
@@ -432,19 +430,19 @@ fn keeps_the_lines_before_a_failed_append(rt: HostRuntime) -> Result<(), Fail> {
 #[test]
 fn stops_at_a_failed_write(rt: HostRuntime) -> Result<(), Fail> {
     let alloc = rt.alloc();
-    let words = drive_word(alloc)?;
     let mut write = 0u64;
     for (i, (_, out)) in SESSION.iter().enumerate() {
         if out.is_empty() {
             continue;
         }
         let (lines, want) = texts(alloc, &SESSION, i)?;
-        let mut outside = outside_of(
+        let begun = outside_of(
             alloc,
             &lines,
             [Vec::new(alloc), Vec::new(alloc), vec![in alloc; write]?],
         )?;
-        assert_eq!(rt; lspmux(alloc, &words, &mut outside), 8);
+        let (answer, outside) = driven(alloc, begun)?;
+        assert_eq!(rt; answer, 8);
         assert_eq!(rt; outside.output.bytes(), want.as_bytes());
         assert_eq!(rt; entries(&outside), i + 1);
         write = write.saturating_add(1);
@@ -455,13 +453,13 @@ fn stops_at_a_failed_write(rt: HostRuntime) -> Result<(), Fail> {
 #[test]
 fn keeps_its_status_where_the_fault_line_fails(rt: HostRuntime) -> Result<(), Fail> {
     let alloc = rt.alloc();
-    let words = drive_word(alloc)?;
-    let mut outside = outside_of(
+    let begun = outside_of(
         alloc,
         "hello",
         [Vec::new(alloc), Vec::new(alloc), vec![in alloc; 0]?],
     )?;
-    assert_eq!(rt; lspmux(alloc, &words, &mut outside), 1);
+    let (answer, outside) = driven(alloc, begun)?;
+    assert_eq!(rt; answer, 1);
     assert_eq!(rt; outside.output.bytes(), b"".as_slice());
     Ok(())
 }
