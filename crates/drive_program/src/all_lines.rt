@@ -8,8 +8,8 @@ use crate::buffer::Buffer;
 use crate::line::{InputLine, next_line};
 use crate::step::take_line;
 use crate::stop::{Stop, fault_at, stop_at};
-use mux_steps::Journal;
 use mux_hub::Hub;
+use mux_steps::Journal;
 use outside_io::{Sink, Source};
 use std::alloc::Global;
 

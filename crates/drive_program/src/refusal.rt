@@ -6,8 +6,8 @@ ghost use Rattle.mux_model.specs.Fits.{fits};
 ghost use Rattle.drive_program.specs.Runs.{judged};
 
 use mux_history::Cause;
-use mux_steps::Journal;
 use mux_hub::Hub;
+use mux_steps::Journal;
 
 /// Why a line is refused.
 #[derive(Clone, Copy, Debug, PartialEq, Eq)]

@@ -14,8 +14,8 @@ use crate::refusal::{Refusal, refusal_of};
 use drive_text::{cause_of_line, write_outs};
 use message_body::Memory;
 use mux_history::Cause;
-use mux_steps::Journal;
 use mux_hub::{Hub, StepFault};
+use mux_steps::Journal;
 use outside_io::{Cut, Sink, write_whole};
 use std::alloc::Global;
 

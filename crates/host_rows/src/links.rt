@@ -1,6 +1,6 @@
 // Links over Unix sockets and loopback TCP.
 use crate::pairs::{
-    Pair, dial, holds, next_link, nobody, open, pair_at, passed, reads, remove, tcp, unix,
+    Pair, dial, holds, next_link, nobody, open, pair_at, passed, quiet, reads, remove, tcp, unix,
 };
 use outside_io::{Arrival, Door, Place, Port, Sink, write_whole};
 use real_host::{RealDoor, RealPort};
@@ -11,7 +11,7 @@ use std::time::{Duration, Instant};
 
 // Words go both ways, the end of one side is the end of the other, and behind its one link a dialled port is closed.
 fn try_words(rt: HostRuntime, place: &Place) -> Result<(), Fail> {
-    let mut door = RealDoor::new(rt, None);
+    let mut door = RealDoor::new(rt, quiet(rt), None);
     let mut port = open(rt, &mut door, place)?;
     let start = Instant::now(&rt)?;
     holds(nobody(&mut port) == Arrival::Nobody, "somebody came")?;
@@ -105,7 +105,7 @@ fn greets(mut port: RealPort) -> bool {
 
 // Two ports of one place, in two threads, take two links.
 fn try_ports<R: Threads + Sync>(threads: &R, rt: HostRuntime, place: &Place) -> Result<(), Fail> {
-    let mut door = RealDoor::new(rt, None);
+    let mut door = RealDoor::new(rt, quiet(rt), None);
     let mut ports = Vec::new(rt.alloc());
     holds(
         door.open(place, 2, &mut ports).is_ok(),
@@ -124,21 +124,19 @@ fn try_ports<R: Threads + Sync>(threads: &R, rt: HostRuntime, place: &Place) -> 
     )
 }
 
-#[test]
-fn a_unix_socket(rt: HostRuntime) -> Result<(), Fail> {
+pub(crate) fn a_unix_socket<R: Threads + Sync>(threads: &R, rt: HostRuntime) -> Result<(), Fail> {
     let place = unix(rt, "words.sock")?;
     try_words(rt, &place)?;
     try_unread(rt, &place)?;
-    try_wake(&rt, rt, &place)?;
-    try_ports(&rt, rt, &place)?;
+    try_wake(threads, rt, &place)?;
+    try_ports(threads, rt, &place)?;
     remove(rt, "words.sock")
 }
 
-#[test]
-fn a_tcp_port(rt: HostRuntime) -> Result<(), Fail> {
+pub(crate) fn a_tcp_port<R: Threads + Sync>(threads: &R, rt: HostRuntime) -> Result<(), Fail> {
     let place = tcp(rt)?;
     try_words(rt, &place)?;
     try_unread(rt, &place)?;
-    try_wake(&rt, rt, &place)?;
-    try_ports(&rt, rt, &place)
+    try_wake(threads, rt, &place)?;
+    try_ports(threads, rt, &place)
 }

@@ -1,8 +1,9 @@
 // Places that are opened, and links to them.
 ghost use Rattle.std.specs.Prelude.{◌<◌, IfOk};
 
+use log::LevelFilter;
 use outside_io::{Arrival, Door, Place, Port, Source};
-use real_host::{Reading, RealDoor, RealPort, Wire, Writing};
+use real_host::{Notes, Reading, RealDoor, RealPort, Wire, Writing};
 use std::fs;
 use std::net::TcpListener;
 use std::test::Fail;
@@ -10,6 +11,11 @@ use std::time::Instant;
 
 // A link's halves.
 pub(crate) type Link = (Reading<Wire>, Writing<Wire>);
+
+// Notes of nothing.
+pub(crate) fn quiet(rt: HostRuntime) -> Notes {
+    Notes::new(rt, LevelFilter::Off)
+}
 
 // A link between two ports, seen from both sides.
 #[derive(Drop)]
@@ -96,7 +102,7 @@ pub(crate) fn nobody(port: &mut RealPort) -> Arrival {
 pub(crate) fn pair_at(rt: HostRuntime, place: &Place) -> Result<Pair, Fail>
     ensures { IfOk result (λ pair. 0 < ⟦<RealPort as Port>⟧.held pair.port) }
 {
-    let mut door = RealDoor::new(rt, None);
+    let mut door = RealDoor::new(rt, quiet(rt), None);
     let mut port = open(rt, &mut door, place)?;
     let mut dialled = dial(&mut door, place)?;
     let near = next_link(&mut dialled)?;

@@ -1,5 +1,5 @@
 // Socket files.
-use crate::pairs::{dial, holds, next_link, nobody, open, remove, unix};
+use crate::pairs::{dial, holds, next_link, nobody, open, quiet, remove, unix};
 use outside_io::{Arrival, Door, DoorFault};
 use real_host::RealDoor;
 use std::fs;
@@ -7,16 +7,15 @@ use std::os::unix::fs::MetadataExt;
 use std::os::unix::net::UnixListener;
 use std::test::Fail;
 
-#[test]
-fn a_stale_file_and_two_doors(rt: HostRuntime) -> Result<(), Fail> {
+pub(crate) fn a_stale_file_and_two_doors(rt: HostRuntime) -> Result<(), Fail> {
     let place = unix(rt, "stale.sock")?;
     drop(UnixListener::bind(&rt, "stale.sock")?);
     holds(fs::exists(&rt, "stale.sock")?, "no stale file")?;
-    let mut door = RealDoor::new(rt, None);
+    let mut door = RealDoor::new(rt, quiet(rt), None);
     let mut port = open(rt, &mut door, &place)?;
     let mode = fs::metadata(&rt, "stale.sock")?.mode();
     holds(mode % 0o1000 == 0o600, "others may be let in")?;
-    let mut other = RealDoor::new(rt, None);
+    let mut other = RealDoor::new(rt, quiet(rt), None);
     let mut ports = Vec::new(rt.alloc());
     holds(
         other.open(&place, 1, &mut ports) == Err(DoorFault::Failed),
@@ -31,7 +30,7 @@ fn a_stale_file_and_two_doors(rt: HostRuntime) -> Result<(), Fail> {
     )?;
     drop((port, door));
     holds(!fs::exists(&rt, "stale.sock")?, "the file is there still")?;
-    let mut again = RealDoor::new(rt, None);
+    let mut again = RealDoor::new(rt, quiet(rt), None);
     let mut port = open(rt, &mut again, &place)?;
     holds(nobody(&mut port) == Arrival::Nobody, "somebody came")?;
     drop((port, again));
@@ -39,10 +38,9 @@ fn a_stale_file_and_two_doors(rt: HostRuntime) -> Result<(), Fail> {
 }
 
 // A file that isn't the door's own stays.
-#[test]
-fn files_of_others(rt: HostRuntime) -> Result<(), Fail> {
+pub(crate) fn files_of_others(rt: HostRuntime) -> Result<(), Fail> {
     let place = unix(rt, "other.sock")?;
-    let mut door = RealDoor::new(rt, None);
+    let mut door = RealDoor::new(rt, quiet(rt), None);
     let mut ports = Vec::new(rt.alloc());
     let mut port = None;
     holds(
@@ -74,10 +72,9 @@ fn files_of_others(rt: HostRuntime) -> Result<(), Fail> {
     remove(rt, "other.sock")
 }
 
-#[test]
-fn a_file_that_was_replaced(rt: HostRuntime) -> Result<(), Fail> {
+pub(crate) fn a_file_that_was_replaced(rt: HostRuntime) -> Result<(), Fail> {
     let place = unix(rt, "replaced.sock")?;
-    let mut door = RealDoor::new(rt, None);
+    let mut door = RealDoor::new(rt, quiet(rt), None);
     let port = open(rt, &mut door, &place)?;
     fs::remove_file(&rt, "replaced.sock")?;
     fs::write(&rt, "replaced.sock", "mine")?;

@@ -1,5 +1,5 @@
 // Programs.
-use crate::pairs::{holds, passed, reads};
+use crate::pairs::{holds, passed, quiet, reads};
 use outside_io::{Berth, Endings, Sink, Source, StartFault, write_whole};
 use real_host::{ProgramInput, ProgramOutput, Reading, RealBerth, Writing};
 use std::alloc::Global;
@@ -21,7 +21,7 @@ fn words(alloc: Global, all: &[&str]) -> Result<Vec<String>, Fail> {
 fn start(rt: HostRuntime, all: &[&str]) -> Result<Run, Fail> {
     let words = words(rt.alloc(), all)?;
     let (mut source, mut sink) = (None, None);
-    let started = RealBerth::new(rt).start(words.as_slice(), &mut source, &mut sink);
+    let started = RealBerth::new(rt, quiet(rt)).start(words.as_slice(), &mut source, &mut sink);
     match (started, source, sink) {
         (Ok(()), Some(source), Some(sink)) => Ok((source, sink)),
         _ => Err(Fail::new("the program doesn't start")),
@@ -34,8 +34,7 @@ fn is_there(rt: HostRuntime, id: u32) -> Result<bool, Fail> {
     Ok(fs::exists(&rt, path.as_str())?)
 }
 
-#[test]
-fn a_program_that_hears_its_end(rt: HostRuntime) -> Result<(), Fail> {
+pub(crate) fn a_program_that_hears_its_end(rt: HostRuntime) -> Result<(), Fail> {
     let (mut inn, mut out) = start(rt, &["cat"])?;
     let id = out.inner().id();
     holds(write_whole(&mut out, b"word").is_ok(), "a write failed")?;
@@ -46,8 +45,7 @@ fn a_program_that_hears_its_end(rt: HostRuntime) -> Result<(), Fail> {
 }
 
 // What a program started has the output still, for longer than a test may take.
-#[test]
-fn a_program_whose_child_stays(rt: HostRuntime) -> Result<(), Fail> {
+pub(crate) fn a_program_whose_child_stays(rt: HostRuntime) -> Result<(), Fail> {
     let (mut inn, mut out) = start(rt, &["sh", "-c", "sleep 90 2>/dev/null & exec cat"])?;
     holds(write_whole(&mut out, b"word").is_ok(), "a write failed")?;
     holds(reads(&mut inn, b"word"), "no echo")?;
@@ -55,8 +53,7 @@ fn a_program_whose_child_stays(rt: HostRuntime) -> Result<(), Fail> {
     holds(reads(&mut inn, b""), "its output doesn't end")
 }
 
-#[test]
-fn a_program_that_ignores_its_end(rt: HostRuntime) -> Result<(), Fail> {
+pub(crate) fn a_program_that_ignores_its_end(rt: HostRuntime) -> Result<(), Fail> {
     let (mut inn, mut out) = start(rt, &["sleep", "1000"])?;
     let id = out.inner().id();
     let start = Instant::now(&rt)?;
@@ -67,8 +64,7 @@ fn a_program_that_ignores_its_end(rt: HostRuntime) -> Result<(), Fail> {
 }
 
 // A write to it fails once the end of its session was ordered, and a run that nobody ends is gone when it is dropped.
-#[test]
-fn a_program_that_reads_nothing(rt: HostRuntime) -> Result<(), Fail> {
+pub(crate) fn a_program_that_reads_nothing(rt: HostRuntime) -> Result<(), Fail> {
     let (inn, mut out) = start(rt, &["sleep", "1000"])?;
     let id = out.inner().id();
     let endings = Endings::new(rt.alloc())?;
@@ -86,9 +82,8 @@ fn a_program_that_reads_nothing(rt: HostRuntime) -> Result<(), Fail> {
     holds(!is_there(rt, id)?, "it is there still")
 }
 
-#[test]
-fn no_program(rt: HostRuntime) -> Result<(), Fail> {
-    let mut berth = RealBerth::new(rt);
+pub(crate) fn no_program(rt: HostRuntime) -> Result<(), Fail> {
+    let mut berth = RealBerth::new(rt, quiet(rt));
     let (mut source, mut sink) = (None, None);
     let absent = words(rt.alloc(), &["no-such-program"])?;
     let started = berth.start(absent.as_slice(), &mut source, &mut sink);
@@ -105,8 +100,7 @@ fn no_program(rt: HostRuntime) -> Result<(), Fail> {
 }
 
 // A shell that is started isn't the first, so it reads no start file of its own.
-#[test]
-fn the_level_of_a_shell(rt: HostRuntime) -> Result<(), Fail> {
+pub(crate) fn the_level_of_a_shell(rt: HostRuntime) -> Result<(), Fail> {
     let (mut inn, _out) = start(rt, &["printenv", "SHLVL"])?;
     let mut buf = [0u8; 64];
     let Ok(count) = inn.read(&mut buf) else {

@@ -1,12 +1,11 @@
 // Files, the clock and the standard streams.
-use crate::pairs::{dial, holds, next_link, open, reads, remove, unix};
+use crate::pairs::{dial, holds, next_link, open, quiet, reads, remove, unix};
 use outside_io::{Clock, Folder, FolderFault, Sink, Source};
 use real_host::{Input, LinkOver, Reading, RealClock, RealDoor, RealFolder, Standard, Writing};
 use std::fs;
 use std::test::Fail;
 
-#[test]
-fn a_folder(rt: HostRuntime) -> Result<(), Fail> {
+pub(crate) fn a_folder(rt: HostRuntime) -> Result<(), Fail> {
     fs::write(&rt, "rows.txt", "text")?;
     let mut folder = RealFolder::new(rt);
     let read = folder.read("rows.txt", 4);
@@ -30,8 +29,7 @@ fn a_folder(rt: HostRuntime) -> Result<(), Fail> {
     Ok(())
 }
 
-#[test]
-fn a_clock(rt: HostRuntime) -> Result<(), Fail> {
+pub(crate) fn a_clock(rt: HostRuntime) -> Result<(), Fail> {
     let mut clock = RealClock::new(rt)?;
     let moments = (clock.next(), clock.next());
     let (Some(first), Some(second)) = moments else {
@@ -41,11 +39,10 @@ fn a_clock(rt: HostRuntime) -> Result<(), Fail> {
 }
 
 // The standard input ends where the link is over, also where it never ends itself.
-#[test]
-fn an_input_ends_with_its_link(rt: HostRuntime) -> Result<(), Fail> {
+pub(crate) fn an_input_ends_with_its_link(rt: HostRuntime) -> Result<(), Fail> {
     let place = unix(rt, "input.sock")?;
     let over = LinkOver::new(rt.alloc())?;
-    let mut door = RealDoor::new(rt, Some(over.share()?));
+    let mut door = RealDoor::new(rt, quiet(rt), Some(over.share()?));
     let mut port = open(rt, &mut door, &place)?;
     let (mut source, _sink) = next_link(&mut dial(&mut door, &place)?)?;
     let (_source, mut sink) = next_link(&mut port)?;
@@ -57,8 +54,7 @@ fn an_input_ends_with_its_link(rt: HostRuntime) -> Result<(), Fail> {
     remove(rt, "input.sock")
 }
 
-#[test]
-fn an_output_and_notes(rt: HostRuntime) -> Result<(), Fail> {
+pub(crate) fn an_output_and_notes(rt: HostRuntime) -> Result<(), Fail> {
     let mut output = Writing::new(rt, Standard::Output(rt.stdout()));
     let mut notes = Writing::new(rt, Standard::Error(rt.stderr()));
     holds(output.write(b"") == Ok(0), "the output failed")?;

@@ -117,30 +117,40 @@ fn try_little<R: Threads + Sync>(threads: &R, rt: HostRuntime, place: &Place) ->
     holds(cut, "the write wasn't cut off")
 }
 
-#[test]
-fn a_peer_that_reads_late_over_unix(rt: HostRuntime) -> Result<(), Fail> {
-    try_late(&rt, rt, &unix(rt, "late.sock")?)?;
+pub(crate) fn a_peer_that_reads_late_over_unix<R: Threads + Sync>(
+    threads: &R,
+    rt: HostRuntime,
+) -> Result<(), Fail> {
+    try_late(threads, rt, &unix(rt, "late.sock")?)?;
     remove(rt, "late.sock")
 }
 
-#[test]
-fn a_peer_that_reads_late_over_tcp(rt: HostRuntime) -> Result<(), Fail> {
-    try_late(&rt, rt, &tcp(rt)?)
+pub(crate) fn a_peer_that_reads_late_over_tcp<R: Threads + Sync>(
+    threads: &R,
+    rt: HostRuntime,
+) -> Result<(), Fail> {
+    try_late(threads, rt, &tcp(rt)?)
 }
 
-#[test]
-fn a_peer_that_never_reads_over_unix(rt: HostRuntime) -> Result<(), Fail> {
-    try_never(&rt, rt, &unix(rt, "never.sock")?)?;
+pub(crate) fn a_peer_that_never_reads_over_unix<R: Threads + Sync>(
+    threads: &R,
+    rt: HostRuntime,
+) -> Result<(), Fail> {
+    try_never(threads, rt, &unix(rt, "never.sock")?)?;
     remove(rt, "never.sock")
 }
 
-#[test]
-fn a_peer_that_never_reads_over_tcp(rt: HostRuntime) -> Result<(), Fail> {
-    try_never(&rt, rt, &tcp(rt)?)
+pub(crate) fn a_peer_that_never_reads_over_tcp<R: Threads + Sync>(
+    threads: &R,
+    rt: HostRuntime,
+) -> Result<(), Fail> {
+    try_never(threads, rt, &tcp(rt)?)
 }
 
-#[test]
-fn a_peer_that_reads_little(rt: HostRuntime) -> Result<(), Fail> {
-    try_little(&rt, rt, &unix(rt, "little.sock")?)?;
+pub(crate) fn a_peer_that_reads_little<R: Threads + Sync>(
+    threads: &R,
+    rt: HostRuntime,
+) -> Result<(), Fail> {
+    try_little(threads, rt, &unix(rt, "little.sock")?)?;
     remove(rt, "little.sock")
 }

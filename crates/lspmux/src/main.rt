@@ -1,15 +1,15 @@
-//! The daemon `lspmux` over sockets, programs, files, the clock and the standard streams.
+//! The program `lspmux` over sockets, programs, files, the clock and the standard streams.
 #![tactic(auto)]
 
 mod words;
 
 use crate::words::words;
-use drive_program::lspmux;
+use log::LevelFilter;
+use lspmux_program::{Level, Outside, log_level, lspmux};
 use mux_steps::DropJournal;
 use real_host::{
-    Input, LinkOver, Reading, RealBerth, RealClock, RealDoor, RealFolder, Standard, Writing,
+    Input, LinkOver, Notes, Reading, RealBerth, RealClock, RealDoor, RealFolder, Standard, Writing,
 };
-use serve_program::{Command, command_of, serve_command};
 use std::io;
 use std::process::ExitCode;
 use std::sync::Wait;
@@ -18,50 +18,61 @@ use std::thread::Threads;
 // How many programs of servers run at one time.
 const BERTHS: usize = 16;
 
+// The status where memory is wanted for the outside, or the clock can't be read.
+const NO_OUTSIDE: u8 = 5;
+
+type Real = Outside<
+    RealDoor,
+    RealBerth,
+    RealClock,
+    DropJournal,
+    RealFolder,
+    Reading<Input>,
+    Writing<Standard>,
+    Writing<Standard>,
+>;
+
+fn filter_of(level: Level) -> LevelFilter {
+    match level {
+        Level::Error => LevelFilter::Error,
+        Level::Warn => LevelFilter::Warn,
+        Level::Info => LevelFilter::Info,
+        Level::Debug => LevelFilter::Debug,
+        Level::Trace => LevelFilter::Trace,
+    }
+}
+
 // The berths of the daemon.
-fn berths(rt: HostRuntime) -> io::Result<Vec<RealBerth>> {
+fn berths(rt: HostRuntime, notes: Notes) -> io::Result<Vec<RealBerth>> {
     let mut berths = Vec::new(rt.alloc());
     for _ in 0..BERTHS {
-        berths.push(RealBerth::new(rt))?;
+        berths.push(RealBerth::new(rt, notes))?;
     }
     Ok(berths)
 }
 
-// Serves in these threads, and gives the status.
-fn serve<R: Threads + Wait + Sync>(
-    threads: &R,
-    rt: HostRuntime,
-    command: Command<'_>,
-) -> io::Result<u8> {
-    let outside = serve_program::Outside {
-        door: RealDoor::new(rt, None),
-        berths: berths(rt)?,
+fn outside(rt: HostRuntime, level: Level) -> io::Result<Real> {
+    let notes = Notes::new(rt, filter_of(level));
+    let over = LinkOver::new(rt.alloc())?;
+    Ok(Outside {
+        door: RealDoor::new(rt, notes, Some(over.share()?)),
+        berths: berths(rt, notes)?,
         clock: RealClock::new(rt)?,
         journal: DropJournal::new(),
         folder: RealFolder::new(rt),
-        output: Writing::new(rt, Standard::Output(rt.stdout())),
-    };
-    Ok(serve_command(threads, rt.alloc(), command, outside))
+        output: Writing::telling(rt, Standard::Output(rt.stdout()), over.share()?),
+        input: Reading::new(Input::new(rt.stdin(), over)),
+        notes: Writing::new(rt, Standard::Error(rt.stderr())),
+    })
 }
 
-// Drives one hub over lines of the standard input, and gives the status.
-fn drive(rt: HostRuntime, words: &[String]) -> io::Result<u8> {
-    let over = LinkOver::new(rt.alloc())?;
-    let mut outside = drive_program::Outside {
-        journal: Some(DropJournal::new()),
-        input: Reading::new(Input::new(rt.stdin(), over)),
-        output: Writing::new(rt, Standard::Output(rt.stdout())),
-    };
-    Ok(lspmux(rt.alloc(), words, &mut outside))
+// Runs the program in these threads, and gives its status.
+fn run<R: Threads + Wait + Sync>(threads: &R, rt: HostRuntime) -> io::Result<u8> {
+    let words = words(&rt)?;
+    let outside = outside(rt, log_level(rt.alloc(), words.as_slice()))?;
+    Ok(lspmux(threads, rt.alloc(), words.as_slice(), outside).status)
 }
 
 fn main(rt: HostRuntime) -> ExitCode {
-    let Ok(words) = words(&rt) else {
-        return ExitCode::from(5);
-    };
-    let ran = match command_of(words.as_slice()) {
-        Some(command) => serve(&rt, rt, command),
-        None => drive(rt, words.as_slice()),
-    };
-    ExitCode::from(ran.unwrap_or(5))
+    ExitCode::from(run(&rt, rt).unwrap_or(NO_OUTSIDE))
 }

@@ -13,6 +13,15 @@ line_of (fault.Missing path) = (codes "!settings missing " ++ string_bytes path)
 line_of (fault.Range path) = (codes "!settings range " ++ string_bytes path) ++ 10 ∷ []
 line_of fault.Memory = []
 
+-- the status of settings that are refused
+abbrev pub settings_status : SettingsFault → ℕ
+settings_status fault.Unread = 3
+settings_status fault.NotToml = 3
+settings_status (fault.Unknown path) = 3
+settings_status (fault.Missing path) = 3
+settings_status (fault.Range path) = 3
+settings_status fault.Memory = 5
+
 -- a front of the text was written
 pub record WroteFront (before now : Option (List ℕ)) (text : List ℕ) : Type 0 where
   pub count : ℕ

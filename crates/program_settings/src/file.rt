@@ -32,7 +32,7 @@ pub fn settings<F: Folder>(
     folder: &mut F,
     file: Option<&str>,
 ) -> Result<Config, SettingsFault>
-    ensures read { IsReading (F.files folder.old) (option_map (λ path. path.now) file) (Rose (F.faults folder.old) (F.faults folder.new)) result }
+    ensures read { IsReading (F.files folder.old) (option_map (λ path. path.now) file.entry) (Rose (F.faults folder.old) (F.faults folder.new)) result }
     ensures files { F.files folder.new ≡ F.files folder.old }
     ensures later { F.faults folder.old ≤ F.faults folder.new }
 {

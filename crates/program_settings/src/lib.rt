@@ -7,4 +7,4 @@ mod line;
 
 pub use fault::SettingsFault;
 pub use file::settings;
-pub use line::write_line;
+pub use line::{refuse, write_line};

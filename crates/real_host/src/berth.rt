@@ -2,10 +2,12 @@
 ghost use Rattle.std.specs.Prelude.{◌≡◌, ℕ, ◌+◌, ◌<◌, List, Option, None};
 ghost use Rattle.outside_io.specs.Sessions.{Session};
 
+use crate::notes::Notes;
 use crate::program;
 use crate::program::{ProgramInput, ProgramOutput};
 use crate::reading::Reading;
 use crate::writing::Writing;
+use log::{info, warn};
 use outside_io::{Berth, Sink, StartFault};
 use std::io::ErrorKind;
 
@@ -16,20 +18,30 @@ use std::io::ErrorKind;
 #[derive(Drop)]
 pub struct RealBerth {
     rt: HostRuntime,
+    notes: Notes,
     held: u64,
     faults: u64,
 }
 
 impl RealBerth {
     /// A berth in which no start failed yet.
-    pub fn new(rt: HostRuntime) -> RealBerth
+    pub fn new(rt: HostRuntime, notes: Notes) -> RealBerth
         ensures { ⟦<RealBerth as Berth>⟧.faults result ≡ 0 }
     {
         RealBerth {
             rt,
+            notes,
             held: 0,
             faults: 0,
         }
+    }
+}
+
+// What a program is called: the first of its words.
+fn name_of(words: &[String]) -> &str {
+    match words.first() {
+        Some(name) => name.as_str(),
+        None => "without words",
     }
 }
 
@@ -57,13 +69,15 @@ impl Berth for RealBerth {
         };
         match program::start(&self.rt, self.rt.alloc(), words) {
             Ok((output, input)) => {
+                info!(self.notes; "the program {} runs as {}", name_of(words), input.id());
                 self.held = held;
                 *inn = Some(Reading::new(output));
                 *out = Some(Writing::new(self.rt, input));
                 Ok(())
             }
             Err(error) if error.kind() == ErrorKind::OutOfMemory => Err(StartFault::Memory),
-            Err(_) => {
+            Err(error) => {
+                warn!(self.notes; "the program {} can't be run: {error}", name_of(words));
                 self.faults = self.faults.saturating_add(1);
                 Err(StartFault::Failed)
             }
@@ -78,6 +92,7 @@ impl Berth for RealBerth {
         drop(inn.take());
         if let Some(mut sink) = out.take() {
             sink.close();
+            info!(self.notes; "the program {} is gone", sink.inner().id());
         }
         self.held -= 1;
     }

@@ -5,10 +5,12 @@ ghost use Rattle.outside_io.specs.Faults.{Rose};
 
 use crate::link_over::LinkOver;
 use crate::listener::Listener;
+use crate::notes::Notes;
 use crate::place;
 use crate::place::Opened;
 use crate::port::RealPort;
 use crate::socket_file::SocketFile;
+use log::warn;
 use outside_io::{Door, DoorFault, Place, Port};
 use std::alloc::Global;
 use std::io;
@@ -22,11 +24,12 @@ const ACCEPT_MILLIS: u64 = 200;
 ///
 /// A socket's file is its user's alone, and a lock lies beside it, in the file of its name and `.lock`. Where the file is
 /// there and nobody listens it is removed first; where somebody listens, or the file is none of a socket of this user,
-/// `open` fails. With the door the files end that it made; the locks' files stay. `dial` wants a socket's file of this user.
+/// `open` fails. Each call that fails is noted. With the door the files end that it made; the locks' files stay. `dial` wants a socket's file of this user.
 #[derive(Drop)]
 pub struct RealDoor {
     rt: HostRuntime,
     alloc: Global,
+    notes: Notes,
     // The files of the sockets that were opened.
     files: Vec<SocketFile>,
     // What is told where the next link that is dialled is over.
@@ -36,13 +39,14 @@ pub struct RealDoor {
 
 impl RealDoor {
     /// A door of which no call failed yet. The first link that is dialled tells `over` where it is over.
-    pub fn new(rt: HostRuntime, over: Option<LinkOver>) -> RealDoor
+    pub fn new(rt: HostRuntime, notes: Notes, over: Option<LinkOver>) -> RealDoor
         ensures { ⟦<RealDoor as Door>⟧.faults result ≡ 0 }
     {
         let alloc = rt.alloc();
         RealDoor {
             rt,
             alloc,
+            notes,
             files: Vec::new(alloc),
             over,
             faults: 0,
@@ -60,12 +64,32 @@ impl RealDoor {
         self.faults = self.faults.saturating_add(1);
         DoorFault::Failed
     }
+
+    fn note_unopened(&self, place: &Place, error: &io::Error) {
+        match place {
+            Place::Unix(path) => warn!(self.notes; "links can't come at {path}: {error}"),
+            Place::Tcp(port) =>
+                warn!(self.notes; "links can't come at the TCP port {port}: {error}"),
+        }
+    }
+
+    fn note_unreached(&self, place: &Place, error: &io::Error) {
+        match place {
+            Place::Unix(path) => {
+                warn!(self.notes; "no daemon is reached at {path}: {error}; `lspmux serve` starts one");
+            }
+            Place::Tcp(port) => {
+                warn!(self.notes; "no daemon is reached at the TCP port {port}: {error}; `lspmux serve` starts one");
+            }
+        }
+    }
 }
 
 // So many ports of one listener.
 fn ports_of(
     rt: HostRuntime,
     alloc: Global,
+    notes: Notes,
     listener: &Listener,
     n: u32,
 ) -> io::Result<Vec<RealPort>>
@@ -74,7 +98,7 @@ fn ports_of(
 {
     let mut ports = Vec::with_capacity(alloc, n as usize)?;
     for _ in 0..n {
-        ports.push_reserved(RealPort::listening(rt, listener.share()?));
+        ports.push_reserved(RealPort::listening(rt, listener.share()?, notes));
     }
     Ok(ports)
 }
@@ -83,6 +107,7 @@ fn ports_of(
 fn open_ports(
     rt: HostRuntime,
     alloc: Global,
+    notes: Notes,
     place: &Place,
     n: u32,
 ) -> io::Result<(Vec<RealPort>, Option<SocketFile>)>
@@ -91,7 +116,7 @@ fn open_ports(
 {
     let Opened { listener, file } = place::open(&rt, alloc, place)?;
     let listener = listener.limited(Duration::from_millis(ACCEPT_MILLIS))?;
-    let ports = ports_of(rt, alloc, &listener, n)?;
+    let ports = ports_of(rt, alloc, notes, &listener, n)?;
     Ok((ports, file))
 }
 
@@ -107,9 +132,12 @@ impl Door for RealDoor {
     #[tactic(auto, using(crate::proofs::Gifts::gave_untold))]
     fn open(&mut self, place: &Place, n: u32, ports: &mut Vec<RealPort>) -> Result<(), DoorFault> {
         self.files.reserve(1)?;
-        let opened = match open_ports(self.rt, self.alloc, place, n) {
+        let opened = match open_ports(self.rt, self.alloc, self.notes, place, n) {
             Ok(opened) => opened,
-            Err(error) => return Err(self.fault(&error)),
+            Err(error) => {
+                self.note_unopened(place, &error);
+                return Err(self.fault(&error));
+            }
         };
         let (mut given, file) = opened;
         ports.append(&mut given)?;
@@ -122,10 +150,13 @@ impl Door for RealDoor {
     fn dial(&mut self, place: &Place, port: &mut Option<RealPort>) -> Result<(), DoorFault> {
         match place::dial(&self.rt, place) {
             Ok(wire) => {
-                *port = Some(RealPort::dialled(self.rt, wire, self.over.take()));
+                *port = Some(RealPort::dialled(self.rt, wire, self.over.take(), self.notes));
                 Ok(())
             }
-            Err(error) => Err(self.fault(&error)),
+            Err(error) => {
+                self.note_unreached(place, &error);
+                Err(self.fault(&error))
+            }
         }
     }
 }

@@ -4,9 +4,11 @@ ghost use Rattle.outside_io.specs.Sessions.{Session};
 
 use crate::link_over::LinkOver;
 use crate::listener::Listener;
+use crate::notes::Notes;
 use crate::reading::Reading;
 use crate::wire::Wire;
 use crate::writing::Writing;
+use log::{info, warn};
 use outside_io::{Arrival, Port, Sink};
 use std::time::Duration;
 use std::{io, thread};
@@ -35,6 +37,9 @@ enum Supply {
 pub struct RealPort {
     rt: HostRuntime,
     supply: Supply,
+    notes: Notes,
+    // The last accept failed, and it was noted.
+    is_failing: bool,
     held: u64,
     faults: u64,
 }
@@ -72,29 +77,36 @@ impl Supply {
 }
 
 impl RealPort {
-    fn new(rt: HostRuntime, supply: Supply) -> RealPort
+    fn new(rt: HostRuntime, supply: Supply, notes: Notes) -> RealPort
         ensures { ⟦<RealPort as Port>⟧.faults result ≡ 0 }
     {
         RealPort {
             rt,
             supply,
+            notes,
+            is_failing: false,
             held: 0,
             faults: 0,
         }
     }
 
     /// A port over a listener.
-    pub(crate) fn listening(rt: HostRuntime, listener: Listener) -> RealPort
+    pub(crate) fn listening(rt: HostRuntime, listener: Listener, notes: Notes) -> RealPort
         ensures { ⟦<RealPort as Port>⟧.faults result ≡ 0 }
     {
-        RealPort::new(rt, Supply::Listener(listener))
+        RealPort::new(rt, Supply::Listener(listener), notes)
     }
 
     /// A port over a link that was dialled.
-    pub(crate) fn dialled(rt: HostRuntime, wire: Wire, over: Option<LinkOver>) -> RealPort
+    pub(crate) fn dialled(
+        rt: HostRuntime,
+        wire: Wire,
+        over: Option<LinkOver>,
+        notes: Notes,
+    ) -> RealPort
         ensures { ⟦<RealPort as Port>⟧.faults result ≡ 0 }
     {
-        RealPort::new(rt, Supply::Dialled(Some(wire), over))
+        RealPort::new(rt, Supply::Dialled(Some(wire), over), notes)
     }
 }
 
@@ -122,14 +134,23 @@ impl Port for RealPort {
         };
         match self.supply.next(self.rt) {
             Ok(Found::Link((source, sink))) => {
+                info!(self.notes; "a link begins");
+                self.is_failing = false;
                 self.held = held;
                 *inn = Some(source);
                 *out = Some(sink);
                 Arrival::Link
             }
-            Ok(Found::Nobody) => Arrival::Nobody,
+            Ok(Found::Nobody) => {
+                self.is_failing = false;
+                Arrival::Nobody
+            }
             Ok(Found::Closed) => Arrival::Closed,
-            Err(_) => {
+            Err(error) => {
+                if !self.is_failing {
+                    warn!(self.notes; "a link can't be taken: {error}");
+                }
+                self.is_failing = true;
                 self.faults = self.faults.saturating_add(1);
                 thread::sleep(&self.rt, Duration::from_millis(PAUSE_MILLIS));
                 Arrival::Nobody
@@ -144,6 +165,7 @@ impl Port for RealPort {
         if let Some(mut source) = inn.take() {
             source.take_left();
         }
+        info!(self.notes; "a link is over");
         self.held -= 1;
     }
 }

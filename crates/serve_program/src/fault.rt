@@ -1,8 +1,12 @@
 // Why a daemon doesn't serve, or served no longer.
-ghost use Rattle.std.specs.Prelude.{◌≡◌, ℕ};
+ghost use Rattle.std.specs.Prelude.{◌≡◌, ◌≤◌, ℕ};
+ghost use Rattle.outside_io.specs.Faults.{Rose};
+ghost use Rattle.program_settings.specs.Lines.{Reported};
 ghost use Rattle.serve_program.specs.Faults.{ended_line, ended_status, fault_line, result_of, status_of};
 
 use mux_service::Answer;
+use outside_io::Sink;
+use program_settings::write_line;
 
 /// Why a daemon doesn't serve, or served no longer.
 #[derive(Clone, Copy, Debug, PartialEq, Eq)]
@@ -18,7 +22,7 @@ pub enum ServeFault {
 }
 
 impl ServeFault {
-    /// The program's status: 4 for the door, 5 for memory, 6 for the journal, and 9 for numbers.
+    // The program's status: 4 for the door, 5 for memory, 6 for the journal, and 9 for numbers.
     fn status(self) -> u8
         ensures { result ≡ status_of self }
     {
@@ -43,8 +47,8 @@ impl ServeFault {
     }
 }
 
-/// The status of what a daemon's work came to: 0, or that of its fault.
-pub fn status(ended: Result<(), ServeFault>) -> u8
+// The status of what a daemon's work came to.
+fn status(ended: Result<(), ServeFault>) -> u8
     ensures { result ≡ ended_status ended }
 {
     match ended {
@@ -53,14 +57,23 @@ pub fn status(ended: Result<(), ServeFault>) -> u8
     }
 }
 
-/// The fault line of what a daemon's work came to; empty where it has none.
-pub fn line(ended: Result<(), ServeFault>) -> &'static str
+// The fault line of what a daemon's work came to; empty where it has none.
+fn line(ended: Result<(), ServeFault>) -> &'static str
     ensures { result.now ≡ ended_line ended }
 {
     match ended {
         Ok(()) => "",
         Err(fault) => fault.line(),
     }
+}
+
+/// Writes the fault line of what a daemon's work came to, and gives the status: 0, or that of its fault.
+pub fn report<O: Sink>(output: &mut O, ended: Result<(), ServeFault>) -> u8
+    ensures reported { Reported result (ended_status ended) (O.written output.old) (O.written output.new) (ended_line ended) (Rose (O.faults output.old) (O.faults output.new)) }
+    ensures later { O.faults output.old ≤ O.faults output.new }
+{
+    write_line(output, line(ended).as_bytes());
+    status(ended)
 }
 
 /// What a daemon's answer comes to: a fault, but behind a stop and behind closed ports.

@@ -1,12 +1,9 @@
-//! The command `serve`: its settings, its door, and the daemon behind it.
+//! The daemon of some settings: its door, and what serves behind it.
 #![tactic(auto)]
 
-mod command;
 mod daemon;
 mod fault;
-mod program;
 
-pub use command::{Command, command_of};
 pub use daemon::{Ended, serve_by};
-pub use fault::ServeFault;
-pub use program::{Outside, Ran, serve_command};
+pub use fault::{ServeFault, report};
+pub use mux_service::Lanes;

@@ -19,11 +19,7 @@ pub struct Settled<J: Journal> {
 }
 
 /// A hub without a history, with these settings' limits and servers. Where memory is wanted the journal comes back.
-pub fn hub_of<J: Journal + Drop>(
-    alloc: Global,
-    config: Config,
-    journal: J,
-) -> Result<Settled<J>, J>
+pub fn hub_of<J: Journal + Drop>(alloc: Global, config: Config, journal: J) -> Result<Settled<J>, J>
     requires { Tells (J.told journal) [] }
     ensures stands { IfOk result (λ settled. HubStands J.told settled.hub []) }
     ensures ready { IfOk result (λ settled. settled.hub.spent ≡ false) }
