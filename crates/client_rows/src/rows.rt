@@ -8,12 +8,14 @@ use std::sync::Wait;
 use std::test::Fail;
 use std::thread::Threads;
 
-const OPEN: &str = "Content-Length: 86\r\n\r\n{\"jsonrpc\":\"2.0\",\"id\":\"lspmux:open\",\"method\":\"lspmux/open\",\"params\":{\"server\":\"nope\"}}";
+const OPEN: &str =
+    "Content-Length: 86\r\n\r\n{\"jsonrpc\":\"2.0\",\"id\":\"lspmux:open\",\"method\":\"lspmux/open\",\"params\":{\"server\":\"nope\"}}";
 
 const OPENED: &str =
     "Content-Length: 50\r\n\r\n{\"jsonrpc\":\"2.0\",\"id\":\"lspmux:open\",\"result\":null}";
 
-const REFUSED: &str = "Content-Length: 87\r\n\r\n{\"jsonrpc\":\"2.0\",\"id\":\"lspmux:open\",\"error\":{\"code\":-32602,\"message\":\"Invalid params\"}}";
+const REFUSED: &str =
+    "Content-Length: 87\r\n\r\n{\"jsonrpc\":\"2.0\",\"id\":\"lspmux:open\",\"error\":{\"code\":-32602,\"message\":\"Invalid params\"}}";
 
 const STATUS: &str =
     "Content-Length: 49\r\n\r\n{\"jsonrpc\":\"2.0\",\"id\":1,\"method\":\"lspmux/status\"}";
@@ -86,14 +88,7 @@ fn run_question(
 ) -> Result<Seen, Fail> {
     let config = Config::built_in(alloc)?;
     let mut port = None;
-    let result = ask(
-        alloc,
-        &config,
-        question,
-        &mut door,
-        &mut port,
-        &mut output,
-    );
+    let result = ask(alloc, &config, question, &mut door, &mut port, &mut output);
     Ok(Seen {
         result,
         port,
@@ -104,20 +99,77 @@ fn run_question(
 #[test]
 fn a_client_opens_its_server_and_copies(rt: HostRuntime) -> Result<(), Fail> {
     let alloc = rt.alloc();
-    let opened_and_more = "Content-Length: 50\r\n\r\n{\"jsonrpc\":\"2.0\",\"id\":\"lspmux:open\",\"result\":null}xyz";
-    let open_and_input = "Content-Length: 86\r\n\r\n{\"jsonrpc\":\"2.0\",\"id\":\"lspmux:open\",\"method\":\"lspmux/open\",\"params\":{\"server\":\"nope\"}}abc";
+    let opened_and_more =
+        "Content-Length: 50\r\n\r\n{\"jsonrpc\":\"2.0\",\"id\":\"lspmux:open\",\"result\":null}xyz";
+    let open_and_input =
+        "Content-Length: 86\r\n\r\n{\"jsonrpc\":\"2.0\",\"id\":\"lspmux:open\",\"method\":\"lspmux/open\",\"params\":{\"server\":\"nope\"}}abc";
     for row in [
-        Row { asked: None, says: "xyz", result: Ok(()), sent: "abc", shown: "xyz" },
-        Row { asked: Some("nope"), says: opened_and_more, result: Ok(()), sent: open_and_input, shown: "xyz" },
-        Row { asked: Some("nope"), says: OPENED, result: Ok(()), sent: open_and_input, shown: "" },
-        Row { asked: Some("nope"), says: REFUSED, result: Err(ClientFault::Refused), sent: OPEN, shown: "" },
-        Row { asked: Some("nope"), says: "", result: Err(ClientFault::Answer), sent: OPEN, shown: "" },
-        Row { asked: Some("nope"), says: "xyz", result: Err(ClientFault::Answer), sent: OPEN, shown: "" },
-        Row { asked: Some("nope"), says: OTHER, result: Err(ClientFault::Answer), sent: OPEN, shown: "" },
-        Row { asked: Some("nope"), says: OPEN, result: Err(ClientFault::Answer), sent: OPEN, shown: "" },
+        Row {
+            asked: None,
+            says: "xyz",
+            result: Ok(()),
+            sent: "abc",
+            shown: "xyz",
+        },
+        Row {
+            asked: Some("nope"),
+            says: opened_and_more,
+            result: Ok(()),
+            sent: open_and_input,
+            shown: "xyz",
+        },
+        Row {
+            asked: Some("nope"),
+            says: OPENED,
+            result: Ok(()),
+            sent: open_and_input,
+            shown: "",
+        },
+        Row {
+            asked: Some("nope"),
+            says: REFUSED,
+            result: Err(ClientFault::Refused),
+            sent: OPEN,
+            shown: "",
+        },
+        Row {
+            asked: Some("nope"),
+            says: "",
+            result: Err(ClientFault::Answer),
+            sent: OPEN,
+            shown: "",
+        },
+        Row {
+            asked: Some("nope"),
+            says: "xyz",
+            result: Err(ClientFault::Answer),
+            sent: OPEN,
+            shown: "",
+        },
+        Row {
+            asked: Some("nope"),
+            says: OTHER,
+            result: Err(ClientFault::Answer),
+            sent: OPEN,
+            shown: "",
+        },
+        Row {
+            asked: Some("nope"),
+            says: OPEN,
+            result: Err(ClientFault::Answer),
+            sent: OPEN,
+            shown: "",
+        },
     ] {
         let through = door(alloc, source(alloc, row.says)?, sink(alloc))?;
-        let seen = run(&rt, alloc, row.asked, through, source(alloc, "abc")?, sink(alloc))?;
+        let seen = run(
+            &rt,
+            alloc,
+            row.asked,
+            through,
+            source(alloc, "abc")?,
+            sink(alloc),
+        )?;
         assert!(rt; is_wanted(&row, &seen), "at {}", row.says);
     }
     Ok(())
@@ -127,11 +179,41 @@ fn a_client_opens_its_server_and_copies(rt: HostRuntime) -> Result<(), Fail> {
 fn a_question_is_answered(rt: HostRuntime) -> Result<(), Fail> {
     let alloc = rt.alloc();
     for row in [
-        Row { asked: Question::Status, says: GROUPS, result: Ok(()), sent: STATUS, shown: "{\"groups\":[]}\n" },
-        Row { asked: Question::Stop, says: GROUPS, result: Ok(()), sent: STOP, shown: "" },
-        Row { asked: Question::Stop, says: "", result: Err(ClientFault::Answer), sent: STOP, shown: "" },
-        Row { asked: Question::Status, says: OTHER, result: Err(ClientFault::Answer), sent: STATUS, shown: "" },
-        Row { asked: Question::Status, says: "\r\n", result: Err(ClientFault::Answer), sent: STATUS, shown: "" },
+        Row {
+            asked: Question::Status,
+            says: GROUPS,
+            result: Ok(()),
+            sent: STATUS,
+            shown: "{\"groups\":[]}\n",
+        },
+        Row {
+            asked: Question::Stop,
+            says: GROUPS,
+            result: Ok(()),
+            sent: STOP,
+            shown: "",
+        },
+        Row {
+            asked: Question::Stop,
+            says: "",
+            result: Err(ClientFault::Answer),
+            sent: STOP,
+            shown: "",
+        },
+        Row {
+            asked: Question::Status,
+            says: OTHER,
+            result: Err(ClientFault::Answer),
+            sent: STATUS,
+            shown: "",
+        },
+        Row {
+            asked: Question::Status,
+            says: "\r\n",
+            result: Err(ClientFault::Answer),
+            sent: STATUS,
+            shown: "",
+        },
     ] {
         let through = door(alloc, source(alloc, row.says)?, sink(alloc))?;
         let seen = run_question(alloc, row.asked, through, sink(alloc))?;
@@ -149,7 +231,14 @@ fn a_client_copies_both_ways_at_once(rt: HostRuntime) -> Result<(), Fail> {
     let input = waiting_source(alloc, "abc", 1, &to_output, 3)?;
     let link = waiting_source(alloc, "xyz", 1, &to_link, 3)?;
     let through = door(alloc, link, metered_sink(alloc, to_link))?;
-    let seen = run(&rt, alloc, None, through, input, metered_sink(alloc, to_output))?;
+    let seen = run(
+        &rt,
+        alloc,
+        None,
+        through,
+        input,
+        metered_sink(alloc, to_output),
+    )?;
     assert_eq!(rt; seen.result, Ok(()));
     assert_eq!(rt; sent(&seen.port), b"abc".as_slice());
     assert_eq!(rt; seen.output.bytes(), b"xyz".as_slice());
@@ -167,12 +256,26 @@ fn a_failed_call_is_told(rt: HostRuntime) -> Result<(), Fail> {
     assert_eq!(rt; seen.output.bytes(), b"xyz".as_slice());
     let failing_output = MemSink::new(alloc, one(alloc, 0u64)?, None);
     let through = door(alloc, source(alloc, "xyz")?, sink(alloc))?;
-    let seen = run(&rt, alloc, None, through, source(alloc, "abc")?, failing_output)?;
+    let seen = run(
+        &rt,
+        alloc,
+        None,
+        through,
+        source(alloc, "abc")?,
+        failing_output,
+    )?;
     assert_eq!(rt; seen.result, Err(ClientFault::Output));
     assert_eq!(rt; sent(&seen.port), b"abc".as_slice());
     let failing_sink = MemSink::new(alloc, one(alloc, 0u64)?, None);
     let through = door(alloc, source(alloc, "xyz")?, failing_sink)?;
-    let seen = run(&rt, alloc, None, through, source(alloc, "abc")?, sink(alloc))?;
+    let seen = run(
+        &rt,
+        alloc,
+        None,
+        through,
+        source(alloc, "abc")?,
+        sink(alloc),
+    )?;
     assert_eq!(rt; seen.result, Err(ClientFault::Link));
     assert_eq!(rt; seen.output.bytes(), b"xyz".as_slice());
     let closed = MemDoor::new(alloc, Vec::new(alloc), Vec::new(alloc));
@@ -181,7 +284,14 @@ fn a_failed_call_is_told(rt: HostRuntime) -> Result<(), Fail> {
     assert!(rt; seen.port.is_none());
     let without = MemPort::new(alloc, Vec::new(alloc));
     let through = MemDoor::new(alloc, one(alloc, without)?, Vec::new(alloc));
-    let seen = run(&rt, alloc, None, through, source(alloc, "abc")?, sink(alloc))?;
+    let seen = run(
+        &rt,
+        alloc,
+        None,
+        through,
+        source(alloc, "abc")?,
+        sink(alloc),
+    )?;
     assert_eq!(rt; seen.result, Err(ClientFault::Answer));
     assert!(rt; seen.port.is_some());
     Ok(())

@@ -52,12 +52,7 @@ fn carry<
 
 // Takes a port's link, carries over it, and hands it back.
 #[tactic(auto, using(crate::proofs::Dialling::at_none, crate::proofs::Dialling::at_link))]
-fn carry_at<
-    R: Threads + Wait + Sync,
-    P: Port,
-    I: Source + Send + Drop,
-    O: Sink + Send + Drop,
->(
+fn carry_at<R: Threads + Wait + Sync, P: Port, I: Source + Send + Drop, O: Sink + Send + Drop>(
     rt: &R,
     alloc: Global,
     limit: u32,
@@ -90,12 +85,7 @@ fn carry_at<
 /// closed link's reads end; where the link ends first, the input's copy goes on until the input ends. Each copy has 65,536 bytes
 /// of its own.
 #[tactic(auto, using(crate::proofs::Dialling::dialled_none, crate::proofs::Dialling::dialled_given))]
-pub fn client<
-    R: Threads + Wait + Sync,
-    D: Door,
-    I: Source + Send + Drop,
-    O: Sink + Send + Drop,
->(
+pub fn client<R: Threads + Wait + Sync, D: Door, I: Source + Send + Drop, O: Sink + Send + Drop>(
     rt: &R,
     alloc: Global,
     config: &Config,
