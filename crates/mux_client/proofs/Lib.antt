@@ -1,5 +1,6 @@
 pub mod Asking
 pub mod Carrying
+pub mod Completing
 pub mod Copying
 pub mod Dialling
 pub mod Exchanging

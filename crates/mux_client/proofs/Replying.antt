@@ -137,3 +137,7 @@ same_says asked body b sort.Notification ids t s =
 
 pub other_says : (asked : Id) (body : List ℕ) (b : Bool) → ((i : Option Id) → IsResponseIdText i (id_bytes body) → b ≡ is_id asked i) → b ≡ false → (IsResult asked body → ⊥) × (IsRefusal asked body → ⊥)
 other_says asked body b ids f = (no_result asked body b ids f, no_refusal asked body b ids f)
+
+-- an answer that refuses is no result
+pub no_open_both : (body : List ℕ) → IsRefusal open_id body → IsResult open_id body → ⊥
+no_open_both body f r = let q : Some sort.Result ≡ Some sort.Error = sym (result_sort open_id body r) ∙ refusal_sort open_id body f in absurd (cc)

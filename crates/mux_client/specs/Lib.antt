@@ -1,4 +1,5 @@
 pub mod Answers
+pub mod Complete
 pub mod Copies
 pub mod Dials
 pub mod Faults

@@ -1,7 +1,9 @@
 // An editor's end: its input goes to the daemon's link, and the link to its output.
-ghost use Rattle.std.specs.Prelude.{◌≡◌, ◌≤◌, None, option_map};
+ghost use Rattle.std.specs.Prelude.{◌≡◌, ◌≤◌, ℕ, List, None, option_map};
 ghost use Rattle.outside_io.specs.Doors.{address_of};
-ghost use Rattle.outside_io.specs.Sessions.{session_of};
+ghost use Rattle.outside_io.specs.Faults.{Rose};
+ghost use Rattle.outside_io.specs.Sessions.{Session, session_of};
+ghost use Rattle.mux_client.specs.Complete.{IsDone, OffersLink, SaysOpened, Stays};
 ghost use Rattle.mux_client.specs.Dials.{AtPort, Called, Dialled, door_state, port_state};
 ghost use Rattle.mux_client.specs.Runs.{Carried};
 
@@ -77,15 +79,9 @@ fn carry_at<R: Threads + Wait + Sync, P: Port, I: Source + Send + Drop, O: Sink 
     carried
 }
 
-/// Joins an editor to the daemon: dials the settings' place, names the server that is meant, where one is, and copies the input
-/// to the link and the link to the output, side by side, until both have ended. The dialled port is left in `port`.
-///
-/// With a server's name the request `lspmux/open` is sent first, and nothing is read of the input before the link's first
-/// frame, which is to be its result. The copy of the input closes the link as it ends, so that the other copy ends too where a
-/// closed link's reads end; where the link ends first, the input's copy goes on until the input ends. Each copy has 65,536 bytes
-/// of its own.
+// Dials a place, and carries over its link. The port is left there.
 #[tactic(auto, using(crate::proofs::Dialling::dialled_none, crate::proofs::Dialling::dialled_given))]
-pub fn client<R: Threads + Wait + Sync, D: Door, I: Source + Send + Drop, O: Sink + Send + Drop>(
+fn carry_from<R: Threads + Wait + Sync, D: Door, I: Source + Send + Drop, O: Sink + Send + Drop>(
     rt: &R,
     alloc: Global,
     config: &Config,
@@ -110,4 +106,39 @@ pub fn client<R: Threads + Wait + Sync, D: Door, I: Source + Send + Drop, O: Sin
         Some(port) => carry_at(rt, alloc, config.content, server, port, input, output),
         None => unreachable!(),
     }
+}
+
+/// Joins an editor to the daemon: dials the settings' place, names the server that is meant, where one is, and copies the input
+/// to the link and the link to the output, side by side, until both have ended. The dialled port is left in `port`, and has its
+/// link back. Ok says that the input and the link ended.
+///
+/// With a server's name the request `lspmux/open` is sent first, and nothing is read of the input before the link's first
+/// frame, which is to be its result. The copy of the input closes the link as it ends, so that the other copy ends too where a
+/// closed link's reads end; where the link ends first, the input's copy goes on until the input ends. Each copy has a buffer of
+/// 65,536 bytes.
+pub fn client<R: Threads + Wait + Sync, D: Door, I: Source + Send + Drop, O: Sink + Send + Drop>(
+    rt: &R,
+    alloc: Global,
+    config: &Config,
+    server: Option<&str>,
+    door: &mut D,
+    port: &mut Option<D::Port>,
+    input: &mut I,
+    output: &mut O,
+) -> Result<(), ClientFault>
+    requires { port.old ≡ None }
+    ensures called { Called (address_of config.now.place) (D.calls door.old) (D.calls door.new) result }
+    ensures ran { Dialled (door_state D.left D.faults door.old) (door_state D.left D.faults door.new)
+        (option_map (port_state D.Port.Port.sessions D.Port.Port.links D.Port.Port.held D.Port.Port.faults) port.new)
+        (session_of I.taken I.left I.faults O.written O.faults input.new output.new
+        ≡ session_of I.taken I.left I.faults O.written O.faults input.old output.old)
+        (Carried config.now.content (option_map (λ name. name.now) server.entry)
+        (session_of I.taken I.left I.faults O.written O.faults input.old output.old)
+        (session_of I.taken I.left I.faults O.written O.faults input.new output.new)) result }
+    ensures complete { (link : Session) (bytes : List ℕ) → OffersLink (door_state D.left D.faults door.old) link bytes
+        → SaysOpened config.now.content (option_map (λ name. name.now) server.entry) bytes → ¬ Rose (D.faults door.old) (D.faults door.new)
+        → ¬ Rose (I.faults input.old) (I.faults input.new) → ¬ Rose (O.faults output.old) (O.faults output.new)
+        → Stays (option_map (port_state D.Port.Port.sessions D.Port.Port.links D.Port.Port.held D.Port.Port.faults) port.new) link → IsDone result }
+{
+    carry_from(rt, alloc, config, server, door, port, input, output)
 }

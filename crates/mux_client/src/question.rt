@@ -1,11 +1,13 @@
 // One question to the daemon.
-ghost use Rattle.std.specs.Prelude.{◌≡◌, ◌≤◌, length, None, IfOk, option_map};
+ghost use Rattle.std.specs.Prelude.{◌≡◌, ◌≤◌, ℕ, List, length, None, IfOk, option_map};
 ghost use Rattle.outside_io.specs.Doors.{address_of};
-ghost use Rattle.outside_io.specs.Sessions.{session_of};
+ghost use Rattle.outside_io.specs.Faults.{Rose};
+ghost use Rattle.outside_io.specs.Sessions.{Session, session_of};
+ghost use Rattle.mux_client.specs.Complete.{IsDone, OffersLink, SaysFirst, Stays};
 ghost use Rattle.mux_client.specs.Dials.{AtPort, Called, Dialled, door_state, port_state};
 ghost use Rattle.mux_client.specs.Questions.{Asked, Resulted, output_state};
 ghost use Rattle.mux_client.specs.Replies.{Says};
-ghost use Rattle.mux_client.specs.Requests.{method_of, question_id, question_text, shown_text};
+ghost use Rattle.mux_client.specs.Requests.{IsResult, method_of, question_id, question_text, shown_text};
 
 use crate::dialling::{Link, NoLink, dial, hang_up, take_link};
 use crate::exchange::exchange;
@@ -140,11 +142,9 @@ fn ask_at<P: Port, O: Sink>(
     asked
 }
 
-/// Asks the daemon: dials the settings' place, sends the question under the id 1, and takes the link's first frame, which is to be
-/// its result. Of the status it writes the result's bytes and a line feed to the output, of a stop nothing. The dialled port is
-/// left in `port`.
+// Dials a place, and asks over its link. The port is left there.
 #[tactic(auto, using(crate::proofs::Dialling::dialled_none, crate::proofs::Dialling::dialled_given))]
-pub fn ask<D: Door, O: Sink>(
+fn ask_from<D: Door, O: Sink>(
     alloc: Global,
     config: &Config,
     question: Question,
@@ -164,4 +164,29 @@ pub fn ask<D: Door, O: Sink>(
         Some(port) => ask_at(alloc, config.content, question, port, output),
         None => unreachable!(),
     }
+}
+
+/// Asks the daemon: dials the settings' place, sends the question under the id 1, and takes the link's first frame, which is to be
+/// its result. Of the status it writes the result's bytes and a line feed to the output, of a stop nothing. The dialled port is
+/// left in `port`, and has its link back.
+pub fn ask<D: Door, O: Sink>(
+    alloc: Global,
+    config: &Config,
+    question: Question,
+    door: &mut D,
+    port: &mut Option<D::Port>,
+    output: &mut O,
+) -> Result<(), ClientFault>
+    requires { port.old ≡ None }
+    ensures called { Called (address_of config.now.place) (D.calls door.old) (D.calls door.new) result }
+    ensures ran { Dialled (door_state D.left D.faults door.old) (door_state D.left D.faults door.new)
+        (option_map (port_state D.Port.Port.sessions D.Port.Port.links D.Port.Port.held D.Port.Port.faults) port.new)
+        (output_state O.written O.faults output.new ≡ output_state O.written O.faults output.old)
+        (Asked config.now.content question (output_state O.written O.faults output.old) (output_state O.written O.faults output.new)) result }
+    ensures complete { (link : Session) (bytes : List ℕ) → OffersLink (door_state D.left D.faults door.old) link bytes
+        → SaysFirst config.now.content (IsResult question_id) bytes → ¬ Rose (D.faults door.old) (D.faults door.new)
+        → ¬ Rose (O.faults output.old) (O.faults output.new)
+        → Stays (option_map (port_state D.Port.Port.sessions D.Port.Port.links D.Port.Port.held D.Port.Port.faults) port.new) link → IsDone result }
+{
+    ask_from(alloc, config, question, door, port, output)
 }
