@@ -26,9 +26,9 @@ use Rattle.mux_client.proofs.Asking.{no_both}
 use Rattle.mux_client.proofs.Replying.{no_open_both}
 
 -- what a list that is told begins with
-first_told : {T : Type 0} (a b : T) (as : List T) (left : Option (List T)) → Some (a ∷ as) ≡ prepend_to (b ∷ []) left → a ≡ b
-first_told a b as None e = absurd (cc)
-first_told a b as (Some bs) e = cc
+first_told : {T : Type 0} (a b : T) (behind : List T) (left : Option (List T)) → Some (a ∷ behind) ≡ prepend_to (b ∷ []) left → a ≡ b
+first_told a b behind None e = absurd (cc)
+first_told a b behind (Some bs) e = cc
 
 -- what was heard is a front of what a link had to say
 record Rest (heard bytes : List ℕ) (left : Option (List ℕ)) : Type 0 where
@@ -41,12 +41,14 @@ rest_of heard bytes None e = absurd (cc)
 rest_of heard bytes (Some more) e = record { more = more; is = refl; bytes_are = cc }
 
 begins_longer : (limit : ℕ) (heard more answer : List ℕ) → Begins limit heard answer → Begins limit (heard ++ more) answer
-begins_longer limit heard more answer b =
-    (b.0 ++ more, record {
-        block = b.1.block;
-        bytes = ap (λ l. l ++ more) b.1.bytes ∙ (append_assoc b.1.block (answer ++ b.0) more ∙ ap (λ l. b.1.block ++ l) (append_assoc answer b.0 more));
-        header = b.1.header;
-      })
+begins_longer limit heard more answer b = (
+  b.0 ++ more,
+  record {
+    block = b.1.block;
+    bytes = ap (λ l. l ++ more) b.1.bytes ∙ (append_assoc b.1.block (answer ++ b.0) more ∙ ap (λ l. b.1.block ++ l) (append_assoc answer b.0 more));
+    header = b.1.header;
+  },
+)
 
 same_content : (a b m n : List ℕ) → whole a m ≡ whole b n → a ≡ b
 same_content a b m n e = cc
