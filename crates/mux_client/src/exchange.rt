@@ -1,5 +1,5 @@
 // One request that is sent on a link, and the link's first frame (LSP 3.17, Base Protocol).
-ghost use Rattle.std.specs.Prelude.{◌≡◌, ◌++◌, ◌∷◌, [], ℕ, List, true};
+ghost use Rattle.std.specs.Prelude.{◌≡◌, ◌≤◌, ◌++◌, ◌∷◌, [], ℕ, List, length, true, IfOk};
 ghost use Rattle.base_frame.specs.Reader.{Stands};
 ghost use Rattle.outside_io.specs.Sessions.{session_of};
 ghost use Rattle.mux_client.specs.Answers.{Exchanged, TakenFirst, anything, nothing};
@@ -25,6 +25,7 @@ fn feed_byte(reader: &mut FrameReader, byte: u8) -> bool
 fn take_frame<S: Source>(alloc: Global, limit: u32, source: &mut S) -> Result<Body, ClientFault>
     ensures first { TakenFirst limit (S.taken source.old) (S.taken source.new) (S.left source.old) (S.left source.new) (S.faults source.old)
         (S.faults source.new) result }
+    ensures fits { IfOk result (λ answer. length answer ≤ limit) }
 {
     let mut reader = FrameReader::new(alloc, limit);
     for _ in 0..u64::MAX {
@@ -57,8 +58,9 @@ pub fn exchange<S: Source, K: Sink>(
     source: &mut S,
     sink: &mut K,
 ) -> Result<Body, ClientFault>
-    ensures { Exchanged limit request.now anything nothing (session_of S.taken S.left S.faults K.written K.faults source.old sink.old)
+    ensures exchanged { Exchanged limit request.now anything nothing (session_of S.taken S.left S.faults K.written K.faults source.old sink.old)
         (session_of S.taken S.left S.faults K.written K.faults source.new sink.new) result }
+    ensures fits { IfOk result (λ answer. length answer ≤ limit) }
 {
     let bytes = frame(alloc, request)?;
     if !write_piece(sink, bytes.bytes()) {

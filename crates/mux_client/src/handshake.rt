@@ -8,7 +8,6 @@ ghost use Rattle.mux_client.specs.Requests.{IsRefusal, IsResult, open_id, open_t
 use crate::exchange::exchange;
 use crate::fault::ClientFault;
 use crate::reply::{Reply, read_reply};
-use base_frame::written_law;
 use message_body::{Body, Memory};
 use outside_io::{Sink, Source};
 use rpc_message::json_span::quote;
@@ -54,7 +53,6 @@ pub fn open_server<S: Source, K: Sink>(
         (session_of S.taken S.left S.faults K.written K.faults source.old sink.old)
         (session_of S.taken S.left S.faults K.written K.faults source.new sink.new) result }
 {
-    written_law();
     let request = open_request(alloc, name)?;
     let answer = exchange(alloc, limit, request.bytes(), source, sink)?;
     match open_reply(alloc, answer.bytes())? {

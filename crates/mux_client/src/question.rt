@@ -14,7 +14,6 @@ use crate::exchange::exchange;
 use crate::fault::ClientFault;
 use crate::pieces::write_piece;
 use crate::reply::{Reply, read_reply};
-use base_frame::written_law;
 use message_body::{Body, Memory};
 use mux_config::Config;
 use outside_io::{Door, Port, Sink, Source};
@@ -69,7 +68,6 @@ fn result_of<S: Source, K: Sink>(
     ensures { Resulted limit question (session_of S.taken S.left S.faults K.written K.faults link.old.source link.old.sink)
         (session_of S.taken S.left S.faults K.written K.faults link.new.source link.new.sink) result }
 {
-    written_law();
     let asked = question_request(alloc, question)?;
     let answer = exchange(
         alloc,
@@ -88,12 +86,14 @@ fn result_of<S: Source, K: Sink>(
 fn shown(alloc: Global, question: Question, value: &[u8]) -> Result<Vec<u8>, Memory>
     ensures { IfOk result (λ line. line.items ≡ shown_text question value.now) }
 {
-    let mut line = Vec::new(alloc);
-    if question == Question::Status {
-        line.extend_from_slice(value)?;
-        line.push(b'\n')?;
+    match question {
+        Question::Status => {
+            let mut line = Vec::from_slice(alloc, value)?;
+            line.push(b'\n')?;
+            Ok(line)
+        }
+        Question::Stop => Ok(Vec::new(alloc)),
     }
-    Ok(line)
 }
 
 // Asks over a link, and shows the result.

@@ -1,4 +1,5 @@
-use Rattle.std.proofs.Common.{refl, ◌∙◌, arith}
+use Rattle.std.proofs.Common.{[], arith, refl}
+use Rattle.base_frame.proofs.ReadBack.{contents_fit}
 use Rattle.mux_client.proofs.Frames.{first_bad, first_ended, first_failed, first_more, first_over, first_start, first_taken, first_unfed}
 use Rattle.mux_client.proofs.exchange.take_frame.Goals as goal
 
@@ -29,6 +30,13 @@ returns-in-Frame-clause-first g c =
     first_taken c.args.limit c.loop.reader (g.S.Source.taken c.args.source.now) (g.S.Source.taken c.loop.source) (g.S.Source.left c.args.source.now) (g.S.Source.left c.loop.source) (g.S.Source.faults c.args.source.now) (g.S.Source.faults c.loop.source)
     c.loop.invariant.first c.loop.invariant.later (g.S.Source.taken c.read_byte.new.source) (g.S.Source.left c.read_byte.new.source) (g.S.Source.faults c.read_byte.new.source) c.read_byte.ensures.later
     c.in-Byte.byte c.in-Byte.ensures.came c.feed_byte.new.reader c.next.new.self (c.if-not-feed_byte.ensures.fed refl) c.feed_byte.ensures.limit c.next.ensures.limit c.in-Frame.body c.in-Frame.ensures.gives
+
+pub returns-in-Frame-clause-fits : goal.returns-in-Frame-clause-fits
+returns-in-Frame-clause-fits g c =
+    let x = first_taken c.args.limit c.loop.reader (g.S.Source.taken c.args.source.now) (g.S.Source.taken c.loop.source) (g.S.Source.left c.args.source.now) (g.S.Source.left c.loop.source) (g.S.Source.faults c.args.source.now) (g.S.Source.faults c.loop.source)
+    c.loop.invariant.first c.loop.invariant.later (g.S.Source.taken c.read_byte.new.source) (g.S.Source.left c.read_byte.new.source) (g.S.Source.faults c.read_byte.new.source) c.read_byte.ensures.later
+    c.in-Byte.byte c.in-Byte.ensures.came c.feed_byte.new.reader c.next.new.self (c.if-not-feed_byte.ensures.fed refl) c.feed_byte.ensures.limit c.next.ensures.limit c.in-Frame.body c.in-Frame.ensures.gives in
+    contents_fit c.args.limit x.heard c.in-Frame.body [] x.first
 
 pub returns-in-BadFrame-clause-first : goal.returns-in-BadFrame-clause-first
 returns-in-BadFrame-clause-first g c =
