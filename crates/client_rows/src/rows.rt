@@ -30,6 +30,7 @@ const OTHER: &str = "Content-Length: 38\r\n\r\n{\"jsonrpc\":\"2.0\",\"id\":2,\"r
 
 // A link: what is asked behind `client` or by a question, what the link says, and what is wanted of the result, the bytes that were
 // sent and those that were shown.
+#[derive(Clone, Copy)]
 struct Row<Q> {
     asked: Q,
     says: &'static str,
@@ -39,6 +40,7 @@ struct Row<Q> {
 }
 
 // What was seen of a run.
+#[derive(Drop)]
 struct Seen {
     result: Result<(), ClientFault>,
     port: Option<MemPort>,
