@@ -1,0 +1,12 @@
+pub mod Answers
+pub mod Complete
+pub mod Copies
+pub mod Dials
+pub mod Faults
+pub mod Firsts
+pub mod Pieces
+pub mod Questions
+pub mod Replies
+pub mod Requests
+pub mod Runs
+pub mod Sessions
