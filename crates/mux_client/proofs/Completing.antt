@@ -22,7 +22,6 @@ use Rattle.mux_client.specs.Sessions.{ReadFailed, WriteFailed}
 use Rattle.mux_client.specs.declared.question.Question.{Question}
 use Rattle.mux_client.specs.declared.fault.ClientFault.{ClientFault}
 use Rattle.mux_client.specs.declared.fault.ClientFault.TheVariants as fault
-use Rattle.mux_client.proofs.Asking.{no_both}
 use Rattle.mux_client.proofs.Replying.{no_open_both}
 
 -- what a list that is told begins with

@@ -5,5 +5,6 @@ pub mod Copying
 pub mod Dialling
 pub mod Exchanging
 pub mod Frames
+pub mod Opening
 pub mod Passing
 pub mod Replying

@@ -41,8 +41,12 @@ fn carry<
         (session_of S.taken S.left S.faults K.written K.faults link.old.source link.old.sink)
         (session_of S.taken S.left S.faults K.written K.faults link.new.source link.new.sink) result }
 {
-    let mut typed = Buffer::new(alloc)?;
-    let mut heard = Buffer::new(alloc)?;
+    let Ok(mut typed) = Buffer::new(alloc) else {
+        return Err(ClientFault::Memory);
+    };
+    let Ok(mut heard) = Buffer::new(alloc) else {
+        return Err(ClientFault::Memory);
+    };
     match server {
         None => copy_both(rt, &mut typed, &mut heard, link, input, output),
         Some(name) => {
@@ -80,7 +84,7 @@ fn carry_at<R: Threads + Wait + Sync, P: Port, I: Source + Send + Drop, O: Sink 
 }
 
 // Dials a place, and carries over its link. The port is left there.
-#[tactic(auto, using(crate::proofs::Dialling::dialled_none, crate::proofs::Dialling::dialled_given))]
+#[tactic(auto, using(crate::proofs::Dialling::called_so, crate::proofs::Dialling::dialled_none, crate::proofs::Dialling::dialled_given))]
 fn carry_from<R: Threads + Wait + Sync, D: Door, I: Source + Send + Drop, O: Sink + Send + Drop>(
     rt: &R,
     alloc: Global,
