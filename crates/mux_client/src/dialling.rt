@@ -24,7 +24,7 @@ pub fn dial<D: Door>(
     port: &mut Option<D::Port>,
 ) -> Result<(), ClientFault>
     ensures called { Called (address_of place.now) (D.calls door.old) (D.calls door.new) result }
-    ensures dialled { OnOk result (D.calls door.new ≡ append_to (D.calls door.old) (dialled (address_of place.now) ∷ [])) }
+    ensures one_call { OnOk result (D.calls door.new ≡ append_to (D.calls door.old) (dialled (address_of place.now) ∷ [])) }
     ensures filled { OnOk result (IsSome port.new) }
     ensures fresh { OnOk result (IfSome port.new (λ port. D.Port.Port.faults port ≡ 0)) }
     ensures port { OnOk result

@@ -7,7 +7,8 @@ ghost use Rattle.mux_client.specs.Complete.{IsDone, OffersLink, SaysOpened, Stay
 ghost use Rattle.mux_client.specs.Dials.{AtPort, Called, Dialled, door_state, port_state};
 ghost use Rattle.mux_client.specs.Runs.{Carried};
 
-use crate::copies::{Buffer, copy_both};
+use crate::buffer::Buffer;
+use crate::copies::copy_both;
 use crate::dialling::{Link, NoLink, dial, hang_up, take_link};
 use crate::fault::ClientFault;
 use crate::handshake::open_server;

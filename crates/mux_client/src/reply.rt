@@ -20,9 +20,9 @@ pub enum Reply {
     Other,
 }
 
-// The same without the result.
+/// The same without the result.
 #[derive(Clone, Copy, Debug, PartialEq, Eq)]
-enum ReplySort {
+pub enum ReplySort {
     Result,
     Refusal,
     Other,
