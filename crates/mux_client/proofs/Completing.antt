@@ -64,7 +64,7 @@ module _ (limit : ℕ) (Wanted Refusal : List ℕ → Type 0) (apart : (answer :
   is_answer : (answer : List ℕ) → Begins limit heard answer → Wanted answer
   is_answer answer b = subst Wanted (one_first limit bytes says.0 answer says.1 (on answer b)) says.2
 
-  pub not_refused : (answer : List ℕ) × Begins limit heard answer × Refusal answer → ⊥
+  not_refused : (answer : List ℕ) × Begins limit heard answer × Refusal answer → ⊥
   not_refused k = apart k.0 k.2 (is_answer k.0 k.1)
 
   no_frame_left : IfSome link'.left (λ left. left ≡ []) → heard ≡ bytes
@@ -74,7 +74,7 @@ module _ (limit : ℕ) (Wanted Refusal : List ℕ → Type 0) (apart : (answer :
       go None s k = absurd (cc)
       go (Some z) s k = let same : z ≡ rest.more = cc in sym (rest.bytes_are ∙ (ap (λ l. heard ++ l) (sym same ∙ k) ∙ append-nil heard))
 
-  pub not_other : NoFrame limit heard link' ⊎ OtherFrame limit heard Wanted Refusal → ⊥
+  not_other : NoFrame limit heard link' ⊎ OtherFrame limit heard Wanted Refusal → ⊥
   not_other (inl (inl bad)) =
       let stays = faults_stay limit heard rest.more bad.0 bad.1 bad.2 in
       let none = (one_fault limit (heard ++ rest.more) bad.0 bad.1 bad.0 bad.1 stays stays).0 in
