@@ -2,7 +2,7 @@ pub mod Asking
 pub mod Carrying
 pub mod Completing
 pub mod Copying
-pub mod Dialling
+pub mod Dials
 pub mod Exchanging
 pub mod Frames
 pub mod Opening

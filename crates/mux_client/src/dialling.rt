@@ -17,7 +17,7 @@ pub struct Link<I, O> {
 }
 
 /// Dials a place. A port is put into `port` where it answers Ok, and else `port` stays as it was.
-#[tactic(auto, using(crate::proofs::Dialling::called_so, crate::proofs::Dialling::called_not))]
+#[tactic(auto, using(crate::proofs::Dials::called_so, crate::proofs::Dials::called_not))]
 pub fn dial<D: Door>(
     door: &mut D,
     place: &Place,

@@ -58,7 +58,7 @@ fn carry<
 }
 
 // Takes a port's link, carries over it, and hands it back.
-#[tactic(auto, using(crate::proofs::Dialling::at_none, crate::proofs::Dialling::at_link))]
+#[tactic(auto, using(crate::proofs::Dials::at_none, crate::proofs::Dials::at_link))]
 fn carry_at<R: Threads + Wait + Sync, P: Port, I: Source + Send + Drop, O: Sink + Send + Drop>(
     rt: &R,
     alloc: Global,
@@ -85,7 +85,7 @@ fn carry_at<R: Threads + Wait + Sync, P: Port, I: Source + Send + Drop, O: Sink 
 }
 
 // Dials a place, and carries over its link. The port is left there.
-#[tactic(auto, using(crate::proofs::Dialling::called_so, crate::proofs::Dialling::dialled_none, crate::proofs::Dialling::dialled_given))]
+#[tactic(auto, using(crate::proofs::Dials::called_so, crate::proofs::Dials::dialled_none, crate::proofs::Dials::dialled_given))]
 fn carry_from<R: Threads + Wait + Sync, D: Door, I: Source + Send + Drop, O: Sink + Send + Drop>(
     rt: &R,
     alloc: Global,

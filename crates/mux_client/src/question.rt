@@ -128,7 +128,7 @@ fn ask_over<S: Source, K: Sink, O: Sink>(
 }
 
 // Takes a port's link, asks over it, and hands it back.
-#[tactic(auto, using(crate::proofs::Dialling::at_none, crate::proofs::Dialling::at_link))]
+#[tactic(auto, using(crate::proofs::Dials::at_none, crate::proofs::Dials::at_link))]
 fn ask_at<P: Port, O: Sink>(
     alloc: Global,
     limit: u32,
@@ -151,7 +151,7 @@ fn ask_at<P: Port, O: Sink>(
 }
 
 // Dials a place, and asks over its link. The port is left there.
-#[tactic(auto, using(crate::proofs::Dialling::called_so, crate::proofs::Dialling::dialled_none, crate::proofs::Dialling::dialled_given))]
+#[tactic(auto, using(crate::proofs::Dials::called_so, crate::proofs::Dials::dialled_none, crate::proofs::Dials::dialled_given))]
 fn ask_from<D: Door, O: Sink>(
     alloc: Global,
     config: &Config,
