@@ -1,4 +1,5 @@
 // Links that say these bytes, and what a client or a question comes to.
+use crate::closing::{ClosingDoor, ClosingPort, ClosingSink};
 use crate::outside::{door, metered_sink, one, sent, sink, source, waiting_source};
 use mux_client::{ClientFault, Question, ask, client};
 use mux_config::Config;
@@ -296,5 +297,35 @@ fn a_failed_call_is_told(rt: HostRuntime) -> Result<(), Fail> {
     )?;
     assert_eq!(rt; seen.result, Err(ClientFault::Answer));
     assert!(rt; seen.port.is_some());
+    Ok(())
+}
+
+// As the input ends, the link is closed, and ends only then.
+#[test]
+fn an_input_that_ends_closes_the_link(rt: HostRuntime) -> Result<(), Fail> {
+    let alloc = rt.alloc();
+    let closed = Meter::new(alloc)?;
+    let link = waiting_source(alloc, "", 0, &closed, 1)?;
+    let closing = ClosingSink::new(sink(alloc), metered_sink(alloc, closed));
+    let mut door = ClosingDoor::new(ClosingPort::new(link, closing));
+    let config = Config::built_in(alloc)?;
+    let mut port = None;
+    let mut input = source(alloc, "abc")?;
+    let mut output = sink(alloc);
+    let result = client(
+        &rt,
+        alloc,
+        &config,
+        None,
+        &mut door,
+        &mut port,
+        &mut input,
+        &mut output,
+    );
+    assert_eq!(rt; result, Ok(()));
+    let Some(port) = port else {
+        return Err(Fail::new("no port"));
+    };
+    assert!(rt; port.written() == Some(b"abc".as_slice()));
     Ok(())
 }

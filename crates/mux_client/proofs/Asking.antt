@@ -22,21 +22,24 @@ use Rattle.mux_client.proofs.Replying.{refusal_sort, result_sort}
 no_both : (body : List ℕ) → IsRefusal question_id body → IsResult question_id body → ⊥
 no_both body f r = let q : Some sort.Result ≡ Some sort.Error = sym (result_sort question_id body r) ∙ refusal_sort question_id body f in absurd (cc)
 
-module _ (limit : ℕ) (question : Question) (link link' : Session) where
-  pub resulted : (answer value : List ℕ) → Exchanged limit (question_text question) anything nothing link link' (Ok answer) → IsResult question_id answer × (value ≡ result_bytes answer) → Resulted limit question link link' (Ok value)
-  resulted answer value x h = record { heard = x.heard; sent = x.sent; at_link = x.passes; order = x.front; value = (answer, (x.taken.0, h.0, x.taken.2), h.1) }
+module _ (limit : ℕ) (question : Question) (text : List ℕ) (link link' : Session) where
+  put : (r : Result (List ℕ) ClientFault) → text ≡ question_text question → Exchanged limit text anything nothing link link' r → Exchanged limit (question_text question) anything nothing link link' r
+  put r is x = subst (λ t. Exchanged limit t anything nothing link link' r) is x
 
-  pub resulted_other : (answer : List ℕ) → Exchanged limit (question_text question) anything nothing link link' (Ok answer) → (IsResult question_id answer → ⊥) × (IsRefusal question_id answer → ⊥) → Resulted limit question link link' (Err fault.Answer)
-  resulted_other answer x h = record { heard = x.heard; sent = x.sent; at_link = x.passes; order = x.front; value = inr (answer, ([], x.taken.0), h.0, λ n. n) }
+  pub resulted : (answer value : List ℕ) → text ≡ question_text question → Exchanged limit text anything nothing link link' (Ok answer) → IsResult question_id answer × (value ≡ result_bytes answer) → Resulted limit question link link' (Ok value)
+  resulted answer value is z h = let x = put (Ok answer) is z in record { heard = x.heard; sent = x.sent; at_link = x.passes; order = x.front; value = (answer, (x.taken.0, h.0, x.taken.2), h.1) }
 
-  pub resulted_refused : (answer : List ℕ) → Exchanged limit (question_text question) anything nothing link link' (Ok answer) → IsRefusal question_id answer → Resulted limit question link link' (Err fault.Answer)
-  resulted_refused answer x h = record { heard = x.heard; sent = x.sent; at_link = x.passes; order = x.front; value = inr (answer, ([], x.taken.0), no_both answer h, λ n. n) }
+  pub resulted_other : (answer : List ℕ) → text ≡ question_text question → Exchanged limit text anything nothing link link' (Ok answer) → (IsResult question_id answer → ⊥) × (IsRefusal question_id answer → ⊥) → Resulted limit question link link' (Err fault.Answer)
+  resulted_other answer is z h = let x = put (Ok answer) is z in record { heard = x.heard; sent = x.sent; at_link = x.passes; order = x.front; value = inr (answer, ([], x.taken.0), h.0, λ n. n) }
 
-  pub resulted_unlooked : (answer : List ℕ) → Exchanged limit (question_text question) anything nothing link link' (Ok answer) → Resulted limit question link link' (Err fault.Memory)
-  resulted_unlooked answer x = record { heard = x.heard; sent = x.sent; at_link = x.passes; order = x.front; value = tt }
+  pub resulted_refused : (answer : List ℕ) → text ≡ question_text question → Exchanged limit text anything nothing link link' (Ok answer) → IsRefusal question_id answer → Resulted limit question link link' (Err fault.Answer)
+  resulted_refused answer is z h = let x = put (Ok answer) is z in record { heard = x.heard; sent = x.sent; at_link = x.passes; order = x.front; value = inr (answer, ([], x.taken.0), no_both answer h, λ n. n) }
 
-  pub resulted_none : (e : ClientFault) → Exchanged limit (question_text question) anything nothing link link' (Err e) → Resulted limit question link link' (Err e)
-  resulted_none e x = let y = no_answer limit (question_text question) (IsResult question_id) nothing link link' e x in record { heard = y.heard; sent = y.sent; at_link = y.passes; order = y.front; value = y.taken }
+  pub resulted_unlooked : (answer : List ℕ) → text ≡ question_text question → Exchanged limit text anything nothing link link' (Ok answer) → Resulted limit question link link' (Err fault.Memory)
+  resulted_unlooked answer is z = let x = put (Ok answer) is z in record { heard = x.heard; sent = x.sent; at_link = x.passes; order = x.front; value = tt }
+
+  pub resulted_none : (e : ClientFault) → text ≡ question_text question → Exchanged limit text anything nothing link link' (Err e) → Resulted limit question link link' (Err e)
+  resulted_none e is z = let y = no_answer limit (question_text question) (IsResult question_id) nothing link link' e (put (Err e) is z) in record { heard = y.heard; sent = y.sent; at_link = y.passes; order = y.front; value = y.taken }
 
 -- memory was wanted before anything was sent
 pub resulted_unsent : (limit : ℕ) (question : Question) (link : Session) → Resulted limit question link link (Err fault.Memory)

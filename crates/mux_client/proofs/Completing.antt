@@ -1,6 +1,6 @@
 -- A client and a question that end well.
 use Rattle.std.proofs.Common.{◌≡◌, ℕ, ◌+◌, ◌⊎◌, List, [], ◌∷◌, ◌++◌, inl, inr, refl, sym, ap, ◌∙◌, subst, append_assoc, append-nil, IfSome}
-use Rattle.std.specs.Prelude.{Option, Some, None, Result, Ok, Err, ⊤}
+use Rattle.std.specs.Prelude.{Option, Some, None, Result, Ok, Err}
 use Rattle.std.specs.Io.KnownBytes.{prepend_known}
 use Rattle.base_frame.specs.Frames.{HasNoFrame}
 use Rattle.base_frame.specs.Grammar.{IsFrame}
@@ -22,7 +22,6 @@ use Rattle.mux_client.specs.Sessions.{ReadFailed, WriteFailed}
 use Rattle.mux_client.specs.declared.question.Question.{Question}
 use Rattle.mux_client.specs.declared.fault.ClientFault.{ClientFault}
 use Rattle.mux_client.specs.declared.fault.ClientFault.TheVariants as fault
-use Rattle.mux_client.proofs.Asking.{no_both}
 use Rattle.mux_client.proofs.Replying.{no_open_both}
 
 -- what a list that is told begins with
@@ -65,7 +64,7 @@ module _ (limit : ℕ) (Wanted Refusal : List ℕ → Type 0) (apart : (answer :
   is_answer : (answer : List ℕ) → Begins limit heard answer → Wanted answer
   is_answer answer b = subst Wanted (one_first limit bytes says.0 answer says.1 (on answer b)) says.2
 
-  pub not_refused : (answer : List ℕ) × Begins limit heard answer × Refusal answer → ⊥
+  not_refused : (answer : List ℕ) × Begins limit heard answer × Refusal answer → ⊥
   not_refused k = apart k.0 k.2 (is_answer k.0 k.1)
 
   no_frame_left : IfSome link'.left (λ left. left ≡ []) → heard ≡ bytes
@@ -75,7 +74,7 @@ module _ (limit : ℕ) (Wanted Refusal : List ℕ → Type 0) (apart : (answer :
       go None s k = absurd (cc)
       go (Some z) s k = let same : z ≡ rest.more = cc in sym (rest.bytes_are ∙ (ap (λ l. heard ++ l) (sym same ∙ k) ∙ append-nil heard))
 
-  pub not_other : NoFrame limit heard link' ⊎ OtherFrame limit heard Wanted Refusal → ⊥
+  not_other : NoFrame limit heard link' ⊎ OtherFrame limit heard Wanted Refusal → ⊥
   not_other (inl (inl bad)) =
       let stays = faults_stay limit heard rest.more bad.0 bad.1 bad.2 in
       let none = (one_fault limit (heard ++ rest.more) bad.0 bad.1 bad.0 bad.1 stays stays).0 in

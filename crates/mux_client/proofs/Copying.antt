@@ -16,32 +16,32 @@ copies_none s = record { bytes = []; passes = passes_none s }
 
 -- a read behind so much of a copy, and a write
 module _ (a : Session) (t0 t1 l0 l1 w0 w1 : Option (List ℕ)) (f0 f1 g0 g1 : ℕ) where
-  before : Session
+  abbrev pub before : Session
   before = record { read = t0; left = l0; written = w0; source_faults = f0; sink_faults = g0 }
 
-  read : Session
-  read = record { read = t1; left = l1; written = w0; source_faults = f1; sink_faults = g0 }
+  abbrev pub got : Session
+  got = record { read = t1; left = l1; written = w0; source_faults = f1; sink_faults = g0 }
 
-  after : Session
+  abbrev pub after : Session
   after = record { read = t1; left = l1; written = w1; source_faults = f1; sink_faults = g1 }
 
-  came_passes : (piece : List ℕ) → Came t0 t1 l0 l1 piece → f0 ≤ f1 → Passes before read piece []
+  came_passes : (piece : List ℕ) → Came t0 t1 l0 l1 piece → f0 ≤ f1 → Passes before got piece []
   came_passes piece x h = passes_read t0 t1 l0 l1 w0 f0 f1 g0 piece x.leaves x.reads h
 
-  pub copy_ended : CopiesSoFar a before → Came t0 t1 l0 l1 [] × IsEnded l1 → f0 ≤ f1 → Copies a read copied.All
+  pub copy_ended : CopiesSoFar a before → Came t0 t1 l0 l1 [] × IsEnded l1 → f0 ≤ f1 → Copies a got copied.All
   copy_ended f x h = record {
     read = f.bytes ++ [];
     written = f.bytes ++ [];
-    passes = passes_then a before read f.bytes f.bytes [] [] f.passes (came_passes [] x.0 h);
+    passes = passes_then a before got f.bytes f.bytes [] [] f.passes (came_passes [] x.0 h);
     front = front_all (f.bytes ++ []);
     ended = (refl, x.1);
   }
 
-  pub copy_unread : CopiesSoFar a before → Came t0 t1 l0 l1 [] × Rose f0 f1 → f0 ≤ f1 → Copies a read copied.ReadFault
+  pub copy_unread : CopiesSoFar a before → Came t0 t1 l0 l1 [] × Rose f0 f1 → f0 ≤ f1 → Copies a got copied.ReadFault
   copy_unread f x h = record {
     read = f.bytes ++ [];
     written = f.bytes ++ [];
-    passes = passes_then a before read f.bytes f.bytes [] [] f.passes (came_passes [] x.0 h);
+    passes = passes_then a before got f.bytes f.bytes [] [] f.passes (came_passes [] x.0 h);
     front = front_all (f.bytes ++ []);
     ended = rose_from a.source_faults f0 f1 f.passes.source_later x.1;
   }
@@ -82,13 +82,8 @@ copies_closed a taken left written written' f g g' result x e h = record {
   ended = go result x.ended;
 }
   where
-    before : Session
-    before = record { read = taken; left = left; written = written; source_faults = f; sink_faults = g }
-
-    after : Session
-    after = record { read = taken; left = left; written = written'; source_faults = f; sink_faults = g' }
-
-    go : (r : Copied) → CopyEnded a before x.read x.written r → CopyEnded a after x.read x.written r
+    go : (r : Copied) → CopyEnded a (record { read = taken; left = left; written = written; source_faults = f; sink_faults = g }) x.read x.written r
+        → CopyEnded a (record { read = taken; left = left; written = written'; source_faults = f; sink_faults = g' }) x.read x.written r
     go copied.All k = k
     go copied.ReadFault k = k
     go copied.WriteFault k = rose_on a.sink_faults g g' k h

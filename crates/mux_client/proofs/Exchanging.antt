@@ -42,13 +42,7 @@ module _ (limit : ℕ) (request bytes : List ℕ) (taken left written written' :
     taken = go result x.first;
   }
     where
-      before : Session
-      before = record { read = taken; left = left; written = written; source_faults = f; sink_faults = g }
-
-      after : Session
-      after = record { read = taken'; left = left'; written = written'; source_faults = f'; sink_faults = g' }
-
-      why : (e : ClientFault) → WhyNoFrame limit left' f f' x.heard e → WhyNoAnswer limit anything nothing before after x.heard e
+      why : (e : ClientFault) → WhyNoFrame limit left' f f' x.heard e → WhyNoAnswer limit anything nothing (record { read = taken; left = left; written = written; source_faults = f; sink_faults = g }) (record { read = taken'; left = left'; written = written'; source_faults = f'; sink_faults = g' }) x.heard e
       why fault.Memory k = tt
       why fault.Link k = inl k
       why fault.Answer k = inl k
@@ -57,7 +51,7 @@ module _ (limit : ℕ) (request bytes : List ℕ) (taken left written written' :
       why fault.Input k = absurd k
       why fault.Output k = absurd k
 
-      go : (r : Result (List ℕ) ClientFault) → IsFirst limit left' f f' x.heard r → Taken limit request anything nothing before after x.heard bytes r
+      go : (r : Result (List ℕ) ClientFault) → IsFirst limit left' f f' x.heard r → Taken limit request anything nothing (record { read = taken; left = left; written = written; source_faults = f; sink_faults = g }) (record { read = taken'; left = left'; written = written'; source_faults = f'; sink_faults = g' }) x.heard bytes r
       go (Ok answer) k = (k, tt, is)
       go (Err e) k = why e k
 

@@ -51,11 +51,6 @@ pub passes_read : (taken taken' left left' written : Option (List ℕ)) (f f' g 
     → Passes (record { read = taken; left = left; written = written; source_faults = f; sink_faults = g }) (record { read = taken'; left = left'; written = written; source_faults = f'; sink_faults = g }) bytes []
 passes_read taken taken' left left' written f f' g bytes l t h = record { reads = t; leaves = l; writes = known_none written; source_later = h; sink_later = no_later g }
 
--- a read that failed
-pub passes_unread : (taken taken' left left' written : Option (List ℕ)) (f f' g : ℕ) → left' ≡ left → taken' ≡ taken → f ≤ f'
-    → Passes (record { read = taken; left = left; written = written; source_faults = f; sink_faults = g }) (record { read = taken'; left = left'; written = written; source_faults = f'; sink_faults = g }) [] []
-passes_unread taken taken' left left' written f f' g l t h = passes_read taken taken' left left' written f f' g [] (sym l ∙ left_none left') (t ∙ known_none taken) h
-
 -- a write
 pub passes_write : (taken left written written' : Option (List ℕ)) (f g g' : ℕ) (bytes : List ℕ) → written' ≡ append_known written bytes → g ≤ g'
     → Passes (record { read = taken; left = left; written = written; source_faults = f; sink_faults = g }) (record { read = taken; left = left; written = written'; source_faults = f; sink_faults = g' }) [] bytes
@@ -76,9 +71,6 @@ front_behind front part whole h = (h.0, ap (λ l. front ++ l) h.1 ∙ sym (appen
 
 pub front_longer : (part whole more : List ℕ) → IsFront part whole → IsFront part (whole ++ more)
 front_longer part whole more h = (h.0 ++ more, ap (λ l. l ++ more) h.1 ∙ append_assoc part h.0 more)
-
-pub front_is : (part whole : List ℕ) → part ≡ whole → IsFront whole part
-front_is part whole e = ([], e ∙ sym (append-nil whole))
 
 -- failures, behind what went well
 pub read_failed_late : (a b c : Session) (r w : List ℕ) → Passes a b r w → ReadFailed b c → ReadFailed a c

@@ -1,5 +1,5 @@
 -- Which reply a body is to a request.
-use Rattle.std.proofs.Common.{◌≡◌, ◌≢◌, ℕ, Bool, true, false, ◌&&◌, List, [], ◌∷◌, ◌++◌, codes, refl, sym, ap, ◌∙◌, subst, bytes_eq, arith, if◌then◌else◌}
+use Rattle.std.proofs.Common.{◌≡◌, ℕ, Bool, true, false, ◌&&◌, List, [], ◌∷◌, ◌++◌, codes, refl, sym, ap, ◌∙◌, subst, bytes_eq, arith, if◌then◌else◌}
 use Rattle.std.specs.Prelude.{Option, Some, None}
 use Rattle.std.specs.Bool.{Decides}
 use Rattle.std.proofs.lemmas.Slice.Eq.{bytes_eq-Decides}
@@ -7,12 +7,10 @@ use Rattle.json_text.specs.declared.kind.Word.TheVariants.{Null, False, True}
 use Rattle.json_text.specs.Json.{Json, word, number, string, array, object, value}
 use Rattle.json_text.proofs.Compact.{simple_spells}
 use Rattle.rpc_message.specs.Ids.{is_quoted}
-use Rattle.rpc_message.specs.Message.{Message, Id, integer, text, request, notification, result, error, not_json, not_message, id_bytes, id_of, is_integer, message_of, response_id, result_bytes, same_id}
-use Rattle.rpc_message.specs.Sorts.{Refuses, sort_of}
+use Rattle.rpc_message.specs.Message.{Message, Id, integer, text, request, notification, result, error, not_json, not_message, id_bytes, id_of, integer_if, is_integer, message_of, response_id, result_bytes, same_id}
+use Rattle.rpc_message.specs.Sorts.{sort_of}
 use Rattle.rpc_message.specs.declared.sort.Sort.{Sort}
 use Rattle.rpc_message.specs.declared.sort.Sort.TheVariants as sort
-use Rattle.rpc_message.specs.declared.sort.Malformed.{Malformed}
-use Rattle.rpc_message.specs.declared.sort.Malformed.TheVariants as malformed
 use Rattle.rpc_message.specs.ValueTexts.{IsIdText, IsResponseIdText}
 use Rattle.rpc_message.proofs.Decimals.{decimal_law}
 use Rattle.rpc_message.proofs.Ids.{error_id_bytes, result_id_bytes}
@@ -63,7 +61,7 @@ module _ (asked : Id) (id w : List ℕ) (b : Bool) (own : IsIdText asked id) (id
   told_by i (word s Null) v e = null_told i v.0 e
   told_by i (word s False) v e = absurd (cc)
   told_by i (word s True) v e = absurd (cc)
-  told_by i (number s ds) v e = number_told i (number s ds) ds (is_integer ds) v e (λ h. ap (λ x. if x then Some (integer ds) else None) h) e
+  told_by i (number s ds) v e = number_told i (number s ds) ds (is_integer ds) v e (λ h. ap (λ x. integer_if x ds) h) e
   told_by i (string s cs) v e = by_id i (string s cs) v e (text cs) refl (let same : Some (text cs) ≡ i = cc in sym same)
   told_by i (array s js) v e = absurd (cc)
   told_by i (object s ms) v e = absurd (cc)
@@ -118,14 +116,16 @@ result_sort asked body h = ap sort_of h.1
 pub refusal_sort : (asked : Id) (body : List ℕ) → IsRefusal asked body → sort_of (message_of body) ≡ Some sort.Error
 refusal_sort asked body h = ap sort_of h.1
 
-refused_sort : (e : Malformed) (m : Message) → (e ≢ malformed.Memory) → Refuses e m → sort_of m ≡ None
-refused_sort malformed.NotJson m n h = ap sort_of h
-refused_sort malformed.NotMessage m n h = ap sort_of h
-refused_sort malformed.Memory m n h = absurd (n refl)
+unclassed : (asked : Id) (body : List ℕ) → sort_of (message_of body) ≡ None → (IsResult asked body → ⊥) × (IsRefusal asked body → ⊥)
+unclassed asked body none =
+    (λ r. let s : Some sort.Result ≡ None = sym (result_sort asked body r) ∙ none in absurd (cc), λ r. let s : Some sort.Error ≡ None = sym (refusal_sort asked body r) ∙ none in absurd (cc))
 
 -- a body that is no message says nothing of a request
-pub unread : (asked : Id) (body : List ℕ) (e : Malformed) → (e ≢ malformed.Memory) → Refuses e (message_of body) → (IsResult asked body → ⊥) × (IsRefusal asked body → ⊥)
-unread asked body e n h = (λ r. let s : Some sort.Result ≡ None = sym (result_sort asked body r) ∙ refused_sort e (message_of body) n h in absurd (cc), λ r. let s : Some sort.Error ≡ None = sym (refusal_sort asked body r) ∙ refused_sort e (message_of body) n h in absurd (cc))
+pub unread_json : (asked : Id) (body : List ℕ) → message_of body ≡ not_json → (IsResult asked body → ⊥) × (IsRefusal asked body → ⊥)
+unread_json asked body e = unclassed asked body (ap sort_of e)
+
+pub unread_message : (asked : Id) (body : List ℕ) → message_of body ≡ not_message → (IsResult asked body → ⊥) × (IsRefusal asked body → ⊥)
+unread_message asked body e = unclassed asked body (ap sort_of e)
 
 -- by the test of the ids and the class
 pub same_says : (asked : Id) (body : List ℕ) (b : Bool) (x : Sort) → ((i : Option Id) → IsResponseIdText i (id_bytes body) → b ≡ is_id asked i) → b ≡ true → sort_of (message_of body) ≡ Some x → SaysSort asked body (reply_sort x)

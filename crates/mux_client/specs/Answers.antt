@@ -1,5 +1,5 @@
 -- One request that is sent on a link, and the link's first frame (LSP 3.17, Base Protocol).
-use Rattle.std.specs.Prelude.{◌≡◌, ℕ, ◌≤◌, ◌⊎◌, ⊤, List, []}
+use Rattle.std.specs.Prelude.{◌≡◌, ℕ, ◌≤◌, ◌⊎◌, List, []}
 use Rattle.std.specs.Prelude.{Option, Result, Ok, Err}
 use Rattle.std.specs.Io.KnownBytes.{append_known, prepend_known}
 use Rattle.outside_io.specs.Faults.{Rose}
@@ -25,7 +25,7 @@ OtherFrame limit heard Wanted Refusal = (answer : List ℕ) × Begins limit hear
 
 -- why no answer was taken: want of memory, a failed call of the link, no frame or another one, or one that refuses
 abbrev pub WhyNoAnswer : ℕ → (List ℕ → Type 0) → (List ℕ → Type 0) → Session → Session → List ℕ → ClientFault → Type 0
-WhyNoAnswer limit Wanted Refusal before after heard fault.Memory = ⊤
+WhyNoAnswer limit Wanted Refusal before after heard fault.Memory = Unit {0}
 WhyNoAnswer limit Wanted Refusal before after heard fault.Link = ReadFailed before after ⊎ WriteFailed before after
 WhyNoAnswer limit Wanted Refusal before after heard fault.Answer = NoFrame limit heard after ⊎ OtherFrame limit heard Wanted Refusal
 WhyNoAnswer limit Wanted Refusal before after heard fault.Refused = (answer : List ℕ) × Begins limit heard answer × Refusal answer
@@ -35,7 +35,7 @@ WhyNoAnswer limit Wanted Refusal before after heard fault.Output = ⊥
 
 -- a first frame was taken off a source, and no byte behind it, or why not
 abbrev pub WhyNoFrame : ℕ → Option (List ℕ) → ℕ → ℕ → List ℕ → ClientFault → Type 0
-WhyNoFrame limit left before now heard fault.Memory = ⊤
+WhyNoFrame limit left before now heard fault.Memory = Unit {0}
 WhyNoFrame limit left before now heard fault.Link = Rose before now
 WhyNoFrame limit left before now heard fault.Answer = IsFaulty limit heard ⊎ (HasNoFrame limit heard × IsEnded left)
 WhyNoFrame limit left before now heard fault.Refused = ⊥
@@ -56,7 +56,7 @@ pub record TakenFirst (limit : ℕ) (taken taken' left left' : Option (List ℕ)
 
 -- any frame is wanted, and none is a refusal
 abbrev pub anything : List ℕ → Type 0
-anything answer = ⊤
+anything answer = Unit {0}
 
 abbrev pub nothing : List ℕ → Type 0
 nothing answer = ⊥

@@ -1,5 +1,5 @@
 -- When a client and a question end well.
-use Rattle.std.specs.Prelude.{◌≡◌, ℕ, ◌⊎◌, ⊤, List, ◌∷◌, ◌++◌, []}
+use Rattle.std.specs.Prelude.{◌≡◌, ℕ, ◌⊎◌, List, ◌∷◌, ◌++◌, []}
 use Rattle.std.specs.Prelude.{Option, Some, None, Result, Ok, Err}
 use Rattle.base_frame.specs.Grammar.{IsFrame}
 use Rattle.outside_io.specs.Doors.{PortTold}
@@ -30,7 +30,7 @@ pub record Stays (port : Option PortState) (link : Session) : Type 0 where
 
 -- done, or memory was wanted
 abbrev pub IsDone : Result (Unit {0}) ClientFault → Type 0
-IsDone (Ok done) = ⊤
+IsDone (Ok done) = Unit {0}
 IsDone (Err why) = why ≡ fault.Memory
 
 -- the link says first what is asked for
@@ -39,5 +39,5 @@ SaysFirst limit Wanted bytes = (answer : List ℕ) × Begins limit bytes answer 
 
 -- where a server is named, its request's result
 abbrev pub SaysOpened : ℕ → Option (List ℕ) → List ℕ → Type 0
-SaysOpened limit None bytes = ⊤
+SaysOpened limit None bytes = Unit {0}
 SaysOpened limit (Some name) bytes = SaysFirst limit (IsResult open_id) bytes

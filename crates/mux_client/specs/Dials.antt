@@ -1,5 +1,5 @@
 -- The dial of a place, and the one link of the port that it gives.
-use Rattle.std.specs.Prelude.{◌≡◌, ℕ, ◌+◌, ◌≤◌, ◌⊎◌, ⊤, List, [], ◌∷◌}
+use Rattle.std.specs.Prelude.{◌≡◌, ℕ, ◌+◌, ◌≤◌, ◌⊎◌, List, [], ◌∷◌}
 use Rattle.std.specs.Prelude.{Option, Some, None, IfSome, Result, Err}
 use Rattle.outside_io.specs.Doors.{Address, Call, dialled, PortTold, told_of}
 use Rattle.outside_io.specs.Faults.{Rose}
@@ -55,7 +55,7 @@ pub record TookBack (before after : PortState) (link : Session) : Type 0 where
 -- the door gave no port: its count rose, or memory was wanted
 abbrev pub WhyNoPort : ℕ → ℕ → ClientFault → Type 0
 WhyNoPort before now fault.Door = Rose before now
-WhyNoPort before now fault.Memory = ⊤
+WhyNoPort before now fault.Memory = Unit {0}
 WhyNoPort before now fault.Input = ⊥
 WhyNoPort before now fault.Output = ⊥
 WhyNoPort before now fault.Refused = ⊥
@@ -71,4 +71,4 @@ pub data AtPort (before after : PortState) (Nothing : Type 0) (Did : Session →
 -- what was done behind a dial: the door gave no port, none is there, and nothing else was done, or it gave one, which is there
 pub data Dialled (before after : DoorState) (port : Option PortState) (Nothing : Type 0) (Did : Session → Session → Result (Unit {0}) ClientFault → Type 0) (result : Result (Unit {0}) ClientFault) : Type 0 where
   no_port : (why : ClientFault) → result ≡ Err why → WhyNoPort before.faults after.faults why → after.left ≡ before.left → port ≡ None → Nothing → Dialled before after port Nothing Did result
-  given : (given now : PortState) → Gave before after given → port ≡ Some now → AtPort given now Nothing Did result → Dialled before after port Nothing Did result
+  given : (first now : PortState) → Gave before after first → port ≡ Some now → AtPort first now Nothing Did result → Dialled before after port Nothing Did result

@@ -1,5 +1,5 @@
 -- A question to the daemon, and what is shown of its result.
-use Rattle.std.specs.Prelude.{◌≡◌, ℕ, ◌⊎◌, ◌≤◌, ⊤, List, []}
+use Rattle.std.specs.Prelude.{◌≡◌, ℕ, ◌⊎◌, ◌≤◌, List, []}
 use Rattle.std.specs.Prelude.{Option, Some, None, Result, Ok, Err}
 use Rattle.std.specs.Io.KnownBytes.{append_known}
 use Rattle.base_frame.specs.Frames.{framed}
@@ -42,7 +42,7 @@ pub record Resulted (limit : ℕ) (question : Question) (link link' : Session) (
 -- how a question ended
 abbrev pub AskedBy : ℕ → Question → Session → Session → Output → Output → List ℕ → List ℕ → List ℕ → Result (Unit {0}) ClientFault → Type 0
 AskedBy limit question link link' output output' heard sent shown (Ok done) = (answer : List ℕ) × Answered limit question heard sent answer × (shown ≡ shown_of question answer)
-AskedBy limit question link link' output output' heard sent shown (Err fault.Memory) = ⊤
+AskedBy limit question link link' output output' heard sent shown (Err fault.Memory) = Unit {0}
 AskedBy limit question link link' output output' heard sent shown (Err fault.Output) = Rose output.faults output'.faults
 AskedBy limit question link link' output output' heard sent shown (Err fault.Link) = ReadFailed link link' ⊎ WriteFailed link link'
 AskedBy limit question link link' output output' heard sent shown (Err fault.Answer) = NoFrame limit heard link' ⊎ OtherFrame limit heard (IsResult question_id) nothing

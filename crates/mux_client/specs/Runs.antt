@@ -1,5 +1,5 @@
 -- A client: its input goes to the link, and the link to its output.
-use Rattle.std.specs.Prelude.{◌≡◌, ℕ, ◌⊎◌, ⊤, List, [], ◌++◌}
+use Rattle.std.specs.Prelude.{◌≡◌, ℕ, ◌⊎◌, List, [], ◌++◌}
 use Rattle.std.specs.Prelude.{Option, Some, None, Result, Ok, Err}
 use Rattle.base_frame.specs.Grammar.{IsFrame}
 use Rattle.outside_io.specs.Sessions.{Session}
@@ -35,7 +35,7 @@ OfServer (Some name) what = what
 -- how a client ended, of the link and of its input and output (`editor`), each before and after
 abbrev pub EndedBy : ℕ → Option (List ℕ) → Session → Session → Session → Session → List ℕ → List ℕ → List ℕ → List ℕ → Result (Unit {0}) ClientFault → Type 0
 EndedBy limit server link link' editor editor' heard sent typed shown (Ok done) = Whole limit server link' editor' heard sent typed shown
-EndedBy limit server link link' editor editor' heard sent typed shown (Err fault.Memory) = ⊤
+EndedBy limit server link link' editor editor' heard sent typed shown (Err fault.Memory) = Unit {0}
 EndedBy limit server link link' editor editor' heard sent typed shown (Err fault.Input) = ReadFailed editor editor'
 EndedBy limit server link link' editor editor' heard sent typed shown (Err fault.Output) = WriteFailed editor editor'
 EndedBy limit server link link' editor editor' heard sent typed shown (Err fault.Link) = ReadFailed link link' ⊎ WriteFailed link link'

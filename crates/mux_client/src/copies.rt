@@ -1,34 +1,16 @@
 // Bytes that go both ways at once.
-ghost use Rattle.std.specs.Prelude.{◌≡◌, ◌<◌, vec_len};
+ghost use Rattle.std.specs.Prelude.{◌≡◌};
 ghost use Rattle.std.specs.Thread.{IsSync};
 ghost use Rattle.outside_io.specs.Sessions.{session_of};
 ghost use Rattle.mux_client.specs.Copies.{Copies, Relayed, outcome_of};
 
+use crate::buffer::Buffer;
 use crate::dialling::Link;
 use crate::fault::ClientFault;
 use crate::pieces::{Piece, read_piece, write_piece};
 use outside_io::{Sink, Source};
-use std::alloc::{AllocError, Global};
 use std::sync::Wait;
 use std::thread::{Threads, join_mut};
-
-// The most bytes of one read.
-const PIECE: usize = 65_536;
-
-/// What a copy reads into, 65,536 bytes at most at a time.
-#[derive(Drop)]
-pub struct Buffer {
-    bytes: Vec<u8>,
-    ghost room: { 0 < vec_len bytes },
-}
-
-impl Buffer {
-    pub fn new(alloc: Global) -> Result<Buffer, AllocError> {
-        Ok(Buffer {
-            bytes: vec![in alloc; 0u8; PIECE]?,
-        })
-    }
-}
 
 /// How a copy ended.
 #[derive(Clone, Copy, Debug, PartialEq, Eq)]

@@ -1,6 +1,6 @@
 // A port that is dialled, and its one link.
 ghost use Rattle.std.specs.Prelude.{◌≡◌, ◌+◌, ◌<◌, ◌≤◌, ◌⊎◌, [], ◌∷◌, IfErr, IfOk, IfSome, IsSome, OnOk, OnErr};
-ghost use Rattle.outside_io.specs.Doors.{address_of, told_of};
+ghost use Rattle.outside_io.specs.Doors.{address_of, dialled, told_of};
 ghost use Rattle.outside_io.specs.Faults.{Rose};
 ghost use Rattle.outside_io.specs.Sessions.{session_of};
 ghost use Rattle.outside_io.specs.Told.{append_to, prepend_to};
@@ -17,12 +17,14 @@ pub struct Link<I, O> {
 }
 
 /// Dials a place. A port is put into `port` where it answers Ok, and else `port` stays as it was.
+#[tactic(auto, using(crate::proofs::Dials::called_so, crate::proofs::Dials::called_not))]
 pub fn dial<D: Door>(
     door: &mut D,
     place: &Place,
     port: &mut Option<D::Port>,
 ) -> Result<(), ClientFault>
     ensures called { Called (address_of place.now) (D.calls door.old) (D.calls door.new) result }
+    ensures one_call { OnOk result (D.calls door.new ≡ append_to (D.calls door.old) (dialled (address_of place.now) ∷ [])) }
     ensures filled { OnOk result (IsSome port.new) }
     ensures fresh { OnOk result (IfSome port.new (λ port. D.Port.Port.faults port ≡ 0)) }
     ensures port { OnOk result

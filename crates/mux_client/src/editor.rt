@@ -7,7 +7,8 @@ ghost use Rattle.mux_client.specs.Complete.{IsDone, OffersLink, SaysOpened, Stay
 ghost use Rattle.mux_client.specs.Dials.{AtPort, Called, Dialled, door_state, port_state};
 ghost use Rattle.mux_client.specs.Runs.{Carried};
 
-use crate::copies::{Buffer, copy_both};
+use crate::buffer::Buffer;
+use crate::copies::copy_both;
 use crate::dialling::{Link, NoLink, dial, hang_up, take_link};
 use crate::fault::ClientFault;
 use crate::handshake::open_server;
@@ -41,8 +42,12 @@ fn carry<
         (session_of S.taken S.left S.faults K.written K.faults link.old.source link.old.sink)
         (session_of S.taken S.left S.faults K.written K.faults link.new.source link.new.sink) result }
 {
-    let mut typed = Buffer::new(alloc)?;
-    let mut heard = Buffer::new(alloc)?;
+    let Ok(mut typed) = Buffer::new(alloc) else {
+        return Err(ClientFault::Memory);
+    };
+    let Ok(mut heard) = Buffer::new(alloc) else {
+        return Err(ClientFault::Memory);
+    };
     match server {
         None => copy_both(rt, &mut typed, &mut heard, link, input, output),
         Some(name) => {
@@ -53,7 +58,7 @@ fn carry<
 }
 
 // Takes a port's link, carries over it, and hands it back.
-#[tactic(auto, using(crate::proofs::Dialling::at_none, crate::proofs::Dialling::at_link))]
+#[tactic(auto, using(crate::proofs::Dials::at_none, crate::proofs::Dials::at_link))]
 fn carry_at<R: Threads + Wait + Sync, P: Port, I: Source + Send + Drop, O: Sink + Send + Drop>(
     rt: &R,
     alloc: Global,
@@ -80,7 +85,7 @@ fn carry_at<R: Threads + Wait + Sync, P: Port, I: Source + Send + Drop, O: Sink 
 }
 
 // Dials a place, and carries over its link. The port is left there.
-#[tactic(auto, using(crate::proofs::Dialling::dialled_none, crate::proofs::Dialling::dialled_given))]
+#[tactic(auto, using(crate::proofs::Dials::called_so, crate::proofs::Dials::dialled_none, crate::proofs::Dials::dialled_given))]
 fn carry_from<R: Threads + Wait + Sync, D: Door, I: Source + Send + Drop, O: Sink + Send + Drop>(
     rt: &R,
     alloc: Global,

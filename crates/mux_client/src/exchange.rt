@@ -62,7 +62,9 @@ pub fn exchange<S: Source, K: Sink>(
         (session_of S.taken S.left S.faults K.written K.faults source.new sink.new) result }
     ensures fits { IfOk result (λ answer. length answer ≤ limit) }
 {
-    let bytes = frame(alloc, request)?;
+    let Ok(bytes) = frame(alloc, request) else {
+        return Err(ClientFault::Memory);
+    };
     if !write_piece(sink, bytes.bytes()) {
         return Err(ClientFault::Link);
     }

@@ -2,9 +2,6 @@
 ghost use Rattle.std.specs.Prelude.{◌≡◌};
 ghost use Rattle.mux_client.specs.Faults.{status_of};
 
-use message_body::Memory;
-use std::alloc::AllocError;
-
 /// Why a client or a question to the daemon failed.
 #[derive(Clone, Copy, Debug, PartialEq, Eq)]
 pub enum ClientFault {
@@ -40,27 +37,5 @@ impl ClientFault {
             ClientFault::Answer => 11,
             ClientFault::Link => 12,
         }
-    }
-}
-
-impl From<Memory> for ClientFault {
-    ghost use Rattle.std.specs.Prelude.{◌≡◌};
-    ghost use Rattle.mux_client.specs.declared.fault.ClientFault.TheVariants as client_fault;
-
-    ghost from_gives = { λ _ fault. fault ≡ client_fault.Memory };
-
-    fn from(_: Memory) -> ClientFault {
-        ClientFault::Memory
-    }
-}
-
-impl From<AllocError> for ClientFault {
-    ghost use Rattle.std.specs.Prelude.{◌≡◌};
-    ghost use Rattle.mux_client.specs.declared.fault.ClientFault.TheVariants as client_fault;
-
-    ghost from_gives = { λ _ fault. fault ≡ client_fault.Memory };
-
-    fn from(_: AllocError) -> ClientFault {
-        ClientFault::Memory
     }
 }

@@ -40,7 +40,7 @@ fn open_reply(alloc: Global, content: &[u8]) -> Result<Reply, Memory>
 ///
 /// It answers `Refused` where the frame is the request's error, `Answer` where the link's bytes are faulty, the link ends before
 /// a frame, or the frame says something else, and `Link` where a read or a write failed. No byte is read behind the frame.
-#[tactic(auto, using(crate::proofs::Exchanging::wanted, crate::proofs::Exchanging::refused, crate::proofs::Exchanging::unwanted, crate::proofs::Exchanging::unlooked, crate::proofs::Exchanging::no_answer, crate::proofs::Exchanging::unsent))]
+#[tactic(auto, using(crate::proofs::Opening::opened_result, crate::proofs::Opening::opened_refusal, crate::proofs::Opening::opened_other, crate::proofs::Opening::opened_unread, crate::proofs::Opening::opened_none, crate::proofs::Opening::opened_unsent))]
 pub fn open_server<S: Source, K: Sink>(
     alloc: Global,
     limit: u32,
@@ -53,9 +53,14 @@ pub fn open_server<S: Source, K: Sink>(
         (session_of S.taken S.left S.faults K.written K.faults source.old sink.old)
         (session_of S.taken S.left S.faults K.written K.faults source.new sink.new) result }
 {
-    let request = open_request(alloc, name)?;
+    let Ok(request) = open_request(alloc, name) else {
+        return Err(ClientFault::Memory);
+    };
     let answer = exchange(alloc, limit, request.bytes(), source, sink)?;
-    match open_reply(alloc, answer.bytes())? {
+    let Ok(reply) = open_reply(alloc, answer.bytes()) else {
+        return Err(ClientFault::Memory);
+    };
+    match reply {
         Reply::Result(_) => Ok(answer),
         Reply::Refusal => Err(ClientFault::Refused),
         Reply::Other => Err(ClientFault::Answer),

@@ -1,6 +1,7 @@
 //! An editor's end of a link to the daemon, and questions to the daemon. Each dials the settings' place.
 #![tactic(auto)]
 
+mod buffer;
 mod copies;
 mod dialling;
 mod editor;

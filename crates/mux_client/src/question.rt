@@ -68,7 +68,9 @@ fn result_of<S: Source, K: Sink>(
     ensures { Resulted limit question (session_of S.taken S.left S.faults K.written K.faults link.old.source link.old.sink)
         (session_of S.taken S.left S.faults K.written K.faults link.new.source link.new.sink) result }
 {
-    let asked = question_request(alloc, question)?;
+    let Ok(asked) = question_request(alloc, question) else {
+        return Err(ClientFault::Memory);
+    };
     let answer = exchange(
         alloc,
         limit,
@@ -76,9 +78,13 @@ fn result_of<S: Source, K: Sink>(
         &mut link.source,
         &mut link.sink,
     )?;
-    match question_reply(alloc, answer.bytes())? {
+    let Ok(reply) = question_reply(alloc, answer.bytes()) else {
+        return Err(ClientFault::Memory);
+    };
+    match reply {
         Reply::Result(value) => Ok(value),
-        Reply::Refusal | Reply::Other => Err(ClientFault::Answer),
+        Reply::Refusal => Err(ClientFault::Answer),
+        Reply::Other => Err(ClientFault::Answer),
     }
 }
 
@@ -111,7 +117,9 @@ fn ask_over<S: Source, K: Sink, O: Sink>(
         (session_of S.taken S.left S.faults K.written K.faults link.new.source link.new.sink) result }
 {
     let value = result_of(alloc, limit, question, link)?;
-    let line = shown(alloc, question, value.bytes())?;
+    let Ok(line) = shown(alloc, question, value.bytes()) else {
+        return Err(ClientFault::Memory);
+    };
     if write_piece(output, line.as_slice()) {
         Ok(())
     } else {
@@ -120,7 +128,7 @@ fn ask_over<S: Source, K: Sink, O: Sink>(
 }
 
 // Takes a port's link, asks over it, and hands it back.
-#[tactic(auto, using(crate::proofs::Dialling::at_none, crate::proofs::Dialling::at_link))]
+#[tactic(auto, using(crate::proofs::Dials::at_none, crate::proofs::Dials::at_link))]
 fn ask_at<P: Port, O: Sink>(
     alloc: Global,
     limit: u32,
@@ -143,7 +151,7 @@ fn ask_at<P: Port, O: Sink>(
 }
 
 // Dials a place, and asks over its link. The port is left there.
-#[tactic(auto, using(crate::proofs::Dialling::dialled_none, crate::proofs::Dialling::dialled_given))]
+#[tactic(auto, using(crate::proofs::Dials::called_so, crate::proofs::Dials::dialled_none, crate::proofs::Dials::dialled_given))]
 fn ask_from<D: Door, O: Sink>(
     alloc: Global,
     config: &Config,

@@ -20,9 +20,9 @@ pub enum Reply {
     Other,
 }
 
-// The same without the result.
+/// The same without the result.
 #[derive(Clone, Copy, Debug, PartialEq, Eq)]
-enum ReplySort {
+pub enum ReplySort {
     Result,
     Refusal,
     Other,
@@ -67,13 +67,15 @@ fn reply_of(alloc: Global, message: &Message<'_>, id: &[u8]) -> Result<Reply, Me
 }
 
 /// What a frame's content says of the request of this id, which isn't written as null. Its cost is linear in the content.
+#[tactic(auto, using(crate::proofs::Replying::unread_json, crate::proofs::Replying::unread_message))]
 pub fn read_reply(alloc: Global, content: &[u8], id: &[u8]) -> Result<Reply, Memory>
     requires { length content.now ≤ 268435456 }
     ensures { (asked : Id) → IsIdText asked id.now → bytes_eq (codes "null") id.now ≡ false → IfOk result (λ reply. Says asked content.now reply) }
 {
     match Message::read(alloc, content) {
         Ok(message) => reply_of(alloc, &message, id),
-        Err(Malformed::NotJson | Malformed::NotMessage) => Ok(Reply::Other),
+        Err(Malformed::NotJson) => Ok(Reply::Other),
+        Err(Malformed::NotMessage) => Ok(Reply::Other),
         Err(Malformed::Memory) => Err(Memory),
     }
 }

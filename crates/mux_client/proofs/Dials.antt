@@ -1,14 +1,21 @@
 -- A dial and its link, put together.
-use Rattle.std.proofs.Common.{◌≡◌, ℕ, ◌+◌, ◌⊎◌, List, [], ◌∷◌, refl, sym, ap, ◌∙◌}
+use Rattle.std.proofs.Common.{◌≡◌, ℕ, ◌+◌, ◌⊎◌, List, [], ◌∷◌, inl, inr, refl, sym, ap, ◌∙◌}
 use Rattle.std.specs.Prelude.{Option, Some, None, IfSome, IsSome, Result, Ok, Err}
 use Rattle.std.specs.Option.{option_map}
-use Rattle.outside_io.specs.Doors.{PortTold}
+use Rattle.outside_io.specs.Doors.{Address, Call, PortTold, dialled}
 use Rattle.outside_io.specs.Faults.{Rose}
 use Rattle.outside_io.specs.Sessions.{Session}
 use Rattle.outside_io.specs.Told.{append_to, prepend_to}
-use Rattle.mux_client.specs.Dials.{AtPort, Dialled, DoorState, GaveNone, PortState, WhyNoPort, given, linked, no_link, no_port}
+use Rattle.mux_client.specs.Dials.{AtPort, Called, Dialled, DoorState, GaveNone, PortState, WhyNoPort, given, linked, no_link, no_port}
 use Rattle.mux_client.specs.declared.fault.ClientFault.{ClientFault}
 use Rattle.mux_client.specs.declared.fault.ClientFault.TheVariants as fault
+
+-- the door's one call
+pub called_so : {T : Type 0} (place : Address) (before after : Option (List Call)) (result : Result T ClientFault) → after ≡ append_to before (dialled place ∷ []) → Called place before after result
+called_so place before after result e = inl e
+
+pub called_not : {T : Type 0} (place : Address) (before after : Option (List Call)) → after ≡ before → Called {T} place before after (Err fault.Memory)
+called_not place before after e = inr (refl, e)
 
 abbrev pub state : Option (List Session) → Option (List Session) → ℕ → ℕ → PortState
 state sessions links held faults = record { told = record { sessions = sessions; links = links }; held = held; faults = faults }
