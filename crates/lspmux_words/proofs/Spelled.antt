@@ -20,7 +20,7 @@ is_below low high n text h =
     let k = (and_parts (nat_le low n) (nat_le n high) (and_parts (bytes_eq (decimal n) text) _ h).1).1 in
     grind (arith, nat_tests)
 
-is_value : (n : ℕ) (text : List ℕ) → n < 2 ^ 64 → decimal n ≡ text → digits_value 10 text ≡ n
+pub is_value : (n : ℕ) (text : List ℕ) → n < 2 ^ 64 → decimal n ≡ text → digits_value 10 text ≡ n
 is_value n text small is = ap (digits_value 10) (sym is) ∙ (decimal_is_IsNumeral n small).1
 
 module _ {E : Type 0} (low high : ℕ) (text : List ℕ) (r : Result ℕ E) (few : high < 2 ^ 64) (h : ParsesUnsigned 64 10 text r) where
