@@ -30,8 +30,8 @@ module _ {E : Type 0} (low high : ℕ) (text : List ℕ) (r : Result ℕ E) (few
       let small : m < 2 ^ 64 = let k = is_below low high m text is in omega arith in
       parse-decimal 64 m text r small small (sym (is_spelled low high m text is)) h
 
-  pub number_found : (n : ℕ) → n < 2 ^ 64 → r ≡ Ok n → number_if low high text n ≡ number_in low high text
-  number_found n small read = go (is_number low high n text) refl (is_number low high (digits_value 10 text) text) refl
+  pub number_found : (n : ℕ) → r ≡ Ok n → number_if low high text n ≡ number_in low high text
+  number_found n read = go (is_number low high n text) refl (is_number low high (digits_value 10 text) text) refl
     where
       same : digits_value 10 text ≡ n → number_if low high text n ≡ number_in low high text
       same e = ap (number_if low high text) (sym e)
@@ -43,7 +43,9 @@ module _ {E : Type 0} (low high : ℕ) (text : List ℕ) (r : Result ℕ E) (few
 
       go : (b : Bool) → is_number low high n text ≡ b → (d : Bool) → is_number low high (digits_value 10 text) text ≡ d
           → number_if low high text n ≡ number_in low high text
-      go true is d is_d = same (is_value n text small (is_spelled low high n text is))
+      go true is d is_d =
+          let small : n < 2 ^ 64 = let k = is_below low high n text is in omega arith in
+          same (is_value n text small (is_spelled low high n text is))
       go false is true is_d = same (ok (digits_value 10 text) (was_read (digits_value 10 text) is_d))
       go false is false is_d = rw (is, is_d) refl
 

@@ -49,9 +49,16 @@ top = record (new_app (codes "lspmux")) {
 abbrev pub beside : App → App → App
 beside program subcommand = with_subcommand program subcommand.top
 
+-- with the subcommands that run a hub
+abbrev pub with_hubs : App
+with_hubs = beside (beside top (configured (codes "drive"))) serve
+
+-- and with two that dial a daemon
+abbrev pub with_links : App
+with_links = beside (beside with_hubs client) (configured (codes "status"))
+
 abbrev pub program : App
-program = beside (beside (beside (beside (beside (beside top (configured (codes "drive"))) serve) client) (configured (codes "status")))
-    (configured (codes "stop"))) make
+program = beside (beside with_links (configured (codes "stop"))) make
 
 -- this command is made as the description says
 abbrev pub IsMade : App → Command → Type 0

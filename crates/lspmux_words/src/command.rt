@@ -6,7 +6,9 @@ use crate::level::Level;
 #[derive(Clone, Copy, Debug, PartialEq, Eq)]
 pub enum Command<'a> {
     /// Steps one hub over the lines of the standard input.
-    Drive { config: Option<&'a str> },
+    Drive {
+        config: Option<&'a str>,
+    },
     /// Serves editors.
     Serve {
         config: Option<&'a str>,
@@ -18,11 +20,21 @@ pub enum Command<'a> {
         server: Option<&'a str>,
     },
     /// Asks the daemon for its groups.
-    Status { config: Option<&'a str> },
+    Status {
+        config: Option<&'a str>,
+    },
     /// Stops the daemon.
-    Stop { config: Option<&'a str> },
+    Stop {
+        config: Option<&'a str>,
+    },
     /// Drives a made input of `count` turns, 1 to 1,000,000.
-    Make { count: u32, seed: u64 },
+    Make {
+        count: u32,
+        seed: u64,
+    },
     /// Writes a made input of `count` turns, 1 to 1,000,000.
-    MakeLines { count: u32, seed: u64 },
+    MakeLines {
+        count: u32,
+        seed: u64,
+    },
 }

@@ -2,7 +2,7 @@
 ghost use Rattle.std.specs.Prelude.{◌≡◌, IfOk, false};
 ghost use Rattle.clap.specs.Words.{app_of, rule_of, with_rule};
 ghost use Rattle.clap.specs.declared.builder.command.Command.TheViews.{out-Command};
-ghost use Rattle.lspmux_words.specs.Program.{IsMade, beside, client, configured, flag_rule, make, option_rule, positional_rule, program, serve, top};
+ghost use Rattle.lspmux_words.specs.Program.{IsMade, beside, client, configured, flag_rule, make, option_rule, positional_rule, program, serve, top, with_hubs, with_links};
 
 use crate::usage::USAGE;
 use clap::builder::ValueParser;
@@ -26,9 +26,7 @@ fn flag<'a>(alloc: Global, name: &'a str) -> Arg<'a>
     ensures rule { rule_of result ≡ flag_rule name.entry.now }
     ensures local { result.global ≡ false }
 {
-    Arg::new(alloc, name)
-        .long(name)
-        .action(ArgAction::SetTrue)
+    Arg::new(alloc, name).long(name).action(ArgAction::SetTrue)
 }
 
 // A word that has to be there.
@@ -36,9 +34,7 @@ fn positional<'a>(alloc: Global, name: &'a str) -> Arg<'a>
     ensures rule { rule_of result ≡ positional_rule name.entry.now }
     ensures local { result.global ≡ false }
 {
-    Arg::new(alloc, name)
-        .required(true)
-        .action(ArgAction::Set)
+    Arg::new(alloc, name).required(true).action(ArgAction::Set)
 }
 
 // A command with one more option.
@@ -53,10 +49,7 @@ fn with<'a>(command: Command<'a>, arg: Arg<'a>) -> Result<Command<'a>, AllocErro
 fn configured<'a>(alloc: Global, name: &'a str) -> Result<Command<'a>, AllocError>
     ensures { IfOk result (IsMade (configured name.entry.now)) }
 {
-    with(
-        Command::new(alloc, name),
-        option(alloc, "config", "FILE"),
-    )
+    with(Command::new(alloc, name), option(alloc, "config", "FILE"))
 }
 
 fn serve<'a>(alloc: Global) -> Result<Command<'a>, AllocError>
@@ -96,24 +89,33 @@ fn top<'a>(alloc: Global) -> Command<'a>
 }
 
 // A program with one more subcommand.
-fn beside<'a>(
-    program: Command<'a>,
-    subcommand: Command<'a>,
-) -> Result<Command<'a>, AllocError>
+fn beside<'a>(program: Command<'a>, subcommand: Command<'a>) -> Result<Command<'a>, AllocError>
     requires { (out-Command subcommand).has_globals ≡ false }
     ensures { (out-Command program.entry).has_globals ≡ false → IfOk result (IsMade (beside (app_of program.entry) (app_of subcommand.entry))) }
 {
     program.subcommand(subcommand)
 }
 
+// The program with the subcommands that run a hub.
+fn with_hubs<'a>(alloc: Global) -> Result<Command<'a>, AllocError>
+    ensures { IfOk result (IsMade with_hubs) }
+{
+    let program = beside(top(alloc), configured(alloc, "drive")?)?;
+    beside(program, serve(alloc)?)
+}
+
+// The same with two that dial a daemon.
+fn with_links<'a>(alloc: Global) -> Result<Command<'a>, AllocError>
+    ensures { IfOk result (IsMade with_links) }
+{
+    let program = beside(with_hubs(alloc)?, client(alloc)?)?;
+    beside(program, configured(alloc, "status")?)
+}
+
 /// The program, as clap reads its words.
 pub(crate) fn program<'a>(alloc: Global) -> Result<Command<'a>, AllocError>
     ensures { IfOk result (IsMade program) }
 {
-    let program = beside(top(alloc), configured(alloc, "drive")?)?;
-    let program = beside(program, serve(alloc)?)?;
-    let program = beside(program, client(alloc)?)?;
-    let program = beside(program, configured(alloc, "status")?)?;
-    let program = beside(program, configured(alloc, "stop")?)?;
+    let program = beside(with_links(alloc)?, configured(alloc, "stop")?)?;
     beside(program, make(alloc)?)
 }
