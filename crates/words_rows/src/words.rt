@@ -161,10 +161,12 @@ fn few_and_many_words(rt: HostRuntime) -> Result<(), Fail> {
     words.push(String::from_str(alloc, "--server")?)?;
     words.push(name)?;
     match command_of(alloc, words.as_slice()) {
-        Ok(Command::Client {
-            config: None,
-            server: Some(name),
-        }) => assert_eq!(rt; name.len(), 1_048_576),
+        Ok(
+            Command::Client {
+                config: None,
+                server: Some(name),
+            },
+        ) => assert_eq!(rt; name.len(), 1_048_576),
         _ => assert!(rt; false, "a long name is taken"),
     }
     for _ in 0..1_000 {
