@@ -49,5 +49,5 @@ module _ {J K P B C : Type 0} (told : J → Option (List Entry)) (links_back lin
         events = events;
         ports_len = f.ports_len;
         berths_len = f.berths_len;
-        stopped = λ h. and_left (was_stopped (history f.story)) (is_idle (seats_of f.story.editors f.story.servers f.story.deeds)) ((f.over h).1.0);
+        stopped = λ h. and_left (was_stopped (history f.story)) (is_idle (seats_of f.story.editors f.story.servers f.story.deeds)) ((f.over h).1);
       }
