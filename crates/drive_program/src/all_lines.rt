@@ -23,6 +23,7 @@ pub fn drive<J: Journal, I: Source, O: Sink>(
     output: &mut O,
 ) -> Result<(), Stop>
     requires wide { 13 ≤ content }
+    requires small { content ≤ 268435456 }
     requires stands { HubStands J.told hub.old [] }
     requires ready { hub.old.spent ≡ false }
     ensures driven { Driven J.told content hub.old.settings (I.left input.old) (I.left input.new) (O.written output.old) (O.written output.new) hub.new result }

@@ -104,6 +104,7 @@ pub fn take_line<J: Journal, O: Sink>(
     content: u32,
 ) -> Result<(), TakeFault>
     requires ready { hub.old.spent ≡ false }
+    requires small { content ≤ 268435456 }
     ensures taken { (history : List Entry) → HubStands J.told hub.old history
         → OnOk result (LineTaken J.told content history line.items hub.old hub.new (O.written output.old) (O.written output.new)) }
     ensures refused { (history : List Entry) (r : Refusal) → HubStands J.told hub.old history → IsErrOf result (TakeFault.Refused r)

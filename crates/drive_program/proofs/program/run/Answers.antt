@@ -16,3 +16,9 @@ pub returns-clause-ran : goal.returns-clause-ran
 returns-clause-ran g c = ran_of g.J.Journal.told c.in-Ok.settled.content c.args.config.content c.in-Ok.settled.hub.settings (hub_settings c.args.config) c.close.result (g.I.Source.left c.args.input.now) (g.I.Source.left c.drive-result.new.input)
     (g.O.Sink.written c.args.output.now) (g.O.Sink.written c.drive-result.new.output) c.drive-result.new.hub c.drive-result.result c.drive-result.ensures.driven c.in-Ok.ensures.content c.in-Ok.ensures.settings c.drive-result.ensures.settings
     c.close.ensures c.sessions_law.ensures
+
+pub drive-result-requires-clause-wide : goal.drive-result-requires-clause-wide
+drive-result-requires-clause-wide g c = let within = c.args.config.in_range.content.0 in let same = c.in-Ok.ensures.content in omega (arith, within, same)
+
+pub drive-result-requires-clause-small : goal.drive-result-requires-clause-small
+drive-result-requires-clause-small g c = let within = c.args.config.in_range.content.1 in let same = c.in-Ok.ensures.content in omega (arith, within, same)
