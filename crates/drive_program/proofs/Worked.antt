@@ -8,7 +8,7 @@ use Rattle.event_model.specs.Settings.{Settings}
 use Rattle.drive_program.specs.Runs.{drive_of, reading_bytes, after}
 
 -- settings with one server
-settings : Settings
+abbrev settings : Settings
 settings = record {
   limits = record { groups = 8; restarts = 5; idle = 300; grace = 5; backlog = 134217728; requests = 2147483647; versions = 2147483647 };
   servers = record { name = codes "main"; ceiling = None } ∷ [];

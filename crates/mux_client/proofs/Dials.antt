@@ -14,7 +14,7 @@ use Rattle.mux_client.specs.declared.fault.ClientFault.TheVariants as fault
 pub called_so : {T : Type 0} (place : Address) (before after : Option (List Call)) (result : Result T ClientFault) → after ≡ append_to before (dialled place ∷ []) → Called place before after result
 called_so place before after result e = inl e
 
-pub called_not : {T : Type 0} (place : Address) (before after : Option (List Call)) → after ≡ before → Called {T} place before after (Err fault.Memory)
+pub called_not : {T : Type 0} (place : Address) (before after : Option (List Call)) → after ≡ before → Called {T = T} place before after (Err fault.Memory)
 called_not place before after e = inr (refl, e)
 
 abbrev pub state : Option (List Session) → Option (List Session) → ℕ → ℕ → PortState

@@ -25,9 +25,6 @@ open_id_text = record {
   is = refl;
 }
 
-pub question_id_text : IsIdText question_id (codes "1")
-question_id_text = decimal_law 1 (omega arith)
-
 -- an id is the one that is asked for
 abbrev pub is_id : Id → Option Id → Bool
 is_id asked None = false

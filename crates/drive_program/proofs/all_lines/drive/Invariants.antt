@@ -4,7 +4,7 @@ use Rattle.drive_program.proofs.all_lines.drive.Given as goal
 
 abbrev pub invariant-lines : goal.invariant-lines
 invariant-lines g l = record {
-  driving : Driving g.J.Journal.told l.args.content l.initial.hub.settings (g.I.Source.left l.initial.input) (g.I.Source.left l.input) l.buffer l.taken (g.O.Sink.written l.initial.output) (g.O.Sink.written l.output) l.hub;
+  driving : Driving g.J.Journal.told l.fn.content l.initial.hub.settings (g.I.Source.left l.initial.input) (g.I.Source.left l.input) l.buffer l.taken (g.O.Sink.written l.initial.output) (g.O.Sink.written l.output) l.hub;
   settings : l.hub.settings ≡ l.initial.hub.settings;
   ready : l.hub.spent ≡ false;
   count : l.taken ≤ l.buffer.used;
