@@ -27,8 +27,7 @@ fn copy<R: Wait, S: Source, K: Sink>(
     buffer: &mut Buffer,
     source: &mut S,
     sink: &mut K,
-) -> Copied
-{
+) -> Copied {
     for _ in rt.forever() {
         let count = match read_piece(source, buffer.bytes.as_mut_slice()) {
             Piece::Bytes(count) => count,
@@ -48,8 +47,7 @@ fn copy_and_close<R: Wait, S: Source, K: Sink>(
     buffer: &mut Buffer,
     source: &mut S,
     sink: &mut K,
-) -> Copied
-{
+) -> Copied {
     let copied = copy(rt, buffer, source, sink);
     sink.close();
     copied
@@ -86,16 +84,14 @@ pub fn copy_both<
     link: &mut Link<S, K>,
     input: &mut I,
     output: &mut O,
-) -> Result<(), ClientFault>
-{
+) -> Result<(), ClientFault> {
     let Link { source, sink } = link;
     let (sent, shown) = join_mut(
         rt,
         &mut || -> Copied
             requires { IsSync R.row }
         { copy_and_close(rt, typed, input, sink) },
-        &mut || -> Copied
-        { copy(rt, heard, source, output) },
+        &mut || -> Copied { copy(rt, heard, source, output) },
     );
     outcome(sent, shown)
 }

@@ -25,8 +25,7 @@ fn feed_byte(reader: &mut FrameReader, byte: u8) -> bool
 // Takes the first frame off a source, and no byte behind it.
 //
 // It reads a byte at a time, since what stands behind the frame belongs to who reads the source next.
-fn take_frame<S: Source>(alloc: Global, limit: u32, source: &mut S) -> Result<Body, ClientFault>
-{
+fn take_frame<S: Source>(alloc: Global, limit: u32, source: &mut S) -> Result<Body, ClientFault> {
     let mut reader = FrameReader::new(alloc, limit);
     for _ in 0..u64::MAX {
         let byte = match read_byte(source) {
