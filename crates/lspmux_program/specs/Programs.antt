@@ -114,13 +114,13 @@ module _ {D P B C J F I O N : Type 0}
   Did (words.make count seed) config old new = UnbuiltBy old new
   Did (words.make_lines count seed) config old new = UnbuiltBy old new
 
-  -- what words came to: they are none that the program knows; memory was wanted to read them; their settings are refused; or what they ask for was done
+  -- what words came to: they are none that the program knows; memory was wanted to read them; their settings are refused; or the folder read them, and what the words ask for was done
   pub data Came (given_words : List Text) (old : Outside D B C J F I O N) (new : Left D P B C J F I O N) : Type 0 where
     no_words : words.meaning given_words ≡ None → Idle old new → Says old.output new 2 words_line → Came given_words old new
     no_memory : new.status ≡ 5 → Idle old new → new.output ≡ old.output → Came given_words old new
     no_settings : (asked : words.Asked) → words.meaning given_words ≡ Some asked → (why : SettingsFault)
         → IsReading (files old.folder) (file_of asked) (Rose (folder_faults old.folder) (folder_faults new.folder)) (Err why)
         → Idle old new → Says old.output new (settings_status why) (line_of why) → Came given_words old new
-    did : (asked : words.Asked) → words.meaning given_words ≡ Some asked → (config : Config)
-        → IsReading (files old.folder) (file_of asked) (Rose (folder_faults old.folder) (folder_faults new.folder)) (Ok config)
-        → Did asked config old new → Came given_words old new
+    did : (asked : words.Asked) → words.meaning given_words ≡ Some asked → (config : Config) (folder : F)
+        → IsReading (files old.folder) (file_of asked) (Rose (folder_faults old.folder) (folder_faults folder)) (Ok config)
+        → Did asked config (record old { folder = folder }) new → Came given_words old new
