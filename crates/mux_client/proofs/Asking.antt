@@ -10,9 +10,12 @@ use Rattle.rpc_message.specs.declared.sort.Sort.TheVariants as sort
 use Rattle.mux_client.specs.Answers.{Exchanged, WhyNoAnswer, anything, nothing}
 use Rattle.mux_client.specs.Pieces.{Went}
 use Rattle.mux_client.specs.Questions.{Asked, AskedBy, Output, Resulted}
+use Rattle.mux_client.specs.Replies.{Says}
 use Rattle.mux_client.specs.Requests.{IsRefusal, IsResult, question_id, question_text, shown_of, shown_text}
 use Rattle.mux_client.specs.Sessions.{IsFront}
 use Rattle.mux_client.specs.declared.question.Question.{Question}
+use Rattle.mux_client.specs.declared.reply.Reply.{Reply}
+use Rattle.mux_client.specs.declared.reply.Reply.TheVariants as reply
 use Rattle.mux_client.specs.declared.fault.ClientFault.{ClientFault}
 use Rattle.mux_client.specs.declared.fault.ClientFault.TheVariants as fault
 use Rattle.mux_client.proofs.Exchanging.{no_answer, unsent}
@@ -34,6 +37,11 @@ module _ (limit : ℕ) (question : Question) (text : List ℕ) (link link' : Ses
 
   pub resulted_refused : (answer : List ℕ) → text ≡ question_text question → Exchanged limit text anything nothing link link' (Ok answer) → IsRefusal question_id answer → Resulted limit question link link' (Err fault.Answer)
   resulted_refused answer is z h = let x = put (Ok answer) is z in record { heard = x.heard; sent = x.sent; at_link = x.passes; order = x.front; value = inr (answer, ([], x.taken.0), no_both answer h, λ n. n) }
+
+  -- the same by the reply that was read
+  pub resulted_refused_by : (answer content : List ℕ) (what : Reply) → text ≡ question_text question → Exchanged limit text anything nothing link link' (Ok answer) → content ≡ answer → what ≡ reply.Refusal → Says question_id content what
+      → Resulted limit question link link' (Err fault.Answer)
+  resulted_refused_by answer content what is x same refusal says = resulted_refused answer is x (subst (λ body. Says question_id body reply.Refusal) same (subst (Says question_id content) refusal says))
 
   pub resulted_unlooked : (answer : List ℕ) → text ≡ question_text question → Exchanged limit text anything nothing link link' (Ok answer) → Resulted limit question link link' (Err fault.Memory)
   resulted_unlooked answer is z = let x = put (Ok answer) is z in record { heard = x.heard; sent = x.sent; at_link = x.passes; order = x.front; value = tt }

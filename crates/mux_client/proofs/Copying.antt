@@ -9,6 +9,7 @@ use Rattle.mux_client.specs.Copies.{Copies, CopiesSoFar, CopyEnded, RelayEnded, 
 use Rattle.mux_client.specs.Sessions.{IsEnded, IsFront, Passes, ReadFailed, WriteFailed}
 use Rattle.mux_client.specs.declared.copies.Copied.{Copied}
 use Rattle.mux_client.specs.declared.copies.Copied.TheVariants as copied
+use Rattle.mux_client.specs.declared.fault.ClientFault.{ClientFault}
 use Rattle.mux_client.proofs.Passing.{front_all, front_behind, passes_none, passes_read, passes_then, rose_from, rose_on}
 
 pub copies_none : (s : Session) → CopiesSoFar s s

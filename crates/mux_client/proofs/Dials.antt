@@ -1,5 +1,5 @@
 -- A dial and its link, put together.
-use Rattle.std.proofs.Common.{◌≡◌, ℕ, ◌+◌, ◌⊎◌, List, [], ◌∷◌, inl, inr, refl, sym, ap, ◌∙◌}
+use Rattle.std.proofs.Common.{◌≡◌, ℕ, ◌+◌, ◌⊎◌, List, [], ◌∷◌, inl, inr, refl, sym, ap, ◌∙◌, subst}
 use Rattle.std.specs.Prelude.{Option, Some, None, IfSome, IsSome, Result, Ok, Err}
 use Rattle.std.specs.Option.{option_map}
 use Rattle.outside_io.specs.Doors.{Address, Call, PortTold, dialled}
@@ -14,7 +14,7 @@ use Rattle.mux_client.specs.declared.fault.ClientFault.TheVariants as fault
 pub called_so : {T : Type 0} (place : Address) (before after : Option (List Call)) (result : Result T ClientFault) → after ≡ append_to before (dialled place ∷ []) → Called place before after result
 called_so place before after result e = inl e
 
-pub called_not : {T : Type 0} (place : Address) (before after : Option (List Call)) → after ≡ before → Called {T} place before after (Err fault.Memory)
+pub called_not : {T : Type 0} (place : Address) (before after : Option (List Call)) → after ≡ before → Called {T = T} place before after (Err fault.Memory)
 called_not place before after e = inr (refl, e)
 
 abbrev pub state : Option (List Session) → Option (List Session) → ℕ → ℕ → PortState
@@ -42,3 +42,10 @@ module _ {P : Type 0} (view : P → PortState) (Nothing : Type 0) (Did : Session
   pub dialled_given : (left left' : Option (List PortTold)) (f f' : ℕ) (before now : P) (result : Result (Unit {0}) ClientFault) → (view before).faults ≡ 0 → left ≡ prepend_to ((view before).told ∷ []) left'
       → AtPort (view before) (view now) Nothing Did result → Dialled (record { left = left; faults = f }) (record { left = left'; faults = f' }) (option_map view (Some now)) Nothing Did result
   dialled_given left left' f f' before now result z l x = given (view before) (view now) (record { left = l; fresh = z }) refl x
+
+  -- the same by what is known of the port that is there
+  pub dialled_some : (left left' : Option (List PortTold)) (f f' : ℕ) (port : Option P) (before now : P) (result : Result (Unit {0}) ClientFault) → port ≡ Some before → IfSome port (λ p. (view p).faults ≡ 0)
+      → IfSome port (λ p. left ≡ prepend_to ((view p).told ∷ []) left') → AtPort (view before) (view now) Nothing Did result
+      → Dialled (record { left = left; faults = f }) (record { left = left'; faults = f' }) (option_map view (Some now)) Nothing Did result
+  dialled_some left left' f f' port before now result is fresh told x =
+      dialled_given left left' f f' before now result (subst (λ o. IfSome o (λ p. (view p).faults ≡ 0)) is fresh) (subst (λ o. IfSome o (λ p. left ≡ prepend_to ((view p).told ∷ []) left')) is told) x

@@ -4,7 +4,10 @@ use Rattle.std.specs.Prelude.{Result, Ok, Err}
 use Rattle.outside_io.specs.Sessions.{Session}
 use Rattle.rpc_message.specs.Message.{result_bytes}
 use Rattle.mux_client.specs.Answers.{Exchanged, anything, nothing}
+use Rattle.mux_client.specs.Replies.{Says}
 use Rattle.mux_client.specs.Requests.{IsRefusal, IsResult, open_id, open_text}
+use Rattle.mux_client.specs.declared.reply.Reply.{Reply}
+use Rattle.mux_client.specs.declared.reply.Reply.TheVariants as reply
 use Rattle.mux_client.specs.declared.fault.ClientFault.{ClientFault}
 use Rattle.mux_client.specs.declared.fault.ClientFault.TheVariants as fault
 use Rattle.mux_client.proofs.Exchanging.{no_answer, refused, unlooked, unsent, unwanted, wanted}
@@ -34,3 +37,8 @@ module _ (limit : ℕ) (name text : List ℕ) (link link' : Session) where
   pub opened_other : (answer : List ℕ) → text ≡ open_text name → Exchanged limit text anything nothing link link' (Ok answer) → (IsResult open_id answer → ⊥) × (IsRefusal open_id answer → ⊥)
       → Exchanged limit (open_text name) (IsResult open_id) (IsRefusal open_id) link link' (Err fault.Answer)
   opened_other answer is x h = unwanted limit (open_text name) (IsResult open_id) (IsRefusal open_id) link link' answer (asked (Ok answer) is x) h
+
+  -- the same by the reply that was read
+  pub opened_other_by : (answer content : List ℕ) (what : Reply) → text ≡ open_text name → Exchanged limit text anything nothing link link' (Ok answer) → content ≡ answer → what ≡ reply.Other → Says open_id content what
+      → Exchanged limit (open_text name) (IsResult open_id) (IsRefusal open_id) link link' (Err fault.Answer)
+  opened_other_by answer content what is x same other says = opened_other answer is x (subst (λ body. Says open_id body reply.Other) same (subst (Says open_id content) other says))

@@ -2,6 +2,7 @@
 use Rattle.std.proofs.Common.{◌≡◌, ℕ, Bool, true, false, ◌&&◌, List, [], ◌∷◌, ◌++◌, codes, refl, sym, ap, ◌∙◌, subst, bytes_eq, arith, if◌then◌else◌}
 use Rattle.std.specs.Prelude.{Option, Some, None}
 use Rattle.std.specs.Bool.{Decides}
+use Rattle.std.proofs.lemmas.Fmt.{decimal_digit}
 use Rattle.std.proofs.lemmas.Slice.Eq.{bytes_eq-Decides}
 use Rattle.json_text.specs.declared.kind.Word.TheVariants.{Null, False, True}
 use Rattle.json_text.specs.Json.{Json, word, number, string, array, object, value}
@@ -26,7 +27,7 @@ open_id_text = record {
 }
 
 pub question_id_text : IsIdText question_id (codes "1")
-question_id_text = decimal_law 1 (omega arith)
+question_id_text = subst (λ digits. IsIdText (integer digits) digits) (decimal_digit 1 (omega arith)) (decimal_law 1 (omega arith))
 
 -- an id is the one that is asked for
 abbrev pub is_id : Id → Option Id → Bool

@@ -32,12 +32,13 @@ fn copy<R: Wait, S: Source, K: Sink>(
         (session_of S.taken S.left S.faults K.written K.faults source.new sink.new) result }
 {
     for _ in rt.forever() {
-        let count = match read_piece(source, buffer.bytes.as_mut_slice()) {
+        let bytes = buffer.bytes.as_mut_slice();
+        let count = match read_piece(source, bytes) {
             Piece::Bytes(count) => count,
             Piece::End => return Copied::All,
             Piece::Failed => return Copied::ReadFault,
         };
-        if !write_piece(sink, &buffer.bytes.as_slice()[..count]) {
+        if !write_piece(sink, &bytes[..count]) {
             return Copied::WriteFault;
         }
     }
