@@ -7,7 +7,7 @@ ghost use Rattle.mux_client.specs.Copies.{Copies, Relayed, outcome_of};
 use crate::buffer::Buffer;
 use crate::dialling::Link;
 use crate::fault::ClientFault;
-use crate::pieces::{Piece, read_piece, write_piece};
+use crate::pieces::{Piece, write_piece};
 use outside_io::{Sink, Source};
 use std::sync::Wait;
 use std::thread::{Threads, join_mut};
@@ -32,13 +32,12 @@ fn copy<R: Wait, S: Source, K: Sink>(
         (session_of S.taken S.left S.faults K.written K.faults source.new sink.new) result }
 {
     for _ in rt.forever() {
-        let bytes = buffer.bytes.as_mut_slice();
-        let count = match read_piece(source, bytes) {
+        let count = match buffer.read(source) {
             Piece::Bytes(count) => count,
             Piece::End => return Copied::All,
             Piece::Failed => return Copied::ReadFault,
         };
-        if !write_piece(sink, &bytes[..count]) {
+        if !write_piece(sink, &buffer.bytes.as_slice()[..count]) {
             return Copied::WriteFault;
         }
     }

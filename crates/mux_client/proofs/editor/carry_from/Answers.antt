@@ -1,3 +1,4 @@
+use denote.Param.Send.{sendable}
 use Rattle.std.proofs.Common.{arith, refl}
 use Rattle.std.proofs.lemmas.Result.{err_from_is_err_and}
 use Rattle.mux_client.specs.Dials.{port_state}
@@ -6,7 +7,7 @@ use Rattle.mux_client.proofs.editor.carry_from.Goals as goal
 
 -- a body's limit is in its range
 pub carry_at-requires : goal.carry_at-requires
-carry_at-requires g c = let most = c.args.config.now.in_range.content.1 in (c.type_bounds.send-I, (c.type_bounds.send-O, (c.type_bounds.send-D-Port-In, (c.type_bounds.send-D-Port-Out, (c.type_bounds.sync-R, omega (arith, most))))))
+carry_at-requires g c = let most = c.args.config.now.in_range.content.1 in (search sendable depth 20, (search sendable depth 20, (search sendable depth 20, (search sendable depth 20, (search sendable depth 20, omega (arith, most))))))
 
 pub returns-in_err-dial-clause-ran : goal.returns-in_err-dial-clause-ran
 returns-in_err-dial-clause-ran g c =
