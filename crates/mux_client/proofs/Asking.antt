@@ -1,11 +1,9 @@
 -- A question from its link to its end.
-use Rattle.std.proofs.Common.{◌≡◌, ℕ, ◌≤◌, ◌⊎◌, true, false, List, [], ◌++◌, inl, inr, refl, sym, ap, ◌∙◌, subst}
-use Rattle.std.specs.Prelude.{Option, Some, None, Result, Ok, Err}
+use Rattle.std.proofs.Common.{◌≡◌, ℕ, true, false, List, [], inl, inr, refl, sym, ap, ◌∙◌, subst}
+use Rattle.std.specs.Prelude.{Option, Some, Result, Ok, Err}
 use Rattle.std.specs.Io.KnownBytes.{append_known}
 use Rattle.outside_io.specs.Sessions.{Session}
-use Rattle.base_frame.specs.Frames.{framed}
-use Rattle.rpc_message.specs.Message.{message_of, result_bytes}
-use Rattle.rpc_message.specs.Sorts.{sort_of}
+use Rattle.rpc_message.specs.Message.{result_bytes}
 use Rattle.rpc_message.specs.declared.sort.Sort.TheVariants as sort
 use Rattle.mux_client.specs.Answers.{Exchanged, WhyNoAnswer, anything, nothing}
 use Rattle.mux_client.specs.Pieces.{Went}
@@ -19,7 +17,7 @@ use Rattle.mux_client.specs.declared.reply.Reply.TheVariants as reply
 use Rattle.mux_client.specs.declared.fault.ClientFault.{ClientFault}
 use Rattle.mux_client.specs.declared.fault.ClientFault.TheVariants as fault
 use Rattle.mux_client.proofs.Exchanging.{no_answer, unsent}
-use Rattle.mux_client.proofs.Passing.{front_all, front_none, known_none, no_later}
+use Rattle.mux_client.proofs.Passing.{front_all, known_none, no_later}
 use Rattle.mux_client.proofs.Replying.{refusal_sort, result_sort}
 
 no_both : (body : List ℕ) → IsRefusal question_id body → IsResult question_id body → ⊥

@@ -1,5 +1,5 @@
 -- A client from its link to its end.
-use Rattle.std.proofs.Common.{◌≡◌, ℕ, ◌≤◌, ◌⊎◌, List, [], ◌++◌, inl, inr, refl, sym, ap, ◌∙◌, subst, append_assoc, append-nil, arith}
+use Rattle.std.proofs.Common.{ℕ, List, [], ◌++◌, inl, inr, refl, sym, ap, ◌∙◌, subst, append_assoc, append-nil}
 use Rattle.std.specs.Prelude.{Option, Some, None, Result, Ok, Err}
 use Rattle.outside_io.specs.Sessions.{Session}
 use Rattle.base_frame.specs.Frames.{framed}
@@ -7,11 +7,11 @@ use Rattle.base_frame.specs.Grammar.{IsFrame}
 use Rattle.mux_client.specs.Answers.{Exchanged, WhyNoAnswer}
 use Rattle.mux_client.specs.Copies.{RelayEnded, Relayed}
 use Rattle.mux_client.specs.Requests.{IsRefusal, IsResult, first_frame, open_id, open_text}
-use Rattle.mux_client.specs.Runs.{Behind, Carried, EndedBy, Stage, Whole, opened, unopened}
-use Rattle.mux_client.specs.Sessions.{IsFront, Passes}
+use Rattle.mux_client.specs.Runs.{Behind, Carried, EndedBy, opened, unopened}
+use Rattle.mux_client.specs.Sessions.{Passes}
 use Rattle.mux_client.specs.declared.fault.ClientFault.{ClientFault}
 use Rattle.mux_client.specs.declared.fault.ClientFault.TheVariants as fault
-use Rattle.mux_client.proofs.Passing.{front_all, front_behind, front_longer, front_none, passes_none, passes_then, read_failed_late, write_failed_late}
+use Rattle.mux_client.proofs.Passing.{front_behind, front_longer, front_none, passes_none, passes_then, read_failed_late, write_failed_late}
 
 -- memory was wanted before anything was sent
 pub carried_none : (limit : ℕ) (server : Option (List ℕ)) (editor link : Session) → Carried limit server editor editor link link (Err fault.Memory)

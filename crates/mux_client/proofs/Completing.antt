@@ -1,14 +1,11 @@
 -- A client and a question that end well.
-use Rattle.std.proofs.Common.{◌≡◌, ℕ, ◌+◌, ◌⊎◌, List, [], ◌∷◌, ◌++◌, inl, inr, refl, sym, ap, ◌∙◌, subst, append_assoc, append-nil, IfSome}
+use Rattle.std.proofs.Common.{◌≡◌, ℕ, ◌⊎◌, List, [], ◌∷◌, ◌++◌, inl, inr, refl, sym, ap, ◌∙◌, subst, append_assoc, append-nil, IfSome}
 use Rattle.std.specs.Prelude.{Option, Some, None, Result, Ok, Err}
 use Rattle.std.specs.Io.KnownBytes.{prepend_known}
-use Rattle.base_frame.specs.Frames.{HasNoFrame}
 use Rattle.base_frame.specs.Grammar.{IsFrame}
-use Rattle.base_frame.specs.Machine.{front_of, whole}
-use Rattle.base_frame.specs.Reader.{IsFaulty}
+use Rattle.base_frame.specs.Machine.{whole}
 use Rattle.base_frame.proofs.OneWay.{faults_stay, one_fault}
 use Rattle.base_frame.proofs.Ties.{frames_are}
-use Rattle.outside_io.specs.Doors.{PortTold}
 use Rattle.outside_io.specs.Faults.{Rose}
 use Rattle.outside_io.specs.Sessions.{Session}
 use Rattle.outside_io.specs.Told.{append_to, prepend_to}

@@ -1,12 +1,12 @@
 -- A copy, a piece at a time, and two copies side by side.
-use Rattle.std.proofs.Common.{◌≡◌, ℕ, ◌≤◌, true, false, List, [], ◌++◌, inl, inr, refl, sym, ap, ◌∙◌, subst, append-nil, arith}
-use Rattle.std.specs.Prelude.{Option, Result, Ok, Err}
+use Rattle.std.proofs.Common.{◌≡◌, ℕ, ◌≤◌, true, false, List, [], ◌++◌, inl, inr, refl, sym, ap, ◌∙◌, subst, arith}
+use Rattle.std.specs.Prelude.{Option, Result}
 use Rattle.std.specs.Io.KnownBytes.{append_known}
 use Rattle.outside_io.specs.Faults.{Rose}
 use Rattle.outside_io.specs.Sessions.{Session}
 use Rattle.mux_client.specs.Pieces.{Came, Went}
 use Rattle.mux_client.specs.Copies.{Copies, CopiesSoFar, CopyEnded, RelayEnded, Relayed, outcome_of}
-use Rattle.mux_client.specs.Sessions.{IsEnded, IsFront, Passes, ReadFailed, WriteFailed}
+use Rattle.mux_client.specs.Sessions.{IsEnded, Passes}
 use Rattle.mux_client.specs.declared.copies.Copied.{Copied}
 use Rattle.mux_client.specs.declared.copies.Copied.TheVariants as copied
 use Rattle.mux_client.specs.declared.fault.ClientFault.{ClientFault}

@@ -1,12 +1,12 @@
 -- A dial and its link, put together.
-use Rattle.std.proofs.Common.{◌≡◌, ℕ, ◌+◌, ◌⊎◌, List, [], ◌∷◌, inl, inr, refl, sym, ap, ◌∙◌, subst}
-use Rattle.std.specs.Prelude.{Option, Some, None, IfSome, IsSome, Result, Ok, Err}
+use Rattle.std.proofs.Common.{◌≡◌, ℕ, ◌+◌, ◌⊎◌, List, [], ◌∷◌, inl, inr, refl, ap, ◌∙◌, subst}
+use Rattle.std.specs.Prelude.{Option, Some, None, IfSome, Result, Err}
 use Rattle.std.specs.Option.{option_map}
 use Rattle.outside_io.specs.Doors.{Address, Call, PortTold, dialled}
 use Rattle.outside_io.specs.Faults.{Rose}
 use Rattle.outside_io.specs.Sessions.{Session}
 use Rattle.outside_io.specs.Told.{append_to, prepend_to}
-use Rattle.mux_client.specs.Dials.{AtPort, Called, Dialled, DoorState, GaveNone, PortState, WhyNoPort, given, linked, no_link, no_port}
+use Rattle.mux_client.specs.Dials.{AtPort, Called, Dialled, PortState, WhyNoPort, given, linked, no_link, no_port}
 use Rattle.mux_client.specs.declared.fault.ClientFault.{ClientFault}
 use Rattle.mux_client.specs.declared.fault.ClientFault.TheVariants as fault
 

@@ -1,14 +1,12 @@
 -- A request that is sent, and the first frame that comes back.
-use Rattle.std.proofs.Common.{◌≡◌, ℕ, ◌≤◌, ◌⊎◌, true, false, List, [], ◌++◌, inl, inr, refl, sym, ap, ◌∙◌, subst, append-nil, arith}
-use Rattle.std.specs.Prelude.{Option, Some, None, Result, Ok, Err}
+use Rattle.std.proofs.Common.{◌≡◌, ℕ, true, false, List, [], inl, inr, refl, ap, ◌∙◌, subst}
+use Rattle.std.specs.Prelude.{Option, Result, Ok, Err}
 use Rattle.std.specs.Io.KnownBytes.{append_known}
-use Rattle.outside_io.specs.Faults.{Rose}
 use Rattle.outside_io.specs.Sessions.{Session}
 use Rattle.base_frame.specs.Frames.{framed}
-use Rattle.base_frame.specs.Grammar.{IsFrame}
-use Rattle.mux_client.specs.Answers.{Begins, Exchanged, IsFirst, Taken, TakenFirst, WhyNoAnswer, WhyNoFrame, anything, nothing}
+use Rattle.mux_client.specs.Answers.{Exchanged, IsFirst, Taken, TakenFirst, WhyNoAnswer, WhyNoFrame, anything, nothing}
 use Rattle.mux_client.specs.Pieces.{Went}
-use Rattle.mux_client.specs.Sessions.{IsFront, Passes}
+use Rattle.mux_client.specs.Sessions.{IsFront}
 use Rattle.mux_client.specs.declared.fault.ClientFault.{ClientFault}
 use Rattle.mux_client.specs.declared.fault.ClientFault.TheVariants as fault
 use Rattle.mux_client.proofs.Passing.{front_all, front_none, passes_none, passes_write}

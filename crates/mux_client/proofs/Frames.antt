@@ -1,19 +1,18 @@
 -- The first frame of a source that is read a byte at a time.
-use Rattle.std.proofs.Common.{◌≡◌, ℕ, zero, suc, ◌≤◌, ◌<◌, List, [], ◌∷◌, ◌++◌, length, take, inl, inr, refl, sym, ap, ◌∙◌, subst, append_assoc, append-nil, arith}
-use Rattle.std.specs.Prelude.{Option, Some, None, Result, Ok, Err}
+use Rattle.std.proofs.Common.{◌≡◌, ℕ, ◌≤◌, List, [], ◌∷◌, ◌++◌, inl, inr, refl, sym, ap, ◌∙◌, subst, append_assoc, arith}
+use Rattle.std.specs.Prelude.{Option, Ok, Err}
 use Rattle.std.specs.Io.KnownBytes.{append_known, prepend_known}
 use Rattle.outside_io.specs.Faults.{Rose}
 use Rattle.base_frame.specs.declared.block.BadWhy.{BadWhy}
 use Rattle.base_frame.specs.declared.reader.Next.TheVariants as next
 use Rattle.base_frame.specs.Answer.{Gives}
-use Rattle.base_frame.specs.Frames.{Splits, HasNoFrame}
+use Rattle.base_frame.specs.Frames.{HasNoFrame}
 use Rattle.base_frame.specs.Grammar.{IsFrame}
 use Rattle.base_frame.specs.Reader.{Held, IsFaulty, Stands}
-use Rattle.mux_client.specs.Answers.{IsFirst, TakenFirst, WhyNoFrame}
+use Rattle.mux_client.specs.Answers.{TakenFirst}
 use Rattle.mux_client.specs.Pieces.{Came}
 use Rattle.mux_client.specs.Firsts.{FirstSoFar}
 use Rattle.mux_client.specs.Sessions.{IsEnded}
-use Rattle.mux_client.specs.declared.fault.ClientFault.{ClientFault}
 use Rattle.mux_client.specs.declared.fault.ClientFault.TheVariants as fault
 use Rattle.mux_client.proofs.Passing.{known_more, known_none, left_more, left_none, rose_from}
 
