@@ -1,12 +1,12 @@
 -- A dial and its link, put together.
-use Rattle.std.proofs.Common.{◌≡◌, ℕ, ◌+◌, ◌⊎◌, List, [], ◌∷◌, inl, inr, refl, sym, ap, ◌∙◌}
-use Rattle.std.specs.Prelude.{Option, Some, None, IfSome, IsSome, Result, Ok, Err}
+use Rattle.std.proofs.Common.{◌≡◌, ℕ, ◌+◌, ◌⊎◌, List, [], ◌∷◌, inl, inr, refl, ap, ◌∙◌, subst}
+use Rattle.std.specs.Prelude.{Option, Some, None, IfSome, Result, Err}
 use Rattle.std.specs.Option.{option_map}
 use Rattle.outside_io.specs.Doors.{Address, Call, PortTold, dialled}
 use Rattle.outside_io.specs.Faults.{Rose}
 use Rattle.outside_io.specs.Sessions.{Session}
 use Rattle.outside_io.specs.Told.{append_to, prepend_to}
-use Rattle.mux_client.specs.Dials.{AtPort, Called, Dialled, DoorState, GaveNone, PortState, WhyNoPort, given, linked, no_link, no_port}
+use Rattle.mux_client.specs.Dials.{AtPort, Called, Dialled, PortState, WhyNoPort, given, linked, no_link, no_port}
 use Rattle.mux_client.specs.declared.fault.ClientFault.{ClientFault}
 use Rattle.mux_client.specs.declared.fault.ClientFault.TheVariants as fault
 
@@ -42,3 +42,10 @@ module _ {P : Type 0} (view : P → PortState) (Nothing : Type 0) (Did : Session
   pub dialled_given : (left left' : Option (List PortTold)) (f f' : ℕ) (before now : P) (result : Result (Unit {0}) ClientFault) → (view before).faults ≡ 0 → left ≡ prepend_to ((view before).told ∷ []) left'
       → AtPort (view before) (view now) Nothing Did result → Dialled (record { left = left; faults = f }) (record { left = left'; faults = f' }) (option_map view (Some now)) Nothing Did result
   dialled_given left left' f f' before now result z l x = given (view before) (view now) (record { left = l; fresh = z }) refl x
+
+  -- the same by what is known of the port that is there
+  pub dialled_some : (left left' : Option (List PortTold)) (f f' : ℕ) (port : Option P) (before now : P) (result : Result (Unit {0}) ClientFault) → port ≡ Some before → IfSome port (λ p. (view p).faults ≡ 0)
+      → IfSome port (λ p. left ≡ prepend_to ((view p).told ∷ []) left') → AtPort (view before) (view now) Nothing Did result
+      → Dialled (record { left = left; faults = f }) (record { left = left'; faults = f' }) (option_map view (Some now)) Nothing Did result
+  dialled_some left left' f f' port before now result is fresh told x =
+      dialled_given left left' f f' before now result (subst (λ o. IfSome o (λ p. (view p).faults ≡ 0)) is fresh) (subst (λ o. IfSome o (λ p. left ≡ prepend_to ((view p).told ∷ []) left')) is told) x

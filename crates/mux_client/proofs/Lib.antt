@@ -1,3 +1,10 @@
+pub mod Asking
+pub mod Carrying
+pub mod Completing
+pub mod Copying
 pub mod Dials
+pub mod Exchanging
+pub mod Frames
+pub mod Opening
 pub mod Passing
 pub mod Replying

@@ -1,13 +1,13 @@
 -- Which reply a body is to a request.
-use Rattle.std.proofs.Common.{◌≡◌, ℕ, Bool, true, false, ◌&&◌, List, [], ◌∷◌, ◌++◌, codes, refl, sym, ap, ◌∙◌, subst, bytes_eq, arith, if◌then◌else◌}
+use Rattle.std.proofs.Common.{◌≡◌, ℕ, Bool, true, false, ◌&&◌, List, [], ◌∷◌, codes, refl, sym, ap, ◌∙◌, subst, bytes_eq, arith, if◌then◌else◌}
 use Rattle.std.specs.Prelude.{Option, Some, None}
-use Rattle.std.specs.Bool.{Decides}
+use Rattle.std.proofs.lemmas.Fmt.{decimal_digit}
 use Rattle.std.proofs.lemmas.Slice.Eq.{bytes_eq-Decides}
 use Rattle.json_text.specs.declared.kind.Word.TheVariants.{Null, False, True}
 use Rattle.json_text.specs.Json.{Json, word, number, string, array, object, value}
 use Rattle.json_text.proofs.Compact.{simple_spells}
 use Rattle.rpc_message.specs.Ids.{is_quoted}
-use Rattle.rpc_message.specs.Message.{Message, Id, integer, text, request, notification, result, error, not_json, not_message, id_bytes, id_of, integer_if, is_integer, message_of, response_id, result_bytes, same_id}
+use Rattle.rpc_message.specs.Message.{Message, Id, integer, text, request, notification, result, error, not_json, not_message, id_bytes, id_of, integer_if, is_integer, message_of, response_id, same_id}
 use Rattle.rpc_message.specs.Sorts.{sort_of}
 use Rattle.rpc_message.specs.declared.sort.Sort.{Sort}
 use Rattle.rpc_message.specs.declared.sort.Sort.TheVariants as sort
@@ -24,6 +24,9 @@ open_id_text = record {
   stands = ((34 ∷ [], codes "lspmux:open\"", refl, refl, (codes "lspmux:open", 34 ∷ [], refl, simple_spells (codes "lspmux:open") refl, refl)), refl);
   is = refl;
 }
+
+pub question_id_text : IsIdText question_id (codes "1")
+question_id_text = subst (λ digits. IsIdText (integer digits) digits) (decimal_digit 1 (omega arith)) (decimal_law 1 (omega arith))
 
 -- an id is the one that is asked for
 abbrev pub is_id : Id → Option Id → Bool

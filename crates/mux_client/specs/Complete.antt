@@ -1,7 +1,6 @@
 -- When a client and a question end well.
-use Rattle.std.specs.Prelude.{◌≡◌, ℕ, ◌⊎◌, List, ◌∷◌, ◌++◌, []}
+use Rattle.std.specs.Prelude.{◌≡◌, ℕ, List, ◌∷◌, ◌++◌, []}
 use Rattle.std.specs.Prelude.{Option, Some, None, Result, Ok, Err}
-use Rattle.base_frame.specs.Grammar.{IsFrame}
 use Rattle.outside_io.specs.Doors.{PortTold}
 use Rattle.outside_io.specs.Faults.{Rose}
 use Rattle.outside_io.specs.Sessions.{Session}

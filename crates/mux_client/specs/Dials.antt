@@ -1,5 +1,5 @@
 -- The dial of a place, and the one link of the port that it gives.
-use Rattle.std.specs.Prelude.{◌≡◌, ℕ, ◌+◌, ◌≤◌, ◌⊎◌, List, [], ◌∷◌}
+use Rattle.std.specs.Prelude.{◌≡◌, ℕ, ◌+◌, ◌⊎◌, List, [], ◌∷◌}
 use Rattle.std.specs.Prelude.{Option, Some, None, IfSome, Result, Err}
 use Rattle.outside_io.specs.Doors.{Address, Call, dialled, PortTold, told_of}
 use Rattle.outside_io.specs.Faults.{Rose}

@@ -1,6 +1,6 @@
 -- A question to the daemon, and what is shown of its result.
 use Rattle.std.specs.Prelude.{◌≡◌, ℕ, ◌⊎◌, ◌≤◌, List, []}
-use Rattle.std.specs.Prelude.{Option, Some, None, Result, Ok, Err}
+use Rattle.std.specs.Prelude.{Option, Result, Ok, Err}
 use Rattle.std.specs.Io.KnownBytes.{append_known}
 use Rattle.base_frame.specs.Frames.{framed}
 use Rattle.base_frame.specs.Grammar.{IsFrame}

@@ -1,6 +1,9 @@
 // What a copy reads into.
 ghost use Rattle.std.specs.Prelude.{◌≤◌, vec_len};
+ghost use Rattle.mux_client.specs.Pieces.{CamePiece};
 
+use crate::pieces::{Piece, read_piece};
+use outside_io::Source;
 use std::alloc::{AllocError, Global};
 
 // The most bytes of one read.
@@ -19,5 +22,14 @@ impl Buffer {
         Ok(Buffer {
             bytes: vec![in alloc; 0u8; PIECE]?,
         })
+    }
+
+    /// Reads what comes next to the front of the buffer.
+    pub fn read<S: Source>(&mut self, source: &mut S) -> Piece
+        ensures came { CamePiece (S.taken source.old) (S.taken source.new) (S.left source.old) (S.left source.new) (S.faults source.old)
+            (S.faults source.new) self.new.bytes.items result }
+        ensures later { S.faults source.old ≤ S.faults source.new }
+    {
+        read_piece(source, self.bytes.as_mut_slice())
     }
 }

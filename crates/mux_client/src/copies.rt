@@ -7,7 +7,7 @@ ghost use Rattle.mux_client.specs.Copies.{Copies, Relayed, outcome_of};
 use crate::buffer::Buffer;
 use crate::dialling::Link;
 use crate::fault::ClientFault;
-use crate::pieces::{Piece, read_piece, write_piece};
+use crate::pieces::{Piece, write_piece};
 use outside_io::{Sink, Source};
 use std::sync::Wait;
 use std::thread::{Threads, join_mut};
@@ -27,9 +27,12 @@ fn copy<R: Wait, S: Source, K: Sink>(
     buffer: &mut Buffer,
     source: &mut S,
     sink: &mut K,
-) -> Copied {
+) -> Copied
+    ensures { Copies (session_of S.taken S.left S.faults K.written K.faults source.old sink.old)
+        (session_of S.taken S.left S.faults K.written K.faults source.new sink.new) result }
+{
     for _ in rt.forever() {
-        let count = match read_piece(source, buffer.bytes.as_mut_slice()) {
+        let count = match buffer.read(source) {
             Piece::Bytes(count) => count,
             Piece::End => return Copied::All,
             Piece::Failed => return Copied::ReadFault,
@@ -42,12 +45,16 @@ fn copy<R: Wait, S: Source, K: Sink>(
 }
 
 // The same, and then closes the sink, however the copy ended.
+#[tactic(auto, using(crate::proofs::Copying::copies_closed))]
 fn copy_and_close<R: Wait, S: Source, K: Sink>(
     rt: &R,
     buffer: &mut Buffer,
     source: &mut S,
     sink: &mut K,
-) -> Copied {
+) -> Copied
+    ensures { Copies (session_of S.taken S.left S.faults K.written K.faults source.old sink.old)
+        (session_of S.taken S.left S.faults K.written K.faults source.new sink.new) result }
+{
     let copied = copy(rt, buffer, source, sink);
     sink.close();
     copied
@@ -71,6 +78,7 @@ fn outcome(sent: Copied, shown: Copied) -> Result<(), ClientFault>
 ///
 /// The copy of the input closes the link's sink as it ends, however it ends: so the other copy ends too, where a closed link's
 /// reads end. Where the link's copy ends first, the input's goes on until the input ends.
+#[tactic(auto, using(crate::proofs::Copying::relayed_by))]
 pub fn copy_both<
     R: Threads + Wait + Sync,
     S: Source + Send + Drop,
@@ -84,14 +92,24 @@ pub fn copy_both<
     link: &mut Link<S, K>,
     input: &mut I,
     output: &mut O,
-) -> Result<(), ClientFault> {
+) -> Result<(), ClientFault>
+    ensures { Relayed (session_of I.taken I.left I.faults O.written O.faults input.old output.old)
+        (session_of I.taken I.left I.faults O.written O.faults input.new output.new)
+        (session_of S.taken S.left S.faults K.written K.faults link.old.source link.old.sink)
+        (session_of S.taken S.left S.faults K.written K.faults link.new.source link.new.sink) result }
+{
     let Link { source, sink } = link;
     let (sent, shown) = join_mut(
         rt,
         &mut || -> Copied
             requires { IsSync R.row }
+            ensures { Copies (session_of I.taken I.left I.faults K.written K.faults input.entry.now sink.entry.now)
+                (session_of I.taken I.left I.faults K.written K.faults input.exit.now sink.exit.now) result }
         { copy_and_close(rt, typed, input, sink) },
-        &mut || -> Copied { copy(rt, heard, source, output) },
+        &mut || -> Copied
+            ensures { Copies (session_of S.taken S.left S.faults O.written O.faults source.entry.now output.entry.now)
+                (session_of S.taken S.left S.faults O.written O.faults source.exit.now output.exit.now) result }
+        { copy(rt, heard, source, output) },
     );
     outcome(sent, shown)
 }

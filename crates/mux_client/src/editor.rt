@@ -19,6 +19,7 @@ use std::sync::Wait;
 use std::thread::Threads;
 
 // Says which server is meant, where one is named, and copies both ways.
+#[tactic(auto, using(crate::proofs::Carrying::carried_none, crate::proofs::Carrying::carried_unopened, crate::proofs::Carrying::carried_plain, crate::proofs::Carrying::carried_opened))]
 fn carry<
     R: Threads + Wait + Sync,
     S: Source + Send + Drop,
@@ -35,6 +36,11 @@ fn carry<
     output: &mut O,
 ) -> Result<(), ClientFault>
     requires { limit ≤ 268435456 }
+    ensures { Carried limit (option_map (λ name. name.now) server.entry)
+        (session_of I.taken I.left I.faults O.written O.faults input.old output.old)
+        (session_of I.taken I.left I.faults O.written O.faults input.new output.new)
+        (session_of S.taken S.left S.faults K.written K.faults link.old.source link.old.sink)
+        (session_of S.taken S.left S.faults K.written K.faults link.new.source link.new.sink) result }
 {
     let Ok(mut typed) = Buffer::new(alloc) else {
         return Err(ClientFault::Memory);
@@ -52,6 +58,7 @@ fn carry<
 }
 
 // Takes a port's link, carries over it, and hands it back.
+#[tactic(auto, using(crate::proofs::Dials::at_none, crate::proofs::Dials::at_link))]
 fn carry_at<R: Threads + Wait + Sync, P: Port, I: Source + Send + Drop, O: Sink + Send + Drop>(
     rt: &R,
     alloc: Global,
@@ -62,6 +69,11 @@ fn carry_at<R: Threads + Wait + Sync, P: Port, I: Source + Send + Drop, O: Sink 
     output: &mut O,
 ) -> Result<(), ClientFault>
     requires { limit ≤ 268435456 }
+    ensures { AtPort (port_state P.sessions P.links P.held P.faults port.old) (port_state P.sessions P.links P.held P.faults port.new)
+        (session_of I.taken I.left I.faults O.written O.faults input.new output.new
+        ≡ session_of I.taken I.left I.faults O.written O.faults input.old output.old)
+        (Carried limit (option_map (λ name. name.now) server.entry) (session_of I.taken I.left I.faults O.written O.faults input.old output.old)
+        (session_of I.taken I.left I.faults O.written O.faults input.new output.new)) result }
 {
     let mut link = match take_link(port) {
         Ok(link) => link,
@@ -73,7 +85,7 @@ fn carry_at<R: Threads + Wait + Sync, P: Port, I: Source + Send + Drop, O: Sink 
 }
 
 // Dials a place, and carries over its link. The port is left there.
-#[tactic(auto, using(crate::proofs::Dials::called_so, crate::proofs::Dials::called_not))]
+#[tactic(auto, using(crate::proofs::Dials::called_so, crate::proofs::Dials::dialled_none, crate::proofs::Dials::dialled_given))]
 fn carry_from<R: Threads + Wait + Sync, D: Door, I: Source + Send + Drop, O: Sink + Send + Drop>(
     rt: &R,
     alloc: Global,
@@ -86,6 +98,13 @@ fn carry_from<R: Threads + Wait + Sync, D: Door, I: Source + Send + Drop, O: Sin
 ) -> Result<(), ClientFault>
     requires { port.old ≡ None }
     ensures called { Called (address_of config.now.place) (D.calls door.old) (D.calls door.new) result }
+    ensures ran { Dialled (door_state D.left D.faults door.old) (door_state D.left D.faults door.new)
+        (option_map (port_state D.Port.Port.sessions D.Port.Port.links D.Port.Port.held D.Port.Port.faults) port.new)
+        (session_of I.taken I.left I.faults O.written O.faults input.new output.new
+        ≡ session_of I.taken I.left I.faults O.written O.faults input.old output.old)
+        (Carried config.now.content (option_map (λ name. name.now) server.entry)
+        (session_of I.taken I.left I.faults O.written O.faults input.old output.old)
+        (session_of I.taken I.left I.faults O.written O.faults input.new output.new)) result }
 {
     dial(door, &config.place, port)?;
     match port {
@@ -114,6 +133,17 @@ pub fn client<R: Threads + Wait + Sync, D: Door, I: Source + Send + Drop, O: Sin
 ) -> Result<(), ClientFault>
     requires { port.old ≡ None }
     ensures called { Called (address_of config.now.place) (D.calls door.old) (D.calls door.new) result }
+    ensures ran { Dialled (door_state D.left D.faults door.old) (door_state D.left D.faults door.new)
+        (option_map (port_state D.Port.Port.sessions D.Port.Port.links D.Port.Port.held D.Port.Port.faults) port.new)
+        (session_of I.taken I.left I.faults O.written O.faults input.new output.new
+        ≡ session_of I.taken I.left I.faults O.written O.faults input.old output.old)
+        (Carried config.now.content (option_map (λ name. name.now) server.entry)
+        (session_of I.taken I.left I.faults O.written O.faults input.old output.old)
+        (session_of I.taken I.left I.faults O.written O.faults input.new output.new)) result }
+    ensures complete { (link : Session) (bytes : List ℕ) → OffersLink (door_state D.left D.faults door.old) link bytes
+        → SaysOpened config.now.content (option_map (λ name. name.now) server.entry) bytes → ¬ Rose (D.faults door.old) (D.faults door.new)
+        → ¬ Rose (I.faults input.old) (I.faults input.new) → ¬ Rose (O.faults output.old) (O.faults output.new)
+        → Stays (option_map (port_state D.Port.Port.sessions D.Port.Port.links D.Port.Port.held D.Port.Port.faults) port.new) link → IsDone result }
 {
     carry_from(rt, alloc, config, server, door, port, input, output)
 }

@@ -11,9 +11,6 @@ use message_body::Body;
 use outside_io::{Sink, Source};
 use std::alloc::Global;
 
-// The most bytes of a frame's content that settings allow.
-const MOST: usize = 268_435_456;
-
 // Feeds a byte, and says whether there was memory for it.
 fn feed_byte(reader: &mut FrameReader, byte: u8) -> bool
     ensures limit { reader.new.limit ≡ reader.old.limit }
@@ -25,7 +22,11 @@ fn feed_byte(reader: &mut FrameReader, byte: u8) -> bool
 // Takes the first frame off a source, and no byte behind it.
 //
 // It reads a byte at a time, since what stands behind the frame belongs to who reads the source next.
-fn take_frame<S: Source>(alloc: Global, limit: u32, source: &mut S) -> Result<Body, ClientFault> {
+fn take_frame<S: Source>(alloc: Global, limit: u32, source: &mut S) -> Result<Body, ClientFault>
+    ensures first { TakenFirst limit (S.taken source.old) (S.taken source.new) (S.left source.old) (S.left source.new) (S.faults source.old)
+        (S.faults source.new) result }
+    ensures fits { IfOk result (λ answer. length answer ≤ limit) }
+{
     let mut reader = FrameReader::new(alloc, limit);
     for _ in 0..u64::MAX {
         let byte = match read_byte(source) {
@@ -49,6 +50,7 @@ fn take_frame<S: Source>(alloc: Global, limit: u32, source: &mut S) -> Result<Bo
 /// Sends a request as a frame, and takes the first frame of at most `limit` bytes that comes back.
 ///
 /// The frame is taken off the source a byte at a time, and no byte behind it.
+#[tactic(auto, using(crate::proofs::Exchanging::unsent, crate::proofs::Exchanging::unwritten, crate::proofs::Exchanging::awaited))]
 pub fn exchange<S: Source, K: Sink>(
     alloc: Global,
     limit: u32,
@@ -56,7 +58,9 @@ pub fn exchange<S: Source, K: Sink>(
     source: &mut S,
     sink: &mut K,
 ) -> Result<Body, ClientFault>
-    ensures fits { IfOk result (λ answer. length answer ≤ 268435456) }
+    ensures exchanged { Exchanged limit request.now anything nothing (session_of S.taken S.left S.faults K.written K.faults source.old sink.old)
+        (session_of S.taken S.left S.faults K.written K.faults source.new sink.new) result }
+    ensures fits { IfOk result (λ answer. length answer ≤ limit) }
 {
     let Ok(bytes) = frame(alloc, request) else {
         return Err(ClientFault::Memory);
@@ -64,9 +68,5 @@ pub fn exchange<S: Source, K: Sink>(
     if !write_piece(sink, bytes.bytes()) {
         return Err(ClientFault::Link);
     }
-    let answer = take_frame(alloc, limit, source)?;
-    if answer.bytes().len() > MOST {
-        return Err(ClientFault::Answer);
-    }
-    Ok(answer)
+    take_frame(alloc, limit, source)
 }

@@ -40,6 +40,7 @@ fn open_reply(alloc: Global, content: &[u8]) -> Result<Reply, Memory>
 ///
 /// It answers `Refused` where the frame is the request's error, `Answer` where the link's bytes are faulty, the link ends before
 /// a frame, or the frame says something else, and `Link` where a read or a write failed. No byte is read behind the frame.
+#[tactic(auto, using(crate::proofs::Opening::opened_result, crate::proofs::Opening::opened_refusal, crate::proofs::Opening::opened_other, crate::proofs::Opening::opened_unread, crate::proofs::Opening::opened_none, crate::proofs::Opening::opened_unsent))]
 pub fn open_server<S: Source, K: Sink>(
     alloc: Global,
     limit: u32,
@@ -48,6 +49,9 @@ pub fn open_server<S: Source, K: Sink>(
     sink: &mut K,
 ) -> Result<Body, ClientFault>
     requires { limit ≤ 268435456 }
+    ensures { Exchanged limit (open_text name.now) (IsResult open_id) (IsRefusal open_id)
+        (session_of S.taken S.left S.faults K.written K.faults source.old sink.old)
+        (session_of S.taken S.left S.faults K.written K.faults source.new sink.new) result }
 {
     let Ok(request) = open_request(alloc, name) else {
         return Err(ClientFault::Memory);

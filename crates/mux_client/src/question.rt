@@ -51,11 +51,13 @@ fn question_request(alloc: Global, question: Question) -> Result<Body, Memory>
 // What a frame's content says of that request.
 fn question_reply(alloc: Global, content: &[u8]) -> Result<Reply, Memory>
     requires { length content.now ≤ 268435456 }
+    ensures { IfOk result (λ reply. Says question_id content.now reply) }
 {
     read_reply(alloc, content, b"1")
 }
 
 // Sends a question on a link and takes the result's bytes.
+#[tactic(auto, using(crate::proofs::Asking::resulted, crate::proofs::Asking::resulted_refused, crate::proofs::Asking::resulted_other, crate::proofs::Asking::resulted_unlooked, crate::proofs::Asking::resulted_none, crate::proofs::Asking::resulted_unsent))]
 fn result_of<S: Source, K: Sink>(
     alloc: Global,
     limit: u32,
@@ -63,6 +65,8 @@ fn result_of<S: Source, K: Sink>(
     link: &mut Link<S, K>,
 ) -> Result<Body, ClientFault>
     requires { limit ≤ 268435456 }
+    ensures { Resulted limit question (session_of S.taken S.left S.faults K.written K.faults link.old.source link.old.sink)
+        (session_of S.taken S.left S.faults K.written K.faults link.new.source link.new.sink) result }
 {
     let Ok(asked) = question_request(alloc, question) else {
         return Err(ClientFault::Memory);
@@ -99,6 +103,7 @@ fn shown(alloc: Global, question: Question, value: &[u8]) -> Result<Vec<u8>, Mem
 }
 
 // Asks over a link, and shows the result.
+#[tactic(auto, using(crate::proofs::Asking::asked_none, crate::proofs::Asking::asked_unshown, crate::proofs::Asking::asked_whole, crate::proofs::Asking::asked_cut))]
 fn ask_over<S: Source, K: Sink, O: Sink>(
     alloc: Global,
     limit: u32,
@@ -107,6 +112,9 @@ fn ask_over<S: Source, K: Sink, O: Sink>(
     output: &mut O,
 ) -> Result<(), ClientFault>
     requires { limit ≤ 268435456 }
+    ensures { Asked limit question (output_state O.written O.faults output.old) (output_state O.written O.faults output.new)
+        (session_of S.taken S.left S.faults K.written K.faults link.old.source link.old.sink)
+        (session_of S.taken S.left S.faults K.written K.faults link.new.source link.new.sink) result }
 {
     let value = result_of(alloc, limit, question, link)?;
     let Ok(line) = shown(alloc, question, value.bytes()) else {
@@ -120,6 +128,7 @@ fn ask_over<S: Source, K: Sink, O: Sink>(
 }
 
 // Takes a port's link, asks over it, and hands it back.
+#[tactic(auto, using(crate::proofs::Dials::at_none, crate::proofs::Dials::at_link))]
 fn ask_at<P: Port, O: Sink>(
     alloc: Global,
     limit: u32,
@@ -128,6 +137,9 @@ fn ask_at<P: Port, O: Sink>(
     output: &mut O,
 ) -> Result<(), ClientFault>
     requires { limit ≤ 268435456 }
+    ensures { AtPort (port_state P.sessions P.links P.held P.faults port.old) (port_state P.sessions P.links P.held P.faults port.new)
+        (output_state O.written O.faults output.new ≡ output_state O.written O.faults output.old)
+        (Asked limit question (output_state O.written O.faults output.old) (output_state O.written O.faults output.new)) result }
 {
     let mut link = match take_link(port) {
         Ok(link) => link,
@@ -139,7 +151,7 @@ fn ask_at<P: Port, O: Sink>(
 }
 
 // Dials a place, and asks over its link. The port is left there.
-#[tactic(auto, using(crate::proofs::Dials::called_so, crate::proofs::Dials::called_not))]
+#[tactic(auto, using(crate::proofs::Dials::called_so, crate::proofs::Dials::dialled_none, crate::proofs::Dials::dialled_given))]
 fn ask_from<D: Door, O: Sink>(
     alloc: Global,
     config: &Config,
@@ -150,6 +162,10 @@ fn ask_from<D: Door, O: Sink>(
 ) -> Result<(), ClientFault>
     requires { port.old ≡ None }
     ensures called { Called (address_of config.now.place) (D.calls door.old) (D.calls door.new) result }
+    ensures ran { Dialled (door_state D.left D.faults door.old) (door_state D.left D.faults door.new)
+        (option_map (port_state D.Port.Port.sessions D.Port.Port.links D.Port.Port.held D.Port.Port.faults) port.new)
+        (output_state O.written O.faults output.new ≡ output_state O.written O.faults output.old)
+        (Asked config.now.content question (output_state O.written O.faults output.old) (output_state O.written O.faults output.new)) result }
 {
     dial(door, &config.place, port)?;
     match port {
@@ -171,6 +187,14 @@ pub fn ask<D: Door, O: Sink>(
 ) -> Result<(), ClientFault>
     requires { port.old ≡ None }
     ensures called { Called (address_of config.now.place) (D.calls door.old) (D.calls door.new) result }
+    ensures ran { Dialled (door_state D.left D.faults door.old) (door_state D.left D.faults door.new)
+        (option_map (port_state D.Port.Port.sessions D.Port.Port.links D.Port.Port.held D.Port.Port.faults) port.new)
+        (output_state O.written O.faults output.new ≡ output_state O.written O.faults output.old)
+        (Asked config.now.content question (output_state O.written O.faults output.old) (output_state O.written O.faults output.new)) result }
+    ensures complete { (link : Session) (bytes : List ℕ) → OffersLink (door_state D.left D.faults door.old) link bytes
+        → SaysFirst config.now.content (IsResult question_id) bytes → ¬ Rose (D.faults door.old) (D.faults door.new)
+        → ¬ Rose (O.faults output.old) (O.faults output.new)
+        → Stays (option_map (port_state D.Port.Port.sessions D.Port.Port.links D.Port.Port.held D.Port.Port.faults) port.new) link → IsDone result }
 {
     ask_from(alloc, config, question, door, port, output)
 }
