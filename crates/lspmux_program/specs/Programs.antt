@@ -1,11 +1,11 @@
 -- What a run of the program did.
 use Rattle.std.specs.Prelude.{◌≡◌, ◌≤◌, ℕ, List, [], ◌∷◌, ◌++◌, codes, IfSome}
-use Rattle.std.specs.Prelude.{Option, Some, None, Result, Ok, Err, ◌⊎◌}
+use Rattle.std.specs.Prelude.{Option, Some, None, option_map, Result, Ok, Err, ◌⊎◌}
 use Rattle.clap.specs.Words.{Text}
 use Rattle.outside_io.specs.Doors.{Call, PortTold, address_of}
 use Rattle.outside_io.specs.Faults.{Rose}
 use Rattle.outside_io.specs.Files.{File}
-use Rattle.outside_io.specs.Sessions.{Session}
+use Rattle.outside_io.specs.Sessions.{Session, session_of}
 use Rattle.mux_history.specs.declared.entry.Entry.{Entry}
 use Rattle.mux_config.specs.declared.config.Config.{Config}
 use Rattle.program_settings.specs.Lines.{Reported, Wrote, line_of, settings_status}
@@ -16,8 +16,12 @@ use Rattle.drive_program.specs.Program.{Drove, Undisturbed}
 use Rattle.serve_program.specs.declared.fault.ServeFault.{ServeFault}
 use Rattle.serve_program.specs.Daemons.{CameOfSettings}
 use Rattle.serve_program.specs.Faults.{ended_line, ended_status}
-use Rattle.mux_client.specs.Dials.{Called}
+use Rattle.mux_client.specs.Dials.{Called, Dialled, door_state, port_state}
+use Rattle.mux_client.specs.Questions.{Asked, output_state}
+use Rattle.mux_client.specs.Runs.{Carried}
 use Rattle.mux_client.specs.declared.fault.ClientFault.{ClientFault}
+use Rattle.mux_client.specs.declared.question.Question.{Question}
+use Rattle.mux_client.specs.declared.question.Question.TheVariants as question
 use Rattle.lspmux_words.specs.Meaning as words
 use Rattle.lspmux_program.specs.Clients.{client_line, client_status}
 use Rattle.lspmux_program.specs.declared.outside.Outside.{Outside}
@@ -87,17 +91,23 @@ module _ {D P B C J F I O N : Type 0}
     pub journal : new.journal ≡ old.journal
 
   -- `client`
-  pub record JoinedBy (config : Config) (old : Outside D B C J F I O N) (new : Left D P B C J F I O N) : Type 0 where
+  pub record JoinedBy (config : Config) (server : Option Text) (old : Outside D B C J F I O N) (new : Left D P B C J F I O N) : Type 0 where
     pub shown : O
     pub result : Result (Unit {0}) ClientFault
     pub dialled : DialledBy config old new shown result
+    pub ran : Dialled (door_state ports_left refusals old.door) (door_state ports_left refusals new.door) (option_map (port_state links_back links held faults) new.port)
+        (session_of taken unread input_faults written output_faults new.input shown ≡ session_of taken unread input_faults written output_faults old.input old.output)
+        (Carried config.content server (session_of taken unread input_faults written output_faults old.input old.output) (session_of taken unread input_faults written output_faults new.input shown)) result
 
   -- `status` and `stop`
-  pub record AskedBy (config : Config) (old : Outside D B C J F I O N) (new : Left D P B C J F I O N) : Type 0 where
+  pub record AskedBy (config : Config) (question : Question) (old : Outside D B C J F I O N) (new : Left D P B C J F I O N) : Type 0 where
     pub shown : O
     pub result : Result (Unit {0}) ClientFault
     pub dialled : DialledBy config old new shown result
     pub input : new.input ≡ old.input
+    pub ran : Dialled (door_state ports_left refusals old.door) (door_state ports_left refusals new.door) (option_map (port_state links_back links held faults) new.port)
+        (output_state written output_faults shown ≡ output_state written output_faults old.output)
+        (Asked config.content question (output_state written output_faults old.output) (output_state written output_faults shown)) result
 
   -- `make`, which isn't there yet
   pub record UnbuiltBy (old : Outside D B C J F I O N) (new : Left D P B C J F I O N) : Type 0 where
@@ -108,9 +118,9 @@ module _ {D P B C J F I O N : Type 0}
   abbrev pub Did : words.Asked → Config → Outside D B C J F I O N → Left D P B C J F I O N → Type 0
   Did (words.drive file) config old new = DroveBy config old new
   Did (words.serve file log) config old new = ServedBy config old new
-  Did (words.client file server) config old new = JoinedBy config old new
-  Did (words.status file) config old new = AskedBy config old new
-  Did (words.stop file) config old new = AskedBy config old new
+  Did (words.client file server) config old new = JoinedBy config server old new
+  Did (words.status file) config old new = AskedBy config question.Status old new
+  Did (words.stop file) config old new = AskedBy config question.Stop old new
   Did (words.make count seed) config old new = UnbuiltBy old new
   Did (words.make_lines count seed) config old new = UnbuiltBy old new
 

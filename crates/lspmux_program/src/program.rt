@@ -176,7 +176,7 @@ fn join<
     outside: Outside<D, B, C, J, F, I, O, N>,
 ) -> Left<D, D::Port, B, C, J, F, I, O, N>
     ensures { JoinedBy D.calls D.left D.faults D.Port.Port.sessions D.Port.Port.links D.Port.Port.held D.Port.Port.faults B.runs B.left B.faults C.given C.left
-        J.told J.faults F.files F.faults I.taken I.left I.faults O.written O.faults config.now outside result }
+        J.told J.faults F.files F.faults I.taken I.left I.faults O.written O.faults config.now (option_map (λ name. name.now) server.entry) outside result }
 {
     let Outside {
         mut door,
@@ -230,7 +230,7 @@ fn inquire<
     outside: Outside<D, B, C, J, F, I, O, N>,
 ) -> Left<D, D::Port, B, C, J, F, I, O, N>
     ensures { AskedBy D.calls D.left D.faults D.Port.Port.sessions D.Port.Port.links D.Port.Port.held D.Port.Port.faults B.runs B.left B.faults C.given C.left
-        J.told J.faults F.files F.faults I.taken I.left I.faults O.written O.faults config.now outside result }
+        J.told J.faults F.files F.faults I.taken I.left I.faults O.written O.faults config.now question outside result }
 {
     let Outside {
         mut door,
