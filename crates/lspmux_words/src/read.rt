@@ -1,7 +1,8 @@
 //! From words to a command.
-ghost use Rattle.std.specs.Prelude.{◌≡◌, IfErr, IfOk, Some, codes, false, map, option_map, string_bytes, true};
+ghost use Rattle.std.specs.Prelude.{◌≡◌, IfErr, IfOk, MatchResult, Some, codes, false, map, option_map, string_bytes, true};
 ghost use Rattle.clap.specs.Words.{first_of, found_of, kind_of, rows_of, subcommand_of, subcommand_rows_of};
-ghost use Rattle.lspmux_words.specs.Meaning.{IsRefused, asked, asked_by, asked_in, is_set, is_taken, level_or_warn, made_in, meaning, text};
+ghost use Rattle.lspmux_words.specs.Forms.{IsForm};
+ghost use Rattle.lspmux_words.specs.Meaning.{Asked, IsRefused, asked, asked_by, asked_in, is_set, is_taken, level_or_warn, made_in, meaning, text};
 ghost use Rattle.lspmux_words.specs.Program.{program};
 
 use crate::command::Command;
@@ -131,6 +132,8 @@ fn bad_value(alloc: Global) -> Result<String, AllocError> {
 pub fn command_of(alloc: Global, words: &[String]) -> Result<Command<'_>, WordsFault>
     ensures taken { IfOk result (λ command. meaning (map string_bytes words.now) ≡ Some (asked command)) }
     ensures refused { IfErr result (λ fault. IsRefused fault → meaning (map string_bytes words.now) ≡ None) }
+    ensures forms { (a : Asked) → IsForm a (map string_bytes words.now)
+        → MatchResult result (λ command. asked command ≡ a) (λ fault. fault ≡ WordsFault.Memory) }
 {
     let matches = parse(alloc, words)?;
     match asked_of(&matches) {
