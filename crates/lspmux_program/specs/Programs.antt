@@ -12,7 +12,7 @@ use Rattle.program_settings.specs.Lines.{Reported, Wrote, line_of, settings_stat
 use Rattle.program_settings.specs.Readings.{IsReading}
 use Rattle.program_settings.specs.declared.fault.SettingsFault.{SettingsFault}
 use Rattle.settled_hub.specs.Settings.{hub_settings}
-use Rattle.drive_program.specs.Program.{Drove, Undisturbed}
+use Rattle.drive_program.specs.Program.{Drove, IsStatus, Undisturbed}
 use Rattle.serve_program.specs.declared.fault.ServeFault.{ServeFault}
 use Rattle.serve_program.specs.Daemons.{CameOfSettings}
 use Rattle.serve_program.specs.Faults.{ended_line, ended_status}
@@ -67,6 +67,7 @@ module _ {D P B C J F I O N : Type 0}
     pub alone : Alone old new
     pub drove : Drove told config.content (hub_settings config) new.journal (unread old.input) (unread new.input) (written old.output) (written new.output)
         (Rose (output_faults old.output) (output_faults new.output)) new.status
+    pub answers : IsStatus new.status
     pub to_the_end : new.status ≡ 0 → IfSome (unread new.input) (λ bytes. bytes ≡ [])
     pub journal_only : new.status ≡ 6 → Rose (journal_faults old.journal) (journal_faults new.journal)
     pub input_only : new.status ≡ 7 → Rose (input_faults old.input) (input_faults new.input)
