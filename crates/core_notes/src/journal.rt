@@ -22,30 +22,18 @@ fn closed(entry: &Entry) -> Option<u64> {
 }
 
 fn closes(entry: &Entry, wanted: u64) -> bool {
-    for out in entry.outs.as_slice() {
-        if matches!(out, Out::CloseEditor(editor) if *editor == wanted) {
-            return true;
-        }
-    }
-    false
+    let mut outs = entry.outs.as_slice().iter();
+    outs.any(|out| -> bool { matches!(out, Out::CloseEditor(editor) if *editor == wanted) })
 }
 
 fn spawns(entry: &Entry) -> bool {
-    for out in entry.outs.as_slice() {
-        if matches!(out, Out::Spawn(_, _)) {
-            return true;
-        }
-    }
-    false
+    let mut outs = entry.outs.as_slice().iter();
+    outs.any(|out| -> bool { matches!(out, Out::Spawn(_, _)) })
 }
 
 fn ends_a_server(entry: &Entry) -> bool {
-    for out in entry.outs.as_slice() {
-        if matches!(out, Out::EndServer(_)) {
-            return true;
-        }
-    }
-    false
+    let mut outs = entry.outs.as_slice().iter();
+    outs.any(|out| -> bool { matches!(out, Out::EndServer(_)) })
 }
 
 // The start that ended or couldn't be run, where links are ended with it and no other start comes: its restarts are used up.
