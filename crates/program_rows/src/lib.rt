@@ -1,7 +1,0 @@
-//! Tests of the program, through its public call.
-#![tactic(auto)]
-
-#[cfg(test)]
-mod journals;
-#[cfg(test)]
-mod program;
