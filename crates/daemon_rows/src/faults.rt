@@ -1,18 +1,14 @@
 // Sessions whose bytes come and go one at a time, and each read or write of which fails in turn.
-use crate::daemon::{HOVER, START, STOP, gate, metered_port, one, serve_lanes, times, two};
+use crate::left::{Left, serve, tell};
 use crate::peers::{OneByOne, Peers, Taker};
-use lane_echo::Echo;
-use mux_daemon::{Answer, Served};
-use mux_serve::LaneJob;
-use outside_io::{Gate, MemSink, MemSource, Meter, SetClock};
+use crate::sides::{HOVER, START, STOP, gate, metered_port, one, times, two};
+use outside_io::{Gate, MemSink, MemSource, Meter};
 use std::alloc::Global;
 use std::sync::Wait;
 use std::test::Fail;
 use std::thread::Threads;
 
 type Peer = (OneByOne, Taker);
-
-type Left = Served<Echo, Peers, Peers, SetClock>;
 
 // Which of a peer's calls fails.
 #[derive(Clone, Copy)]
@@ -24,7 +20,7 @@ enum Fails {
 // The read that fails, if it is one.
 fn failed_read(alloc: Global, fails: Fails) -> Result<Vec<u64>, Fail> {
     match fails {
-        Fails::Read(number) => one(alloc, number),
+        Fails::Read(number) => Ok(one(alloc, number)?),
         Fails::Write(_) => Ok(Vec::new(alloc)),
     }
 }
@@ -33,7 +29,7 @@ fn failed_read(alloc: Global, fails: Fails) -> Result<Vec<u64>, Fail> {
 fn failed_write(alloc: Global, fails: Fails) -> Result<Vec<u64>, Fail> {
     match fails {
         Fails::Read(_) => Ok(Vec::new(alloc)),
-        Fails::Write(number) => one(alloc, number),
+        Fails::Write(number) => Ok(one(alloc, number)?),
     }
 }
 
@@ -91,27 +87,22 @@ fn failing_each(
     Ok(all)
 }
 
-// The one lane of these peers.
-fn lane(alloc: Global, peers: Vec<Peer>) -> Result<Vec<LaneJob<Peers>>, Fail> {
-    one(alloc, LaneJob::new(Peers::new(alloc, peers)))
-}
-
 // Serves these ports and one berth of these programs. The own link asks for a stop once its gate opens; what is written to it
 // raises a meter.
-fn serve<R: Threads + Wait + Sync>(
-    rt: &R,
+fn serve_peers<R: Threads + Wait + Sync>(
+    threads: &R,
     alloc: Global,
-    ports: Vec<LaneJob<Peers>>,
+    ports: Vec<Peers>,
     programs: Vec<Peer>,
     waits: Option<Gate>,
     own: &Meter,
 ) -> Result<Left, Fail> {
-    let berths = lane(alloc, programs)?;
+    let berths = one(alloc, Peers::new(alloc, programs))?;
     let own = metered_port(alloc, STOP, waits, own)?;
-    Ok(serve_lanes(rt, alloc, ports, own, berths, Vec::new(alloc)))
+    Ok(serve(threads, alloc, ports, own, berths, Vec::new(alloc))?)
 }
 
-// The frames of `hover` among the first bytes of two of them.
+// The bytes of one `hover`.
 const WHOLE: usize = 26;
 
 // What is written to a peer that says these bytes, one call of which fails: of whole bodies read, or up to the failed write.
@@ -145,47 +136,23 @@ fn all_calls(alloc: Global, bytes: &[u8]) -> Result<Vec<Fails>, Fail> {
     Ok(all)
 }
 
-// Each peer of this lane was written what was read of it, or up to its failed write.
-fn all_written(lane: Option<&LaneJob<Peers>>, bytes: &[u8], calls: &[Fails]) -> bool {
-    let Some(job) = lane else {
-        return false;
-    };
-    for (at, fails) in calls.iter().enumerate() {
-        if job.outside.written(at) != Some(wanted(bytes, *fails)) {
-            return false;
-        }
-    }
-    true
-}
-
-// Each port was closed, and so many editors joined.
-fn closed(left: &Left, joined: usize) -> bool {
-    left.answer == Answer::PortsClosed && left.core.joined() == joined as u64
-}
-
-#[test]
-fn links_fail_at_each_call(rt: HostRuntime) -> Result<(), Fail> {
+pub fn links_fail_at_each_call<R: Threads + Wait + Sync>(
+    threads: &R,
+    rt: HostRuntime,
+) -> Result<(), Fail> {
     let alloc = rt.alloc();
     let meter = Meter::new(alloc)?;
     let bytes = times(alloc, HOVER, 2)?;
     let calls = all_calls(alloc, bytes.as_slice())?;
     let links = failing_each(alloc, bytes.as_slice(), calls.as_slice(), &meter)?;
-    let left = serve(
-        &rt,
-        alloc,
-        lane(alloc, links)?,
-        Vec::new(alloc),
-        None,
-        &meter,
-    )?;
-    assert!(rt; closed(&left, calls.len().saturating_add(1)));
-    assert!(rt; all_written(left.lanes.ports.get(0), bytes.as_slice(), calls.as_slice()));
-    Ok(())
+    let ports = one(alloc, Peers::new(alloc, links))?;
+    let left = serve_peers(threads, alloc, ports, Vec::new(alloc), None, &meter)?;
+    tell(rt, "links fail at each call", &left)
 }
 
 // Serves an editor that asks for as many starts as there are programs, and goes when they were written so much.
 fn serve_programs<R: Threads + Wait + Sync>(
-    rt: &R,
+    threads: &R,
     alloc: Global,
     programs: Vec<Peer>,
     meter: &Meter,
@@ -195,32 +162,28 @@ fn serve_programs<R: Threads + Wait + Sync>(
     let asks = times(alloc, START, programs.len())?;
     let waits = gate(asks.len(), meter, until)?;
     let asking = one(alloc, peer(alloc, asks.as_slice(), waits, &own)?)?;
-    serve(
-        rt,
+    let ports = one(alloc, Peers::new(alloc, asking))?;
+    serve_peers(
+        threads,
         alloc,
-        lane(alloc, asking)?,
+        ports,
         programs,
         gate(0, meter, until)?,
         &own,
     )
 }
 
-#[test]
-fn programs_fail_at_each_call(rt: HostRuntime) -> Result<(), Fail> {
+pub fn programs_fail_at_each_call<R: Threads + Wait + Sync>(
+    threads: &R,
+    rt: HostRuntime,
+) -> Result<(), Fail> {
     let alloc = rt.alloc();
     let meter = Meter::new(alloc)?;
     let calls = all_calls(alloc, HOVER)?;
     let programs = failing_each(alloc, HOVER, calls.as_slice(), &meter)?;
     let until = wanted_of_all(HOVER, calls.as_slice());
-    let left = serve_programs(&rt, alloc, programs, &meter, until)?;
-    assert!(rt; closed(&left, 2));
-    assert!(rt; all_written(left.lanes.berths.get(0), HOVER, calls.as_slice()));
-    Ok(())
-}
-
-// How much the first peer of a lane was written.
-fn first_written(lane: Option<&LaneJob<Peers>>) -> Option<usize> {
-    lane?.outside.written(0)
+    let left = serve_programs(threads, alloc, programs, &meter, until)?;
+    tell(rt, "programs fail at each call", &left)
 }
 
 // An editor that asks for a start and says `hover` a hundred times, once the other one's first write began.
@@ -230,24 +193,25 @@ fn busy(alloc: Global, begun: &Meter, raises: &Meter) -> Result<Peer, Fail> {
     peer(alloc, bytes.as_slice(), gate(0, begun, 1)?, raises)
 }
 
-// The lanes of two editors, of which the first one's first write waits until the meter shows so many bytes.
+// The ports of two editors, of which the first one's first write waits until the meter shows so many bytes.
 fn slow_and_busy(
     alloc: Global,
     others: &Meter,
     until: usize,
     own: &Meter,
-) -> Result<Vec<LaneJob<Peers>>, Fail> {
+) -> Result<Vec<Peers>, Fail> {
     let begun = Meter::new(alloc)?;
     let sink = slow_taker(alloc, &begun, gate(0, others, until)?, own)?;
     let slow = one(alloc, (source(alloc, HOVER, None)?, sink))?;
     let busy = one(alloc, busy(alloc, &begun, others)?)?;
-    let (slow, busy) = (Peers::new(alloc, slow), Peers::new(alloc, busy));
-    two(alloc, LaneJob::new(slow), LaneJob::new(busy))
+    Ok(two(alloc, Peers::new(alloc, slow), Peers::new(alloc, busy))?)
 }
 
 // An editor whose first write waits until another editor and a program were written all that they said.
-#[test]
-fn a_peer_that_stops_reading_stops_no_other(rt: HostRuntime) -> Result<(), Fail> {
+pub fn a_peer_that_stops_reading_stops_no_other<R: Threads + Wait + Sync>(
+    threads: &R,
+    rt: HostRuntime,
+) -> Result<(), Fail> {
     let alloc = rt.alloc();
     let others = Meter::new(alloc)?;
     let own = Meter::new(alloc)?;
@@ -255,10 +219,7 @@ fn a_peer_that_stops_reading_stops_no_other(rt: HostRuntime) -> Result<(), Fail>
     let ports = slow_and_busy(alloc, &others, until, &own)?;
     let stop = gate(HOVER.len(), &own, HOVER.len().saturating_add(STOP.len()))?;
     let programs = one(alloc, peer(alloc, HOVER, stop, &others)?)?;
-    let left = serve(&rt, alloc, ports, programs, gate(0, &others, until)?, &own)?;
-    assert!(rt; closed(&left, 3));
-    assert!(rt; first_written(left.lanes.ports.get(0)) == Some(HOVER.len()));
-    assert!(rt; first_written(left.lanes.ports.get(1)) == Some(HOVER.len().saturating_mul(100)));
-    assert!(rt; first_written(left.lanes.berths.get(0)) == Some(HOVER.len()));
-    Ok(())
+    let waits = gate(0, &others, until)?;
+    let left = serve_peers(threads, alloc, ports, programs, waits, &own)?;
+    tell(rt, "a peer that stops reading stops no other", &left)
 }

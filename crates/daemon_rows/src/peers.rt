@@ -1,6 +1,7 @@
 // Links and programs for tests: their bytes come and go one at a time, and a write may wait.
 ghost use Rattle.std.specs.Prelude.{◌≡◌, None};
 
+use crate::left::Kept;
 use outside_io::{
     Arrival, Berth, MemSink, MemSource, Port, ReadFault, Sink, Source, StartFault, WriteFault,
 };
@@ -112,10 +113,12 @@ impl Peers {
             faults: 0,
         }
     }
+}
 
-    /// How many bytes were written to the one that was handed back as number `i`, from 0.
-    pub fn written(&self, i: usize) -> Option<usize> {
-        Some(self.back.get(i)?.1.kept.bytes().len())
+impl Kept for Peers {
+    // In the order in which they were handed back.
+    fn written(&self, number: usize) -> Option<usize> {
+        Some(self.back.get(number)?.1.kept.bytes().len())
     }
 }
 

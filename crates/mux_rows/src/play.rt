@@ -13,12 +13,9 @@ use std::test::Fail;
 // The most bytes of a body.
 const CONTENT: u32 = 67_108_864;
 
-// A server of this name, which has no ceiling.
-fn server(alloc: Global, name: &str) -> Result<Server, AllocError> {
-    Ok(Server {
-        name: Body::new(Vec::from_slice(alloc, name.as_bytes())?),
-        ceiling: None,
-    })
+// A server's name.
+fn name(alloc: Global, name: &str) -> Result<Body, AllocError> {
+    Ok(Body::new(Vec::from_slice(alloc, name.as_bytes())?))
 }
 
 // A hub with the servers `main` and `aux`.
@@ -30,8 +27,14 @@ fn hub(alloc: Global, limits: Limits) -> Result<Hub<MemJournal>, Fail>
         return Err(Fail::new("limits without numbers"));
     }
     let mut servers = Vec::new(alloc);
-    servers.push(server(alloc, "main")?)?;
-    servers.push(server(alloc, "aux")?)?;
+    servers.push(Server {
+        name: name(alloc, "main")?,
+        ceiling: None,
+    })?;
+    servers.push(Server {
+        name: name(alloc, "aux")?,
+        ceiling: None,
+    })?;
     let journal = MemJournal::new(alloc, Vec::new(alloc));
     match Hub::new(alloc, limits, servers, 0, journal) {
         Ok(hub) => Ok(hub),
