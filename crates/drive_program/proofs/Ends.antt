@@ -91,7 +91,7 @@ drove_done told content settings journal input left w v failed r = record {
 front_longer : (w v : Option (List ℕ)) (a b : List ℕ) → WroteFront w v a → b ≡ [] → WroteFront w v (a ++ b)
 front_longer w v a b f e = record { count = f.count; wrote = f.wrote ∙ ap (λ l. append_known w (take f.count l)) (sym (ap (λ l. a ++ l) e ∙ append-nil a)) }
 
-front_behind : (w v u : Option (List ℕ)) (a b : List ℕ) → v ≡ append_known w a → WroteFront v u b → WroteFront w u (a ++ b)
+pub front_behind : (w v u : Option (List ℕ)) (a b : List ℕ) → v ≡ append_known w a → WroteFront v u b → WroteFront w u (a ++ b)
 front_behind w v u a b e f = record {
   count = length a + f.count;
   wrote = f.wrote ∙ (ap (λ o. append_known o (take f.count b)) e ∙ (append_both w a (take f.count b) ∙ ap (append_known w) (sym (take_more a b f.count))));
@@ -101,7 +101,7 @@ take_none : (n : ℕ) → take {A = ℕ} n [] ≡ []
 take_none zero = refl
 take_none (suc n) = refl
 
-nothing_written : (v u : Option (List ℕ)) → WroteFront v u [] → u ≡ v
+pub nothing_written : (v u : Option (List ℕ)) → WroteFront v u [] → u ≡ v
 nothing_written v u f = f.wrote ∙ by v f.count
   where
     by : (v : Option (List ℕ)) (n : ℕ) → append_known v (take n []) ≡ v
@@ -208,7 +208,7 @@ wrote_since v u line before mid now l f = record { front = f.front; whole = by f
     by (inl e) = inl e
     by (inr r) = inr (rose_since before mid now l r)
 
-reported_since : (status told : ℕ) (v u : Option (List ℕ)) (line : List ℕ) (before mid now : ℕ) → before ≤ mid → Reported status told v u line (Rose mid now) → Reported status told v u line (Rose before now)
+pub reported_since : (status told : ℕ) (v u : Option (List ℕ)) (line : List ℕ) (before mid now : ℕ) → before ≤ mid → Reported status told v u line (Rose mid now) → Reported status told v u line (Rose before now)
 reported_since status told v u line before mid now l (said e f) = said e (wrote_since v u line before mid now l f)
 reported_since status told v u line before mid now l (unsaid e f) = unsaid e f
 

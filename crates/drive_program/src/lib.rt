@@ -6,7 +6,7 @@ mod buffer;
 mod line;
 mod program;
 mod refusal;
-mod report;
+mod reports;
 mod step;
 mod stop;
 
@@ -14,4 +14,5 @@ pub use all_lines::drive;
 pub use mux_hub::{Hub, Limits, Server, StepFault};
 pub use program::drive_command;
 pub use refusal::Refusal;
+pub use reports::report;
 pub use stop::Stop;

@@ -6,7 +6,7 @@ ghost use Rattle.settled_hub.specs.Settings.{hub_settings};
 ghost use Rattle.drive_program.specs.Program.{Ran, Drove, IsStatus, Undisturbed};
 
 use crate::all_lines::drive;
-use crate::report::report;
+use crate::reports::report;
 use crate::stop::Stop;
 use mux_config::Config;
 use mux_steps::Journal;

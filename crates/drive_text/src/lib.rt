@@ -13,5 +13,5 @@ mod write;
 pub use journal::LineJournal;
 pub use law::{causes_law, outs_law};
 pub use line::{LineFault, cause_of_line, read_line};
-pub use made::make;
+pub use made::{make, make_causes};
 pub use write::{write_cause_line, write_entry, write_outs};

@@ -1,7 +1,9 @@
 // Made inputs.
+ghost use Rattle.std.specs.List.{AllByRecursion};
 ghost use Rattle.std.specs.Prelude.{◌≡◌, ℕ, ◌+◌, ◌%◌, ◌<◌, ◌≤◌, List, [], ◌∷◌, ◌++◌, IfOk, OnOk, map};
+ghost use Rattle.mux_history.specs.Cores.{body_length};
 ghost use Rattle.drive_text.specs.Spellings.{spelled};
-ghost use Rattle.drive_text.specs.Made.{next_state, drawn, init_body, initialized_body, open_body, result_body, hover_body, null_body, full_body, greeting_of, greetings, opening, turn_of, turn_causes, turned, step_causes, step_state, state_after, turns, made_lines};
+ghost use Rattle.drive_text.specs.Made.{next_state, drawn, init_body, initialized_body, open_body, result_body, hover_body, null_body, full_body, greeting_of, greetings, opening, turn_of, turn_causes, turned, step_causes, step_state, state_after, turns, made, made_lines};
 
 use crate::write::write_cause_line;
 use message_body::{Body, Memory};
@@ -129,14 +131,6 @@ fn full_body(alloc: Global, i: u64) -> Result<Body, Memory>
     body_of(alloc, text.as_bytes())
 }
 
-// Puts the line of a cause behind the lines.
-fn put(alloc: Global, lines: &mut Vec<Body>, cause: &Cause) -> Result<(), Memory>
-    ensures { OnOk result (lines.new.items ≡ lines.old.items ++ spelled cause.now ∷ []) }
-{
-    lines.push(write_cause_line(alloc, cause)?)?;
-    Ok(())
-}
-
 fn greeting_of(alloc: Global, greeting: Greeting, editor: u64) -> Result<Cause, Memory>
     ensures { IfOk result (λ cause. cause ≡ greeting_of greeting editor) }
 {
@@ -148,55 +142,53 @@ fn greeting_of(alloc: Global, greeting: Greeting, editor: u64) -> Result<Cause, 
     }
 }
 
-fn put_greetings(alloc: Global, lines: &mut Vec<Body>, greeting: Greeting) -> Result<(), Memory>
-    ensures { OnOk result (lines.new.items ≡ lines.old.items ++ map spelled (greetings greeting)) }
+fn put_greetings(
+    alloc: Global,
+    causes: &mut Vec<Cause>,
+    greeting: Greeting,
+) -> Result<(), Memory>
+    ensures { OnOk result (causes.new.items ≡ causes.old.items ++ greetings greeting) }
 {
-    let first = greeting_of(alloc, greeting, 0)?;
-    put(alloc, lines, &first)?;
-    let second = greeting_of(alloc, greeting, 1)?;
-    put(alloc, lines, &second)?;
-    let third = greeting_of(alloc, greeting, 2)?;
-    put(alloc, lines, &third)?;
-    let fourth = greeting_of(alloc, greeting, 3)?;
-    put(alloc, lines, &fourth)?;
+    causes.push(greeting_of(alloc, greeting, 0)?)?;
+    causes.push(greeting_of(alloc, greeting, 1)?)?;
+    causes.push(greeting_of(alloc, greeting, 2)?)?;
+    causes.push(greeting_of(alloc, greeting, 3)?)?;
     Ok(())
 }
 
-fn put_opening(alloc: Global, lines: &mut Vec<Body>) -> Result<(), Memory>
-    ensures { OnOk result (lines.new.items ≡ lines.old.items ++ map spelled opening) }
+fn put_opening(alloc: Global, causes: &mut Vec<Cause>) -> Result<(), Memory>
+    ensures { OnOk result (causes.new.items ≡ causes.old.items ++ opening) }
 {
-    put_greetings(alloc, lines, Greeting::Join)?;
-    put_greetings(alloc, lines, Greeting::Initialize)?;
-    put(alloc, lines, &Cause::Started(0))?;
-    let answer = Cause::FromServer(0, result_body(alloc)?);
-    put(alloc, lines, &answer)?;
-    put_greetings(alloc, lines, Greeting::Initialized)?;
-    put_greetings(alloc, lines, Greeting::Open)?;
+    put_greetings(alloc, causes, Greeting::Join)?;
+    put_greetings(alloc, causes, Greeting::Initialize)?;
+    causes.push(Cause::Started(0))?;
+    causes.push(Cause::FromServer(0, result_body(alloc)?))?;
+    put_greetings(alloc, causes, Greeting::Initialized)?;
+    put_greetings(alloc, causes, Greeting::Open)?;
     Ok(())
 }
 
-fn put_exit(alloc: Global, lines: &mut Vec<Body>, start: u64) -> Result<(), Memory>
+fn put_exit(alloc: Global, causes: &mut Vec<Cause>, start: u64) -> Result<(), Memory>
     requires { start < 5 }
-    ensures { OnOk result (lines.new.items
-        ≡ lines.old.items ++ spelled (Cause.ServerGone start) ∷ spelled (Cause.Started (start + 1)) ∷ spelled
-        (Cause.FromServer (start + 1) result_body) ∷ []) }
+    ensures { OnOk result (causes.new.items
+        ≡ causes.old.items ++ Cause.ServerGone start ∷ Cause.Started (start + 1) ∷ Cause.FromServer (start + 1) result_body ∷ []) }
 {
-    put(alloc, lines, &Cause::ServerGone(start))?;
-    put(alloc, lines, &Cause::Started(start + 1))?;
-    let answer = Cause::FromServer(start + 1, result_body(alloc)?);
-    put(alloc, lines, &answer)
+    causes.push(Cause::ServerGone(start))?;
+    causes.push(Cause::Started(start + 1))?;
+    causes.push(Cause::FromServer(start + 1, result_body(alloc)?))?;
+    Ok(())
 }
 
-fn put_ask(alloc: Global, lines: &mut Vec<Body>, i: u64, editor: u64) -> Result<(), Memory>
-    ensures { OnOk result (lines.new.items ≡ lines.old.items ++ spelled (Cause.FromEditor editor (hover_body i)) ∷ []) }
+fn put_ask(alloc: Global, causes: &mut Vec<Cause>, i: u64, editor: u64) -> Result<(), Memory>
+    ensures { OnOk result (causes.new.items ≡ causes.old.items ++ Cause.FromEditor editor (hover_body i) ∷ []) }
 {
-    let ask = Cause::FromEditor(editor, hover_body(alloc, i)?);
-    put(alloc, lines, &ask)
+    causes.push(Cause::FromEditor(editor, hover_body(alloc, i)?))?;
+    Ok(())
 }
 
 fn put_turn(
     alloc: Global,
-    lines: &mut Vec<Body>,
+    causes: &mut Vec<Cause>,
     i: u64,
     editor: u64,
     maker: Maker,
@@ -205,21 +197,18 @@ fn put_turn(
     requires i { i < 4294967296 }
     requires exit { turn ≡ Turn.Exit → maker.start < 5 }
     requires asked { maker.asked < 4294967296 }
-    ensures { OnOk result (lines.new.items ≡ lines.old.items ++ map spelled (turn_causes i editor maker turn)) }
+    ensures { OnOk result (causes.new.items ≡ causes.old.items ++ turn_causes i editor maker turn) }
 {
     match turn {
-        Turn::Exit => put_exit(alloc, lines, maker.start),
-        Turn::Change => {
-            let change = Cause::FromEditor(editor, full_body(alloc, i)?);
-            put(alloc, lines, &change)
-        }
-        Turn::Ask => put_ask(alloc, lines, i, editor),
+        Turn::Exit => put_exit(alloc, causes, maker.start)?,
+        Turn::Change => causes.push(Cause::FromEditor(editor, full_body(alloc, i)?))?,
+        Turn::Ask => put_ask(alloc, causes, i, editor)?,
         Turn::AskAndAnswer => {
-            put_ask(alloc, lines, i, editor)?;
-            let answer = Cause::FromServer(maker.start, null_body(alloc, maker.asked + 2)?);
-            put(alloc, lines, &answer)
+            put_ask(alloc, causes, i, editor)?;
+            causes.push(Cause::FromServer(maker.start, null_body(alloc, maker.asked + 2)?))?;
         }
     }
+    Ok(())
 }
 
 fn turned(state: u64, maker: Maker, turn: Turn) -> Maker
@@ -245,13 +234,13 @@ fn turned(state: u64, maker: Maker, turn: Turn) -> Maker
     }
 }
 
-// One turn: its lines, and where the making stands behind it.
-fn step(alloc: Global, lines: &mut Vec<Body>, i: u64, maker: Maker) -> Result<Maker, Memory>
+// One turn: its causes, and where the making stands behind it.
+fn step(alloc: Global, causes: &mut Vec<Cause>, i: u64, maker: Maker) -> Result<Maker, Memory>
     requires i { i < 4294967296 }
     requires start { maker.start ≤ 5 }
     requires asked { maker.asked < 4294967296 }
     ensures maker { IfOk result (λ m. m ≡ step_state maker) }
-    ensures lines { OnOk result (lines.new.items ≡ lines.old.items ++ map spelled (step_causes i maker)) }
+    ensures causes { OnOk result (causes.new.items ≡ causes.old.items ++ step_causes i maker) }
     ensures start { IfOk result (λ m. m.start ≤ 5) }
     ensures asked { IfOk result (λ m. m.asked ≤ maker.asked + 1) }
 {
@@ -259,24 +248,37 @@ fn step(alloc: Global, lines: &mut Vec<Body>, i: u64, maker: Maker) -> Result<Ma
     let second = next_state(first);
     let editor = first / (1 << 33) % 4;
     let turn = turn_of(maker.start, second / (1 << 33) % 8);
-    put_turn(alloc, lines, i, editor, maker, turn)?;
+    put_turn(alloc, causes, i, editor, maker, turn)?;
     Ok(turned(second, maker, turn))
 }
 
-/// The lines of a made input with `n` turns, drawn from `seed`, each without its line feed: four editors open one
-/// document, then ask and change it, while their server answers and exits. The time is linear in `n`.
-pub fn make(alloc: Global, n: u32, seed: u64) -> Result<Vec<Body>, Memory>
-    ensures { IfOk result (λ lines. lines.items ≡ made_lines n seed) }
+/// The causes of a made input with `n` turns, drawn from `seed`: four editors open one document, then ask and change it,
+/// while their server answers and exits. The time is linear in `n`.
+pub fn make_causes(alloc: Global, n: u32, seed: u64) -> Result<Vec<Cause>, Memory>
+    ensures causes { IfOk result (λ causes. causes.items ≡ made n seed) }
+    ensures small { IfOk result (λ causes. AllByRecursion (λ cause. body_length cause ≤ 268435456) causes.items) }
 {
-    let mut lines = Vec::new(alloc);
-    put_opening(alloc, &mut lines)?;
+    let mut causes = Vec::new(alloc);
+    put_opening(alloc, &mut causes)?;
     let mut maker = Maker {
         state: seed,
         start: 0,
         asked: 0,
     };
     for done in 0..n {
-        maker = step(alloc, &mut lines, u64::from(done + 1), maker)?;
+        maker = step(alloc, &mut causes, u64::from(done + 1), maker)?;
+    }
+    Ok(causes)
+}
+
+/// The lines of a made input, each without its line feed. The time is linear in `n`.
+pub fn make(alloc: Global, n: u32, seed: u64) -> Result<Vec<Body>, Memory>
+    ensures { IfOk result (λ lines. lines.items ≡ made_lines n seed) }
+{
+    let causes = make_causes(alloc, n, seed)?;
+    let mut lines = Vec::new(alloc);
+    for cause in causes.as_slice() {
+        lines.push(write_cause_line(alloc, cause)?)?;
     }
     Ok(lines)
 }

@@ -13,6 +13,10 @@ use Rattle.program_settings.specs.Readings.{IsReading}
 use Rattle.program_settings.specs.declared.fault.SettingsFault.{SettingsFault}
 use Rattle.settled_hub.specs.Settings.{hub_settings}
 use Rattle.drive_program.specs.Program.{Drove, IsStatus, Undisturbed}
+use Rattle.drive_text.specs.Made.{made}
+use Rattle.make_program.specs.Program as make
+use Rattle.make_program.specs.Program.{Made}
+use Rattle.make_program.specs.Shown.{Shown, causes_text}
 use Rattle.serve_program.specs.declared.fault.ServeFault.{ServeFault}
 use Rattle.serve_program.specs.Daemons.{CameOfSettings}
 use Rattle.serve_program.specs.Faults.{ended_line, ended_status}
@@ -110,10 +114,19 @@ module _ {D P B C J F I O N : Type 0}
         (output_state written output_faults shown ≡ output_state written output_faults old.output)
         (Asked config.content question (output_state written output_faults old.output) (output_state written output_faults shown)) result
 
-  -- `make`, which isn't there yet
-  pub record UnbuiltBy (old : Outside D B C J F I O N) (new : Left D P B C J F I O N) : Type 0 where
+  -- `make`
+  pub record MadeBy (config : Config) (count seed : ℕ) (old : Outside D B C J F I O N) (new : Left D P B C J F I O N) : Type 0 where
+    pub alone : Alone old new
+    pub input : new.input ≡ old.input
+    pub did : Made told (hub_settings config) new.journal (made count seed) (written old.output) (written new.output) (Rose (output_faults old.output) (output_faults new.output)) new.status
+    pub journal_only : new.status ≡ 6 → Rose (journal_faults old.journal) (journal_faults new.journal)
+    pub complete : make.Undisturbed (hub_settings config) (made count seed) (Rose (journal_faults old.journal) (journal_faults new.journal))
+        (Rose (output_faults old.output) (output_faults new.output)) → (new.status ≡ 0) ⊎ (new.status ≡ 5)
+
+  -- `make --lines`
+  pub record WroteLines (count seed : ℕ) (old : Outside D B C J F I O N) (new : Left D P B C J F I O N) : Type 0 where
     pub idle : Idle old new
-    pub says : Says old.output new 2 words_line
+    pub shown : Shown (causes_text (made count seed)) (written old.output) (written new.output) (Rose (output_faults old.output) (output_faults new.output)) new.status
 
   -- what words asked for was done, by these settings
   abbrev pub Did : words.Asked → Config → Outside D B C J F I O N → Left D P B C J F I O N → Type 0
@@ -122,8 +135,8 @@ module _ {D P B C J F I O N : Type 0}
   Did (words.client file server) config old new = JoinedBy config server old new
   Did (words.status file) config old new = AskedBy config question.Status old new
   Did (words.stop file) config old new = AskedBy config question.Stop old new
-  Did (words.make count seed) config old new = UnbuiltBy old new
-  Did (words.make_lines count seed) config old new = UnbuiltBy old new
+  Did (words.make count seed) config old new = MadeBy config count seed old new
+  Did (words.make_lines count seed) config old new = WroteLines count seed old new
 
   -- what words came to: they are none that the program knows; memory was wanted to read them; their settings are refused; or the folder read them, and what the words ask for was done
   pub data Came (given_words : List Text) (old : Outside D B C J F I O N) (new : Left D P B C J F I O N) : Type 0 where

@@ -2,13 +2,14 @@
 ghost use Rattle.std.specs.Prelude.{◌≡◌, [], None, map, option_map, string_bytes};
 ghost use Rattle.mux_hub.specs.Hubs.{Tells};
 ghost use Rattle.lspmux_words.specs.Meaning as meaning;
-ghost use Rattle.lspmux_program.specs.Programs.{AskedBy, Came, Did, DroveBy, JoinedBy, ServedBy, UnbuiltBy, file_of};
+ghost use Rattle.lspmux_program.specs.Programs.{AskedBy, Came, Did, DroveBy, Idle, JoinedBy, MadeBy, Says, ServedBy, WroteLines, file_of, words_line};
 
-use crate::client::report;
+use crate::client::{note_refusal, report};
 use crate::outside::{Left, Outside};
 use drive_program::drive_command;
 use lspmux_words::{Command, Level, USAGE, WordsFault, command_of};
-use mux_client::{Question, ask, client};
+use make_program::{make_command, make_lines_command};
+use mux_client::{ClientFault, Question, ask, client};
 use mux_config::Config;
 use mux_steps::Journal;
 use outside_io::{Berth, Clock, Door, Folder, Sink, Source};
@@ -186,7 +187,7 @@ fn join<
         folder,
         mut input,
         mut output,
-        notes,
+        mut notes,
     } = outside;
     let mut port = None;
     let ended = client(
@@ -199,6 +200,9 @@ fn join<
         &mut input,
         &mut output,
     );
+    if let (Err(ClientFault::Refused), Some(name)) = (ended, server) {
+        note_refusal(alloc, &mut notes, config, name);
+    }
     let status = report(&mut output, ended);
     Left {
         status,
@@ -258,6 +262,75 @@ fn inquire<
     }
 }
 
+// `make`.
+fn make<
+    D: Door + Drop,
+    B: Berth + Send + Drop,
+    C: Clock + Send + Drop,
+    J: Journal + Send + Drop,
+    F: Folder + Drop,
+    I: Source + Send + Drop,
+    O: Sink + Send + Drop,
+    N: Sink + Drop,
+>(
+    alloc: Global,
+    config: Config,
+    count: u32,
+    seed: u64,
+    outside: Outside<D, B, C, J, F, I, O, N>,
+) -> Left<D, D::Port, B, C, J, F, I, O, N>
+    requires { Tells (J.told outside.journal) [] }
+    ensures { MadeBy D.calls D.left D.faults D.Port.Port.sessions D.Port.Port.links D.Port.Port.held D.Port.Port.faults B.runs B.left B.faults C.given C.left
+        J.told J.faults F.files F.faults I.taken I.left I.faults O.written O.faults config count seed outside result }
+{
+    let Outside {
+        door,
+        berths: _,
+        clock: _,
+        journal,
+        folder,
+        input,
+        mut output,
+        notes,
+    } = outside;
+    let (journal, status) = make_command(alloc, config, journal, count, seed, &mut output);
+    Left {
+        status,
+        door,
+        lanes: None,
+        port: None,
+        journal,
+        folder,
+        input,
+        output,
+        notes,
+    }
+}
+
+// `make --lines`.
+fn make_lines<
+    D: Door + Drop,
+    B: Berth + Send + Drop,
+    C: Clock + Send + Drop,
+    J: Journal + Send + Drop,
+    F: Folder + Drop,
+    I: Source + Send + Drop,
+    O: Sink + Send + Drop,
+    N: Sink + Drop,
+>(
+    alloc: Global,
+    count: u32,
+    seed: u64,
+    outside: Outside<D, B, C, J, F, I, O, N>,
+) -> Left<D, D::Port, B, C, J, F, I, O, N>
+    ensures { WroteLines D.calls D.left D.faults D.Port.Port.sessions D.Port.Port.links D.Port.Port.held D.Port.Port.faults B.runs B.left B.faults C.given C.left
+        J.told J.faults F.files F.faults I.taken I.left I.faults O.written O.faults count seed outside result }
+{
+    let mut outside = outside;
+    let status = make_lines_command(alloc, count, seed, &mut outside.output);
+    idle(outside, status)
+}
+
 // Says that the words are none of the program's, and nothing else.
 fn refuse_words<
     D: Door + Drop,
@@ -269,8 +342,10 @@ fn refuse_words<
     O: Sink + Send + Drop,
     N: Sink + Drop,
 >(outside: Outside<D, B, C, J, F, I, O, N>, why: &str) -> Left<D, D::Port, B, C, J, F, I, O, N>
-    ensures { UnbuiltBy D.calls D.left D.faults D.Port.Port.sessions D.Port.Port.links D.Port.Port.held D.Port.Port.faults B.runs B.left B.faults C.given C.left
+    ensures idle { Idle D.calls D.left D.faults D.Port.Port.sessions D.Port.Port.links D.Port.Port.held D.Port.Port.faults B.runs B.left B.faults C.given C.left
         J.told J.faults F.files F.faults I.taken I.left I.faults O.written O.faults outside result }
+    ensures says { Says D.calls D.left D.faults D.Port.Port.sessions D.Port.Port.links D.Port.Port.held D.Port.Port.faults B.runs B.left B.faults C.given C.left
+        J.told J.faults F.files F.faults I.taken I.left I.faults O.written O.faults outside.output result 2 words_line }
 {
     let mut outside = outside;
     write_line(&mut outside.output, b"!words\n");
@@ -307,9 +382,8 @@ fn obey<
         Command::Client { config: _, server } => join(rt, alloc, &config, server, outside),
         Command::Status { config: _ } => inquire(alloc, &config, Question::Status, outside),
         Command::Stop { config: _ } => inquire(alloc, &config, Question::Stop, outside),
-        Command::Make { .. } | Command::MakeLines { .. } => {
-            refuse_words(outside, "`make` isn't there yet\n")
-        }
+        Command::Make { count, seed } => make(alloc, config, count, seed, outside),
+        Command::MakeLines { count, seed } => make_lines(alloc, count, seed, outside),
     }
 }
 

@@ -6,7 +6,7 @@ use std::alloc::{AllocError, AllocFailed};
 /// Why words are no command.
 #[derive(Debug, Drop)]
 pub enum WordsFault {
-    /// They are none of the forms; the text says why, in one line or more.
+    /// They are none of the forms; the text is a line that says why.
     Refused(String),
     /// Want of memory.
     Memory,

@@ -4,7 +4,6 @@ ghost use Rattle.clap.specs.Words.{app_of, rule_of, with_rule};
 ghost use Rattle.clap.specs.declared.builder.command.Command.TheViews.{out-Command};
 ghost use Rattle.lspmux_words.specs.Program.{IsMade, beside, client, configured, flag_rule, make, option_rule, positional_rule, program, serve, top, with_hubs, with_links};
 
-use crate::usage::USAGE;
 use clap::builder::ValueParser;
 use clap::{Arg, ArgAction, Command};
 use std::alloc::{AllocError, Global};
@@ -85,7 +84,6 @@ fn top<'a>(alloc: Global) -> Command<'a>
         .disable_help_subcommand(true)
         .disable_version_flag(true)
         .subcommand_required(true)
-        .override_usage(USAGE)
 }
 
 // A program with one more subcommand.

@@ -85,6 +85,29 @@ fn asked_of<'a>(matches: &ArgMatches<'a>) -> Option<Command<'a>>
     }
 }
 
+// The first line of a text.
+fn first_line(text: &str) -> &str {
+    match text.split_once('\n') {
+        Some((line, _)) => line,
+        None => text,
+    }
+}
+
+// What clap says of words, in one line. Where a word is missing clap lists those there are, as the usage does.
+fn sentence(alloc: Global, error: &Error) -> Result<String, AllocError> {
+    match error.kind() {
+        ErrorKind::MissingSubcommand => String::from_str(alloc, "error: a command is missing\n"),
+        ErrorKind::MissingRequiredArgument => {
+            String::from_str(alloc, "error: `make` needs N and SEED\n")
+        }
+        _ => {
+            let text = format!(in alloc; "{error}")?;
+            let line = first_line(text.as_str());
+            format!(in alloc; "{line}\n")
+        }
+    }
+}
+
 // Why clap refuses words.
 fn refusal(alloc: Global, error: &Error) -> WordsFault
     ensures { kind_of error.now ≡ ErrorKind.OutOfMemory → result ≡ WordsFault.Memory }
@@ -92,7 +115,7 @@ fn refusal(alloc: Global, error: &Error) -> WordsFault
     if matches!(error.kind(), ErrorKind::OutOfMemory) {
         return WordsFault::Memory;
     }
-    match format!(in alloc; "{error}") {
+    match sentence(alloc, error) {
         Ok(text) => WordsFault::Refused(text),
         Err(_) => WordsFault::Memory,
     }

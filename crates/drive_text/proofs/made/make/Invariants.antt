@@ -1,11 +1,6 @@
-use Rattle.std.proofs.Common.{◌≡◌, ◌≤◌}
-use Rattle.drive_text.specs.Made.{state_after, made_lines}
+use Rattle.std.proofs.Common.{◌≡◌, map, take}
+use Rattle.drive_text.specs.Spellings.{spelled}
 use Rattle.drive_text.proofs.made.make.Given as goal
 
-abbrev pub invariant-loop-done : goal.invariant-loop-done
-invariant-loop-done l = record {
-  lines : l.lines.items ≡ made_lines l.done l.seed;
-  maker : l.maker ≡ state_after l.seed l.done;
-  start : l.maker.start ≤ 5;
-  asked : l.maker.asked ≤ l.done;
-}
+abbrev pub invariant-loop-cause : goal.invariant-loop-cause
+invariant-loop-cause l = l.lines.items ≡ map spelled (take l.cause-index l.cause-items)

@@ -1,0 +1,4 @@
+pub mod Counts
+pub mod Program
+pub mod Runs
+pub mod Shown
