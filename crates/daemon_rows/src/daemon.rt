@@ -4,7 +4,7 @@ use mux_daemon::{Answer, Lanes, Served, serve_core};
 use mux_lanes::LaneEnd;
 use mux_serve::LaneJob;
 use outside_io::{
-    Berth, Clock, Gate, MemBerth, MemPort, MemSink, MemSource, Meter, Port, SetClock,
+    Asked, Berth, Clock, Gate, MemBerth, MemPort, MemSink, MemSource, Meter, Port, SetClock,
 };
 use std::alloc::Global;
 use std::sync::Wait;
@@ -109,6 +109,11 @@ fn plain_ports(alloc: Global, ports: &[&[&[u8]]]) -> Result<Vec<LaneJob<MemPort>
     Ok(all)
 }
 
+// The command of the one server.
+fn commands(alloc: Global) -> Result<Vec<Vec<String>>, Fail> {
+    one(alloc, one(alloc, String::from_str(alloc, "server")?)?)
+}
+
 // Serves these lanes over an echo, with a clock of these moments.
 pub(crate) fn serve_lanes<P: Port + Send + Drop, B: Berth + Send + Drop, R: Threads + Wait + Sync>(
     rt: &R,
@@ -124,7 +129,8 @@ pub(crate) fn serve_lanes<P: Port + Send + Drop, B: Berth + Send + Drop, R: Thre
         berths,
         clock: LaneJob::new(SetClock::new(moments)),
     };
-    serve_core(rt, alloc, Echo::new(alloc), 1024, &[], lanes)
+    let commands = commands(alloc).unwrap_or(Vec::new(alloc));
+    serve_core(rt, alloc, Echo::new(alloc), 1024, commands.as_slice(), lanes)
 }
 
 // Serves these ports, with an own link that asks for a stop, and with a clock of one moment.
@@ -357,6 +363,24 @@ fn sixteen_starts_are_up_until_a_stop(rt: HostRuntime) -> Result<(), Fail> {
     Ok(())
 }
 
+// Whether a start was asked for by the server's words and in this folder.
+fn is_start(asked: &Asked, folder: &str) -> bool {
+    let in_folder = match &asked.folder {
+        Some(path) => path.as_str() == folder,
+        None => false,
+    };
+    in_folder && asked.words.len() == 1 && asked.words[0].as_str() == "server"
+}
+
+// Whether the first two starts were asked for, each in the folder that the core says.
+fn two_asked(job: Option<&LaneJob<MemBerth>>) -> bool {
+    let Some(job) = job else {
+        return false;
+    };
+    let asked = job.outside.asked();
+    asked.len() == 2 && is_start(&asked[0], "/work/0") && is_start(&asked[1], "/work/1")
+}
+
 #[test]
 fn a_start_that_fails_makes_room(rt: HostRuntime) -> Result<(), Fail> {
     let alloc = rt.alloc();
@@ -366,6 +390,7 @@ fn a_start_that_fails_makes_room(rt: HostRuntime) -> Result<(), Fail> {
     let berths = one(alloc, berth(alloc, run, one(alloc, 0)?)?)?;
     let left = serve_starts(&rt, alloc, 2, berths, &program, &own)?;
     assert!(rt; ended(&left, Answer::PortsClosed, 2, &[0]) && started(&left));
+    assert!(rt; two_asked(left.lanes.berths.get(0)));
     Ok(())
 }
 
