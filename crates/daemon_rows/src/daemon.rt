@@ -1,5 +1,5 @@
 // The daemon's threads, to their answer.
-use crate::left::{Left, serve, tell, tell_clock};
+use crate::left::{Left, serve, tell, tell_asked, tell_clock};
 use crate::sides::{
     HOVER, START, STOP, berth, gate, metered, metered_port, one, plain, plain_port, plain_ports,
     port, times, two,
@@ -171,7 +171,8 @@ pub fn a_start_that_fails_makes_room<R: Threads + Wait + Sync>(
     let run = metered(alloc, HOVER, gate(1, &own, STOP.len())?, &program)?;
     let berths = one(alloc, berth(alloc, run, one(alloc, 0)?)?)?;
     let left = serve_starts(threads, alloc, 2, berths, &program, &own)?;
-    tell(rt, "a start that fails makes room", &left)
+    tell(rt, "a start that fails makes room", &left)?;
+    tell_asked(rt, &left)
 }
 
 // 32 editors, of which the first asks for 16 starts, and none goes before so many bytes were written.

@@ -3,7 +3,7 @@ use lane_echo::Echo;
 use mux_daemon::{Answer, Lanes, Served, serve_core};
 use mux_lanes::LaneEnd;
 use mux_serve::LaneJob;
-use outside_io::{Berth, Clock, MemBerth, MemPort, Port, SetClock};
+use outside_io::{Asked, Berth, Clock, MemBerth, MemPort, Port, SetClock};
 use std::alloc::{AllocError, Global};
 use std::sync::Wait;
 use std::test::Fail;
@@ -13,6 +13,11 @@ use std::thread::Threads;
 pub trait Kept {
     /// How many bytes the link or the program of this number was written.
     fn written(&self, number: usize) -> Option<usize>;
+
+    /// The starts that it was asked for, where it keeps them.
+    fn asked(&self) -> &[Asked] {
+        &[]
+    }
 }
 
 impl Kept for MemPort {
@@ -25,6 +30,10 @@ impl Kept for MemBerth {
     fn written(&self, number: usize) -> Option<usize> {
         Some(self.run(number)?.1.bytes().len())
     }
+
+    fn asked(&self) -> &[Asked] {
+        MemBerth::asked(self)
+    }
 }
 
 /// How a run ended, how many editors joined, how many bytes each link and each program was written, by port and berth, and whether the
@@ -36,6 +45,8 @@ pub struct Left {
     ports: Vec<Vec<usize>>,
     own: Vec<usize>,
     berths: Vec<Vec<usize>>,
+    /// What each berth was asked for.
+    asked: Vec<String>,
     all_stopped: bool,
     clock_ended: bool,
 }
@@ -70,6 +81,24 @@ fn all_written<T: Kept>(alloc: Global, jobs: &[LaneJob<T>]) -> Result<Vec<Vec<us
     Ok(all)
 }
 
+// What each was asked for.
+fn all_asked<T: Kept>(alloc: Global, jobs: &[LaneJob<T>]) -> Result<Vec<String>, AllocError> {
+    let mut all = Vec::new(alloc);
+    for job in jobs {
+        all.push(format!(in alloc; "{:?}", job.outside.asked())?)?;
+    }
+    Ok(all)
+}
+
+// The command of the one server.
+fn commands(alloc: Global) -> Result<Vec<Vec<String>>, AllocError> {
+    let mut words = Vec::new(alloc);
+    words.push(String::from_str(alloc, "server")?)?;
+    let mut commands = Vec::new(alloc);
+    commands.push(words)?;
+    Ok(commands)
+}
+
 // Whether all lanes ended by the stop.
 fn all_stopped<T>(jobs: &[LaneJob<T>]) -> bool {
     for job in jobs {
@@ -84,9 +113,10 @@ fn all_stopped<T>(jobs: &[LaneJob<T>]) -> bool {
 fn served<P: Port + Send + Drop, B: Berth + Send + Drop, R: Threads + Wait + Sync>(
     threads: &R,
     alloc: Global,
+    commands: &[Vec<String>],
     lanes: Lanes<P, B, SetClock>,
 ) -> Served<Echo, P, B, SetClock> {
-    serve_core(threads, alloc, Echo::new(alloc), 1024, &[], lanes)
+    serve_core(threads, alloc, Echo::new(alloc), 1024, commands, lanes)
 }
 
 // What is to be told of it.
@@ -101,6 +131,7 @@ fn left_of<P: Kept + Drop, B: Kept + Drop>(
         ports: all_written(alloc, served.lanes.ports.as_slice())?,
         own: written(alloc, &served.lanes.own.outside)?,
         berths: all_written(alloc, served.lanes.berths.as_slice())?,
+        asked: all_asked(alloc, served.lanes.berths.as_slice())?,
         all_stopped: all_stopped(served.lanes.berths.as_slice()),
         clock_ended: served.lanes.clock.outside.next().is_none(),
     })
@@ -121,7 +152,8 @@ pub fn serve<P: Port + Kept + Send + Drop, B: Berth + Kept + Send + Drop, R: Thr
         berths: jobs(alloc, berths)?,
         clock: LaneJob::new(SetClock::new(moments)),
     };
-    left_of(alloc, served(threads, alloc, lanes))
+    let commands = commands(alloc)?;
+    left_of(alloc, served(threads, alloc, commands.as_slice(), lanes))
 }
 
 /// Writes what a run left.
@@ -138,5 +170,13 @@ pub fn tell(rt: HostRuntime, name: &str, left: &Left) -> Result<(), Fail> {
 /// Writes whether the clock came to its end.
 pub fn tell_clock(rt: HostRuntime, left: &Left) -> Result<(), Fail> {
     println!(rt; "  clock ended: {}", left.clock_ended)?;
+    Ok(())
+}
+
+/// Writes what each berth was asked for.
+pub fn tell_asked(rt: HostRuntime, left: &Left) -> Result<(), Fail> {
+    for asked in &left.asked {
+        println!(rt; "  asked {asked}")?;
+    }
     Ok(())
 }

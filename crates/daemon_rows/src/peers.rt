@@ -167,6 +167,8 @@ impl Berth for Peers {
 
     ghost left = { λ _. None };
 
+    ghost asked = { λ _. None };
+
     ghost held = { λ b. b.out };
 
     ghost faults = { λ b. b.faults };
@@ -174,6 +176,7 @@ impl Berth for Peers {
     fn start(
         &mut self,
         _words: &[String],
+        _folder: Option<&str>,
         inn: &mut Option<OneByOne>,
         out: &mut Option<Taker>,
     ) -> Result<(), StartFault> {

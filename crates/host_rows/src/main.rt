@@ -22,6 +22,7 @@ fn main(rt: HostRuntime) -> Result<(), Fail> {
     programs::a_program_that_reads_nothing(rt)?;
     programs::no_program(rt)?;
     programs::the_level_of_a_shell(rt)?;
+    programs::the_folder_of_a_program(rt)?;
     streams::a_folder(rt)?;
     streams::a_clock(rt)?;
     streams::an_input_ends_with_its_link(rt)?;

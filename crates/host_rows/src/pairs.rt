@@ -3,14 +3,14 @@ ghost use Rattle.std.specs.Prelude.{◌<◌, IfOk};
 
 use log::LevelFilter;
 use outside_io::{Arrival, Door, Place, Port, Source};
-use real_host::{Notes, Reading, RealDoor, RealPort, Wire, Writing};
+use real_host::{LinkInput, LinkOutput, Notes, Reading, RealDoor, RealPort, Writing};
 use std::fs;
 use std::net::TcpListener;
 use std::test::Fail;
 use std::time::Instant;
 
 // A link's halves.
-pub(crate) type Link = (Reading<Wire>, Writing<Wire>);
+pub(crate) type Link = (Reading<LinkInput>, Writing<LinkOutput>);
 
 // Notes of nothing.
 pub(crate) fn quiet(rt: HostRuntime) -> Notes {

@@ -19,9 +19,15 @@ fn words(alloc: Global, all: &[&str]) -> Result<Vec<String>, Fail> {
 
 // Starts the program of these words.
 fn start(rt: HostRuntime, all: &[&str]) -> Result<Run, Fail> {
+    start_in(rt, all, None)
+}
+
+// Starts the program of these words in a folder.
+fn start_in(rt: HostRuntime, all: &[&str], folder: Option<&str>) -> Result<Run, Fail> {
     let words = words(rt.alloc(), all)?;
     let (mut source, mut sink) = (None, None);
-    let started = RealBerth::new(rt, quiet(rt)).start(words.as_slice(), &mut source, &mut sink);
+    let mut berth = RealBerth::new(rt, quiet(rt));
+    let started = berth.start(words.as_slice(), folder, &mut source, &mut sink);
     match (started, source, sink) {
         (Ok(()), Some(source), Some(sink)) => Ok((source, sink)),
         _ => Err(Fail::new("the program doesn't start")),
@@ -86,13 +92,14 @@ pub(crate) fn no_program(rt: HostRuntime) -> Result<(), Fail> {
     let mut berth = RealBerth::new(rt, quiet(rt));
     let (mut source, mut sink) = (None, None);
     let absent = words(rt.alloc(), &["no-such-program"])?;
-    let started = berth.start(absent.as_slice(), &mut source, &mut sink);
+    let started = berth.start(absent.as_slice(), None, &mut source, &mut sink);
     holds(
         started == Err(StartFault::Failed),
         "an absent program started",
     )?;
+    holds(!berth.reason().is_empty(), "no reason")?;
     let (mut source, mut sink) = (None, None);
-    let started = berth.start(&[], &mut source, &mut sink);
+    let started = berth.start(&[], None, &mut source, &mut sink);
     holds(
         started == Err(StartFault::Failed),
         "no words started a program",
@@ -107,4 +114,13 @@ pub(crate) fn the_level_of_a_shell(rt: HostRuntime) -> Result<(), Fail> {
         return Err(Fail::new("a read failed"));
     };
     holds(count >= 2 && buf[0] != b'0', "no level")
+}
+
+// A program runs in the folder that is named, or in ours where there is no such folder.
+pub(crate) fn the_folder_of_a_program(rt: HostRuntime) -> Result<(), Fail> {
+    let (mut inn, _out) = start_in(rt, &["pwd"], Some("/proc"))?;
+    holds(reads(&mut inn, b"/proc\n"), "another folder")?;
+    let (mut inn, _out) = start_in(rt, &["pwd"], Some("/no-such-folder"))?;
+    let mut buf = [0u8; 64];
+    holds(inn.read(&mut buf) != Ok(0), "no folder")
 }

@@ -1,7 +1,7 @@
 // Writes whose peer takes nothing, or little.
 use crate::pairs::{Link, Pair, holds, pair_at, passed, remove, tcp, unix};
 use outside_io::{Endings, Place, Sink, Source, write_whole};
-use real_host::{Reading, Wire};
+use real_host::{LinkInput, Reading};
 use std::test::Fail;
 use std::thread;
 use std::thread::Threads;
@@ -17,7 +17,7 @@ fn much(rt: HostRuntime) -> Result<Vec<u8>, Fail> {
 }
 
 // Reads to the end, and says how many bytes came. Between the reads, each of up to 4,096 bytes, lie so many milliseconds.
-fn read_all(rt: HostRuntime, source: &mut Reading<Wire>, pause: u64) -> u64 {
+fn read_all(rt: HostRuntime, source: &mut Reading<LinkInput>, pause: u64) -> u64 {
     let mut buf = [0u8; 4096];
     let mut all = 0u64;
     for _ in 0..1_000_000 {

@@ -11,6 +11,7 @@ use crate::seats::Seats;
 use crate::woken::Woken;
 use lane_lists::LaneName;
 use lane_queue::HubEnds;
+use message_body::Memory;
 use mux_steps::{StepFault, Steps};
 use std::alloc::Global;
 use std::marker::{Brand, Model, PhantomData};
@@ -141,6 +142,11 @@ impl<K: Steps + Drop, N: Naming> Desk<K, N> {
         self.core.server_of(start)
     }
 
+    /// The folder in which a start's program is to run; None where it is the daemon's own.
+    pub fn folder_of(&self, start: u64) -> Result<Option<String>, Memory> {
+        self.core.folder_of(start)
+    }
+
     /// The core goes on no more.
     pub fn fail(&mut self)
         ensures { self.new ≡ record self.old { spent = true } }
@@ -243,6 +249,11 @@ impl<K: Steps + Drop, N: Naming> Deck<K, N> {
     /// The place of the server whose command a start runs, as the core says.
     pub fn server_of<R: Wait>(&self, rt: &R, start: u64) -> Option<u32> {
         self.desk.lock(rt).server_of(start)
+    }
+
+    /// The folder in which a start's program is to run, as the core says; None where it is the daemon's own.
+    pub fn folder_of<R: Wait>(&self, rt: &R, start: u64) -> Result<Option<String>, Memory> {
+        self.desk.lock(rt).folder_of(start)
     }
 
     /// A lane wanted memory: the core goes on no more.

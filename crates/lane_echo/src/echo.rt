@@ -158,6 +158,10 @@ impl Steps for Echo {
         if start < self.spawned { Some(0) } else { None }
     }
 
+    fn folder_of(&self, start: u64) -> Result<Option<String>, Memory> {
+        Ok(Some(format!(in self.alloc; "/work/{start}")?))
+    }
+
     #[tactic(auto, using(crate::proofs::Histories::joined_more, crate::proofs::Histories::spawned_more, crate::proofs::Histories::once_only, crate::proofs::Histories::stop_more, crate::proofs::Histories::stop_asked, crate::proofs::Histories::stop_stays))]
     fn step(&mut self, cause: Cause) -> Result<Outs, StepFault> {
         if self.spent {

@@ -2,7 +2,7 @@ ghost use Rattle.std.specs.Prelude.{◌≡◌, [], false, nat_eq};
 ghost use Rattle.mux_history.specs.Cores.{joins};
 
 use drive_text::{LineFault, LineJournal, cause_of_line, make, read_line, write_outs};
-use message_body::Body;
+use message_body::{Body, Memory};
 use mux_history::{Cause, Entry, Out, Outs, Why};
 use mux_steps::{Journal, JournalFault, StepFault, Steps};
 use outside_io::MemSink;
@@ -44,6 +44,10 @@ impl Steps for Closed {
 
     fn server_of(&self, _start: u64) -> Option<u32> {
         None
+    }
+
+    fn folder_of(&self, _start: u64) -> Result<Option<String>, Memory> {
+        Ok(None)
     }
 
     fn step(&mut self, _cause: Cause) -> Result<Outs, StepFault> {

@@ -1,8 +1,8 @@
 -- What a run of the program did.
-use Rattle.std.specs.Prelude.{◌≡◌, ◌≤◌, ℕ, List, [], ◌∷◌, ◌++◌, codes, IfSome}
+use Rattle.std.specs.Prelude.{◌≡◌, ◌≤◌, ℕ, Bool, true, false, List, [], ◌∷◌, ◌++◌, codes, IfSome, MatchBool}
 use Rattle.std.specs.Prelude.{Option, Some, None, option_map, Result, Ok, Err, ◌⊎◌}
 use Rattle.clap.specs.Words.{Text}
-use Rattle.outside_io.specs.Doors.{Call, PortTold, address_of}
+use Rattle.outside_io.specs.Doors.{Address, streams, Call, PortTold, address_of}
 use Rattle.outside_io.specs.Faults.{Rose}
 use Rattle.outside_io.specs.Files.{File}
 use Rattle.outside_io.specs.Sessions.{Session, session_of}
@@ -33,6 +33,11 @@ use Rattle.lspmux_program.specs.declared.outside.Left.{Left}
 
 abbrev pub words_line : List ℕ
 words_line = codes "!words" ++ 10 ∷ []
+
+-- the links of a daemon are the standard input and output
+abbrev pub is_streams : Address → Bool
+is_streams streams = true
+is_streams _ = false
 
 -- the settings' file that is named
 abbrev pub file_of : words.Asked → Option Text
@@ -79,12 +84,13 @@ module _ {D P B C J F I O N : Type 0}
     pub complete : Undisturbed config.content (hub_settings config) (unread old.input) (Rose (journal_faults old.journal) (journal_faults new.journal))
         (Rose (input_faults old.input) (input_faults new.input)) (Rose (output_faults old.output) (output_faults new.output)) → (new.status ≡ 0) ⊎ (new.status ≡ 5)
 
-  -- `serve`
+  -- `serve`; where its links are the standard input and output, its fault line isn't written there
   pub record ServedBy (config : Config) (old : Outside D B C J F I O N) (new : Left D P B C J F I O N) : Type 0 where
     pub ended : Result (Unit {0}) ServeFault
     pub came : CameOfSettings calls ports_left refusals told journal_faults links_back links faults runs left misses given moments
         config old.door new.door old.journal new.journal old.berths.items old.clock new.lanes ended
-    pub says : Says old.output new (ended_status ended) (ended_line ended)
+    pub says : MatchBool (is_streams (address_of config.place)) ((new.status ≡ ended_status ended) × (new.output ≡ old.output))
+        (Says old.output new (ended_status ended) (ended_line ended))
     pub port : new.port ≡ None
     pub input : new.input ≡ old.input
 

@@ -1,8 +1,12 @@
 // The program, from its words to its status.
-ghost use Rattle.std.specs.Prelude.{◌≡◌, [], None, map, option_map, string_bytes};
+ghost use Rattle.std.specs.Prelude.{◌≡◌, [], MatchBool, None, map, option_map, string_bytes};
+ghost use Rattle.outside_io.specs.Doors.{address_of};
+ghost use Rattle.outside_io.specs.Faults.{Rose};
 ghost use Rattle.mux_hub.specs.Hubs.{Tells};
+ghost use Rattle.program_settings.specs.Lines.{Reported};
+ghost use Rattle.serve_program.specs.Faults.{ended_line, ended_status};
 ghost use Rattle.lspmux_words.specs.Meaning as meaning;
-ghost use Rattle.lspmux_program.specs.Programs.{AskedBy, Came, Did, DroveBy, Idle, JoinedBy, MadeBy, Says, ServedBy, WroteLines, file_of, words_line};
+ghost use Rattle.lspmux_program.specs.Programs.{AskedBy, Came, Did, DroveBy, Idle, JoinedBy, MadeBy, Says, ServedBy, WroteLines, file_of, is_streams, words_line};
 
 use crate::client::{note_refusal, report};
 use crate::outside::{Left, Outside};
@@ -12,9 +16,9 @@ use make_program::{make_command, make_lines_command};
 use mux_client::{ClientFault, Question, ask, client};
 use mux_config::Config;
 use mux_steps::Journal;
-use outside_io::{Berth, Clock, Door, Folder, Sink, Source};
+use outside_io::{Berth, Clock, Door, Folder, Place, Sink, Source};
 use program_settings::{refuse, settings, write_line};
-use serve_program::{Ended, serve_by};
+use serve_program::{Ended, ServeFault, serve_by};
 use std::alloc::Global;
 use std::sync::Wait;
 use std::thread::Threads;
@@ -108,6 +112,30 @@ fn drive<
     }
 }
 
+// Whether a daemon's links are the standard input and output.
+fn is_on_streams(place: &Place) -> bool
+    ensures { result ≡ is_streams (address_of place.now) }
+{
+    matches!(place, Place::Streams)
+}
+
+// Says how a daemon ended: on the output, or on the notes where its links are the output.
+fn report_end<O: Sink, N: Sink>(
+    on_streams: bool,
+    output: &mut O,
+    notes: &mut N,
+    ended: Result<(), ServeFault>,
+) -> u8
+    ensures { MatchBool on_streams ((result ≡ ended_status ended) × (output.new ≡ output.old))
+        (Reported result (ended_status ended) (O.written output.old) (O.written output.new) (ended_line ended) (Rose (O.faults output.old) (O.faults output.new))) }
+{
+    if on_streams {
+        serve_program::report(notes, ended)
+    } else {
+        serve_program::report(output, ended)
+    }
+}
+
 // `serve`.
 fn serve<
     R: Threads + Wait + Sync,
@@ -137,14 +165,15 @@ fn serve<
         folder,
         input,
         mut output,
-        notes,
+        mut notes,
     } = outside;
+    let on_streams = is_on_streams(&config.place);
     let Ended {
         result,
         journal,
         lanes,
     } = serve_by(rt, alloc, config, &mut door, berths, clock, journal);
-    let status = serve_program::report(&mut output, result);
+    let status = report_end(on_streams, &mut output, &mut notes, result);
     Left {
         status,
         door,

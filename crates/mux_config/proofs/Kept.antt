@@ -1,5 +1,5 @@
 -- Settings with no fault are in their ranges.
-use Rattle.std.proofs.Common.{◌≡◌, ℕ, ◌+◌, ◌*◌, ◌≤◌, ◌≢◌, ℤ, pos, negsuc, Bool, true, false, not, ◌&&◌, nat_eq, nat_le, cond, List, [], ◌∷◌, length, Option, Some, None, IfSome, option_map, option_and_then, unwrap_or, codes, refl, arith}
+use Rattle.std.proofs.Common.{◌≡◌, ℕ, ◌+◌, ◌*◌, ◌≤◌, ◌≢◌, ℤ, pos, negsuc, Bool, true, false, not, ◌&&◌, nat_eq, nat_le, cond, List, [], ◌∷◌, length, Option, Some, None, IfSome, option_map, option_and_then, unwrap_or, codes, bytes_eq, refl, arith}
 use Rattle.std.proofs.lemmas.Bool.{and_parts}
 use Rattle.std.proofs.lemmas.Bool.Decides.{nat_tests}
 use Rattle.std.proofs.lemmas.Str.{digit_value_digit}
@@ -8,9 +8,9 @@ use Rattle.std.specs.Char.{digit_value}
 use Rattle.std.specs.Option.{option_or}
 use Rattle.std.specs.Str.{all_ascii_digits}
 use Rattle.std.specs.Str.Parse.{digits_value, digits_value_after}
-use Rattle.outside_io.specs.Doors.{Address, unix, tcp}
+use Rattle.outside_io.specs.Doors.{Address, unix, tcp, streams}
 use Rattle.toml.specs.Data.{Data, string, integer, float, boolean, datetime, array, table, Members, get_member, as_str}
-use Rattle.mux_config.specs.Settings.{within, number_in, span, behind, path_place, is_numeral, port_in, text_place, place_in}
+use Rattle.mux_config.specs.Settings.{within, number_in, span, behind, path_place, is_numeral, port_in, streams_place, text_place, place_in}
 use Rattle.mux_config.specs.Chosen.{IsWithin, IsPlace, AreLimits, number_or, number_at, place_at, limits_at}
 
 -- numbers
@@ -103,10 +103,17 @@ tcp_kept : (o : Option ℕ) → IfSome o (IsWithin 1 65535) → IfSome (option_m
 tcp_kept None h = tt
 tcp_kept (Some n) h = h
 
+streams_kept : (text : List ℕ) → IfSome (streams_place text) IsPlace
+streams_kept text = by_test (bytes_eq text (codes "streams"))
+  where
+    by_test : (b : Bool) → IfSome (cond b (Some streams) None) IsPlace
+    by_test false = tt
+    by_test true = (omega arith, omega arith)
+
 text_kept : (text : List ℕ) → IfSome (text_place text) IsPlace
 text_kept text = either_kept IsPlace _ _
     (then_kept IsPlace path_place (behind (codes "unix:") text) path_kept)
-    (tcp_kept _ (then_kept (IsWithin 1 65535) port_in (behind (codes "tcp:") text) port_kept))
+    (either_kept IsPlace _ _ (tcp_kept _ (then_kept (IsWithin 1 65535) port_in (behind (codes "tcp:") text) port_kept)) (streams_kept text))
 
 place_or : (o : Option Address) (a : Address) → IfSome o IsPlace → IsPlace a → IsPlace (unwrap_or o a)
 place_or None a h k = k

@@ -9,7 +9,7 @@ use Rattle.json_text.specs.Tree.{tree_of}
 use Rattle.event_model.specs.Settings.{Settings}
 use Rattle.event_model.specs.declared.settings.Limits.{Limits}
 use Rattle.event_model.specs.declared.settings.Server.{Server}
-use Rattle.outside_io.specs.Doors.{Address, unix, tcp, address_of}
+use Rattle.outside_io.specs.Doors.{Address, unix, tcp, streams, address_of}
 use Rattle.outside_io.specs.declared.door.Place.{Place}
 use Rattle.std.specs.declared.alloc.Global.{Global}
 use Rattle.toml.specs.Data.{Data, string, array, table, Items, no_items, item, Members, no_members, member, get, get_member, as_str, as_array}
@@ -120,14 +120,16 @@ built_in = member (codes "server") (table (member (codes "main") (table (member 
 abbrev pub IsWithin : ℕ → ℕ → ℕ → Type 0
 IsWithin low high n = (low ≤ n) × (n ≤ high)
 
--- the length of a path, or the number of a port, and the greatest that it may be
+-- the length of a path, or the number of a port, and the greatest that it may be; there are the standard input and output once
 abbrev pub size_of : Address → ℕ
 size_of (unix path) = length path
 size_of (tcp port) = port
+size_of streams = 1
 
 abbrev pub most_of : Address → ℕ
 most_of (unix path) = 100
 most_of (tcp port) = 65535
+most_of streams = 1
 
 abbrev pub IsPlace : Address → Type 0
 IsPlace a = IsWithin 1 (most_of a) (size_of a)

@@ -9,7 +9,7 @@ use Rattle.json_text.specs.declared.kind.Kind.{Kind}
 use Rattle.json_text.specs.declared.kind.Kind.TheVariants.{Object}
 use Rattle.json_text.specs.Json.{Json, object}
 use Rattle.json_text.specs.Tree.{tree_of}
-use Rattle.outside_io.specs.Doors.{Address, unix, tcp}
+use Rattle.outside_io.specs.Doors.{Address, unix, tcp, streams}
 use Rattle.toml.specs.Data.{Data, string, integer, array, table, Items, no_items, item, Members, no_members, member, get_member, as_str, as_table}
 use Rattle.mux_config.specs.Faults.{Fault, first_in}
 use Rattle.mux_config.specs.declared.first.Sort.{Sort}
@@ -42,7 +42,7 @@ bounds_of key =
     if bytes_eq key (codes "requests") then span 3 2147483647 2147483647 else
     if bytes_eq key (codes "versions") then span 2 2147483647 2147483647 else None
 
--- places: `unix:PATH` and `tcp:PORT`
+-- places: `unix:PATH`, `tcp:PORT` and `streams`
 
 -- what follows a prefix
 abbrev pub behind : List ℕ → List ℕ → Option (List ℕ)
@@ -58,8 +58,11 @@ is_numeral text = nat_le 1 (length text) && (not (nat_eq (slice_index text 0) 48
 abbrev pub port_in : List ℕ → Option ℕ
 port_in text = if is_numeral text && nat_le (digits_value 10 text) 65535 then Some (digits_value 10 text) else None
 
+abbrev pub streams_place : List ℕ → Option Address
+streams_place text = if bytes_eq text (codes "streams") then Some streams else None
+
 abbrev pub text_place : List ℕ → Option Address
-text_place text = option_or (option_and_then path_place (behind (codes "unix:") text)) (option_map tcp (option_and_then port_in (behind (codes "tcp:") text)))
+text_place text = option_or (option_and_then path_place (behind (codes "unix:") text)) (option_or (option_map tcp (option_and_then port_in (behind (codes "tcp:") text))) (streams_place text))
 
 abbrev pub place_in : Data → Option Address
 place_in d = option_and_then text_place (as_str d)

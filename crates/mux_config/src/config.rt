@@ -9,7 +9,7 @@ use outside_io::Place;
 /// UTF-8, of which no two are equal.
 #[derive(Debug, Drop)]
 pub struct Config {
-    /// Where links come: a path of 1 to 100 bytes, or a port from 1 on.
+    /// Where links come: a path of 1 to 100 bytes, a port from 1 on, or the standard input and output.
     pub place: Place,
     /// Links at one time, 1 to 32.
     pub links: u32,

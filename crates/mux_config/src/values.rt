@@ -98,6 +98,7 @@ fn text_place(alloc: Global, text: &str) -> Result<Option<Place>, AllocError>
     }
     match tcp_port(text) {
         Some(port) => Ok(Some(Place::Tcp(port))),
+        None if text == "streams" => Ok(Some(Place::Streams)),
         None => Ok(None),
     }
 }

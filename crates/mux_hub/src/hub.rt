@@ -1,5 +1,5 @@
 // The hub: the tables, the journal, and whether a step had a fault.
-ghost use Rattle.std.specs.Prelude.{◌≡◌, ℕ, ◌+◌, ◌^◌, ◌≤◌, ◌<◌, ◌↔◌, List, [], ◌∷◌, ◌++◌, true, false, nat_lt, if◌then◌else◌, Some, None, IsTrue, IsNone, IfOk, OnOk, OnErr, IsErrOf, IsOkUnless, IfErr, slice_get};
+ghost use Rattle.std.specs.Prelude.{◌≡◌, ℕ, ◌+◌, ◌^◌, ◌≤◌, ◌<◌, ◌↔◌, List, [], ◌∷◌, ◌++◌, true, false, nat_lt, if◌then◌else◌, Some, None, IsTrue, IsNone, IfOk, OnOk, OnErr, IsErrOf, IsOkUnless, IfErr, option_map, slice_get, string_bytes};
 ghost use Rattle.group_sessions.specs.group_facts.specs.Ceilings.{HaveCeilings};
 ghost use Rattle.outside_io.specs.Faults.{Rose};
 ghost use Rattle.mux_history.specs.declared.entry.Entry.{Entry};
@@ -14,9 +14,9 @@ ghost use Rattle.mux_hub.specs.Entries.{emits, entry_of, most_events, passes, wa
 ghost use Rattle.mux_steps.specs.Faults.{Counted};
 ghost use Rattle.mux_hub.specs.Hubs.{HubView, HubStands, TablesStand, Tells};
 ghost use Rattle.mux_hub.specs.Sessions.{Sessions};
-ghost use Rattle.mux_hub.specs.Starts.{servers_of};
+ghost use Rattle.mux_hub.specs.Starts.{folder_at, servers_of};
 
-use crate::starts::note_spawns;
+use crate::starts::{folder_of, note_spawns};
 use event_model::{Limits, Server};
 use message_body::Memory;
 use mux_causes::mux_tables::Tables;
@@ -183,6 +183,14 @@ impl<J: Journal> Hub<J> {
         }
     }
 
+    /// The folder in which a start's program is to run: that of the first folder of its group. None where it is the daemon's own.
+    pub fn folder_of(&self, start: u64) -> Result<Option<String>, Memory>
+        ensures { (history : List Entry) → HubStands J.told self.now history → self.now.spent ≡ false
+            → IfOk result (λ folder. option_map string_bytes folder ≡ folder_at self.now.settings (events_of history) start) }
+    {
+        folder_of(self.alloc, &self.tables, start)
+    }
+
     /// Whether an editor stopped all.
     pub fn stopped(&self) -> bool
         ensures { (history : List Entry) → HubStands J.told self.now history → self.now.spent ≡ false → result ≡ was_stopped history }
@@ -274,6 +282,10 @@ impl<J: Journal> Steps for Hub<J> {
 
     fn server_of(&self, start: u64) -> Option<u32> {
         Hub::server_of(self, start)
+    }
+
+    fn folder_of(&self, start: u64) -> Result<Option<String>, Memory> {
+        Hub::folder_of(self, start)
     }
 
     fn step(&mut self, cause: Cause) -> Result<Outs, StepFault> {

@@ -20,8 +20,12 @@ use std::alloc::Global;
 use std::sync::Wait;
 use std::thread::Threads;
 
-// Starts the program of these words.
-fn start<B: Berth>(berth: &mut B, words: &[String]) -> Result<Link<B::In, B::Out>, StartFault>
+// Starts the program of these words in a folder, or in the berth's own where none is named.
+fn start<B: Berth>(
+    berth: &mut B,
+    words: &[String],
+    folder: Option<&str>,
+) -> Result<Link<B::In, B::Out>, StartFault>
     ensures run { IfOk result (λ link. B.left berth.old ≡ prepend_to
         (session_of B.In.Source.taken B.In.Source.left B.In.Source.faults B.Out.Sink.written B.Out.Sink.faults link.source link.sink ∷ []) (B.left berth.new)) }
     ensures held { OnOk result (B.held berth.new ≡ B.held berth.old + 1) }
@@ -32,7 +36,7 @@ fn start<B: Berth>(berth: &mut B, words: &[String]) -> Result<Link<B::In, B::Out
 {
     let mut source = None;
     let mut sink = None;
-    berth.start(words, &mut source, &mut sink)?;
+    berth.start(words, folder, &mut source, &mut sink)?;
     match (source, sink) {
         (Some(source), Some(sink)) => Ok(Link { source, sink }),
         _ => unreachable!(),
@@ -153,7 +157,7 @@ fn serve_run<K: Steps + Drop + Send, N: Naming + Send + Sync, B: Berth, R: Threa
     Served { ends, is_whole }
 }
 
-// Starts a program and runs its session, or says that it couldn't be started.
+// Starts the program of a start, in its folder, and runs its session, or says that it couldn't be started.
 fn serve_start<K: Steps + Drop + Send, N: Naming + Send + Sync, B: Berth, R: Threads + Wait + Sync>(
     rt: &R,
     alloc: Global,
@@ -161,6 +165,7 @@ fn serve_start<K: Steps + Drop + Send, N: Naming + Send + Sync, B: Berth, R: Thr
     lane: LaneName,
     limit: u32,
     words: &[String],
+    folder: Option<&str>,
     berth: &mut B,
     ends: Ends,
 ) -> Served
@@ -169,7 +174,7 @@ fn serve_start<K: Steps + Drop + Send, N: Naming + Send + Sync, B: Berth, R: Thr
         (standing B.runs B.left B.faults berth.new result.ends) result.is_whole }
 {
     let mut ends = ends;
-    match start(berth, words) {
+    match start(berth, words, folder) {
         Ok(link) => serve_run(rt, alloc, board, lane, limit, berth, link, ends),
         Err(StartFault::Failed) => {
             let is_whole = refuse_start(rt, board, lane, &mut ends);
@@ -185,10 +190,49 @@ fn serve_start<K: Steps + Drop + Send, N: Naming + Send + Sync, B: Berth, R: Thr
     }
 }
 
+// Starts the program that the core says of a start, where it says, and runs its session, or says that it couldn't be started.
+fn serve_begun<
+    K: Steps + Drop + Send,
+    N: Naming + Send + Sync,
+    B: Berth,
+    R: Threads + Wait + Sync,
+>(
+    rt: &R,
+    alloc: Global,
+    board: &Switchboard<K, N>,
+    lane: LaneName,
+    limit: u32,
+    commands: &[Vec<String>],
+    start: u64,
+    berth: &mut B,
+    ends: Ends,
+) -> Served
+    ensures lane { IsSameLane ends result.ends }
+    ensures turn { Takes (WholeStart limit) (CutStart limit) (standing B.runs B.left B.faults berth.old ends)
+        (standing B.runs B.left B.faults berth.new result.ends) result.is_whole }
+{
+    let words = words_of(commands, board.server_of(rt, start));
+    match board.folder_of(rt, start) {
+        Ok(folder) => {
+            let folder = folder.as_deref();
+            serve_start(
+                rt, alloc, board, lane, limit, words, folder, berth, ends,
+            )
+        }
+        Err(_) => {
+            board.fail(rt);
+            Served {
+                ends,
+                is_whole: false,
+            }
+        }
+    }
+}
+
 /// Waits for the order to begin a start, runs its program in a berth, and waits for the next one. It posts that the program
 /// is up, then the contents of the frames that it reads, of at most `limit` bytes, and how it ended, and writes what is
 /// ordered meanwhile; or that it couldn't be started. A start is run with the command at its server's place, or with no
-/// words where there is none.
+/// words where there is none, in the folder that the core says.
 pub fn server_lane<
     K: Steps + Drop + Send,
     N: Naming + Send + Sync,
@@ -216,8 +260,9 @@ pub fn server_lane<
         match next_order(rt, board, name, &mut ends.out) {
             Err(end) => return Lane { ends, end },
             Ok(Order::Begin(start)) => {
-                let words = words_of(commands, board.server_of(rt, start));
-                let served = serve_start(rt, alloc, board, name, limit, words, berth, ends);
+                let served = serve_begun(
+                    rt, alloc, board, name, limit, commands, start, berth, ends,
+                );
                 ends = served.ends;
                 if !served.is_whole {
                     board.fail(rt);

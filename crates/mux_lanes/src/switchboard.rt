@@ -6,6 +6,7 @@ use crate::bell::{Bell, bells};
 use crate::lane_end::LaneEnd;
 use lane_desk::{Deck, Naming, Took, Woken};
 use lane_lists::LaneName;
+use message_body::Memory;
 use mux_steps::Steps;
 use std::alloc::Global;
 use std::sync::Wait;
@@ -120,6 +121,11 @@ impl<K: Steps + Drop, N: Naming> Switchboard<K, N> {
     /// The place of the server whose command a start runs, as the core says.
     pub fn server_of<R: Wait>(&self, rt: &R, start: u64) -> Option<u32> {
         self.deck.server_of(rt, start)
+    }
+
+    /// The folder in which a start's program is to run, as the core says; None where it is the daemon's own.
+    pub fn folder_of<R: Wait>(&self, rt: &R, start: u64) -> Result<Option<String>, Memory> {
+        self.deck.folder_of(rt, start)
     }
 
     /// A lane wanted memory: the core goes on no more.

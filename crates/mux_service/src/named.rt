@@ -2,6 +2,7 @@
 ghost use Rattle.std.specs.Prelude.{◌≡◌, ℕ, ◌≤◌, ◌↔◌, List, ◌++◌, ◌∷◌, [], IfOk, OnOk, OnErr, IsErrOf, IsOkUnless, IsNone, IsTrue, Bool, true, false};
 ghost use Rattle.mux_hub.specs.Hubs.{HubView};
 
+use message_body::Memory;
 use mux_history::{Cause, Outs};
 use mux_hub::Hub;
 use mux_steps::{Journal, StepFault, Steps};
@@ -83,6 +84,10 @@ impl<J: Journal, N: Named> Steps for NamedHub<J, N> {
 
     fn server_of(&self, start: u64) -> Option<u32> {
         self.hub.server_of(start)
+    }
+
+    fn folder_of(&self, start: u64) -> Result<Option<String>, Memory> {
+        self.hub.folder_of(start)
     }
 
     fn step(&mut self, cause: Cause) -> Result<Outs, StepFault> {

@@ -7,6 +7,7 @@ ghost use Rattle.mux_history.specs.Cores.{joined, spawns, body_length};
 ghost use Rattle.mux_steps.specs.Faults.{Counted};
 
 use crate::fault::StepFault;
+use message_body::Memory;
 use mux_history::{Cause, Outs};
 
 /// A core of the multiplexer: it stands for a history, and each step that answers Ok adds one entry to that history,
@@ -50,6 +51,9 @@ pub trait Steps {
     /// The place of the server whose command a start runs; None just of a start that wasn't spawned.
     fn server_of(&self, start: u64) -> Option<u32>
         ensures { (history : List Entry) → stands self.now history → spent self.now ≡ false → IsNone result ↔ (spawns start history ≡ 0) };
+
+    /// The folder in which a start's program is to run; None where it is the daemon's own.
+    fn folder_of(&self, start: u64) -> Result<Option<String>, Memory>;
 
     /// Takes a cause that can come, whose body has at most 268,435,456 bytes, and gives its outs. The entry was appended to
     /// the journal. No start is spawned twice, and once a request to stop was answered this stays so.

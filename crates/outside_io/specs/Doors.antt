@@ -5,14 +5,16 @@ use Rattle.outside_io.specs.Told.{prepend_to}
 use Rattle.outside_io.specs.declared.door.Place.{Place}
 use Rattle.outside_io.specs.declared.door.Place.TheVariants as place
 
--- a place: the bytes of a Unix socket's path, or the number of a TCP port of the loopback address
+-- a place: the bytes of a Unix socket's path, the number of a TCP port of the loopback address, or the standard input and output
 pub data Address : Type 0 where
   unix : List ℕ → Address
   tcp : ℕ → Address
+  streams : Address
 
 abbrev pub address_of : Place → Address
 address_of (place.Unix path) = unix (string_bytes path)
 address_of (place.Tcp port) = tcp port
+address_of place.Streams = streams
 
 -- a call: `open` of a place for a number of ports, or `dial` of a place
 pub data Call : Type 0 where

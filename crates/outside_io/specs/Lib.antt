@@ -1,8 +1,10 @@
 pub mod Faults
 pub mod Told
 pub mod Sessions
+pub mod Starts
 pub mod Arrivals
 pub mod Doors
 pub mod Files
 pub mod MemoryDoors
 pub mod MemoryLinks
+pub mod MemoryStarts

@@ -7,11 +7,13 @@ ghost use Rattle.outside_io.specs.Told.{append_to, prepend_to};
 use crate::port::Port;
 use std::alloc::AllocError;
 
-/// Where a daemon is met: the path of a Unix socket, or a TCP port of the loopback address.
+/// Where a daemon is met: the path of a Unix socket, a TCP port of the loopback address, or the standard input and output
+/// of its own process.
 #[derive(Clone, Debug, Drop)]
 pub enum Place {
     Unix(String),
     Tcp(u16),
+    Streams,
 }
 
 /// A door that gave no port: the outside failed, or memory was wanted.
@@ -73,4 +75,9 @@ pub trait Door {
         ensures uncalled { IsErrOf result DoorFault.Memory → calls self.new ≡ calls self.old }
         ensures failed { IsErrOf result DoorFault.Failed → Rose (faults self.old) (faults self.new) }
         ensures later { faults self.old ≤ faults self.new };
+
+    /// Words on the last call that failed, for notes alone; empty where there are none.
+    fn reason(&self) -> &str {
+        ""
+    }
 }

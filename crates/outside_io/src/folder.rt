@@ -41,4 +41,9 @@ pub trait Folder {
         ensures files { files self.new ≡ files self.old }
         ensures failed { IsErrOf result FolderFault.Failed → Rose (faults self.old) (faults self.new) }
         ensures later { faults self.old ≤ faults self.new };
+
+    /// Words on the last read that failed, for notes alone; empty where there are none.
+    fn reason(&self) -> &str {
+        ""
+    }
 }

@@ -18,7 +18,7 @@ pub use clock::Clock;
 pub use door::{Door, DoorFault, Place};
 pub use ending::{Ending, Endings};
 pub use folder::{Folder, FolderFault};
-pub use memory::berth::MemBerth;
+pub use memory::berth::{Asked, MemBerth};
 pub use memory::clock::SetClock;
 pub use memory::door::MemDoor;
 pub use memory::folder::MemFolder;

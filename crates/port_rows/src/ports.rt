@@ -47,10 +47,10 @@ fn a_port_gives_its_links_and_keeps_them_as_they_came_back(rt: HostRuntime) -> R
 }
 
 // Starts a program, writes to it and ends it.
-fn run<B: Berth>(berth: &mut B, words: &[String]) -> Result<(), StartFault> {
+fn run<B: Berth>(berth: &mut B, words: &[String], folder: Option<&str>) -> Result<(), StartFault> {
     let mut source = None;
     let mut sink = None;
-    berth.start(words, &mut source, &mut sink)?;
+    berth.start(words, folder, &mut source, &mut sink)?;
     if let Some(sink) = &mut sink {
         let _ = write_whole(sink, b"exit");
         sink.close();
@@ -64,9 +64,16 @@ fn a_berth_fails_at_its_number_and_where_its_runs_are_used_up(rt: HostRuntime) -
     let alloc = rt.alloc();
     let runs = vec![in alloc; link(alloc, b"ready")?]?;
     let mut berth = MemBerth::new(alloc, runs, vec![in alloc; 0]?);
-    assert_eq!(rt; run(&mut berth, &[]), Err(StartFault::Failed));
-    assert_eq!(rt; run(&mut berth, &[]), Ok(()));
-    assert_eq!(rt; run(&mut berth, &[]), Err(StartFault::Failed));
+    let words = vec![in alloc; String::from_str(alloc, "server")?]?;
+    assert_eq!(rt; run(&mut berth, &[], None), Err(StartFault::Failed));
+    assert_eq!(rt; run(&mut berth, words.as_slice(), Some("/work")), Ok(()));
+    assert_eq!(rt; run(&mut berth, &[], None), Err(StartFault::Failed));
+    let asked = berth.asked();
+    assert_eq!(rt; asked.len(), 3);
+    assert_eq!(rt; asked[1].words[0].as_str(), "server");
+    assert!(rt; matches!(&asked[1].folder, Some(path) if path.as_str() == "/work"));
+    assert!(rt; asked[0].words.is_empty() && asked[2].folder.is_none());
+    assert_eq!(rt; berth.reason(), "");
     let Some((source, sink)) = berth.run(0) else {
         return Err(Fail::new("nothing was handed back"));
     };

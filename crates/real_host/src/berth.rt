@@ -1,11 +1,13 @@
 // A berth for programs of this machine.
 ghost use Rattle.std.specs.Prelude.{◌≡◌, ℕ, ◌+◌, ◌<◌, List, Option, None};
 ghost use Rattle.outside_io.specs.Sessions.{Session};
+ghost use Rattle.outside_io.specs.Starts.{Start};
 
 use crate::notes::Notes;
 use crate::program;
 use crate::program::{ProgramInput, ProgramOutput};
 use crate::reading::Reading;
+use crate::reason::words_on;
 use crate::writing::Writing;
 use log::{info, warn};
 use outside_io::{Berth, Sink, StartFault};
@@ -13,14 +15,17 @@ use std::io::ErrorKind;
 
 /// A berth for programs of this machine.
 ///
-/// A program starts in this program's folder, with its environment and its standard error; `SHLVL` is 1 where it would be
-/// none. A start without words fails. A run that is handed back is ended, if it wasn't.
+/// A program starts in the folder that is named, or in this program's where there is no such folder, with its environment
+/// and its standard error; `SHLVL` is 1 where it would be none. A start without words fails. A run that is handed back is
+/// ended, if it wasn't.
 #[derive(Drop)]
 pub struct RealBerth {
     rt: HostRuntime,
     notes: Notes,
     held: u64,
     faults: u64,
+    // The system's words on the last start that failed.
+    reason: String,
 }
 
 impl RealBerth {
@@ -33,6 +38,7 @@ impl RealBerth {
             notes,
             held: 0,
             faults: 0,
+            reason: String::new(rt.alloc()),
         }
     }
 }
@@ -54,6 +60,8 @@ impl Berth for RealBerth {
 
     ghost left = { λ _. None };
 
+    ghost asked = { λ _. None };
+
     ghost held = { λ b. b.held };
 
     ghost faults = { λ b. b.faults };
@@ -61,13 +69,14 @@ impl Berth for RealBerth {
     fn start(
         &mut self,
         words: &[String],
+        folder: Option<&str>,
         inn: &mut Option<Reading<ProgramOutput>>,
         out: &mut Option<Writing<ProgramInput>>,
     ) -> Result<(), StartFault> {
         let Some(held) = self.held.checked_add(1) else {
             return Err(StartFault::Memory);
         };
-        match program::start(&self.rt, self.rt.alloc(), words) {
+        match program::start(&self.rt, self.rt.alloc(), words, folder) {
             Ok((output, input)) => {
                 info!(self.notes; "the program {} runs as {}", name_of(words), input.id());
                 self.held = held;
@@ -79,6 +88,7 @@ impl Berth for RealBerth {
             Err(error) => {
                 warn!(self.notes; "the program {} can't be run: {error}", name_of(words));
                 self.faults = self.faults.saturating_add(1);
+                self.reason = words_on(self.rt.alloc(), &error);
                 Err(StartFault::Failed)
             }
         }
@@ -95,5 +105,9 @@ impl Berth for RealBerth {
             info!(self.notes; "the program {} is gone", sink.inner().id());
         }
         self.held -= 1;
+    }
+
+    fn reason(&self) -> &str {
+        self.reason.as_str()
     }
 }

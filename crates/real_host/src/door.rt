@@ -9,6 +9,7 @@ use crate::notes::Notes;
 use crate::place;
 use crate::place::Opened;
 use crate::port::RealPort;
+use crate::reason::words_on;
 use crate::socket_file::SocketFile;
 use log::warn;
 use outside_io::{Door, DoorFault, Place, Port};
@@ -20,11 +21,12 @@ use std::time::Duration;
 // How many milliseconds an accept waits for a link.
 const ACCEPT_MILLIS: u64 = 200;
 
-/// A door to Unix sockets and to TCP ports of the loopback address.
+/// A door to Unix sockets, to TCP ports of the loopback address, and to the standard input and output, which are one link.
 ///
 /// A socket's file is its user's alone, and a lock lies beside it, in the file of its name and `.lock`. Where the file is
 /// there and nobody listens it is removed first; where somebody listens, or the file is none of a socket of this user,
-/// `open` fails. Each call that fails is noted. With the door the files end that it made; the locks' files stay. `dial` wants a socket's file of this user.
+/// `open` fails. Each call that fails is noted. With the door the files end that it made; the locks' files stay. `dial` wants a socket's file of this user,
+/// and gives no standard streams.
 #[derive(Drop)]
 pub struct RealDoor {
     rt: HostRuntime,
@@ -35,6 +37,8 @@ pub struct RealDoor {
     // What is told where the next link that is dialled is over.
     over: Option<LinkOver>,
     faults: u64,
+    // The system's words on the last call that failed.
+    reason: String,
 }
 
 impl RealDoor {
@@ -50,6 +54,7 @@ impl RealDoor {
             files: Vec::new(alloc),
             over,
             faults: 0,
+            reason: String::new(alloc),
         }
     }
 
@@ -62,6 +67,7 @@ impl RealDoor {
             return DoorFault::Memory;
         }
         self.faults = self.faults.saturating_add(1);
+        self.reason = words_on(self.alloc, error);
         DoorFault::Failed
     }
 
@@ -70,6 +76,8 @@ impl RealDoor {
             Place::Unix(path) => warn!(self.notes; "links can't come at {path}: {error}"),
             Place::Tcp(port) =>
                 warn!(self.notes; "links can't come at the TCP port {port}: {error}"),
+            Place::Streams =>
+                warn!(self.notes; "no link can come at the standard input and output: {error}"),
         }
     }
 
@@ -81,9 +89,15 @@ impl RealDoor {
             Place::Tcp(port) => {
                 warn!(self.notes; "no daemon is reached at the TCP port {port}: {error}; `lspmux serve` starts one");
             }
+            Place::Streams => {
+                warn!(self.notes; "no daemon is reached at the standard input and output: {error}");
+            }
         }
     }
 }
+
+/// The ports of a place, and the file of its socket.
+type Given = (Vec<RealPort>, Option<SocketFile>);
 
 // So many ports of one listener.
 fn ports_of(
@@ -103,6 +117,23 @@ fn ports_of(
     Ok(ports)
 }
 
+// The one port of the standard input and output, where any is wanted.
+fn port_of_streams(
+    rt: HostRuntime,
+    alloc: Global,
+    notes: Notes,
+    n: u32,
+) -> io::Result<Vec<RealPort>>
+    ensures fresh { IfOk result (λ ports. All (λ port. ⟦<RealPort as Port>⟧.faults port ≡ 0) ports.items) }
+    ensures count { IfOk result (λ ports. length ports.items ≤ n) }
+{
+    let mut ports = Vec::new(alloc);
+    if n > 0 {
+        ports.push(RealPort::streaming(rt, notes, LinkOver::new(alloc)?))?;
+    }
+    Ok(ports)
+}
+
 // Opens a place, and gives so many ports of it.
 fn open_ports(
     rt: HostRuntime,
@@ -110,11 +141,14 @@ fn open_ports(
     notes: Notes,
     place: &Place,
     n: u32,
-) -> io::Result<(Vec<RealPort>, Option<SocketFile>)>
+) -> io::Result<Given>
     ensures fresh { IfOk result (λ opened. All (λ port. ⟦<RealPort as Port>⟧.faults port ≡ 0) opened.0.items) }
-    ensures count { IfOk result (λ opened. length opened.0.items ≡ n) }
+    ensures count { IfOk result (λ opened. length opened.0.items ≤ n) }
 {
-    let Opened { listener, file } = place::open(&rt, alloc, place)?;
+    let Some(opened) = place::open(&rt, alloc, place)? else {
+        return Ok((port_of_streams(rt, alloc, notes, n)?, None));
+    };
+    let Opened { listener, file } = opened;
     let listener = listener.limited(Duration::from_millis(ACCEPT_MILLIS))?;
     let ports = ports_of(rt, alloc, notes, &listener, n)?;
     Ok((ports, file))
@@ -158,5 +192,9 @@ impl Door for RealDoor {
                 Err(self.fault(&error))
             }
         }
+    }
+
+    fn reason(&self) -> &str {
+        self.reason.as_str()
     }
 }

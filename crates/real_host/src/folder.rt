@@ -2,6 +2,7 @@
 ghost use Rattle.std.specs.Prelude.{◌≡◌, ◌≤◌, ℕ, List, length, IfOk, Option, None};
 ghost use Rattle.outside_io.specs.Files.{File};
 
+use crate::reason::words_on;
 use outside_io::{Folder, FolderFault};
 use std::fs::File;
 use std::io::{ErrorKind, Read};
@@ -12,6 +13,8 @@ use std::{fs, io};
 pub struct RealFolder {
     rt: HostRuntime,
     faults: u64,
+    // The system's words on the last read that failed.
+    reason: String,
 }
 
 impl RealFolder {
@@ -19,7 +22,11 @@ impl RealFolder {
     pub fn new(rt: HostRuntime) -> RealFolder
         ensures { ⟦<RealFolder as Folder>⟧.faults result ≡ 0 }
     {
-        RealFolder { rt, faults: 0 }
+        RealFolder {
+            rt,
+            faults: 0,
+            reason: String::new(rt.alloc()),
+        }
     }
 }
 
@@ -49,10 +56,15 @@ impl Folder for RealFolder {
         match read_plain(&self.rt, path, most) {
             Ok(bytes) => Ok(bytes),
             Err(error) if error.kind() == ErrorKind::OutOfMemory => Err(FolderFault::Memory),
-            Err(_) => {
+            Err(error) => {
                 self.faults = self.faults.saturating_add(1);
+                self.reason = words_on(self.rt.alloc(), &error);
                 Err(FolderFault::Failed)
             }
         }
+    }
+
+    fn reason(&self) -> &str {
+        self.reason.as_str()
     }
 }

@@ -6,6 +6,7 @@ use crate::wire::Wire;
 use outside_io::Place;
 use std::alloc::Global;
 use std::io;
+use std::io::ErrorKind;
 use std::net::{Ipv4Addr, SocketAddr, SocketAddrV4, TcpListener, TcpStream};
 
 fn loopback(port: u16) -> SocketAddr {
@@ -17,6 +18,7 @@ pub(crate) fn dial(rt: &HostRuntime, place: &Place) -> io::Result<Wire> {
     match place {
         Place::Unix(path) => Ok(Wire::Unix(socket_file::dial(rt, path.as_str())?)),
         Place::Tcp(port) => Ok(Wire::Tcp(TcpStream::connect(rt, loopback(*port))?)),
+        Place::Streams => Err(io::Error::from(ErrorKind::Unsupported)),
     }
 }
 
@@ -27,20 +29,21 @@ pub(crate) struct Opened {
     pub(crate) file: Option<SocketFile>,
 }
 
-/// Opens a place for links to come.
-pub(crate) fn open(rt: &HostRuntime, alloc: Global, place: &Place) -> io::Result<Opened> {
+/// Opens a place for links to come; the standard input and output need no opening.
+pub(crate) fn open(rt: &HostRuntime, alloc: Global, place: &Place) -> io::Result<Option<Opened>> {
     match place {
         Place::Unix(path) => {
             let mut file = SocketFile::claim(*rt, alloc, path.as_str())?;
             let listener = Listener::Unix(file.listen()?);
-            Ok(Opened {
+            Ok(Some(Opened {
                 listener,
                 file: Some(file),
-            })
+            }))
         }
-        Place::Tcp(port) => Ok(Opened {
+        Place::Tcp(port) => Ok(Some(Opened {
             listener: Listener::Tcp(TcpListener::bind(rt, loopback(*port))?),
             file: None,
-        }),
+        })),
+        Place::Streams => Ok(None),
     }
 }

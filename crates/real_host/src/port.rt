@@ -2,9 +2,12 @@
 ghost use Rattle.std.specs.Prelude.{◌≡◌, ◌+◌, ◌≤◌, ℕ, OnErr, Option, None};
 ghost use Rattle.outside_io.specs.Sessions.{Session};
 
+use crate::halves::{LinkInput, LinkOutput};
+use crate::input::Input;
 use crate::link_over::LinkOver;
 use crate::listener::Listener;
 use crate::notes::Notes;
+use crate::output::Output;
 use crate::reading::Reading;
 use crate::wire::Wire;
 use crate::writing::Writing;
@@ -23,13 +26,16 @@ enum Supply {
     Listener(Listener),
     // The one link that was dialled, until it is given.
     Dialled(Option<Wire>, Option<LinkOver>),
+    // The one link of the standard input and output, until it is given: whether it is over.
+    Streams(Option<LinkOver>),
 }
 
-/// A port over a listener that it shares with other ports, or over a link that was dialled.
+/// A port over a listener that it shares with other ports, over a link that was dialled, or over the standard input and
+/// output.
 ///
 /// An accept at a listener waits for 0.2 seconds and then answers `Nobody`. One that fails raises the count, pauses for 0.1
-/// seconds and answers `Nobody` too, since the next may find descriptors free. Behind the link that was dialled it answers
-/// `Closed`.
+/// seconds and answers `Nobody` too, since the next may find descriptors free. Behind the one link that was dialled,
+/// and behind that of the standard input and output, it answers `Closed`.
 ///
 /// A link that is handed back is shut, and what its peer wrote is taken off it, up to 4 MB: where bytes were left unread, the
 /// system would have the peer's reads fail behind what was written to it, and not end.
@@ -45,13 +51,26 @@ pub struct RealPort {
 }
 
 /// The two halves of a link.
-type Halves = (Reading<Wire>, Writing<Wire>);
+type Halves = (Reading<LinkInput>, Writing<LinkOutput>);
 
 // The halves of a link that came.
 fn halves(rt: HostRuntime, wire: Wire, over: Option<LinkOver>) -> io::Result<Halves> {
     wire.set_limits()?;
     let sink = wire.share()?;
-    Ok((Reading::telling(wire, over), Writing::new(rt, sink)))
+    Ok((
+        Reading::telling(LinkInput::Socket(wire), over),
+        Writing::new(rt, LinkOutput::Socket(sink)),
+    ))
+}
+
+// The halves of the link of the standard input and output.
+fn standard_halves(rt: HostRuntime, over: LinkOver) -> io::Result<Halves> {
+    let input = Input::new(rt.stdin(), over.share()?);
+    let output = Output::new(rt.stdout(), over);
+    Ok((
+        Reading::new(LinkInput::Standard(input)),
+        Writing::new(rt, LinkOutput::Standard(output)),
+    ))
 }
 
 /// What an accept found.
@@ -70,6 +89,10 @@ impl Supply {
             },
             Supply::Dialled(link, over) => match link.take() {
                 Some(wire) => Ok(Found::Link(halves(rt, wire, over.take())?)),
+                None => Ok(Found::Closed),
+            },
+            Supply::Streams(over) => match over.take() {
+                Some(over) => Ok(Found::Link(standard_halves(rt, over)?)),
                 None => Ok(Found::Closed),
             },
         }
@@ -108,12 +131,19 @@ impl RealPort {
     {
         RealPort::new(rt, Supply::Dialled(Some(wire), over), notes)
     }
+
+    /// A port over the standard input and output, whose link tells `over` where it is over.
+    pub(crate) fn streaming(rt: HostRuntime, notes: Notes, over: LinkOver) -> RealPort
+        ensures { ⟦<RealPort as Port>⟧.faults result ≡ 0 }
+    {
+        RealPort::new(rt, Supply::Streams(Some(over)), notes)
+    }
 }
 
 impl Port for RealPort {
-    type In = Reading<Wire>;
+    type In = Reading<LinkInput>;
 
-    type Out = Writing<Wire>;
+    type Out = Writing<LinkOutput>;
 
     ghost sessions = { λ _. None };
 
@@ -125,8 +155,8 @@ impl Port for RealPort {
 
     fn accept(
         &mut self,
-        inn: &mut Option<Reading<Wire>>,
-        out: &mut Option<Writing<Wire>>,
+        inn: &mut Option<Reading<LinkInput>>,
+        out: &mut Option<Writing<LinkOutput>>,
     ) -> Arrival {
         let Some(held) = self.held.checked_add(1) else {
             self.faults = self.faults.saturating_add(1);
@@ -158,7 +188,7 @@ impl Port for RealPort {
         }
     }
 
-    fn hang_up(&mut self, inn: &mut Option<Reading<Wire>>, out: &mut Option<Writing<Wire>>) {
+    fn hang_up(&mut self, inn: &mut Option<Reading<LinkInput>>, out: &mut Option<Writing<LinkOutput>>) {
         if let Some(mut sink) = out.take() {
             sink.close();
         }

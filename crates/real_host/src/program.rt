@@ -8,7 +8,7 @@ use std::os::fd::OwnedFd;
 use std::os::unix::net::UnixStream;
 use std::process::{Child, Command, Stdio};
 use std::time::Duration;
-use std::{io, thread};
+use std::{fs, io, thread};
 
 // How many seconds a write waits until the program takes something.
 const WRITE_SECONDS: u64 = 1;
@@ -131,12 +131,21 @@ fn lacks_shell_level(rt: &HostRuntime) -> bool {
     }
 }
 
-// The command of these words, which reads and writes these streams. What it writes to the standard error goes where this
-// program's does.
+// Whether there is a folder of this path.
+fn is_folder(rt: &HostRuntime, path: &str) -> bool {
+    match fs::metadata(rt, path) {
+        Ok(found) => found.is_dir(),
+        Err(_) => false,
+    }
+}
+
+// The command of these words, which runs in this folder, or in this program's where it is none, and reads and writes these
+// streams. What it writes to the standard error goes where this program's does.
 fn command(
     rt: &HostRuntime,
     alloc: Global,
     words: &[String],
+    folder: Option<&str>,
     input: Stdio,
     output: Stdio,
 ) -> io::Result<Command> {
@@ -150,23 +159,29 @@ fn command(
     if lacks_shell_level(rt) {
         command.env(SHELL_LEVEL, "1")?;
     }
+    if let Some(path) = folder
+        && is_folder(rt, path)
+    {
+        command.current_dir(path)?;
+    }
     command.stdin(input);
     command.stdout(output);
     Ok(command)
 }
 
-/// Starts the program of these words. Its streams are pairs of sockets: these have limits on writes and can be shut under
-/// whoever reads them, which pipes have not.
+/// Starts the program of these words in a folder, or in this program's where there is no such folder. Its streams are
+/// pairs of sockets: these have limits on writes and can be shut under whoever reads them, which pipes have not.
 pub(crate) fn start(
     rt: &HostRuntime,
     alloc: Global,
     words: &[String],
+    folder: Option<&str>,
 ) -> io::Result<(ProgramOutput, ProgramInput)> {
     let (input, theirs_in) = pair(rt)?;
     let (output, theirs_out) = pair(rt)?;
     input.set_write_timeout(Some(Duration::from_secs(WRITE_SECONDS)))?;
     let other = output.try_clone()?;
-    let mut command = command(rt, alloc, words, theirs_in, theirs_out)?;
+    let mut command = command(rt, alloc, words, folder, theirs_in, theirs_out)?;
     let child = command.spawn(rt)?;
     Ok((
         ProgramOutput { stream: output },

@@ -69,6 +69,7 @@ fn line(ended: Result<(), ServeFault>) -> &'static str
 
 /// Writes the fault line of what a daemon's work came to, and gives the status: 0, or that of its fault.
 pub fn report<O: Sink>(output: &mut O, ended: Result<(), ServeFault>) -> u8
+    ensures status { result ≡ ended_status ended }
     ensures reported { Reported result (ended_status ended) (O.written output.old) (O.written output.new) (ended_line ended) (Rose (O.faults output.old) (O.faults output.new)) }
     ensures later { O.faults output.old ≤ O.faults output.new }
 {

@@ -95,6 +95,10 @@ no_fault limit at why f = not_empty f.front f.byte f.rest [] (f.bytes ∙ sym (a
 pub read_start : (limit : ℕ) (r : Held) (t : Option (List ℕ)) (posts : List Posted) → r.limit ≡ limit → Stands r [] [] → ReadSoFar limit r t t posts posts
 read_start limit r t posts e s = record { fed = []; given = []; read = known_none t; limit_is = e; stands = s; posted = sym (append-nil posts); all = ([], (refl, no_frame limit), no_fault limit) }
 
+-- nothing was read
+pub read_nothing : (limit : ℕ) (t left : Option (List ℕ)) (before now : ℕ) (posts : List Posted) → ReadAs limit t t left before now posts posts stop.Cut
+read_nothing limit t left before now posts = record { fed = []; given = []; lost = []; rest = []; read = known_none t; splits = refl; posted = sym (append-nil posts); stopped = tt }
+
 -- a piece was fed, and its frames were posted
 module _ (limit : ℕ) (r r2 r3 : Held) (t t1 t2 : Option (List ℕ)) (posts posts1 posts2 : List Posted) (piece : List ℕ) where
   pub read_more : ReadSoFar limit r t t1 posts posts1 → ((fed : List ℕ) (given : List (List ℕ)) → Stands r fed given → Stands r2 (fed ++ piece) given) → r2.limit ≡ r.limit → t2 ≡ append_known t1 piece

@@ -1,5 +1,5 @@
 // How a session is read: the frames of a source are posted, and then how it ended.
-ghost use Rattle.std.specs.Prelude.{◌≡◌, ℕ, List, [], ◌∷◌, ◌++◌, true, MatchBool};
+ghost use Rattle.std.specs.Prelude.{◌≡◌, ◌<◌, ℕ, List, [], ◌∷◌, ◌++◌, length, true, MatchBool};
 ghost use Rattle.base_frame.specs.Reader.{Stands};
 ghost use Rattle.session_io.specs.Reads.{PostedFrames, ReadAs, ReadFrames, why_of};
 
@@ -11,6 +11,9 @@ use mux_history::Why;
 use outside_io::Source;
 use std::alloc::Global;
 use std::sync::Wait;
+
+// How many bytes one read takes at most.
+const READ_BYTES: usize = 65_536;
 
 /// What stands behind the frames that were posted: neither a frame nor a fault, or a fault; or the posting was cut off.
 #[derive(Clone, Copy, Debug, PartialEq, Eq)]
@@ -79,24 +82,25 @@ fn feed_piece(reader: &mut FrameReader, piece: &[u8]) -> bool
     reader.feed(piece).is_ok()
 }
 
-// Reads a source to its end, and posts the contents of its frames.
+// Reads a source to its end, by pieces that fit the buffer, and posts the contents of its frames.
 fn read_frames<R: Wait, C: Core, S: Source>(
     rt: &R,
     alloc: Global,
     limit: u32,
     core: &C,
     source: &mut S,
+    buf: &mut [u8],
     inn: &mut LaneIn,
 ) -> Stop
+    requires { 0 < length buf.old }
     ensures queue { inn.new.queue ≡ inn.old.queue }
     ensures read { ReadFrames limit (S.taken source.old) (S.taken source.new) (S.left source.new) (S.faults source.old)
         (S.faults source.new) inn.old.pushed inn.new.pushed result }
 {
     frames_law();
     let mut reader = FrameReader::new(alloc, limit);
-    let mut buf = [0u8; 4096];
     for _ in rt.forever() {
-        let count = match source.read(&mut buf) {
+        let count = match source.read(buf) {
             Ok(0) => return Stop::Ended(Why::End),
             Ok(count) => count,
             Err(_) => return Stop::Ended(Why::ReadFault),
@@ -132,7 +136,8 @@ fn why_of(stop: Stop) -> Option<Why>
 /// Reads a session: posts the contents of the source's frames of at most `limit` bytes, each as soon as it is whole, and
 /// then how the session ended. Cut says that something wasn't posted.
 ///
-/// It reads 4,096 bytes at a time at most, and keeps no more than one frame.
+/// It reads 65,536 bytes at a time at most, and keeps no more than one frame beside them.
+#[tactic(auto, using(crate::proofs::Reading::read_nothing))]
 pub fn read_session<R: Wait, C: Core, S: Source>(
     rt: &R,
     alloc: Global,
@@ -145,7 +150,11 @@ pub fn read_session<R: Wait, C: Core, S: Source>(
     ensures read { ReadAs limit (S.taken source.old) (S.taken source.new) (S.left source.new) (S.faults source.old)
         (S.faults source.new) inn.old.pushed inn.new.pushed result }
 {
-    let stop = read_frames(rt, alloc, limit, core, source, inn);
+    let mut buf = Vec::new(alloc);
+    if buf.resize(READ_BYTES, 0).is_err() {
+        return Stop::Cut;
+    }
+    let stop = read_frames(rt, alloc, limit, core, source, buf.as_mut_slice(), inn);
     let Some(why) = why_of(stop) else {
         return Stop::Cut
     };

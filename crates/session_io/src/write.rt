@@ -1,5 +1,5 @@
 // How a session is written: the frames of the bodies that are ordered.
-ghost use Rattle.std.specs.Prelude.{◌≡◌, ◌≤◌, [], ◌∷◌, ◌++◌, MatchBool, IfSome, IfNone, false, if◌then◌else◌};
+ghost use Rattle.std.specs.Prelude.{◌≡◌, ◌≤◌, [], ◌∷◌, ◌++◌, MatchBool, IfSome, IfNone, None, false, true, if◌then◌else◌};
 ghost use Rattle.session_io.specs.Writes.{WroteFrame, WroteFront, WroteAs, WroteOrder};
 
 use crate::part::Core;
@@ -8,6 +8,9 @@ use lane_queue::{LaneOut, Order, Side};
 use outside_io::{Sink, write_whole};
 use std::alloc::Global;
 use std::sync::Wait;
+
+// How many bytes are written before the core takes what was said of them.
+const KEPT_BYTES: usize = 1_048_576;
 
 fn put_side<R: Wait>(rt: &R, out: &mut LaneOut, item: Side) -> bool
     ensures queue { out.new.sides.queue ≡ out.old.sides.queue }
@@ -51,6 +54,19 @@ pub struct Wrote {
     pub broke: bool,
     /// Did memory run out, or go the core on no more?
     pub cut: bool,
+}
+
+impl Wrote {
+    // Memory ran out, or the core goes on no more.
+    fn cut_off(broke: bool) -> Wrote
+        ensures { result ≡ record { end = None; broke = broke; cut = true } }
+    {
+        Wrote {
+            end: None,
+            broke,
+            cut: true,
+        }
+    }
 }
 
 // Writes a body, and says what became of it; None where memory ran out.
@@ -102,6 +118,16 @@ fn write_order<R: Wait, K: Sink>(
     Some(!whole)
 }
 
+// Has the core take what was said of the bodies, where a MiB was written since it last did. False says that it goes on no
+// more. So a peer that is sent much, and takes it, isn't taken for one that is slow.
+fn keep_up<R: Wait, C: Core>(rt: &R, core: &C, written: &mut usize) -> bool {
+    if *written < KEPT_BYTES {
+        return true;
+    }
+    *written = 0;
+    core.pump(rt)
+}
+
 // Has the core go on, and sleeps until there may be an order. False says that it goes on no more.
 fn wait<R: Wait, C: Core>(rt: &R, core: &C) -> bool {
     if !core.pump(rt) {
@@ -114,7 +140,8 @@ fn wait<R: Wait, C: Core>(rt: &R, core: &C) -> bool {
 /// Writes a session: the frames of the bodies that are ordered, one after the other, until another order ends it. Of each
 /// it says `Wrote`, or `Broke` where its write failed; then it closes the sink and drops the bodies behind it.
 ///
-/// It keeps no more than one frame.
+/// It keeps no more than one frame. The core takes what was said each time that no order is there, and behind the body with
+/// which a MiB was written since it last did.
 pub fn write_session<R: Wait, C: Core, K: Sink>(
     rt: &R,
     alloc: Global,
@@ -127,27 +154,23 @@ pub fn write_session<R: Wait, C: Core, K: Sink>(
         (K.faults sink.new) out.old.orders.taken out.new.orders.taken out.old.sides.pushed out.new.sides.pushed result }
 {
     let mut broke = false;
+    let mut written = 0;
     for _ in rt.forever() {
+        if !keep_up(rt, core, &mut written) {
+            return Wrote::cut_off(broke);
+        }
         match out.take(rt) {
             None => {
+                written = 0;
                 if !wait(rt, core) {
-                    return Wrote {
-                        end: None,
-                        broke,
-                        cut: true,
-                    };
+                    return Wrote::cut_off(broke);
                 }
             }
             Some(Order::Body(body)) => {
+                written = written.saturating_add(body.bytes().len());
                 match write_order(rt, alloc, sink, out, body.bytes(), broke) {
                     Some(now) => broke = now,
-                    None => {
-                        return Wrote {
-                            end: None,
-                            broke: false,
-                            cut: true,
-                        };
-                    }
+                    None => return Wrote::cut_off(false),
                 }
             }
             Some(order) => {

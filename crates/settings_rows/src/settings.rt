@@ -114,6 +114,8 @@ fn places_are_paths_and_ports(rt: HostRuntime) -> Result<(), Fail> {
         ("tcp:65536", false),
         ("tcp:", false),
         ("a", false),
+        ("streams", true),
+        ("streams:", false),
     ] {
         let text = format!(in alloc; "place = \"{text}\"")?;
         assert_eq!(rt;

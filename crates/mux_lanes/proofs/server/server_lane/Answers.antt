@@ -24,10 +24,10 @@ returns-then-not-served-clause-ran g c =
     let first = standing g.B.Berth.runs g.B.Berth.left g.B.Berth.faults c.args.berth.now c.args.ends in
     let before = standing g.B.Berth.runs g.B.Berth.left g.B.Berth.faults c.loop.berth c.loop.ends in
     let taken = standing g.B.Berth.runs g.B.Berth.left g.B.Berth.faults c.loop.berth (record { inn = c.loop.ends.inn; out = c.next_order.new.out }) in
-    let after = standing g.B.Berth.runs g.B.Berth.left g.B.Berth.faults c.serve_start-served.new.berth c.serve_start-served.result.ends in
+    let after = standing g.B.Berth.runs g.B.Berth.left g.B.Berth.faults c.serve_begun-served.new.berth c.serve_begun-served.result.ends in
     let ordered : taken.orders ≡ before.orders ++ order.Begin c.in-Ok-Begin.start ∷ [] = rw c.in-Ok-Begin.field-0-is at c.in-Ok-Begin.ensures.order in
-    ran_cut (Begun (WholeStart c.args.limit)) (CutBegun c.args.limit) first before after c.serve_start-served.result.is_whole c.if-not-served.true c.loop.invariant.ran
-    (took_begun c.args.limit c.in-Ok-Begin.start before taken after c.serve_start-served.result.is_whole refl refl (omega arith) refl ordered (ap (λ s. s.pushed) c.next_order.ensures.sides) c.serve_start-served.ensures.turn)
+    ran_cut (Begun (WholeStart c.args.limit)) (CutBegun c.args.limit) first before after c.serve_begun-served.result.is_whole c.if-not-served.true c.loop.invariant.ran
+    (took_begun c.args.limit c.in-Ok-Begin.start before taken after c.serve_begun-served.result.is_whole refl refl (omega arith) refl ordered (ap (λ s. s.pushed) c.next_order.ensures.sides) c.serve_begun-served.ensures.turn)
 
 pub returns-in-Ok : goal.returns-in-Ok
 returns-in-Ok g c =
@@ -47,15 +47,15 @@ loop-preserved-else-not-served-2 g c =
     let first = standing g.B.Berth.runs g.B.Berth.left g.B.Berth.faults c.args.berth.now c.args.ends in
     let before = standing g.B.Berth.runs g.B.Berth.left g.B.Berth.faults c.loop.berth c.loop.ends in
     let taken = standing g.B.Berth.runs g.B.Berth.left g.B.Berth.faults c.loop.berth (record { inn = c.loop.ends.inn; out = c.next_order.new.out }) in
-    let after = standing g.B.Berth.runs g.B.Berth.left g.B.Berth.faults c.serve_start-served.new.berth c.serve_start-served.result.ends in
+    let after = standing g.B.Berth.runs g.B.Berth.left g.B.Berth.faults c.serve_begun-served.new.berth c.serve_begun-served.result.ends in
     let ordered : taken.orders ≡ before.orders ++ order.Begin c.in-Ok-Begin.start ∷ [] = rw c.in-Ok-Begin.field-0-is at c.in-Ok-Begin.ensures.order in
     let a = c.loop.invariant.lane in
-    let b = c.serve_start-served.ensures.lane in record {
+    let b = c.serve_begun-served.ensures.lane in record {
       lane = record {
         posted = b.posted ∙ a.posted;
         orders = b.orders ∙ (c.next_order.ensures.queue ∙ a.orders);
         sides = b.sides ∙ (ap (λ s. s.queue) c.next_order.ensures.sides ∙ a.sides);
       };
-      ran = ran_more (Begun (WholeStart c.args.limit)) (CutBegun c.args.limit) first before after c.serve_start-served.result.is_whole c.if-not-served.false c.loop.invariant.ran
-          (took_begun c.args.limit c.in-Ok-Begin.start before taken after c.serve_start-served.result.is_whole refl refl (omega arith) refl ordered (ap (λ s. s.pushed) c.next_order.ensures.sides) c.serve_start-served.ensures.turn);
+      ran = ran_more (Begun (WholeStart c.args.limit)) (CutBegun c.args.limit) first before after c.serve_begun-served.result.is_whole c.if-not-served.false c.loop.invariant.ran
+          (took_begun c.args.limit c.in-Ok-Begin.start before taken after c.serve_begun-served.result.is_whole refl refl (omega arith) refl ordered (ap (λ s. s.pushed) c.next_order.ensures.sides) c.serve_begun-served.ensures.turn);
     }
