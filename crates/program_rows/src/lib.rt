@@ -4,4 +4,6 @@
 #[cfg(test)]
 mod journals;
 #[cfg(test)]
+mod made;
+#[cfg(test)]
 mod program;
