@@ -66,9 +66,17 @@ fn refusal(alloc: Global, config: &Config, name: &str) -> Result<Vec<u8>, AllocE
     Ok(text)
 }
 
-/// Notes that the daemon refused a server's name, and which names these settings have.
-pub fn note_refusal<N: Sink>(alloc: Global, notes: &mut N, config: &Config, name: &str) {
-    if let Ok(text) = refusal(alloc, config, name) {
-        write_line(notes, &text);
+/// Where the daemon refused the server's name, notes which names these settings have.
+pub fn note_refusal<N: Sink>(
+    alloc: Global,
+    notes: &mut N,
+    config: &Config,
+    server: Option<&str>,
+    ended: Result<(), ClientFault>,
+) {
+    if let (Err(ClientFault::Refused), Some(name)) = (ended, server) {
+        if let Ok(text) = refusal(alloc, config, name) {
+            write_line(notes, &text);
+        }
     }
 }

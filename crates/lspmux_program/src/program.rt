@@ -13,7 +13,7 @@ use crate::outside::{Left, Outside};
 use drive_program::drive_command;
 use lspmux_words::{Command, Level, USAGE, WordsFault, command_of};
 use make_program::{make_command, make_lines_command};
-use mux_client::{ClientFault, Question, ask, client};
+use mux_client::{Question, ask, client};
 use mux_config::Config;
 use mux_steps::Journal;
 use outside_io::{Berth, Clock, Door, Folder, Place, Sink, Source};
@@ -229,9 +229,7 @@ fn join<
         &mut input,
         &mut output,
     );
-    if let (Err(ClientFault::Refused), Some(name)) = (ended, server) {
-        note_refusal(alloc, &mut notes, config, name);
-    }
+    note_refusal(alloc, &mut notes, config, server, ended);
     let status = report(&mut output, ended);
     Left {
         status,

@@ -1,5 +1,5 @@
 -- One more cause, and where driving ends.
-use Rattle.std.proofs.Common.{◌≡◌, ℕ, ◌+◌, ◌≤◌, Bool, true, false, List, [], ◌∷◌, ◌++◌, fold, length, refl, ap, sym, subst, ◌∙◌, arith}
+use Rattle.std.proofs.Common.{◌≡◌, ℕ, ◌+◌, ◌≤◌, Bool, true, false, List, [], ◌∷◌, ◌++◌, fold, length, refl, ap, sym, subst, ◌∙◌, append-nil, arith}
 use Rattle.std.specs.Prelude.{Option, Ok, Err, IsTrue}
 use Rattle.std.proofs.lemmas.List.Sums.{fold-append}
 use Rattle.mux_history.specs.declared.cause.Cause.{Cause}
@@ -16,7 +16,9 @@ use Rattle.mux_hub.specs.Hubs.{HubStands, HubView}
 use Rattle.mux_hub.proofs.Counting.{entry_counts}
 use Rattle.drive_program.specs.Runs.{after}
 use Rattle.drive_program.specs.declared.refusal.Refusal.TheVariants.{Absent}
+use Rattle.drive_program.specs.declared.stop.Stop.{Stop}
 use Rattle.drive_program.specs.declared.stop.Stop.TheVariants as stop
+use Rattle.outside_io.specs.Faults.{Rose}
 use Rattle.make_program.specs.Counts.{counts_of, with_entry, with_out}
 use Rattle.make_program.specs.Runs.{Driven, history_of, stop_of}
 use Rattle.make_program.specs.declared.counts.Counts.{Counts}
@@ -28,6 +30,32 @@ history_more settings taken cause = fold-append (after settings) [] taken (cause
 after_is : (settings : Settings) (history : List Entry) (cause : Cause) → history ++ entry_of settings history cause ∷ [] ≡ after settings history cause
 unfolding after
 after_is settings history cause = refl
+
+pub none_left : (causes : List Cause) → length causes ≡ 0 → causes ≡ []
+none_left [] e = refl
+none_left (cause ∷ causes) e = absurd (omega (arith, e))
+
+-- no cause was taken
+pub undriven : {J : Type 0} (told : J → Option (List Entry)) (settings : Settings) (causes : List Cause) (hub : HubView J) → HubStands told hub [] → Driven told settings causes hub (Err stop.Memory)
+undriven told settings causes hub s = record { taken = []; rest = causes; all = refl; stands = s; done = tt; stopped = tt }
+
+-- all were
+pub driven_all : {J : Type 0} (told : J → Option (List Entry)) (settings : Settings) (causes taken : List Cause) (hub : HubView J) (counts : Counts) → taken ≡ causes → HubStands told hub (history_of settings taken) → counts ≡ counts_of (history_of settings taken)
+    → Driven told settings causes hub (Ok counts)
+driven_all told settings causes taken hub counts e s c = record { taken = taken; rest = []; all = sym e ∙ sym (append-nil taken); stands = s; done = (refl, c); stopped = tt }
+
+-- a journal's fault is one of a step
+same_stop : (a b : Stop) → Err {T = Counts} a ≡ Err b → a ≡ b
+same_stop a b e = cc
+
+journal_fault : (fault : StepFault) → stop_of fault ≡ stop.Journal → fault ≡ step_fault.Journal
+journal_fault step_fault.Memory e = absurd cc
+journal_fault step_fault.Spent e = absurd cc
+journal_fault step_fault.Journal e = refl
+journal_fault step_fault.Numbers e = absurd cc
+
+pub journal_rose : (fault : StepFault) (before mid now : ℕ) → before ≤ mid → (fault ≡ step_fault.Journal → Rose mid now) → Err {T = Counts} (stop_of fault) ≡ Err stop.Journal → Rose before now
+journal_rose fault before mid now l rose e = let r = rose (journal_fault fault (same_stop (stop_of fault) stop.Journal e)) in omega (arith, r, l)
 
 module _ {J : Type 0} (told : J → Option (List Entry)) (settings given : Settings) (same : given ≡ settings) (taken : List Cause) (cause : Cause) (counts : Counts) (is : counts ≡ counts_of (history_of settings taken)) where
   -- the hub behind the step

@@ -1,5 +1,5 @@
 -- What a run came to, from where its causes ended.
-use Rattle.std.proofs.Common.{lit≤, ◌≡◌, ◌⊎◌, inl, inr, ℕ, ◌+◌, ◌≤◌, Bool, true, false, nat_lt, List, [], ◌∷◌, ◌++◌, fold, length, refl, ap, sym, subst, subst₂, ◌∙◌, arith}
+use Rattle.std.proofs.Common.{lit≤, ◌≡◌, ◌⊎◌, inl, inr, ℕ, ◌+◌, ◌≤◌, Bool, true, false, nat_lt, List, [], ◌∷◌, ◌++◌, fold, length, refl, ap, sym, subst, ◌∙◌, arith}
 use Rattle.std.specs.Prelude.{Option, Result, Ok, Err, IsTrue}
 use Rattle.std.proofs.lemmas.Bool.Decides.{nat_tests}
 use Rattle.std.proofs.lemmas.List.Sums.{fold-append}
@@ -43,10 +43,9 @@ ran_by told settings journal causes hub result d s j law = record {
   stopped = d.stopped;
 }
 
-pub ran_of : {J : Type 0} (told : J → Option (List Entry)) (named settings : Settings) (journal : J) (given causes : List Cause) (hub : HubView J) (result : Result Counts Stop) → Driven told named given hub result
-    → named ≡ settings → given ≡ causes → hub.settings ≡ named → journal ≡ hub.journal → ((history : List Entry) → HubStands told hub history → Sessions hub.settings history) → Ran told settings journal causes result
-ran_of told named settings journal given causes hub result d e c s j law =
-    ran_by told settings journal causes hub result (subst₂ (λ (q : Settings) (cs : List Cause). Driven told q cs hub result) e c d) (s ∙ e) j law
+pub ran_of : {J : Type 0} (told : J → Option (List Entry)) (named settings : Settings) (journal : J) (causes : List Cause) (hub : HubView J) (result : Result Counts Stop) → Driven told named causes hub result
+    → named ≡ settings → hub.settings ≡ named → journal ≡ hub.journal → ((history : List Entry) → HubStands told hub history → Sessions hub.settings history) → Ran told settings journal causes result
+ran_of told named settings journal causes hub result d e s j law = ran_by told settings journal causes hub result (subst (λ (q : Settings). Driven told q causes hub result) e d) (s ∙ e) j law
 
 -- nothing was driven
 pub never_ran : {J : Type 0} (told : J → Option (List Entry)) (settings : Settings) (journal : J) (causes : List Cause) → InRange settings → Tells (told journal) [] → Ran told settings journal causes (Err stop.Memory)

@@ -18,6 +18,9 @@ nothing_written (Some bytes) = ap (λ l. Some l) (sym (append-nil bytes))
 pub no_front : (w : Option (List ℕ)) (text : List ℕ) → WroteFront w w text
 no_front w text = record { count = 0; wrote = nothing_written w }
 
+pub front_of : (w v : Option (List ℕ)) (text : List ℕ) (count : ℕ) → v ≡ append_known w (take count text) → WroteFront w v text
+front_of w v text count e = record { count = count; wrote = e }
+
 -- a front of a text is one of each longer text
 take_front : (n : ℕ) (xs ys : List ℕ) → take n xs ≡ take (length (take n xs)) (xs ++ ys)
 take_front zero xs ys = refl
@@ -39,3 +42,7 @@ shows_behind w v u a b c text (stop.Refused k r) e t h = absurd h
 -- all that no fault line has to say
 pub said_nothing : (w : Option (List ℕ)) (failed : Type 0) → Reported 0 0 w w [] failed
 said_nothing w failed = said refl (record { front = no_front w []; whole = inl (nothing_written w) })
+
+-- one more text
+pub written_more : (w v u : Option (List ℕ)) (a b text : List ℕ) → v ≡ append_known w a → u ≡ append_known v b → text ≡ a ++ b → u ≡ append_known w text
+written_more w v u a b text e f t = f ∙ (ap (λ o. append_known o b) e ∙ (append_both w a b ∙ ap (append_known w) (sym t)))

@@ -12,6 +12,7 @@ use outside_io::Sink;
 use std::alloc::Global;
 
 // Writes the line of a cause.
+#[tactic(auto, using(crate::proofs::Writing::no_front))]
 fn write_cause<O: Sink>(alloc: Global, output: &mut O, cause: &Cause) -> Result<(), Stop>
     ensures shows { Shows (cause_text cause.now) (O.written output.old) (O.written output.new) result }
     ensures output { IsErrOf result Stop.Output → Rose (O.faults output.old) (O.faults output.new) }
@@ -30,6 +31,7 @@ fn write_cause<O: Sink>(alloc: Global, output: &mut O, cause: &Cause) -> Result<
 }
 
 /// Writes the lines of the made input with `count` turns, drawn from `seed`, each with its line feed.
+#[tactic(auto, using(crate::proofs::Writing::no_front, crate::proofs::Writing::nothing_written))]
 pub fn write_lines<O: Sink>(
     alloc: Global,
     output: &mut O,

@@ -8,12 +8,11 @@ ghost use Rattle.make_program.specs.Counts.{summary_line};
 ghost use Rattle.make_program.specs.Program.{Made, Ran, Undisturbed};
 ghost use Rattle.make_program.specs.Shown.{Shown, Shows, causes_text};
 
-use crate::causes::drive_causes;
+use crate::causes::drive_made;
 use crate::counts::Counts;
 use crate::lines::write_lines;
 use crate::shown::{finish, write_text};
 use drive_program::{Stop, report};
-use drive_text::make_causes;
 use mux_config::Config;
 use mux_steps::Journal;
 use outside_io::Sink;
@@ -32,9 +31,6 @@ fn run<J: Journal + Drop>(
     ensures ran { Ran J.told (hub_settings config) result.0 (made count seed) result.1 }
     ensures journal { IsErrOf result.1 Stop.Journal → Rose (J.faults journal) (J.faults result.0) }
 {
-    let Ok(causes) = make_causes(alloc, count, seed) else {
-        return (journal, Err(Stop::Memory));
-    };
     let settled = match hub_of(alloc, config, journal) {
         Ok(settled) => settled,
         Err(journal) => return (journal, Err(Stop::Memory)),
@@ -44,11 +40,12 @@ fn run<J: Journal + Drop>(
         content: _,
         commands: _,
     } = settled;
-    let result = drive_causes(&mut hub, causes);
+    let result = drive_made(alloc, &mut hub, count, seed);
     hub.sessions_law();
     (hub.close(), result)
 }
 
+#[tactic(auto, using(crate::proofs::Writing::no_front))]
 fn write_counts<O: Sink>(alloc: Global, output: &mut O, counts: Counts) -> Result<(), Stop>
     ensures shows { Shows (summary_line counts) (O.written output.old) (O.written output.new) result }
     ensures output { IsErrOf result Stop.Output → Rose (O.faults output.old) (O.faults output.new) }
@@ -62,7 +59,7 @@ fn write_counts<O: Sink>(alloc: Global, output: &mut O, counts: Counts) -> Resul
 
 // Writes the line of the counts, and gives the status.
 fn show<O: Sink>(alloc: Global, output: &mut O, counts: Counts) -> u8
-    ensures shown { Shown (summary_line counts) (O.written output.old) (O.written output.new) (Rose (O.faults output.old) (O.faults output.new)) result }
+    ensures { Shown (summary_line counts) (O.written output.old) (O.written output.new) (Rose (O.faults output.old) (O.faults output.new)) result }
 {
     let ended = write_counts(alloc, output, counts);
     finish(alloc, output, ended)
@@ -96,7 +93,7 @@ pub fn make_command<J: Journal + Drop, O: Sink>(
 /// Writes the lines of the made input with `count` turns, drawn from `seed`, and gives the status: 0, or 5 where memory was wanted
 /// and 8 where the output failed, without a line.
 pub fn make_lines_command<O: Sink>(alloc: Global, count: u32, seed: u64, output: &mut O) -> u8
-    ensures shown { Shown (causes_text (made count seed)) (O.written output.old) (O.written output.new)
+    ensures { Shown (causes_text (made count seed)) (O.written output.old) (O.written output.new)
         (Rose (O.faults output.old) (O.faults output.new)) result }
 {
     let ended = write_lines(alloc, output, count, seed);

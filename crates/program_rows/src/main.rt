@@ -3,10 +3,11 @@
 //!
 //! A line `run NAME WORD ..` begins an input, whose lines are those behind it. `append=N`, `read=N` and `write=N` say that the append, read
 //! or write of this number, from 0, fails, and `cut` that no line feed stands behind the last line. `LETTERS` stands for 300,000 letters, in
-//! a line and in what is written. Lines that begin with `#` are for the reader.
+//! a line and in what is written. Lines that begin with `#` are for the reader. Behind them it runs `make` on made inputs of one draw.
 #![tactic(auto)]
 
 mod input;
+mod made;
 mod run;
 
 use crate::input::inputs;
@@ -17,5 +18,8 @@ fn main(rt: HostRuntime) -> Result<(), Fail> {
     for input in inputs(rt)? {
         run(rt, &input)?;
     }
-    Ok(())
+    made::count(rt, "make", None)?;
+    made::count(rt, "make append=7", Some(7))?;
+    made::write(rt, "make lines", None)?;
+    made::write(rt, "make lines write=1", Some(1))
 }

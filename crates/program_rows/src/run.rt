@@ -18,8 +18,8 @@ struct Ran<J> {
     output: MemSink,
 }
 
-// The number of a call that fails, as a list.
-fn fails(alloc: Global, call: Option<u64>) -> Result<Vec<u64>, AllocError> {
+/// The number of a call that fails, as a list.
+pub fn fails(alloc: Global, call: Option<u64>) -> Result<Vec<u64>, AllocError> {
     let mut fails = Vec::new(alloc);
     if let Some(number) = call {
         fails.push(number)?;

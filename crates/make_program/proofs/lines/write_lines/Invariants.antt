@@ -4,9 +4,6 @@ use Rattle.std.specs.Io.KnownBytes.{append_known}
 use Rattle.std.specs.Vec.Iter.{into_iter_items, into_iter_len}
 use Rattle.drive_text.specs.Made.{made}
 use Rattle.make_program.specs.Shown.{causes_text}
-use Rattle.make_program.proofs.Ending.{complete_stop}
-use Rattle.make_program.proofs.Writing.{shows_behind}
-use Rattle.make_program.proofs.Driving.{room}
 use Rattle.make_program.proofs.lines.write_lines.Given as goal
 
 abbrev pub invariant-loop-cause : goal.invariant-loop-cause
