@@ -26,10 +26,13 @@ fn server_in(tables: &Tables, default: u32, group: u64) -> u32
 
 // The folder of the starts of a group: that of the first of its folders.
 fn folder_in(alloc: Global, group: Option<&Kept>) -> Result<Option<String>, Memory>
-    ensures { IfOk result (λ folder. option_map string_bytes folder ≡ folder_in (option_copied group)) }
+    ensures { IfOk result (λ folder. option_map string_bytes folder ≡ folder_in (option_copied group.entry)) }
 {
-    match group.and_then(|kept| kept.key.folders.first()) {
-        Some((uri, _)) => path_of(alloc, uri.bytes()),
+    let Some(kept) = group else {
+        return Ok(None);
+    };
+    match kept.key.folders.first() {
+        Some((uri, _name)) => path_of(alloc, uri.bytes()),
         None => Ok(None),
     }
 }

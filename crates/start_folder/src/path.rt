@@ -27,14 +27,18 @@ fn ends_path(byte: u8) -> bool
 }
 
 // What stands before a query and a fragment.
+#[tactic(auto, using(crate::proofs::Fronts::front_more, crate::proofs::Fronts::front_ends, crate::proofs::Fronts::front_all))]
 fn before_query(uri: &[u8]) -> &[u8]
     ensures { result.now ≡ before_query uri.now }
 {
     let mut end = 0;
-    while end < uri.len() && !ends_path(uri[end]) {
+    while end < uri.len() {
+        if ends_path(uri[end]) {
+            return &uri[..end];
+        }
         end += 1;
     }
-    &uri[..end]
+    uri
 }
 
 // What follows no host, an empty one, or `localhost`.
@@ -72,7 +76,10 @@ fn text_of(bytes: Vec<u8>) -> Option<String>
     if bytes.contains(&0) {
         return None;
     }
-    String::from_utf8(bytes).ok()
+    match String::from_utf8(bytes) {
+        Ok(text) => Some(text),
+        Err(_) => None,
+    }
 }
 
 /// The path that a URI names on this machine: that of a URI whose scheme is `file` and whose host is none, empty or

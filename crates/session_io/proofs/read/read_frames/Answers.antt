@@ -3,7 +3,7 @@ use Rattle.session_io.proofs.Reading.{read_start, read_more, read_bad, read_cut,
 use Rattle.session_io.proofs.read.read_frames.Goals as goal
 
 pub loop-init : goal.loop-init
-loop-init g c = record { queue = refl; read = read_start c.args.limit c.new-reader.result (g.S.Source.taken c.args.source.now) c.args.inn.now.pushed c.new-reader.ensures.limit c.new-reader.ensures.stands; later = omega arith }
+loop-init g c = record { room = c.requires; queue = refl; read = read_start c.args.limit c.new-reader.result (g.S.Source.taken c.args.source.now) c.args.inn.now.pushed c.new-reader.ensures.limit c.new-reader.ensures.stands; later = omega arith }
 
 pub returns-then-not-feed_piece-clause-read : goal.returns-then-not-feed_piece-clause-read
 returns-then-not-feed_piece-clause-read g c =
@@ -17,6 +17,7 @@ returns-in-Some-ended-clause-read g c =
 
 pub loop-preserved : goal.loop-preserved
 loop-preserved g c = record {
+  room = ?;
   queue = c.post_frames.ensures.queue ∙ c.loop.invariant.queue;
   read = read_more c.args.limit c.loop.reader c.feed_piece.new.reader c.post_frames.new.reader (g.S.Source.taken c.args.source.now) (g.S.Source.taken c.loop.source) (g.S.Source.taken c.read.new.self) c.args.inn.now.pushed c.loop.inn.pushed c.post_frames.new.inn.pushed (take c.in-Ok.count c.read.new.buf)
       c.loop.invariant.read (c.if-not-feed_piece.ensures.fed refl) c.feed_piece.ensures.limit c.in-Ok.ensures.taken c.in-Short.ensures.posted;

@@ -13,7 +13,7 @@ returns-in-None-write_order-clause-wrote g c =
     let n = c.in-None-write_order.ensures.none in
     cut_in (g.K.Sink.written c.args.sink.now) (g.K.Sink.written c.loop.sink) (g.K.Sink.written c.write_order.new.sink) (g.K.Sink.faults c.args.sink.now) (g.K.Sink.faults c.loop.sink) (g.K.Sink.faults c.write_order.new.sink)
     c.args.out.now.orders.taken c.loop.out.orders.taken c.write_order.new.out.orders.taken c.args.out.now.sides.pushed c.loop.out.sides.pushed c.write_order.new.out.sides.pushed c.in-Some-Body.body
-    (rw n.1 at c.loop.invariant.wrote) (ap (λ o. o.taken) c.write_order.ensures.orders ∙ (rw c.in-Some-Body.field-0-is at c.in-Some-Body.ensures.item)) (rw c.bytes.ensures at n.0)
+    (rw n.1 at c.loop.invariant.wrote) (ap (λ o. o.taken) c.write_order.ensures.orders ∙ (rw c.in-Some-Body.field-0-is at c.in-Some-Body.ensures.item)) (rw c.bytes-in-Some-Body.ensures at n.0)
     (n.2 ∙ ap (λ (o : Pushing Side). o.pushed) c.take.ensures.queue.1)
 
 pub loop-preserved : goal.loop-preserved
@@ -23,5 +23,5 @@ loop-preserved g c = record {
   wrote = order_more (g.K.Sink.written c.args.sink.now) (g.K.Sink.written c.loop.sink) (g.K.Sink.written c.write_order.new.sink) (g.K.Sink.faults c.args.sink.now) (g.K.Sink.faults c.loop.sink) (g.K.Sink.faults c.write_order.new.sink)
       c.args.out.now.orders.taken c.loop.out.orders.taken c.write_order.new.out.orders.taken c.args.out.now.sides.pushed c.take.new.self.sides.pushed c.write_order.new.out.sides.pushed c.in-Some-Body.body c.loop.broke c.in-Some-write_order.now
       (subst (λ (o : Pushing Side). WroteSoFar (g.K.Sink.written c.args.sink.now) (g.K.Sink.written c.loop.sink) (g.K.Sink.faults c.args.sink.now) (g.K.Sink.faults c.loop.sink) c.args.out.now.orders.taken c.loop.out.orders.taken c.args.out.now.sides.pushed o.pushed c.loop.broke) (sym c.take.ensures.queue.1) c.loop.invariant.wrote)
-      (ap (λ o. o.taken) c.write_order.ensures.orders ∙ (rw c.in-Some-Body.field-0-is at c.in-Some-Body.ensures.item)) (rw c.bytes.ensures at c.in-Some-write_order.ensures.some);
+      (ap (λ o. o.taken) c.write_order.ensures.orders ∙ (rw c.in-Some-Body.field-0-is at c.in-Some-Body.ensures.item)) (rw c.bytes-in-Some-Body.ensures at c.in-Some-write_order.ensures.some);
 }
