@@ -1,8 +1,8 @@
 // Places that are opened, and links to them.
-ghost use Rattle.std.specs.Prelude.{◌<◌, IfOk};
+ghost use Rattle.std.specs.Prelude.{◌<◌, IfOk, IfSome, OnOk};
 
 use log::LevelFilter;
-use outside_io::{Arrival, Door, Place, Port, Source};
+use outside_io::{Arrival, Door, Place, Port, Sink, Source, write_whole};
 use real_host::{LinkInput, LinkOutput, Notes, Reading, RealDoor, RealPort, Writing};
 use std::fs;
 use std::net::TcpListener;
@@ -78,17 +78,27 @@ pub(crate) fn dial(door: &mut RealDoor, place: &Place) -> Result<RealPort, Fail>
     }
 }
 
-// The link that waits at a port.
-pub(crate) fn next_link(port: &mut RealPort) -> Result<Link, Fail>
-    ensures { IfOk result (λ _. 0 < ⟦<RealPort as Port>⟧.held port.new) }
+// The link that waits at a port, if one does.
+pub(crate) fn waiting(port: &mut RealPort) -> Option<Link>
+    ensures { IfSome result (λ _. 0 < ⟦<RealPort as Port>⟧.held port.new) }
 {
     let (mut source, mut sink) = (None, None);
     if port.accept(&mut source, &mut sink) != Arrival::Link {
-        return Err(Fail::new("no link came"));
+        return None;
     }
     match (source, sink) {
-        (Some(source), Some(sink)) => Ok((source, sink)),
-        _ => Err(Fail::new("half a link came")),
+        (Some(source), Some(sink)) => Some((source, sink)),
+        _ => None,
+    }
+}
+
+// The same, which has to be there.
+pub(crate) fn next_link(port: &mut RealPort) -> Result<Link, Fail>
+    ensures { OnOk result (0 < ⟦<RealPort as Port>⟧.held port.new) }
+{
+    match waiting(port) {
+        Some(link) => Ok(link),
+        None => Err(Fail::new("no link came")),
     }
 }
 
@@ -98,15 +108,25 @@ pub(crate) fn nobody(port: &mut RealPort) -> Arrival {
     port.accept(&mut source, &mut sink)
 }
 
+// A link from a door to a port, seen from both sides.
+pub(crate) fn joined(
+    door: &mut RealDoor,
+    port: &mut RealPort,
+    place: &Place,
+) -> Result<(Link, Link), Fail>
+    ensures { OnOk result (0 < ⟦<RealPort as Port>⟧.held port.new) }
+{
+    let near = next_link(&mut dial(door, place)?)?;
+    Ok((near, next_link(port)?))
+}
+
 // Opens a place and dials it.
 pub(crate) fn pair_at(rt: HostRuntime, place: &Place) -> Result<Pair, Fail>
     ensures { IfOk result (λ pair. 0 < ⟦<RealPort as Port>⟧.held pair.port) }
 {
     let mut door = RealDoor::new(rt, quiet(rt), None);
     let mut port = open(rt, &mut door, place)?;
-    let mut dialled = dial(&mut door, place)?;
-    let near = next_link(&mut dialled)?;
-    let far = next_link(&mut port)?;
+    let (near, far) = joined(&mut door, &mut port, place)?;
     Ok(Pair {
         door,
         port,
@@ -122,4 +142,14 @@ pub(crate) fn reads<S: Source>(source: &mut S, text: &[u8]) -> bool {
         Ok(count) => &buf[..count] == text,
         Err(_) => false,
     }
+}
+
+// A text that is written at one end is what the next read gives at the other.
+pub(crate) fn says<K: Sink, S: Source>(sink: &mut K, source: &mut S, text: &[u8]) -> bool {
+    write_whole(sink, text).is_ok() && reads(source, text)
+}
+
+// The next read finds the end.
+pub(crate) fn ends<S: Source>(source: &mut S) -> bool {
+    reads(source, b"")
 }

@@ -1,5 +1,5 @@
 // Programs.
-use crate::pairs::{holds, passed, quiet, reads};
+use crate::pairs::{ends, holds, passed, quiet, says};
 use outside_io::{Berth, Endings, Sink, Source, StartFault, write_whole};
 use real_host::{ProgramInput, ProgramOutput, Reading, RealBerth, Writing};
 use std::alloc::Global;
@@ -43,20 +43,18 @@ fn is_there(rt: HostRuntime, id: u32) -> Result<bool, Fail> {
 pub(crate) fn a_program_that_hears_its_end(rt: HostRuntime) -> Result<(), Fail> {
     let (mut inn, mut out) = start(rt, &["cat"])?;
     let id = out.inner().id();
-    holds(write_whole(&mut out, b"word").is_ok(), "a write failed")?;
-    holds(reads(&mut inn, b"word"), "no echo")?;
+    holds(says(&mut out, &mut inn, b"word"), "no echo")?;
     out.close();
-    holds(reads(&mut inn, b""), "its output doesn't end")?;
+    holds(ends(&mut inn), "its output doesn't end")?;
     holds(!is_there(rt, id)?, "it is there still")
 }
 
 // What a program started has the output still, for longer than a test may take.
 pub(crate) fn a_program_whose_child_stays(rt: HostRuntime) -> Result<(), Fail> {
     let (mut inn, mut out) = start(rt, &["sh", "-c", "sleep 90 2>/dev/null & exec cat"])?;
-    holds(write_whole(&mut out, b"word").is_ok(), "a write failed")?;
-    holds(reads(&mut inn, b"word"), "no echo")?;
+    holds(says(&mut out, &mut inn, b"word"), "no echo")?;
     out.close();
-    holds(reads(&mut inn, b""), "its output doesn't end")
+    holds(ends(&mut inn), "its output doesn't end")
 }
 
 pub(crate) fn a_program_that_ignores_its_end(rt: HostRuntime) -> Result<(), Fail> {
@@ -64,9 +62,16 @@ pub(crate) fn a_program_that_ignores_its_end(rt: HostRuntime) -> Result<(), Fail
     let id = out.inner().id();
     let start = Instant::now(&rt)?;
     out.close();
-    holds(reads(&mut inn, b""), "its output doesn't end")?;
+    holds(ends(&mut inn), "its output doesn't end")?;
     holds(passed(rt, start)? >= 1_900, "it had less than two seconds")?;
     holds(!is_there(rt, id)?, "it is there still")
+}
+
+// Whether a long write to a program that reads nothing fails.
+fn is_cut_off(rt: HostRuntime, out: &mut Writing<ProgramInput>) -> Result<bool, Fail> {
+    let mut bytes = Vec::new(rt.alloc());
+    bytes.resize(4_000_000, b'x')?;
+    Ok(write_whole(out, bytes.as_slice()).is_err())
 }
 
 // A write to it fails once the end of its session was ordered, and a run that nobody ends is gone when it is dropped.
@@ -76,32 +81,29 @@ pub(crate) fn a_program_that_reads_nothing(rt: HostRuntime) -> Result<(), Fail> 
     let endings = Endings::new(rt.alloc())?;
     out.heed(endings.of_session(0)?);
     endings.raise_all();
-    let mut bytes = Vec::new(rt.alloc());
-    bytes.resize(4_000_000, b'x')?;
     let start = Instant::now(&rt)?;
-    holds(
-        write_whole(&mut out, bytes.as_slice()).is_err(),
-        "it took all",
-    )?;
+    holds(is_cut_off(rt, &mut out)?, "it took all")?;
     holds(passed(rt, start)? >= 1_900, "it was cut off too early")?;
     drop((inn, out));
     holds(!is_there(rt, id)?, "it is there still")
 }
 
+// Whether these words start nothing.
+fn starts_nothing(berth: &mut RealBerth, words: &[String]) -> bool {
+    let (mut source, mut sink) = (None, None);
+    berth.start(words, None, &mut source, &mut sink) == Err(StartFault::Failed)
+}
+
 pub(crate) fn no_program(rt: HostRuntime) -> Result<(), Fail> {
     let mut berth = RealBerth::new(rt, quiet(rt));
-    let (mut source, mut sink) = (None, None);
     let absent = words(rt.alloc(), &["no-such-program"])?;
-    let started = berth.start(absent.as_slice(), None, &mut source, &mut sink);
     holds(
-        started == Err(StartFault::Failed),
+        starts_nothing(&mut berth, absent.as_slice()),
         "an absent program started",
     )?;
     holds(!berth.reason().is_empty(), "no reason")?;
-    let (mut source, mut sink) = (None, None);
-    let started = berth.start(&[], None, &mut source, &mut sink);
     holds(
-        started == Err(StartFault::Failed),
+        starts_nothing(&mut berth, &[]),
         "no words started a program",
     )
 }

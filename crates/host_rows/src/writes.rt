@@ -40,53 +40,87 @@ fn session(rt: HostRuntime, place: &Place) -> Result<(Pair, Endings), Fail> {
     Ok((pair, endings))
 }
 
+// Writes all to a link and closes it. Whether all of it was taken.
+fn write_all(link: Link, bytes: &[u8]) -> bool {
+    let (source, mut sink) = link;
+    let whole = write_whole(&mut sink, bytes).is_ok();
+    sink.close();
+    drop(source);
+    whole
+}
+
+// Waits for so many milliseconds, and then reads all, with this pause between the reads.
+fn read_late(rt: HostRuntime, link: Link, wait: u64, pause: u64) -> u64 {
+    let (mut source, sink) = link;
+    thread::sleep(&rt, Duration::from_millis(wait));
+    let all = read_all(rt, &mut source, pause);
+    drop(sink);
+    all
+}
+
+// Much is written at one side of a link, while the other reads it late, and with a pause between its reads. Whether all was taken, and how
+// many bytes came.
+fn carry<R: Threads + Sync>(
+    threads: &R,
+    rt: HostRuntime,
+    link: (Link, Link),
+    wait: u64,
+    pause: u64,
+) -> Result<(bool, u64), Fail> {
+    let bytes = much(rt)?;
+    let (near, far) = link;
+    Ok(thread::join(
+        threads,
+        move || -> bool { write_all(far, bytes.as_slice()) },
+        move || -> u64 { read_late(rt, near, wait, pause) },
+    ))
+}
+
 // A peer that reads nothing for longer than two limits gets all in the end.
 fn try_late<R: Threads + Sync>(threads: &R, rt: HostRuntime, place: &Place) -> Result<(), Fail> {
     let (pair, endings) = session(rt, place)?;
-    let bytes = much(rt)?;
-    let (near, far) = (pair.near, pair.far);
-    let (whole, count) = thread::join(
-        threads,
-        move || -> bool {
-            let (source, mut sink) = far;
-            let whole = write_whole(&mut sink, bytes.as_slice()).is_ok();
-            sink.close();
-            drop(source);
-            whole
-        },
-        move || -> u64 {
-            let (mut source, sink) = near;
-            thread::sleep(&rt, Duration::from_millis(2_500));
-            let all = read_all(rt, &mut source, 0);
-            drop(sink);
-            all
-        },
-    );
+    let (whole, count) = carry(threads, rt, (pair.near, pair.far), 2_500, 0)?;
     drop(endings);
     holds(whole, "the write was cut off")?;
     holds(count == MUCH as u64, "bytes are missing")
 }
 
+// Whether a write to a link fails, and so does the next one.
+fn is_cut_off(link: Link, bytes: &[u8]) -> bool {
+    let (source, mut sink) = link;
+    let cut = write_whole(&mut sink, bytes).is_err();
+    let later = sink.write(b"x").is_err();
+    drop(source);
+    cut && later
+}
+
+// Orders the end of a session in some seconds.
+fn order_later(rt: HostRuntime, endings: Endings) {
+    thread::sleep(&rt, Duration::from_millis(2_500));
+    endings.raise();
+}
+
+// Whether a write to a peer that reads nothing is cut off, where the end of its session is ordered later.
+fn is_cut_off_later<R: Threads + Sync>(
+    threads: &R,
+    rt: HostRuntime,
+    far: Link,
+    endings: Endings,
+) -> Result<bool, Fail> {
+    let bytes = much(rt)?;
+    let (cut, _) = thread::join(
+        threads,
+        move || -> bool { is_cut_off(far, bytes.as_slice()) },
+        move || order_later(rt, endings),
+    );
+    Ok(cut)
+}
+
 // A write to a peer that reads nothing fails two seconds after the end of its session was ordered, and so does each later one.
 fn try_never<R: Threads + Sync>(threads: &R, rt: HostRuntime, place: &Place) -> Result<(), Fail> {
     let (pair, endings) = session(rt, place)?;
-    let bytes = much(rt)?;
-    let far = pair.far;
     let start = Instant::now(&rt)?;
-    let (cut, _) = thread::join(
-        threads,
-        move || -> bool {
-            let (source, mut sink) = far;
-            let cut = write_whole(&mut sink, bytes.as_slice()).is_err();
-            let later = sink.write(b"x").is_err();
-            drop(source);
-            cut && later
-        },
-        move || {
-            thread::sleep(&rt, Duration::from_millis(2_500));
-            endings.raise();
-        },
-    );
+    let cut = is_cut_off_later(threads, rt, pair.far, endings)?;
     drop((pair.door, pair.port, pair.near));
     holds(cut, "the write wasn't cut off")?;
     holds(passed(rt, start)? >= 4_500, "it was cut off too early")
@@ -96,25 +130,8 @@ fn try_never<R: Threads + Sync>(threads: &R, rt: HostRuntime, place: &Place) -> 
 fn try_little<R: Threads + Sync>(threads: &R, rt: HostRuntime, place: &Place) -> Result<(), Fail> {
     let (pair, endings) = session(rt, place)?;
     endings.raise();
-    let bytes = much(rt)?;
-    let (near, far) = (pair.near, pair.far);
-    let (cut, _) = thread::join(
-        threads,
-        move || -> bool {
-            let (source, mut sink) = far;
-            let cut = write_whole(&mut sink, bytes.as_slice()).is_err();
-            sink.close();
-            drop(source);
-            cut
-        },
-        move || -> u64 {
-            let (mut source, sink) = near;
-            let all = read_all(rt, &mut source, 20);
-            drop(sink);
-            all
-        },
-    );
-    holds(cut, "the write wasn't cut off")
+    let (whole, _) = carry(threads, rt, (pair.near, pair.far), 0, 20)?;
+    holds(!whole, "the write wasn't cut off")
 }
 
 pub(crate) fn a_peer_that_reads_late_over_unix<R: Threads + Sync>(
