@@ -124,7 +124,7 @@ module _ {D P B C J F I O N : Type 0}
   pub record MadeBy (config : Config) (count seed : ℕ) (old : Outside D B C J F I O N) (new : Left D P B C J F I O N) : Type 0 where
     pub alone : Alone old new
     pub input : new.input ≡ old.input
-    pub did : Made told (hub_settings config) new.journal (made count seed) (written old.output) (written new.output) (Rose (output_faults old.output) (output_faults new.output)) new.status
+    pub ran : Made told (hub_settings config) new.journal (made count seed) (written old.output) (written new.output) (Rose (output_faults old.output) (output_faults new.output)) new.status
     pub journal_only : new.status ≡ 6 → Rose (journal_faults old.journal) (journal_faults new.journal)
     pub complete : make.Undisturbed (hub_settings config) (made count seed) (Rose (journal_faults old.journal) (journal_faults new.journal))
         (Rose (output_faults old.output) (output_faults new.output)) → (new.status ≡ 0) ⊎ (new.status ≡ 5)

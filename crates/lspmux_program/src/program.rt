@@ -439,7 +439,7 @@ pub fn log_level(alloc: Global, words: &[String]) -> Level {
 /// Runs the program on these words: reads the settings that they name, and does what they ask for.
 ///
 /// The status is 0 where it was done. Else it is that of the fault, whose line was written to the output: 1 for a line of `drive`
-/// that is refused, 2 for words that are none of the program's, 3 for refused settings, 4 where a place isn't opened or dialled, 5
+/// or a cause of `make` that is refused, 2 for words that are none of the program's, 3 for refused settings, 4 where a place isn't opened or dialled, 5
 /// where memory was wanted (no line), 6 for the journal, 7 for the input, 8 for the output (no line), 9 for numbers, 10 for a
 /// server's name that the daemon refuses, 11 for an answer that isn't the one asked for, 12 for a link.
 pub fn lspmux<

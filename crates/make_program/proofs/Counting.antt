@@ -82,4 +82,4 @@ count_entries c (entry ∷ history) =
     omega (arith, outs.0, more)
 
 pub count_causes : (history : List Entry) → (counts_of history).causes ≡ length history
-count_causes history = count_entries nothing history
+count_causes history = let all = count_entries nothing history in omega (arith, all)

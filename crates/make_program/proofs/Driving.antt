@@ -1,6 +1,6 @@
 -- One more cause, and where driving ends.
 use Rattle.std.proofs.Common.{◌≡◌, ℕ, ◌+◌, ◌≤◌, Bool, true, false, List, [], ◌∷◌, ◌++◌, fold, length, refl, ap, sym, subst, ◌∙◌, append-nil, arith}
-use Rattle.std.specs.Prelude.{Option, Ok, Err, IsTrue}
+use Rattle.std.specs.Prelude.{Option, Result, Ok, Err, IsTrue}
 use Rattle.std.proofs.lemmas.List.Sums.{fold-append}
 use Rattle.mux_history.specs.declared.cause.Cause.{Cause}
 use Rattle.mux_history.specs.declared.entry.Entry.{Entry}
@@ -45,8 +45,8 @@ pub driven_all : {J : Type 0} (told : J → Option (List Entry)) (settings : Set
 driven_all told settings causes taken hub counts e s c = record { taken = taken; rest = []; all = sym e ∙ sym (append-nil taken); stands = s; done = (refl, c); stopped = tt }
 
 -- a journal's fault is one of a step
-same_stop : (a b : Stop) → Err {T = Counts} a ≡ Err b → a ≡ b
-same_stop a b e = cc
+same_stop : (a b : Stop) (r : Result Counts Stop) → r ≡ Err a → r ≡ Err b → a ≡ b
+same_stop a b r e f = cc
 
 journal_fault : (fault : StepFault) → stop_of fault ≡ stop.Journal → fault ≡ step_fault.Journal
 journal_fault step_fault.Memory e = absurd cc
@@ -54,8 +54,8 @@ journal_fault step_fault.Spent e = absurd cc
 journal_fault step_fault.Journal e = refl
 journal_fault step_fault.Numbers e = absurd cc
 
-pub journal_rose : (fault : StepFault) (before mid now : ℕ) → before ≤ mid → (fault ≡ step_fault.Journal → Rose mid now) → Err {T = Counts} (stop_of fault) ≡ Err stop.Journal → Rose before now
-journal_rose fault before mid now l rose e = let r = rose (journal_fault fault (same_stop (stop_of fault) stop.Journal e)) in omega (arith, r, l)
+pub journal_rose : (fault : StepFault) (before mid now : ℕ) (r : Result Counts Stop) → before ≤ mid → (fault ≡ step_fault.Journal → Rose mid now) → r ≡ Err (stop_of fault) → r ≡ Err stop.Journal → Rose before now
+journal_rose fault before mid now r l rose e f = let rises = rose (journal_fault fault (same_stop (stop_of fault) stop.Journal r e f)) in omega (arith, rises, l)
 
 module _ {J : Type 0} (told : J → Option (List Entry)) (settings given : Settings) (same : given ≡ settings) (taken : List Cause) (cause : Cause) (counts : Counts) (is : counts ≡ counts_of (history_of settings taken)) where
   -- the hub behind the step

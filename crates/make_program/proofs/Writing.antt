@@ -1,10 +1,8 @@
 -- Texts behind one another on an output.
-use Rattle.std.proofs.Common.{◌≡◌, ◌⊎◌, inl, inr, ℕ, zero, suc, ◌+◌, ◌≤◌, List, [], ◌∷◌, ◌++◌, length, take, refl, ap, sym, subst, ◌∙◌, append_assoc, append-nil, IfErr}
-use Rattle.std.specs.Prelude.{Option, Some, None, Result, Ok, Err}
+use Rattle.std.proofs.Common.{◌≡◌, inl, ℕ, zero, suc, List, [], ◌∷◌, ◌++◌, length, take, refl, ap, sym, subst, ◌∙◌, append_assoc, append-nil}
+use Rattle.std.specs.Prelude.{Option, Some, None, Err}
 use Rattle.std.specs.Io.KnownBytes.{append_known}
-use Rattle.outside_io.specs.Faults.{Rose}
-use Rattle.outside_io.specs.declared.sink.Cut.{Cut}
-use Rattle.program_settings.specs.Lines.{Reported, Wrote, WroteFront, said}
+use Rattle.program_settings.specs.Lines.{Reported, WroteFront, said}
 use Rattle.drive_program.proofs.Driving.{append_both}
 use Rattle.drive_program.proofs.Ends.{front_behind}
 use Rattle.drive_program.specs.declared.stop.Stop.{Stop}

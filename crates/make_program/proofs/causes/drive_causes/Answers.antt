@@ -5,6 +5,7 @@ use Rattle.std.specs.Vec.Iter.{into_iter_items}
 use Rattle.mux_history.specs.Cores.{body_length}
 use Rattle.mux_history.specs.declared.cause.Cause.{Cause}
 use Rattle.mux_steps.specs.declared.fault.StepFault.{StepFault}
+use Rattle.drive_program.specs.declared.stop.Stop.{Stop}
 use Rattle.make_program.specs.Counts.{IsSound}
 use Rattle.make_program.specs.Runs.{history_of}
 use Rattle.make_program.proofs.Counting.{sound_counts}
@@ -56,7 +57,7 @@ returns-then-not-fits-clause-driven g c =
     let history = history_of settings at.yielded in
     absent g.J.Journal.told settings at.hub.settings at.invariant.settings at.yielded x at.counts at.invariant.counts c.args.causes.items rest
     (sym at.invariant.all ∙ ap (λ ws. at.yielded ++ ws) c.in-Some.ensures.steps.0) at.hub at.invariant.stands
-    (sym (c.fits.ensures history at.invariant.stands at.invariant.ready) ∙ c.if-not-fits.false)
+    (sym (c.fits.ensures history at.invariant.stands at.invariant.ready) ∙ c.if-not-fits.true)
 
 pub returns-in-Err-clause-driven : goal.returns-in-Err-clause-driven
 returns-in-Err-clause-driven g c =
@@ -68,12 +69,12 @@ returns-in-Err-clause-driven g c =
     rw c.stop_of.ensures
     (faulted g.J.Journal.told settings at.hub.settings at.invariant.settings at.yielded x at.counts at.invariant.counts c.args.causes.items rest
     (sym at.invariant.all ∙ ap (λ ws. at.yielded ++ ws) c.in-Some.ensures.steps.0) c.step.new.self (c.in-Err.ensures.err history at.invariant.stands)
-    c.in-Err.fault (sym (c.fits.ensures history at.invariant.stands at.invariant.ready) ∙ c.if-not-fits.true) (c.in-Err.ensures.numbers history at.invariant.stands at.invariant.ready))
+    c.in-Err.fault (sym (c.fits.ensures history at.invariant.stands at.invariant.ready) ∙ c.if-not-fits.false) (c.in-Err.ensures.numbers history at.invariant.stands at.invariant.ready))
 
 pub returns-in-Err-clause-journal : goal.returns-in-Err-clause-journal
 returns-in-Err-clause-journal g c = λ e.
-    journal_rose c.in-Err.fault (g.J.Journal.faults c.args.hub.now.journal) (g.J.Journal.faults c.loop-cause.hub.journal) (g.J.Journal.faults c.step.new.self.journal) c.loop-cause.invariant.later
-    (λ f. c.step.ensures.journal_only (c.in-Err.is ∙ ap (λ (s : StepFault). Err s) f)) (sym (ap (λ s. Err s) c.stop_of.ensures) ∙ e)
+    journal_rose c.in-Err.fault (g.J.Journal.faults c.args.hub.now.journal) (g.J.Journal.faults c.loop-cause.hub.journal) (g.J.Journal.faults c.step.new.self.journal) (Err c.stop_of.result) c.loop-cause.invariant.later
+    (λ f. c.step.ensures.journal_only (c.in-Err.is ∙ ap (λ (s : StepFault). Err s) f)) (ap (λ (s : Stop). Err s) c.stop_of.ensures) e
 
 pub returns-clause-driven : goal.returns-clause-driven
 returns-clause-driven g c =

@@ -1,11 +1,9 @@
-use Rattle.std.proofs.Common.{◌≡◌, [], ◌∷◌, ◌++◌, append-nil, append_assoc, length, refl, ap, sym, subst, ◌∙◌, arith}
-use Rattle.std.specs.Prelude.{Result, Err, flat_map}
+use Rattle.std.proofs.Common.{◌≡◌, [], ◌∷◌, ◌++◌, append-nil, append_assoc, length, ap, sym, ◌∙◌, arith}
 use Rattle.std.specs.Io.KnownBytes.{append_known}
 use Rattle.std.specs.Vec.Iter.{into_iter_items}
 use Rattle.std.proofs.lemmas.Grind.{flat_map-append}
-use Rattle.drive_program.specs.declared.stop.Stop.{Stop}
 use Rattle.drive_text.specs.Made.{made}
-use Rattle.make_program.specs.Shown.{Shows, cause_text, causes_text}
+use Rattle.make_program.specs.Shown.{cause_text, causes_text}
 use Rattle.make_program.proofs.Driving.{none_left}
 use Rattle.make_program.proofs.Writing.{shows_behind, written_more}
 use Rattle.make_program.proofs.lines.write_lines.Goals as goal
@@ -16,7 +14,6 @@ loop-cause-preserved g c =
     let x = c.in-Some.cause in
     let rest = into_iter_items c.next.new.self in
     let steps : into_iter_items at.cause-iterator ≡ x ∷ rest = c.in-Some.ensures.steps.0 in
-    let shows : Shows (cause_text x) (g.O.Sink.written at.output) (g.O.Sink.written c.write_cause.new.output) c.write_cause.result = c.write_cause.ensures.shows in
     record {
       all = append_assoc at.yielded (x ∷ []) rest ∙ (ap (λ ws. at.yielded ++ ws) (sym steps) ∙ at.invariant.all);
       left =
@@ -25,7 +22,7 @@ loop-cause-preserved g c =
           let short = ap length steps in
           omega arith;
       written = written_more (g.O.Sink.written c.args.output.now) (g.O.Sink.written at.output) (g.O.Sink.written c.write_cause.new.output) (causes_text at.yielded) (cause_text x) (causes_text (at.yielded ++ x ∷ []))
-          at.invariant.written (subst (Shows (cause_text x) (g.O.Sink.written at.output) (g.O.Sink.written c.write_cause.new.output)) c.in_default.is shows)
+          at.invariant.written c.in_default.ensures.shows
           (flat_map-append cause_text at.yielded (x ∷ []) ∙ ap (λ l. causes_text at.yielded ++ l) (append-nil (cause_text x)));
       later = omega (arith, at.invariant.later, c.write_cause.ensures.later);
     }
@@ -37,10 +34,8 @@ returns-in-Err-clause-shows g c =
     let rest = into_iter_items c.next.new.self in
     let steps : into_iter_items at.cause-iterator ≡ x ∷ rest = c.in-Some.ensures.steps.0 in
     let whole : made c.args.count c.args.seed ≡ at.yielded ++ x ∷ rest = sym at.invariant.all ∙ ap (λ ws. at.yielded ++ ws) steps in
-    let failed : Shows (cause_text x) (g.O.Sink.written at.output) (g.O.Sink.written c.write_cause.new.output) (Err c.in-Err.stop)
-    = subst (Shows (cause_text x) (g.O.Sink.written at.output) (g.O.Sink.written c.write_cause.new.output)) c.in-Err.is c.write_cause.ensures.shows in
     shows_behind (g.O.Sink.written c.args.output.now) (g.O.Sink.written at.output) (g.O.Sink.written c.write_cause.new.output) (causes_text at.yielded) (cause_text x) (causes_text rest) (causes_text (made c.args.count c.args.seed)) c.in-Err.stop
-    at.invariant.written (ap causes_text whole ∙ flat_map-append cause_text at.yielded (x ∷ rest)) failed
+    at.invariant.written (ap causes_text whole ∙ flat_map-append cause_text at.yielded (x ∷ rest)) c.in-Err.ensures.shows
 
 pub returns-clause-shows : goal.returns-clause-shows
 returns-clause-shows g c =
