@@ -130,7 +130,14 @@ pub(crate) fn serve_lanes<P: Port + Send + Drop, B: Berth + Send + Drop, R: Thre
         clock: LaneJob::new(SetClock::new(moments)),
     };
     let commands = commands(alloc).unwrap_or(Vec::new(alloc));
-    serve_core(rt, alloc, Echo::new(alloc), 1024, commands.as_slice(), lanes)
+    serve_core(
+        rt,
+        alloc,
+        Echo::new(alloc),
+        1024,
+        commands.as_slice(),
+        lanes,
+    )
 }
 
 // Serves these ports, with an own link that asks for a stop, and with a clock of one moment.
