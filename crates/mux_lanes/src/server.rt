@@ -191,12 +191,7 @@ fn serve_start<K: Steps + Drop + Send, N: Naming + Send + Sync, B: Berth, R: Thr
 }
 
 // Starts the program that the core says of a start, where it says, and runs its session, or says that it couldn't be started.
-fn serve_begun<
-    K: Steps + Drop + Send,
-    N: Naming + Send + Sync,
-    B: Berth,
-    R: Threads + Wait + Sync,
->(
+fn serve_begun<K: Steps + Drop + Send, N: Naming + Send + Sync, B: Berth, R: Threads + Wait + Sync>(
     rt: &R,
     alloc: Global,
     board: &Switchboard<K, N>,
@@ -215,9 +210,7 @@ fn serve_begun<
     match board.folder_of(rt, start) {
         Ok(folder) => {
             let folder = folder.as_deref();
-            serve_start(
-                rt, alloc, board, lane, limit, words, folder, berth, ends,
-            )
+            serve_start(rt, alloc, board, lane, limit, words, folder, berth, ends)
         }
         Err(_) => {
             board.fail(rt);

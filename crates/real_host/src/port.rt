@@ -188,7 +188,11 @@ impl Port for RealPort {
         }
     }
 
-    fn hang_up(&mut self, inn: &mut Option<Reading<LinkInput>>, out: &mut Option<Writing<LinkOutput>>) {
+    fn hang_up(
+        &mut self,
+        inn: &mut Option<Reading<LinkInput>>,
+        out: &mut Option<Writing<LinkOutput>>,
+    ) {
         if let Some(mut sink) = out.take() {
             sink.close();
         }

@@ -17,7 +17,7 @@ returns-in-Some-ended-clause-read g c =
 
 pub loop-preserved : goal.loop-preserved
 loop-preserved g c = record {
-  room = ?;
+  room = let long = c.read.auto.buf in let room = c.loop.invariant.room in omega arith;
   queue = c.post_frames.ensures.queue ∙ c.loop.invariant.queue;
   read = read_more c.args.limit c.loop.reader c.feed_piece.new.reader c.post_frames.new.reader (g.S.Source.taken c.args.source.now) (g.S.Source.taken c.loop.source) (g.S.Source.taken c.read.new.self) c.args.inn.now.pushed c.loop.inn.pushed c.post_frames.new.inn.pushed (take c.in-Ok.count c.read.new.buf)
       c.loop.invariant.read (c.if-not-feed_piece.ensures.fed refl) c.feed_piece.ensures.limit c.in-Ok.ensures.taken c.in-Short.ensures.posted;

@@ -11,10 +11,10 @@ loop-init g c = record { orders = refl; sides = refl; wrote = nothing_wrote (g.K
 pub returns-in-None-write_order-clause-wrote : goal.returns-in-None-write_order-clause-wrote
 returns-in-None-write_order-clause-wrote g c =
     let n = c.in-None-write_order.ensures.none in
-    cut_in (g.K.Sink.written c.args.sink.now) (g.K.Sink.written c.loop.sink) (g.K.Sink.written c.write_order.new.sink) (g.K.Sink.faults c.args.sink.now) (g.K.Sink.faults c.loop.sink) (g.K.Sink.faults c.write_order.new.sink)
+    rw c.cut_off-in-None-write_order.ensures (cut_in (g.K.Sink.written c.args.sink.now) (g.K.Sink.written c.loop.sink) (g.K.Sink.written c.write_order.new.sink) (g.K.Sink.faults c.args.sink.now) (g.K.Sink.faults c.loop.sink) (g.K.Sink.faults c.write_order.new.sink)
     c.args.out.now.orders.taken c.loop.out.orders.taken c.write_order.new.out.orders.taken c.args.out.now.sides.pushed c.loop.out.sides.pushed c.write_order.new.out.sides.pushed c.in-Some-Body.body
     (rw n.1 at c.loop.invariant.wrote) (ap (λ o. o.taken) c.write_order.ensures.orders ∙ (rw c.in-Some-Body.field-0-is at c.in-Some-Body.ensures.item)) (rw c.bytes-in-Some-Body.ensures at n.0)
-    (n.2 ∙ ap (λ (o : Pushing Side). o.pushed) c.take.ensures.queue.1)
+    (n.2 ∙ ap (λ (o : Pushing Side). o.pushed) c.take.ensures.queue.1))
 
 pub loop-preserved : goal.loop-preserved
 loop-preserved g c = record {
