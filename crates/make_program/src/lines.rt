@@ -1,5 +1,5 @@
 // The lines of a made input, written.
-ghost use Rattle.std.specs.Prelude.{◌≤◌, IsErrOf};
+ghost use Rattle.std.specs.Prelude.{◌≡◌, ◌≤◌, IfOk, IsErrOf};
 ghost use Rattle.drive_text.specs.Made.{made};
 ghost use Rattle.outside_io.specs.Faults.{Rose};
 ghost use Rattle.make_program.specs.Shown.{Shows, cause_text, causes_text};
@@ -7,9 +7,20 @@ ghost use Rattle.make_program.specs.Shown.{Shows, cause_text, causes_text};
 use crate::shown::write_text;
 use drive_program::Stop;
 use drive_text::{make_causes, write_cause_line};
+use message_body::Memory;
 use mux_history::Cause;
 use outside_io::Sink;
 use std::alloc::Global;
+
+// The line of a cause, with its line feed.
+fn line_of(alloc: Global, cause: &Cause) -> Result<Vec<u8>, Memory>
+    ensures { IfOk result (λ text. text.items ≡ cause_text cause.now) }
+{
+    let line = write_cause_line(alloc, cause)?;
+    let mut text = Vec::from_slice(alloc, line.bytes())?;
+    text.push(b'\n')?;
+    Ok(text)
+}
 
 // Writes the line of a cause.
 #[tactic(auto, using(crate::proofs::Writing::no_front))]
@@ -18,13 +29,7 @@ fn write_cause<O: Sink>(alloc: Global, output: &mut O, cause: &Cause) -> Result<
     ensures output { IsErrOf result Stop.Output → Rose (O.faults output.old) (O.faults output.new) }
     ensures later { O.faults output.old ≤ O.faults output.new }
 {
-    let Ok(line) = write_cause_line(alloc, cause) else {
-        return Err(Stop::Memory);
-    };
-    let Ok(mut text) = Vec::from_slice(alloc, line.bytes()) else {
-        return Err(Stop::Memory);
-    };
-    let Ok(()) = text.push(b'\n') else {
+    let Ok(text) = line_of(alloc, cause) else {
         return Err(Stop::Memory);
     };
     write_text(output, &text)
