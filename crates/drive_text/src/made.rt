@@ -142,11 +142,7 @@ fn greeting_of(alloc: Global, greeting: Greeting, editor: u64) -> Result<Cause, 
     }
 }
 
-fn put_greetings(
-    alloc: Global,
-    causes: &mut Vec<Cause>,
-    greeting: Greeting,
-) -> Result<(), Memory>
+fn put_greetings(alloc: Global, causes: &mut Vec<Cause>, greeting: Greeting) -> Result<(), Memory>
     ensures { OnOk result (causes.new.items ≡ causes.old.items ++ greetings greeting) }
 {
     causes.push(greeting_of(alloc, greeting, 0)?)?;
