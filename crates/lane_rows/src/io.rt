@@ -131,3 +131,39 @@ fn ordered_bodies_are_written(rt: HostRuntime) -> Result<(), Fail> {
     assert!(rt; hub.next_side(&rt) == Some(Side::Wrote));
     Ok(())
 }
+
+// A core that goes on no more.
+#[derive(Drop)]
+struct Over;
+
+impl Core for Over {
+    fn pump<R: Wait>(&self, rt: &R) -> bool {
+        false
+    }
+
+    fn sleep<R: Wait>(&self, rt: &R) {}
+
+    fn ended(&self) -> Option<End> {
+        None
+    }
+}
+
+// Whether the core was asked to go on between a body of so many bytes and the end of the link.
+fn asks<R: Wait>(rt: &R, alloc: Global, bytes: usize) -> Result<bool, Fail> {
+    let (_inn, mut out, mut hub) = Lane::new(alloc)?;
+    let mut body = Vec::new(alloc);
+    body.resize(bytes, b'x')?;
+    let body = Order::Body(Body::new(body));
+    let ordered = hub.push(rt, body).is_ok() && hub.push(rt, Order::Close).is_ok();
+    let mut sink = MemSink::new(alloc, Vec::new(alloc), None);
+    let wrote = write_session(rt, alloc, &Over, &mut sink, &mut out);
+    Ok(ordered && wrote.cut)
+}
+
+#[test]
+fn the_core_goes_on_behind_a_mebibyte(rt: HostRuntime) -> Result<(), Fail> {
+    let alloc = rt.alloc();
+    assert!(rt; asks(&rt, alloc, 1_048_576)?);
+    assert!(rt; !asks(&rt, alloc, 1_048_575)?);
+    Ok(())
+}

@@ -1,4 +1,4 @@
-use Rattle.std.proofs.Common.{◌≡◌, ℕ, true, false, nat_eq, sym, refl, ap, ◌∙◌, subst, string_bytes}
+use Rattle.std.proofs.Common.{◌≡◌, true, false, nat_eq, sym, refl, ap, ◌∙◌, subst, string_bytes}
 use Rattle.std.specs.Prelude.{Some, IsUtf8}
 use Rattle.std.specs.List.{list_any}
 use Rattle.std.specs.Str.{is_utf8}
