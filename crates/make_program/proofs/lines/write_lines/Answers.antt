@@ -22,7 +22,7 @@ loop-cause-preserved g c =
           let short = ap length steps in
           omega arith;
       written = written_more (g.O.Sink.written c.args.output.now) (g.O.Sink.written at.output) (g.O.Sink.written c.write_cause.new.output) (causes_text at.yielded) (cause_text x) (causes_text (at.yielded ++ x ∷ []))
-          at.invariant.written c.in_default.ensures.shows
+          at.invariant.written c.in_default-write_cause.ensures.shows
           (flat_map-append cause_text at.yielded (x ∷ []) ∙ ap (λ l. causes_text at.yielded ++ l) (append-nil (cause_text x)));
       later = omega (arith, at.invariant.later, c.write_cause.ensures.later);
     }
