@@ -44,6 +44,12 @@ pub driven_all : {J : Type 0} (told : J → Option (List Entry)) (settings : Set
     → Driven told settings causes hub (Ok counts)
 driven_all told settings causes taken hub counts e s c = record { taken = taken; rest = []; all = sym e ∙ sym (append-nil taken); stands = s; done = (refl, c); stopped = tt }
 
+-- so many causes can be counted
+pub few_causes : {J : Type 0} (told : J → Option (List Entry)) (history : List Entry) (hub : HubView J) (counts : Counts) → counts ≡ counts_of history → HubStands told hub history → counts.causes ≤ 9223372036854775807
+few_causes told history hub counts is stands =
+    let sum : counts.causes + counts.outs ≡ length (events_of history) = ap (λ (k : Counts). k.causes + k.outs) is ∙ sum_counts history in
+    omega (arith, sum, stands.few)
+
 -- a journal's fault is one of a step
 same_stop : (a b : Stop) (r : Result Counts Stop) → r ≡ Err a → r ≡ Err b → a ≡ b
 same_stop a b r e f = cc

@@ -9,17 +9,17 @@ use Rattle.drive_program.specs.declared.stop.Stop.{Stop}
 use Rattle.make_program.specs.Counts.{IsSound}
 use Rattle.make_program.specs.Runs.{history_of}
 use Rattle.make_program.proofs.Counting.{sound_counts}
-use Rattle.make_program.proofs.Driving.{absent, counts_behind, driven_all, faulted, journal_rose, none_left, room, stands_more}
+use Rattle.make_program.proofs.Driving.{absent, counts_behind, driven_all, faulted, few_causes, journal_rose, none_left, room, stands_more}
 use Rattle.make_program.proofs.causes.drive_causes.Goals as goal
 
 pub step-requires-clause-small : goal.step-requires-clause-small
 step-requires-clause-small g c = (subst (AllByRecursion (λ (cause : Cause). body_length cause ≤ 268435456)) c.in-Some.ensures.steps.0 c.loop-cause.invariant.small).0
 
-pub with_entry-requires-clause-sound : goal.with_entry-requires-clause-sound
-with_entry-requires-clause-sound g c = subst IsSound (sym c.loop-cause.invariant.counts) (sound_counts (history_of c.args.hub.now.settings c.loop-cause.yielded))
+pub with_entry-counts-requires-clause-sound : goal.with_entry-counts-requires-clause-sound
+with_entry-counts-requires-clause-sound g c = subst IsSound (sym c.loop-cause.invariant.counts) (sound_counts (history_of c.args.hub.now.settings c.loop-cause.yielded))
 
-pub with_entry-requires-clause-few : goal.with_entry-requires-clause-few
-with_entry-requires-clause-few g c =
+pub with_entry-counts-requires-clause-few : goal.with_entry-counts-requires-clause-few
+with_entry-counts-requires-clause-few g c =
     let at = c.loop-cause in
     let history = history_of c.args.hub.now.settings at.yielded in
     room g.J.Journal.told c.args.hub.now.settings at.hub.settings at.invariant.settings at.yielded c.in-Some.cause at.counts at.invariant.counts
@@ -33,6 +33,8 @@ loop-cause-preserved g c =
     let steps : into_iter_items at.cause-iterator ≡ x ∷ rest = c.in-Some.ensures.steps.0 in
     let settings = c.args.hub.now.settings in
     let history = history_of settings at.yielded in
+    let stands = stands_more g.J.Journal.told settings at.hub.settings at.invariant.settings at.yielded x at.counts at.invariant.counts c.step.new.self (c.in-Ok.ensures.stands history at.invariant.stands) in
+    let counts = counts_behind g.J.Journal.told settings at.hub.settings at.invariant.settings at.yielded x at.counts at.invariant.counts c.in-Ok.outs c.with_entry-counts.result (c.in-Ok.ensures.outs history at.invariant.stands) c.with_entry-counts.ensures in
     record {
       all = append_assoc at.yielded (x ∷ []) rest ∙ (ap (λ ws. at.yielded ++ ws) (sym steps) ∙ at.invariant.all);
       left =
@@ -41,10 +43,11 @@ loop-cause-preserved g c =
           let short = ap length steps in
           omega arith;
       small = (subst (AllByRecursion (λ (cause : Cause). body_length cause ≤ 268435456)) steps at.invariant.small).1;
-      stands = stands_more g.J.Journal.told settings at.hub.settings at.invariant.settings at.yielded x at.counts at.invariant.counts c.step.new.self (c.in-Ok.ensures.stands history at.invariant.stands);
+      stands = stands;
       settings = c.step.ensures.settings ∙ at.invariant.settings;
       ready = c.in-Ok.ensures.ready;
-      counts = counts_behind g.J.Journal.told settings at.hub.settings at.invariant.settings at.yielded x at.counts at.invariant.counts c.in-Ok.outs c.with_entry.result (c.in-Ok.ensures.outs history at.invariant.stands) c.with_entry.ensures;
+      counts = counts;
+      few = few_causes g.J.Journal.told (history_of settings (at.yielded ++ x ∷ [])) c.step.new.self c.with_entry-counts.result counts stands;
       later = omega (arith, at.invariant.later, c.step.ensures.later);
     }
 

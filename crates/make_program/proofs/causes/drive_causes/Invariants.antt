@@ -18,5 +18,6 @@ invariant-loop-cause g l = record {
   settings : l.hub.settings ≡ l.initial.hub.settings;
   ready : l.hub.spent ≡ false;
   counts : l.counts ≡ counts_of (history_of l.initial.hub.settings l.yielded);
+  few : l.counts.causes ≤ 9223372036854775807;
   later : g.J.Journal.faults l.initial.hub.journal ≤ g.J.Journal.faults l.hub.journal;
 }

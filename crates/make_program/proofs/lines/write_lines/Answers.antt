@@ -8,6 +8,7 @@ use Rattle.make_program.proofs.Driving.{none_left}
 use Rattle.make_program.proofs.Writing.{shows_behind, written_more}
 use Rattle.make_program.proofs.lines.write_lines.Goals as goal
 
+-- behind a cause without a body, and behind one with a body, which is dropped
 pub loop-cause-preserved : goal.loop-cause-preserved
 loop-cause-preserved g c =
     let at = c.loop-cause in
@@ -22,7 +23,45 @@ loop-cause-preserved g c =
           let short = ap length steps in
           omega arith;
       written = written_more (g.O.Sink.written c.args.output.now) (g.O.Sink.written at.output) (g.O.Sink.written c.write_cause.new.output) (causes_text at.yielded) (cause_text x) (causes_text (at.yielded ++ x ∷ []))
-          at.invariant.written c.in_default.ensures.shows
+          at.invariant.written c.in_default-write_cause.ensures.shows
+          (flat_map-append cause_text at.yielded (x ∷ []) ∙ ap (λ l. causes_text at.yielded ++ l) (append-nil (cause_text x)));
+      later = omega (arith, at.invariant.later, c.write_cause.ensures.later);
+    }
+
+pub loop-cause-preserved-in_default-write_cause : goal.loop-cause-preserved-in_default-write_cause
+loop-cause-preserved-in_default-write_cause g c =
+    let at = c.loop-cause in
+    let x = c.in-Some.cause in
+    let rest = into_iter_items c.next.new.self in
+    let steps : into_iter_items at.cause-iterator ≡ x ∷ rest = c.in-Some.ensures.steps.0 in
+    record {
+      all = append_assoc at.yielded (x ∷ []) rest ∙ (ap (λ ws. at.yielded ++ ws) (sym steps) ∙ at.invariant.all);
+      left =
+          let was = at.invariant.left in
+          let gone = c.in-Some.ensures.steps.1 in
+          let short = ap length steps in
+          omega arith;
+      written = written_more (g.O.Sink.written c.args.output.now) (g.O.Sink.written at.output) (g.O.Sink.written c.write_cause.new.output) (causes_text at.yielded) (cause_text x) (causes_text (at.yielded ++ x ∷ []))
+          at.invariant.written c.in_default-write_cause.ensures.shows
+          (flat_map-append cause_text at.yielded (x ∷ []) ∙ ap (λ l. causes_text at.yielded ++ l) (append-nil (cause_text x)));
+      later = omega (arith, at.invariant.later, c.write_cause.ensures.later);
+    }
+
+pub loop-cause-preserved-in_default-write_cause-2 : goal.loop-cause-preserved-in_default-write_cause-2
+loop-cause-preserved-in_default-write_cause-2 g c =
+    let at = c.loop-cause in
+    let x = c.in-Some.cause in
+    let rest = into_iter_items c.next.new.self in
+    let steps : into_iter_items at.cause-iterator ≡ x ∷ rest = c.in-Some.ensures.steps.0 in
+    record {
+      all = append_assoc at.yielded (x ∷ []) rest ∙ (ap (λ ws. at.yielded ++ ws) (sym steps) ∙ at.invariant.all);
+      left =
+          let was = at.invariant.left in
+          let gone = c.in-Some.ensures.steps.1 in
+          let short = ap length steps in
+          omega arith;
+      written = written_more (g.O.Sink.written c.args.output.now) (g.O.Sink.written at.output) (g.O.Sink.written c.write_cause.new.output) (causes_text at.yielded) (cause_text x) (causes_text (at.yielded ++ x ∷ []))
+          at.invariant.written c.in_default-write_cause.ensures.shows
           (flat_map-append cause_text at.yielded (x ∷ []) ∙ ap (λ l. causes_text at.yielded ++ l) (append-nil (cause_text x)));
       later = omega (arith, at.invariant.later, c.write_cause.ensures.later);
     }
