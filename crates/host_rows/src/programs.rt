@@ -1,5 +1,5 @@
 // Programs.
-use crate::pairs::{ends, holds, passed, quiet, says};
+use crate::pairs::{ends, holds, passed, quiet, reads, says};
 use outside_io::{Berth, Endings, Sink, Source, StartFault, write_whole};
 use real_host::{ProgramInput, ProgramOutput, Reading, RealBerth, Writing};
 use std::alloc::Global;
