@@ -13,6 +13,7 @@ pub mod Stops
 pub mod Versions
 pub mod WorkedAsks
 pub mod WorkedLive
+pub mod WorkedDebts
 pub mod LiveTexts
 pub mod TokenTexts
 pub mod WorkedTokens

@@ -27,6 +27,7 @@ use Rattle.group_words.specs.Rows.{folders_text}
 use Rattle.group_rows.specs.Answers.{agreed_version, stamp_at}
 use Rattle.group_rows.specs.Asks.{Ask, Parked, asking_of, asks_of, first_in, has_number, is_seated, is_taken, is_under, next_ask, parked_of, running_in}
 use Rattle.group_rows.specs.CreatedRows.{create_row, offer_all, progress_row, taking_row}
+use Rattle.group_rows.specs.Debts.{Debt, agrees_on_all, debts_of}
 use Rattle.group_rows.specs.Forwarded.{Forwarded, forwarding_of}
 use Rattle.group_rows.specs.Leaves.{cancel_text}
 use Rattle.group_rows.specs.ListRows.{list_row, show_all}
@@ -36,9 +37,13 @@ use Rattle.group_rows.specs.LiveRows.{register_row, restore, unregister_row}
 abbrev pub ask : List ℕ → ℕ → Row
 ask body e = look (λ events. choose (has_number e events) (send (ToEditor e (with_id_text body (decimal (next_ask e events))))) nothing)
 
--- S9: the start is answered at once, and each editor that runs is asked (LSP 3.17, the refresh requests of Language Features)
+-- S9: the start is answered at once, and each editor that runs and agrees on all that it has open is asked; the others are owed it (LSP 3.17, the refresh requests of Language Features)
 abbrev pub refresh_row : Settings → List Event → ℕ → ℕ → List ℕ → Row
-refresh_row settings before g s body = send (ToServer s (ok_text (id_bytes body) (codes "null"))) ⨾ each (ask body) (running_in settings g before)
+refresh_row settings before g s body = send (ToServer s (ok_text (id_bytes body) (codes "null"))) ⨾ each (ask body) (filter (agrees_on_all settings s before) (running_in settings g before))
+
+-- E10, E16 and E17: behind a message of its own that goes on the editor is asked what is owed to it, in the order in which that came to be
+abbrev pub pay_debts : Settings → List Event → ℕ → ℕ → Row
+pay_debts settings before s e = each (λ (d : Debt). ask d.body e) (debts_of settings s e before)
 
 -- S10: the folders of the group (LSP 3.17, WorkspaceFolders Request)
 abbrev pub folders_row : Settings → List Event → ℕ → ℕ → List ℕ → Row

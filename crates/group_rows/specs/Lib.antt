@@ -31,6 +31,8 @@ pub mod TokensExample
 pub mod Created
 pub mod CreatedExample
 pub mod CreatedRows
+pub mod Debts
+pub mod DebtsExample
 pub mod Lists
 pub mod ListRows
 pub mod ListsExample

@@ -1,0 +1,97 @@
+-- S9: what a start wants asked anew, and is owed to an editor whose texts the start hasn't (LSP 3.17, the refresh requests of Language Features).
+use Rattle.std.specs.Prelude.{ℕ, Bool, true, false, not, ◌&&◌, ◌||◌, List, [], ◌∷◌, codes, filter, nat_eq, bytes_eq, if◌then◌else◌}
+use Rattle.std.specs.Prelude.{Option, Some, None}
+use Rattle.std.specs.List.{list_all}
+use Rattle.std.specs.Option.{option_map_or}
+use Rattle.mux_history.specs.declared.cause.Cause.TheVariants.{FromEditor, EditorGone, FromServer, StartFailed, ServerGone}
+use Rattle.mux_history.specs.declared.out.Out.TheVariants.{CloseEditor}
+use Rattle.lsp_method.specs.Class.{class_of}
+use Rattle.lsp_method.specs.declared.variants.Class.{Class}
+use Rattle.lsp_method.specs.declared.variants.Class.TheVariants.{Refresh}
+use Rattle.lsp_method.specs.declared.variants.Origin.TheVariants.{Editor, Server}
+use Rattle.rpc_message.specs.Message.{Id, Message, request, notification}
+use Rattle.response_route.specs.document_model.specs.Helds.{HeldText}
+use Rattle.response_route.specs.document_model.specs.Opens.{Open}
+use Rattle.response_route.specs.document_model.specs.Rows.{agrees}
+use Rattle.event_model.specs.Event.{Event, took, did, requests}
+use Rattle.event_model.specs.Phases.{desk_of, is_running, is_served}
+use Rattle.event_model.specs.Settings.{Settings}
+use Rattle.event_model.specs.Spawns.{group_of}
+use Rattle.event_model.specs.Stages.{life_of, is_ready}
+use Rattle.registrations.specs.mux_model.specs.Documents.{held_at}
+use Rattle.registrations.specs.mux_model.specs.Methods.{goes_on}
+use Rattle.group_words.specs.Houses.{home_of, is_home}
+use Rattle.group_words.specs.Past.{past}
+use Rattle.group_rows.specs.Answers.{shared_texts}
+use Rattle.group_rows.specs.Asks.{asking_of, is_taken, serves}
+use Rattle.group_rows.specs.Forwarded.{has_room}
+use Rattle.group_rows.specs.Waiting.{is_for_start}
+
+-- a request of the start by which editors are to ask anew, and its method
+pub record Debt : Type 0 where
+  pub method : List ℕ
+  pub body : List ℕ
+
+abbrev pub names_refresh : Class → Bool
+names_refresh Refresh = true
+names_refresh _ = false
+
+abbrev pub wants_refresh : List ℕ → Bool
+wants_refresh method = names_refresh (class_of method Server false)
+
+-- the start has the language and the text that an editor has of a document
+abbrev pub is_agreed : Open → Option HeldText → Bool
+is_agreed o None = false
+is_agreed o (Some h) = agrees o h
+
+-- and so of each document that the editor has open
+abbrev pub is_opener : ℕ → Open → Bool
+is_opener e o = nat_eq o.editor e
+
+abbrev pub agrees_on_all : Settings → ℕ → List Event → ℕ → Bool
+agrees_on_all settings s events e = list_all (λ (o : Open). is_agreed o (held_at s o.uri events)) (filter (is_opener e) (shared_texts settings s events).opens)
+
+-- the editor runs, in the group of the start
+abbrev pub runs_at : Settings → ℕ → List Event → ℕ → Bool
+runs_at settings s events e = is_running (desk_of e events).phase && option_map_or (λ g. is_home g (home_of settings e events)) (group_of s events) false
+
+-- the start, which is ready, asks for it, under the id of no open ask
+abbrev pub asks_anew : Settings → ℕ → List Event → Id → List ℕ → Bool
+asks_anew settings s before id method = wants_refresh method && (is_ready (life_of s before).stage && not (is_taken (Some id) (asking_of settings s before)))
+
+-- E10, E16 and E17: what an editor says goes on to the start, which is ready: a request, while a number is left, or a notification
+abbrev pub goes_forth : Settings → ℕ → List Event → ℕ → List ℕ → Message → Bool
+goes_forth settings s before e body (request id method params) = is_for_start before e body (request id method params) && has_room settings s before
+goes_forth settings s before e body (notification method params) = goes_on (class_of method Editor true)
+goes_forth settings s before e body other = false
+
+abbrev pub goes_to : Settings → ℕ → List Event → ℕ → List ℕ → Message → Bool
+goes_to settings s before e body m = (is_served (desk_of e before).phase && (serves settings before s e && is_ready (life_of s before).stage)) && goes_forth settings s before e body m
+
+-- the last of each method, in the order in which the methods came to be owed
+abbrev pub has_other : List ℕ → Debt → Bool
+has_other method d = not (bytes_eq d.method method)
+
+abbrev pub with_debt : Debt → List Debt → List Debt
+with_debt d [] = d ∷ []
+with_debt d (x ∷ xs) = if bytes_eq x.method d.method then d ∷ xs else x ∷ with_debt d xs
+
+abbrev pub debts_by : Bool → Debt → List Debt → List Debt
+debts_by agreed d ds = if agreed then filter (has_other d.method) ds else with_debt d ds
+
+abbrev pub debts_asked : Settings → ℕ → ℕ → List Event → List ℕ → Message → List Debt → List Debt
+debts_asked settings s e before body (request id method params) ds = if asks_anew settings s before id method && runs_at settings s before e then debts_by (agrees_on_all settings s before e) (record { method = method; body = body }) ds else ds
+debts_asked settings s e before body other ds = ds
+
+-- what s owes to e: each from the request on until e's next message that goes on, until e agrees on all as the start asks for the same again, until e leaves, or until the program of s ends
+abbrev pub debts_next : Settings → ℕ → ℕ → List Event → List Debt → Event → List Debt
+debts_next settings s e before ds (took (FromServer n body) m) = if nat_eq n s then debts_asked settings s e before body m ds else ds
+debts_next settings s e before ds (took (FromEditor n body) m) = if nat_eq n e && (requests (codes "shutdown") m || goes_to settings s before e body m) then [] else ds
+debts_next settings s e before ds (took (EditorGone n why) m) = if nat_eq n e then [] else ds
+debts_next settings s e before ds (took (StartFailed n) m) = if nat_eq n s then [] else ds
+debts_next settings s e before ds (took (ServerGone n) m) = if nat_eq n s then [] else ds
+debts_next settings s e before ds (did (CloseEditor n) m) = if nat_eq n e then [] else ds
+debts_next settings s e before ds other = ds
+
+abbrev pub debts_of : Settings → ℕ → ℕ → List Event → List Debt
+debts_of settings s e events = past (debts_next settings s e) [] [] events
