@@ -14,6 +14,7 @@ pub mod Versions
 pub mod WorkedAsks
 pub mod WorkedLive
 pub mod WorkedDebts
+pub mod DebtsKept
 pub mod LiveTexts
 pub mod TokenTexts
 pub mod WorkedTokens

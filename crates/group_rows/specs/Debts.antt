@@ -1,5 +1,5 @@
 -- S9: what a start wants asked anew, and is owed to an editor whose texts the start hasn't (LSP 3.17, the refresh requests of Language Features).
-use Rattle.std.specs.Prelude.{ℕ, Bool, true, false, not, ◌&&◌, ◌||◌, List, [], ◌∷◌, codes, filter, nat_eq, bytes_eq, if◌then◌else◌}
+use Rattle.std.specs.Prelude.{ℕ, Bool, true, false, ◌&&◌, ◌||◌, List, [], codes, filter, nat_eq, if◌then◌else◌}
 use Rattle.std.specs.Prelude.{Option, Some, None}
 use Rattle.std.specs.List.{list_all}
 use Rattle.std.specs.Option.{option_map_or}
@@ -20,17 +20,15 @@ use Rattle.event_model.specs.Spawns.{group_of}
 use Rattle.event_model.specs.Stages.{life_of, is_ready}
 use Rattle.registrations.specs.mux_model.specs.Documents.{held_at}
 use Rattle.registrations.specs.mux_model.specs.Methods.{goes_on}
+use Rattle.refresh_debts.specs.declared.debts.Debt.{Debt}
+use Rattle.refresh_debts.specs.Tables.{is_same, with_debt, without}
 use Rattle.group_words.specs.Houses.{home_of, is_home}
 use Rattle.group_words.specs.Past.{past}
 use Rattle.group_rows.specs.Answers.{shared_texts}
-use Rattle.group_rows.specs.Asks.{asking_of, is_taken, serves}
+use Rattle.group_rows.specs.Asks.{serves}
 use Rattle.group_rows.specs.Forwarded.{has_room}
+use Rattle.group_rows.specs.Live.{is_heard}
 use Rattle.group_rows.specs.Waiting.{is_for_start}
-
--- a request of the start by which editors are to ask anew, and its method
-pub record Debt : Type 0 where
-  pub method : List ℕ
-  pub body : List ℕ
 
 abbrev pub names_refresh : Class → Bool
 names_refresh Refresh = true
@@ -57,7 +55,7 @@ runs_at settings s events e = is_running (desk_of e events).phase && option_map_
 
 -- the start, which is ready, asks for it, under the id of no open ask
 abbrev pub asks_anew : Settings → ℕ → List Event → Id → List ℕ → Bool
-asks_anew settings s before id method = wants_refresh method && (is_ready (life_of s before).stage && not (is_taken (Some id) (asking_of settings s before)))
+asks_anew settings s before id method = wants_refresh method && is_heard settings s before id
 
 -- E10, E16 and E17: what an editor says goes on to the start, which is ready: a request, while a number is left, or a notification
 abbrev pub goes_forth : Settings → ℕ → List Event → ℕ → List ℕ → Message → Bool
@@ -68,30 +66,39 @@ goes_forth settings s before e body other = false
 abbrev pub goes_to : Settings → ℕ → List Event → ℕ → List ℕ → Message → Bool
 goes_to settings s before e body m = (is_served (desk_of e before).phase && (serves settings before s e && is_ready (life_of s before).stage)) && goes_forth settings s before e body m
 
--- the last of each method, in the order in which the methods came to be owed
-abbrev pub has_other : List ℕ → Debt → Bool
-has_other method d = not (bytes_eq d.method method)
+-- what the start wants asked anew is owed, or is owed no more, since the editor agrees on all that it has open
+abbrev pub owed_by : Bool → Debt → List Debt → List Debt
+owed_by agreed d ds = if agreed then without (is_same d.start d.editor d.method) ds else with_debt d ds
 
-abbrev pub with_debt : Debt → List Debt → List Debt
-with_debt d [] = d ∷ []
-with_debt d (x ∷ xs) = if bytes_eq x.method d.method then d ∷ xs else x ∷ with_debt d xs
-
-abbrev pub debts_by : Bool → Debt → List Debt → List Debt
-debts_by agreed d ds = if agreed then filter (has_other d.method) ds else with_debt d ds
+abbrev pub debt_of : ℕ → ℕ → List ℕ → List ℕ → Debt
+debt_of s e method body = record { start = s; editor = e; method = method; body = body }
 
 abbrev pub debts_asked : Settings → ℕ → ℕ → List Event → List ℕ → Message → List Debt → List Debt
-debts_asked settings s e before body (request id method params) ds = if asks_anew settings s before id method && runs_at settings s before e then debts_by (agrees_on_all settings s before e) (record { method = method; body = body }) ds else ds
+debts_asked settings s e before body (request id method params) ds = if asks_anew settings s before id method && runs_at settings s before e then owed_by (agrees_on_all settings s before e) (debt_of s e method body) ds else ds
 debts_asked settings s e before body other ds = ds
 
--- what s owes to e: each from the request on until e's next message that goes on, until e agrees on all as the start asks for the same again, until e leaves, or until the program of s ends
+-- it is owed no more: its start's program ended, or couldn't be run, or its editor left
+abbrev pub ends_debts : ℕ → ℕ → Event → Bool
+ends_debts s e (took (FromEditor n body) m) = nat_eq n e && requests (codes "shutdown") m
+ends_debts s e (took (EditorGone n why) m) = nat_eq n e
+ends_debts s e (took (StartFailed n) m) = nat_eq n s
+ends_debts s e (took (ServerGone n) m) = nat_eq n s
+ends_debts s e (did (CloseEditor n) m) = nat_eq n e
+ends_debts s e other = false
+
+-- or its editor is asked, behind its own message
+abbrev pub pays_debts : Settings → ℕ → ℕ → List Event → Event → Bool
+pays_debts settings s e before (took (FromEditor n body) m) = nat_eq n e && goes_to settings s before e body m
+pays_debts settings s e before other = false
+
 abbrev pub debts_next : Settings → ℕ → ℕ → List Event → List Debt → Event → List Debt
 debts_next settings s e before ds (took (FromServer n body) m) = if nat_eq n s then debts_asked settings s e before body m ds else ds
-debts_next settings s e before ds (took (FromEditor n body) m) = if nat_eq n e && (requests (codes "shutdown") m || goes_to settings s before e body m) then [] else ds
-debts_next settings s e before ds (took (EditorGone n why) m) = if nat_eq n e then [] else ds
-debts_next settings s e before ds (took (StartFailed n) m) = if nat_eq n s then [] else ds
-debts_next settings s e before ds (took (ServerGone n) m) = if nat_eq n s then [] else ds
-debts_next settings s e before ds (did (CloseEditor n) m) = if nat_eq n e then [] else ds
-debts_next settings s e before ds other = ds
+debts_next settings s e before ds event = if ends_debts s e event || pays_debts settings s e before event then [] else ds
 
+-- what start s owes to editor e: of each method the last request, in the order in which the methods came to be owed
 abbrev pub debts_of : Settings → ℕ → ℕ → List Event → List Debt
 debts_of settings s e events = past (debts_next settings s e) [] [] events
+
+-- what it is asked behind its message
+abbrev pub debts_due : Settings → ℕ → List Event → ℕ → List ℕ → Message → List Debt
+debts_due settings s before e body m = if goes_to settings s before e body m then debts_of settings s e before else []

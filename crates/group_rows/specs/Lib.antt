@@ -42,4 +42,5 @@ pub use Rattle.held_requests
 pub use Rattle.registrations.specs.mux_members
 pub use Rattle.registrations.specs.mux_model
 pub use Rattle.registrations
+pub use Rattle.refresh_debts
 pub use Rattle.response_route

@@ -40,7 +40,7 @@ use Rattle.group_words.specs.Houses.{editors_in, groups_of, home_of, is_doubled,
 use Rattle.group_words.specs.Rows.{initialize_of, initialize_row, shown_of}
 use Rattle.group_rows.specs.Answers.{answer_row}
 use Rattle.group_rows.specs.Asks.{members_in}
-use Rattle.group_rows.specs.AskRows.{notified_row, pay_debts, question_row, response_row, run_row}
+use Rattle.group_rows.specs.AskRows.{debts_row, notified_row, question_row, response_row, run_row}
 use Rattle.group_rows.specs.Cancelling.{cancelling_row}
 use Rattle.group_rows.specs.CreatedRows.{work_row}
 use Rattle.group_rows.specs.Earlier.{configure, part_row}
@@ -93,7 +93,7 @@ replay_bodies told all (o ∷ os) =
     if list_any (bytes_eq o.uri) told then replay_bodies told all os
     else option_map_or (λ (h : Open). open_text h.uri h.language h.text ∷ []) (holder o.uri all) [] ++ replay_bodies (o.uri ∷ told) all os
 
--- E10: the request goes to the start of the editor's group under the next number, with the daemon's tokens, behind a sync, and behind it the editor is asked what the start owes it; a token that begins as the daemon's do is refused
+-- E10: the request goes to the start of the editor's group under the next number, with the daemon's tokens, behind a sync; a token that begins as the daemon's do is refused
 abbrev pub forward : Settings → ℕ → List ℕ → Row
 forward settings s body = look (λ events. send (ToServer s (forwarded_text (forwarding_of settings s events).next body)))
 
@@ -108,7 +108,7 @@ abbrev pub sync_row : Settings → List Event → ℕ → ℕ → ℕ → Row
 sync_row settings before g s e = to_start s (sync_bodies settings.limits.versions (λ u. held_at s u before) e (texts_of settings g before).opens)
 
 abbrev pub request_at : Settings → List Event → ℕ → List ℕ → ℕ → ℕ → Row
-request_at settings before e body g s = choose (can_ask settings s before) (sync_row settings before g s e ⨾ (forward settings s body ⨾ pay_debts settings before s e)) (choose (may_wait settings before e body g) nothing (answer_error e body request_failed))
+request_at settings before e body g s = choose (can_ask settings s before) (sync_row settings before g s e ⨾ forward settings s body) (choose (may_wait settings before e body g) nothing (answer_error e body request_failed))
 
 abbrev pub request_row : Settings → List Event → ℕ → List ℕ → Row
 request_row settings before e body = choose (reserves (params_of body)) (answer_error e body invalid_params) (on (home_of settings e before) (answer_error e body request_failed)
@@ -122,9 +122,9 @@ document_at settings before e body x g s =
 abbrev pub document_row : Settings → List Event → ℕ → List ℕ → Saying → Row
 document_row settings before e body x = on (home_of settings e before) nothing (λ g. on (start_of g before) nothing (document_at settings before e body x g))
 
--- E16 and E17: the notification goes to the start of the editor's group as it came, behind a sync, where the start is ready, and behind it the editor is asked what the start owes it; a later start is told of the last configuration by S2
+-- E16 and E17: the notification goes to the start of the editor's group as it came, behind a sync, where the start is ready; a later start is told of the last configuration by S2
 abbrev pub notice_at : Settings → List Event → ℕ → List ℕ → ℕ → ℕ → Row
-notice_at settings before e body g s = choose (is_ready (life_of s before).stage) (sync_row settings before g s e ⨾ (send (ToServer s body) ⨾ pay_debts settings before s e)) nothing
+notice_at settings before e body g s = choose (is_ready (life_of s before).stage) (sync_row settings before g s e ⨾ send (ToServer s body)) nothing
 
 abbrev pub notice_row : Settings → List Event → ℕ → List ℕ → Row
 notice_row settings before e body = on (home_of settings e before) nothing (λ g. on (start_of g before) nothing (notice_at settings before e body g))
@@ -301,10 +301,10 @@ started settings s before other = nothing
 abbrev pub gone_row : Settings → List Event → ℕ → Phase → Row
 gone_row settings before e phase = choose (is_served phase) (leave_row settings before e) nothing
 
--- X6 gives nothing, as each cause without a row of its own does
+-- behind what an editor's message gives the editor is asked what it is owed, where the message goes on; X6 gives nothing, as each cause without a row of its own does
 abbrev pub row_of : Settings → List Event → Cause → Row
 row_of settings before (Joined e) = joined_row before e
-row_of settings before (FromEditor e body) = from_editor settings before e body (message_of body) (desk_of e before).phase
+row_of settings before (FromEditor e body) = from_editor settings before e body (message_of body) (desk_of e before).phase ⨾ debts_row settings before e body (message_of body)
 row_of settings before (EditorGone e why) = gone_row settings before e (desk_of e before).phase
 row_of settings before (FromServer s body) = from_server settings s before body (message_of body) (life_of s before).stage
 row_of settings before (Started s) = started settings s before (life_of s before).stage
