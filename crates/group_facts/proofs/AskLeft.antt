@@ -36,7 +36,7 @@ use Rattle.group_rows.specs.Rows.{closing_row, from_editor, gone_row, outs_of, s
 use Rattle.group_facts.specs.Facts.{ends_with, is_exit, is_in, is_other, is_parted, is_parting, is_refused, is_refusing, is_too_many, is_unready, ends_link, leaves, shuts, turned_away, is_crowded, is_put_out, AllHeld}
 use Rattle.group_facts.specs.Lively.{Lively}
 use Rattle.group_facts.specs.Settled.{HasSeat, is_answered}
-use Rattle.group_facts.specs.Why.{Why, WhyToEditor, answers, asks, calls, loses, winds_up, passes, progresses, recalls, refuses, rejects, resumes, shows, spreads, turns_away, welcomes}
+use Rattle.group_facts.specs.Why.{Why, WhyToEditor, answers, asks, calls, loses, winds_up, passes, progresses, recalls, refuses, rejects, resumes, shows, spreads, turns_away, welcomes, pays}
 use Rattle.group_facts.proofs.Asks.{is_question, registering_made, response_asks_none}
 use Rattle.group_facts.proofs.AskEntries.{AllSeats, Inner, inner_rests, off_both, on_either, seat_now, up_ready}
 use Rattle.group_facts.proofs.AskRest.{all_pending, leave_clean, none_with, seat_home}
@@ -261,6 +261,7 @@ module _ (settings : Settings) (range : InRange settings) (before : List Event) 
     none_told : (events : List Event) (e : ℕ) (body : List ℕ) → WhyToEditor settings before cause events e body → AllByRecursion None_at (asks_of settings t events) → AllByRecursion None_at (asks_of settings t (events ++ said (ToEditor e body) ∷ []))
     none_told events e body (asks k) h = never (sym (ap (λ c. is_exit c t) (sym (k.source).from) ∙ exit.is))
     none_told events e body (resumes k) h = never (sym (ap (λ c. is_exit c t) (sym k.from) ∙ exit.is))
+    none_told events e body (pays k) h = never (sym (ap (λ c. is_exit c t) (sym k.from) ∙ exit.is))
     none_told events e body (calls k) h = asks_more settings None_at t events (said (ToEditor e body)) _ (ap (λ (x : Asking). x.asks) (registering_made settings events e body before cause k t)) h
     none_told events e body (rejects k) h = did_all settings None_at t events (ToEditor e body) (ap is_question k.says) h
     none_told events e body (refuses k) h = did_all settings None_at t events (ToEditor e body) (ap is_question k.says) h

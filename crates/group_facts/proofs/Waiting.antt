@@ -33,7 +33,7 @@ use Rattle.group_facts.proofs.PutOut.{turned_ends}
 use Rattle.group_facts.proofs.Quits.{one_of}
 use Rattle.group_facts.proofs.StopEntry.{none_there, unthere_unbegun}
 use Rattle.group_facts.proofs.Listens.{listens_late}
-use Rattle.group_facts.specs.Why.{IsRefusal, WhyToEditor, calls, rejects, resumes, refuses, answers, turns_away, welcomes, passes, asks, loses, winds_up, recalls, spreads, progresses, shows}
+use Rattle.group_facts.specs.Why.{IsRefusal, WhyToEditor, calls, rejects, resumes, refuses, answers, turns_away, welcomes, passes, asks, loses, winds_up, recalls, spreads, progresses, shows, pays}
 
 -- one event more
 wait_more : (e : ℕ) (events : List Event) (event : Event) → WaitsAt (desk_behind e (desk_of e events) event) (open_behind e (open_of e events) event) → WaitsAt (desk_of e (events ++ event ∷ [])) (open_of e (events ++ event ∷ []))
@@ -89,6 +89,7 @@ module _ (settings : Settings) (before : List Event) (cause : Cause) (events : L
   waiting_told (welcomes k) h e rest = result_told (λ at. ap is_a_result k.says) e (h e rest)
   waiting_told (asks k) h e rest = running_told (k.source).running e (h e rest)
   waiting_told (resumes k) h e rest = running_told k.running e (h e rest)
+  waiting_told (pays k) h e rest = running_told k.running e (h e rest)
   waiting_told (calls k) h e rest = running_told k.running e (h e rest)
   waiting_told (spreads k) h e rest = running_told (k.source).running e (h e rest)
   waiting_told (shows k) h e rest = running_told k.running e (h e rest)

@@ -36,7 +36,7 @@ use Rattle.group_rows.specs.Forwarded.{Forwarded, forwarding_of, names as names_
 use Rattle.group_rows.specs.Rows.{from_editor, from_server, outs_of}
 use Rattle.group_rows.specs.Tokens.{is_mark, is_told, listens, mark, marked_text, own_token, partial_mark, tell_progress, work_mark}
 use Rattle.group_facts.specs.Settled.{HasTaken, RunsAt, Settled}
-use Rattle.group_facts.specs.Why.{IsNotified, IsTaken, Showing, Why, WhyToEditor, answers, asks, begins_by, calls, comes, opened_by, passes, progresses, recalls, refuses, rejects, resumes, shows, spreads, turns_away, welcomes, loses, winds_up}
+use Rattle.group_facts.specs.Why.{IsNotified, IsTaken, Showing, Why, WhyToEditor, answers, asks, begins_by, calls, comes, opened_by, passes, progresses, recalls, refuses, rejects, resumes, shows, spreads, turns_away, welcomes, loses, winds_up, pays}
 use Rattle.group_facts.proofs.Facts.{Facts}
 use Rattle.group_sessions.proofs.Accepted.{NamesToken}
 use Rattle.group_sessions.proofs.Client6Law.{created_id}
@@ -230,6 +230,7 @@ module _ (settings : Settings) (before : List Event) (facts : Facts settings bef
     progress_of events out (passes w) method params says = never (sym w.response ∙ ap is_response says)
     progress_of events out (asks w) method params says = absurd (let clash = sym says ∙ w.says in cc)
     progress_of events out (resumes w) method params says = absurd (let clash = sym says ∙ w.says in cc)
+    progress_of events out (pays w) method params says = absurd (let clash = sym says ∙ w.says in cc)
     progress_of events out (calls w) method params says = absurd (let clash = sym says ∙ w.says in cc)
 
     all_sent : (bodies : List (List ℕ)) → NameTokens bodies → (events : List Event) → Reasons (Why settings before (FromEditor e body)) events (map handed bodies) → sent_outs s c.token e (map handed bodies) ≡ map (marked_text (created_text s c.token)) bodies
