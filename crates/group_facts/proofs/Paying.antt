@@ -11,10 +11,9 @@ use Rattle.rpc_message.specs.Message.{Message, request, notification, result, er
 use Rattle.rpc_message.specs.Texts.{with_id_text}
 use Rattle.rpc_message.proofs.Decimals.{decimal_law}
 use Rattle.rpc_message.proofs.Ids.{request_with_id}
-use Rattle.event_model.specs.declared.phase.Phase.{Phase}
-use Rattle.event_model.specs.declared.phase.Phase.TheVariants.{Absent, New, Waiting, Answered, Running, Down, Closed, Gone}
+use Rattle.event_model.specs.declared.phase.Phase.TheVariants.{Down, Running}
 use Rattle.event_model.specs.Event.{Event, behind, did, heard, notifies, requests, said, with_cause}
-use Rattle.event_model.specs.Phases.{Desk, desk_hears, desk_of, is_multiplexer_request, is_new, is_served, is_there, is_waiting, makes_running, phase_closed}
+use Rattle.event_model.specs.Phases.{Desk, desk_hears, desk_of, is_multiplexer_request, is_new, is_running, is_there, is_waiting, makes_running, phase_closed}
 use Rattle.event_model.specs.Row.{choose, each, nothing, on, outs, send}
 use Rattle.event_model.specs.Settings.{Settings}
 use Rattle.event_model.specs.Spawns.{start_of}
@@ -22,6 +21,7 @@ use Rattle.event_model.specs.Stages.{is_ready, life_of}
 use Rattle.event_model.proofs.Frames.{never}
 use Rattle.mux_facts.proofs.DocumentRow.{ready_is}
 use Rattle.mux_facts.proofs.Folds.{desk_more}
+use Rattle.mux_facts.proofs.Lists.{all_join}
 use Rattle.mux_facts.proofs.Reasons.{Because, Reasons, by_choose, by_look, by_nothing, by_on, by_send, by_then, reasons_keep}
 use Rattle.mux_facts.proofs.Words.{number_same, same_number}
 use Rattle.mux_model.specs.Methods.{goes_on}
@@ -38,9 +38,9 @@ use Rattle.group_rows.proofs.Going.{no_exit}
 use Rattle.group_rows.proofs.Versions.{AllMeant}
 use Rattle.event_model.specs.Members.{params_of}
 use Rattle.group_facts.specs.Facts.{ends_link, is_parting, is_put_out, is_too_many, turned_away}
-use Rattle.group_facts.specs.Why.{IsPaid, Why, pays}
+use Rattle.group_facts.specs.Why.{IsPaid, IsQuestion, Why, has_method, pays}
 use Rattle.group_facts.proofs.Asks.{asking_more}
-use Rattle.group_facts.proofs.AskingRows.{still_runs, work_sent, work_told}
+use Rattle.group_facts.proofs.AskingRows.{running_is, still_runs, work_sent, work_told}
 use Rattle.group_facts.proofs.Quits.{running_goes_on}
 use Rattle.group_facts.proofs.Still.{unended, unshut}
 
@@ -71,26 +71,6 @@ goes_runs settings s before e body (error id x) h = never (sym h)
 goes_runs settings s before e body not_json h = never (sym h)
 goes_runs settings s before e body not_message h = never (sym h)
 
-served_known : (p : Phase) → is_served p ≡ true → (is_new p ≡ false) × (is_waiting p ≡ false)
-served_known Answered h = (refl, refl)
-served_known Running h = (refl, refl)
-served_known Absent h = never (sym h)
-served_known New h = never (sym h)
-served_known Waiting h = never (sym h)
-served_known Down h = never (sym h)
-served_known Closed h = never (sym h)
-served_known Gone h = never (sym h)
-
-served_runs : (p : Phase) (i body : List ℕ) (m : Message) → is_served p ≡ true → makes_running m ≡ true → requests (codes "shutdown") m ≡ false → (desk_hears p i body m).phase ≡ Running
-served_runs Answered i body m h runs on = ap (λ b. if b then Down else if makes_running m then Running else Answered) on ∙ ap (λ b. if b then Running else Answered) runs
-served_runs Running i body m h runs on = ap (λ b. if b then Down else Running) on
-served_runs Absent i body m h runs on = never (sym h)
-served_runs New i body m h runs on = never (sym h)
-served_runs Waiting i body m h runs on = never (sym h)
-served_runs Down i body m h runs on = never (sym h)
-served_runs Closed i body m h runs on = never (sym h)
-served_runs Gone i body m h runs on = never (sym h)
-
 -- no out changes whose request is at work
 asker_did : (settings : Settings) (t : ℕ) (events : List Event) (x : Asking) (out : Out) → (asking_next settings t events x (said out)).asker ≡ x.asker
 asker_did settings t events x (ToEditor e body) = (work_told settings t events x e body (message_of body)).0
@@ -112,17 +92,17 @@ module _ (settings : Settings) (before : List Event) (e : ℕ) (body : List ℕ)
     pub idle : (t : ℕ) → (asking_of settings t events).asker ≡ None
 
   module _ (s : ℕ) (goes : goes_to settings s before e body (message_of body) ≡ true) where
-    halves : ((is_served (desk_of e before).phase && (serves settings before s e && is_ready (life_of s before).stage)) ≡ true) × (goes_forth settings s before e body (message_of body) ≡ true)
-    halves = and_parts (is_served (desk_of e before).phase && (serves settings before s e && is_ready (life_of s before).stage)) (goes_forth settings s before e body (message_of body)) goes
+    halves : ((is_running (desk_of e before).phase && (serves settings before s e && is_ready (life_of s before).stage)) ≡ true) × (goes_forth settings s before e body (message_of body) ≡ true)
+    halves = and_parts (is_running (desk_of e before).phase && (serves settings before s e && is_ready (life_of s before).stage)) (goes_forth settings s before e body (message_of body)) goes
 
-    served : is_served (desk_of e before).phase ≡ true
-    served = (and_parts (is_served (desk_of e before).phase) (serves settings before s e && is_ready (life_of s before).stage) halves.0).0
+    ran : (desk_of e before).phase ≡ Running
+    ran = running_is settings before (desk_of e before).phase (and_parts (is_running (desk_of e before).phase) (serves settings before s e && is_ready (life_of s before).stage) halves.0).0
 
     ready : is_ready (life_of s before).stage ≡ true
-    ready = (and_parts (serves settings before s e) (is_ready (life_of s before).stage) (and_parts (is_served (desk_of e before).phase) (serves settings before s e && is_ready (life_of s before).stage) halves.0).1).1
+    ready = (and_parts (serves settings before s e) (is_ready (life_of s before).stage) (and_parts (is_running (desk_of e before).phase) (serves settings before s e && is_ready (life_of s before).stage) halves.0).1).1
 
-    on : GoesOn before e (message_of body)
-    on = goes_runs settings s before e body (message_of body) halves.1
+    forth : GoesOn before e (message_of body)
+    forth = goes_runs settings s before e body (message_of body) halves.1
 
     -- its link doesn't end
     and_off : (a : Bool) → (a && false) ≡ false
@@ -130,20 +110,21 @@ module _ (settings : Settings) (before : List Event) (e : ℕ) (body : List ℕ)
     and_off false = refl
 
     unturned : turned_away settings before (FromEditor e body) e ≡ false
-    unturned = ap₂ (λ x y. x || y) (ap (λ b. nat_eq e e && ((b && requests (codes "initialize") (message_of body)) && is_too_many (placed_for settings before e body (groups_of settings before)))) (served_known (desk_of e before).phase served).0 ∙ and_off (nat_eq e e))
-        (ap (λ b. b && is_waiting (desk_of e before).phase) (running_goes_on before e (message_of body) on.runs))
+    unturned = ap₂ (λ x y. x || y) (ap (λ p. nat_eq e e && ((is_new p && requests (codes "initialize") (message_of body)) && is_too_many (placed_for settings before e body (groups_of settings before)))) ran ∙ and_off (nat_eq e e))
+        (ap (λ b. b && is_waiting (desk_of e before).phase) (running_goes_on before e (message_of body) forth.runs))
 
     stays : ends_link settings before (FromEditor e body) e ≡ false
     stays = ap₂ (λ a b. a || b) unturned (ap₂ (λ a b. (nat_eq e e && a) || b)
-        (ap₂ (λ a b. a || b) (unended settings before e body (message_of body) on.runs) on.single)
-        (ap (λ b. b && is_there (desk_of e before).phase) (running_goes_on before e (message_of body) on.runs))
+        (ap₂ (λ a b. a || b) (unended settings before e body (message_of body) forth.runs) forth.single)
+        (ap (λ b. b && is_there (desk_of e before).phase) (running_goes_on before e (message_of body) forth.runs))
         ∙ ap (λ b. b || false) (and_off (nat_eq e e)))
 
     pays_now : Pays base
     pays_now = record {
       running = ap (λ (d : Desk). d.phase) (desk_more e before (heard (FromEditor e body)))
           ∙ ap (λ b. (if b then desk_hears (desk_of e before).phase (desk_of e before).initialize body (message_of body) else desk_of e before).phase) (same_number e)
-          ∙ served_runs (desk_of e before).phase (desk_of e before).initialize body (message_of body) served on.runs (unshut settings before e body (message_of body) on.runs);
+          ∙ ap (λ p. (desk_hears p (desk_of e before).initialize body (message_of body)).phase) ran
+          ∙ ap (λ b. if b then Down else Running) (unshut settings before e body (message_of body) forth.runs);
       idle = λ t. ap (λ (x : Asking). x.asker) (asking_more settings t before (heard (FromEditor e body)));
     }
 
@@ -226,3 +207,31 @@ module _ (settings : Settings) (before : List Event) (e : ℕ) (body : List ℕ)
 
     pub debts_why : Because R place (debts_row settings before e body (message_of body))
     debts_why = by_on (λ none. by_nothing) (λ g home. at_group g)
+
+  -- each of them asks the editor something
+  module _ (meant : AllMeant before) where
+    one_question : (d : Debt) → IsDebt d → (events : List Event) → AllByRecursion (IsQuestion e) (outs (ask d.body e) events)
+    one_question d q events = go (has_number e events) refl
+      where
+        go : (b : Bool) → has_number e events ≡ b → AllByRecursion (IsQuestion e) (outs (choose b (send (ToEditor e (with_id_text d.body (decimal (next_ask e events))))) nothing) events)
+        go true room = ((refl, ap has_method (request_with_id d.body (decimal (next_ask e events)) q.id (integer (decimal (next_ask e events))) d.method q.params q.says (decimal_law (next_ask e events) (ltb-true (next_ask e events) (2 ^ 64) room)))), tt)
+        go false full = tt
+
+    all_questions : (ds : List Debt) → AllByRecursion IsDebt ds → (events : List Event) → AllByRecursion (IsQuestion e) (outs (each (λ (d : Debt). ask d.body e) ds) events)
+    all_questions [] all events = tt
+    all_questions (d ∷ ds) all events = all_join (IsQuestion e) (outs (ask d.body e) events) (outs (each (λ (d : Debt). ask d.body e) ds) (behind events (outs (ask d.body e) events))) (one_question d all.0 events) (all_questions ds all.1 (behind events (outs (ask d.body e) events)))
+
+    pub debts_questions : (events : List Event) → AllByRecursion (IsQuestion e) (outs (debts_row settings before e body (message_of body)) events)
+    debts_questions events = at_home (home_of settings e before)
+      where
+        due : (s : ℕ) (b : Bool) → AllByRecursion (IsQuestion e) (outs (each (λ (d : Debt). ask d.body e) (if b then debts_of settings s e before else [])) events)
+        due s true = all_questions (debts_of settings s e before) (debts_kept settings s e before meant) events
+        due s false = tt
+
+        at_start : (o : Option ℕ) → AllByRecursion (IsQuestion e) (outs (on o nothing (debts_at settings before e body (message_of body))) events)
+        at_start None = tt
+        at_start (Some s) = due s (goes_to settings s before e body (message_of body))
+
+        at_home : (o : Option ℕ) → AllByRecursion (IsQuestion e) (outs (on o nothing (λ g. on (start_of g before) nothing (debts_at settings before e body (message_of body)))) events)
+        at_home None = tt
+        at_home (Some g) = at_start (start_of g before)

@@ -34,6 +34,7 @@ use Rattle.group_facts.proofs.Quits.{one_of}
 use Rattle.group_facts.proofs.StopEntry.{none_there, unthere_unbegun}
 use Rattle.group_facts.proofs.Listens.{listens_late}
 use Rattle.group_facts.specs.Why.{IsRefusal, WhyToEditor, calls, rejects, resumes, refuses, answers, turns_away, welcomes, passes, asks, loses, winds_up, recalls, spreads, progresses, shows, pays}
+use Rattle.group_rows.proofs.DebtsKept.{off_unrun, whole_off}
 
 -- one event more
 wait_more : (e : ℕ) (events : List Event) (event : Event) → WaitsAt (desk_behind e (desk_of e events) event) (open_behind e (open_of e events) event) → WaitsAt (desk_of e (events ++ event ∷ [])) (open_of e (events ++ event ∷ []))
@@ -169,7 +170,9 @@ module _ (settings : Settings) (before : List Event) (n : ℕ) (body : List ℕ)
       let parts = and_parts (nat_eq n e) (places (desk_of n before).phase (message_of body) && is_too_many (placed_for settings before n body (groups_of settings before))) turned in
       let more = and_parts (places (desk_of n before).phase (message_of body)) (is_too_many (placed_for settings before n body (groups_of settings before))) parts.1 in
       let place = and_parts (is_new (desk_of n before).phase) (requests (codes "initialize") (message_of body)) more.0 in
-      rw (whole_is (message_of body) place.1, new_is (desk_of n before).phase place.0, first_unasked (message_of body) place.1, place.1, many_is (placed_for settings before n body (groups_of settings before)) more.1) refl
+      let rest : outs (from_editor settings before n body (message_of body) (desk_of n before).phase) (with_cause before (FromEditor n body)) ≡ ToEditor n answer ∷ CloseEditor n ∷ [] =
+      rw (whole_is (message_of body) place.1, new_is (desk_of n before).phase place.0, first_unasked (message_of body) place.1, place.1, many_is (placed_for settings before n body (groups_of settings before)) more.1) refl in
+      whole_off settings before n body (off_unrun settings before n body (message_of body) (ap is_running (new_is (desk_of n before).phase place.0))) ∙ rest
 
   pub turned_closed : (e : ℕ) → is_crowded settings before n body e ≡ true → (now : List Event) → WaitsAt (desk_of e (behind now (ToEditor n answer ∷ CloseEditor n ∷ []))) (open_of e (behind now (ToEditor n answer ∷ CloseEditor n ∷ [])))
   turned_closed e turned now = subst (λ z. WaitsAt (desk_of e z) (open_of e z)) (append_assoc now (said (ToEditor n answer) ∷ []) (said (CloseEditor n) ∷ []))

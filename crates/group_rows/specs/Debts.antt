@@ -14,7 +14,7 @@ use Rattle.response_route.specs.document_model.specs.Helds.{HeldText}
 use Rattle.response_route.specs.document_model.specs.Opens.{Open}
 use Rattle.response_route.specs.document_model.specs.Rows.{agrees}
 use Rattle.event_model.specs.Event.{Event, took, did, requests}
-use Rattle.event_model.specs.Phases.{desk_of, is_running, is_served}
+use Rattle.event_model.specs.Phases.{desk_of, is_running}
 use Rattle.event_model.specs.Settings.{Settings}
 use Rattle.event_model.specs.Spawns.{group_of}
 use Rattle.event_model.specs.Stages.{life_of, is_ready}
@@ -57,14 +57,14 @@ runs_at settings s events e = is_running (desk_of e events).phase && option_map_
 abbrev pub asks_anew : Settings → ℕ → List Event → Id → List ℕ → Bool
 asks_anew settings s before id method = wants_refresh method && is_heard settings s before id
 
--- E10, E16 and E17: what an editor says goes on to the start, which is ready: a request, while a number is left, or a notification
+-- E10, E16 and E17: what an editor says goes on to the start of its group, which is ready: a request, while a number is left, or a notification. One that begins to run by it is owed nothing yet
 abbrev pub goes_forth : Settings → ℕ → List Event → ℕ → List ℕ → Message → Bool
 goes_forth settings s before e body (request id method params) = is_for_start before e body (request id method params) && has_room settings s before
 goes_forth settings s before e body (notification method params) = goes_on (class_of method Editor true)
 goes_forth settings s before e body other = false
 
 abbrev pub goes_to : Settings → ℕ → List Event → ℕ → List ℕ → Message → Bool
-goes_to settings s before e body m = (is_served (desk_of e before).phase && (serves settings before s e && is_ready (life_of s before).stage)) && goes_forth settings s before e body m
+goes_to settings s before e body m = (is_running (desk_of e before).phase && (serves settings before s e && is_ready (life_of s before).stage)) && goes_forth settings s before e body m
 
 -- what the start wants asked anew is owed, or is owed no more, since the editor agrees on all that it has open
 abbrev pub owed_by : Bool → Debt → List Debt → List Debt
