@@ -11,8 +11,8 @@ use Rattle.rpc_message.specs.Message.{Message, request, notification, result, er
 use Rattle.rpc_message.specs.Texts.{ok_text}
 use Rattle.event_model.specs.declared.phase.Phase.{Phase}
 use Rattle.event_model.specs.declared.phase.Phase.TheVariants.{Absent, New, Waiting, Answered, Running, Down, Closed, Gone}
-use Rattle.event_model.specs.Event.{Event, behind, heard, said, with_cause}
-use Rattle.event_model.specs.Phases.{Desk, desk_hears, desk_of, editors_of, has_id, is_begun, is_there, phase_closed, phase_told}
+use Rattle.event_model.specs.Event.{Event, behind, heard, said, with_cause, requests}
+use Rattle.event_model.specs.Phases.{Desk, desk_hears, desk_of, editors_of, has_id, is_begun, is_there, phase_closed, phase_told, is_multiplexer_request}
 use Rattle.std.specs.Prelude.{None, Some}
 use Rattle.event_model.specs.Row.{choose, each, nothing, outs, send}
 use Rattle.event_model.specs.Settings.{Settings}

@@ -12,7 +12,7 @@ use Rattle.rpc_message.specs.Texts.{error_text, request_failed}
 use Rattle.event_model.specs.declared.phase.Phase.{Phase}
 use Rattle.event_model.specs.declared.phase.Phase.TheVariants.{Absent, New, Waiting, Answered, Running, Down, Closed, Gone}
 use Rattle.event_model.specs.Event.{Event, said, behind, with_cause, requests}
-use Rattle.event_model.specs.Phases.{Desk, desk_of, desk_behind, has_id, is_begun, is_malformed, is_new, is_waiting, phase_closed, phase_told}
+use Rattle.event_model.specs.Phases.{Desk, desk_of, desk_behind, has_id, is_begun, is_malformed, is_new, is_waiting, phase_closed, phase_told, is_running}
 use Rattle.event_model.specs.Requests.{answered_id, open_behind, open_of, without}
 use Rattle.event_model.specs.Settings.{Settings}
 use Rattle.event_model.proofs.Frames.{never}
@@ -25,7 +25,7 @@ use Rattle.group_words.specs.declared.placed.Placed.{Placed}
 use Rattle.group_words.specs.declared.placed.Placed.TheVariants.{Joins, New as Founds, Evicts, TooMany}
 use Rattle.group_words.specs.Houses.{groups_of, placed_for, places, stops}
 use Rattle.mux_facts.proofs.Why.{is_early}
-use Rattle.group_rows.specs.Rows.{asks_lspmux, names_lspmux, outs_of}
+use Rattle.group_rows.specs.Rows.{asks_lspmux, names_lspmux, outs_of, from_editor}
 use Rattle.group_facts.specs.Facts.{is_crowded, is_too_many, turned_away}
 use Rattle.group_facts.proofs.Facts.{OthersWait}
 use Rattle.group_facts.proofs.ExitEntry.{Exit, exit_turns, failed_exit, gone_exit}

@@ -21,13 +21,13 @@ use Rattle.event_model.specs.Stages.{is_ready, life_of}
 use Rattle.event_model.proofs.Frames.{never}
 use Rattle.refresh_debts.specs.declared.debts.Debt.{Debt}
 use Rattle.refresh_debts.specs.Tables.{is_same, with_debt, without}
-use Rattle.registrations.specs.mux_model.specs.Methods.{goes_on}
+use Rattle.registrations.specs.mux_model.specs.Methods.{goes_on, is_wrong}
 use Rattle.group_words.specs.Houses.{home_of, is_doubled}
 use Rattle.group_words.specs.Past.{past}
 use Rattle.group_words.proofs.Frames.{past_more}
 use Rattle.group_rows.specs.AskRows.{ask, debts_at, debts_row}
 use Rattle.group_rows.specs.Asks.{goes_to_one, is_patient, is_single, may_wait, serves}
-use Rattle.group_rows.specs.Created.{is_creating, names_create}
+use Rattle.group_rows.specs.Created.{accepts, is_creating, names_create}
 use Rattle.group_rows.specs.Debts.{agrees_on_all, asks_anew, debt_of, debts_asked, debts_next, debts_of, ends_debts, goes_forth, goes_to, names_refresh, owed_by, pays_debts, runs_at, wants_refresh}
 use Rattle.group_rows.specs.Forwarded.{has_room}
 use Rattle.group_rows.specs.Live.{changes_live, is_heard, is_registering}
@@ -127,6 +127,11 @@ off_second : (a c : Bool) → (a && (false && c)) ≡ false
 off_second true c = refl
 off_second false c = refl
 
+off_third : (a b d : Bool) → (a && (b && (false && d))) ≡ false
+off_third true true d = refl
+off_third true false d = refl
+off_third false b d = refl
+
 off_fourth : (a b c d : Bool) → (a && (b && (c && (false && d)))) ≡ false
 off_fourth true true true d = refl
 off_fourth true true false d = refl
@@ -214,3 +219,23 @@ module _ (settings : Settings) (before : List Event) (e : ℕ) (body : List ℕ)
   forth_speaking (error id x) h s = refl
   forth_speaking not_json h s = refl
   forth_speaking not_message h s = refl
+
+  -- E8: a second `initialize`
+  pub forth_again : (m : Message) → requests (codes "initialize") m ≡ true → (s : ℕ) → goes_forth settings s before e body m ≡ false
+  forth_again (request id method params) h s =
+      ap (λ b. (not (is_doubled before e (request id method params)) && (not (is_multiplexer_request (request id method params)) && (not (b || is_wrong (class_of method Editor false)) && (not (bytes_eq (codes "shutdown") method) && not (reserves (params_of body)))))) && has_room settings s before) h
+      ∙ ap (λ b. b && has_room settings s before) (off_third (not (is_doubled before e (request id method params))) (not (is_multiplexer_request (request id method params))) (not (bytes_eq (codes "shutdown") method) && not (reserves (params_of body))))
+  forth_again (notification method params) h s = never (sym h)
+  forth_again (result id r) h s = never (sym h)
+  forth_again (error id x) h s = never (sym h)
+  forth_again not_json h s = never (sym h)
+  forth_again not_message h s = never (sym h)
+
+  -- E19: a result
+  pub forth_accepting : (m : Message) → accepts m ≡ true → (s : ℕ) → goes_forth settings s before e body m ≡ false
+  forth_accepting (result id r) h s = refl
+  forth_accepting (error id x) h s = never (sym h)
+  forth_accepting (request id method params) h s = never (sym h)
+  forth_accepting (notification method params) h s = never (sym h)
+  forth_accepting not_json h s = never (sym h)
+  forth_accepting not_message h s = never (sym h)

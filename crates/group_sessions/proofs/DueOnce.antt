@@ -70,7 +70,7 @@ use Rattle.group_sessions.proofs.DueClear.{off_creating}
 use Rattle.group_sessions.proofs.DueEvents.{Rest, Tie, dead, going, num_off, words_more}
 use Rattle.group_sessions.proofs.DueLaw.{AskedOnce}
 use Rattle.group_sessions.proofs.DueWords.{any_join, none_join}
-use Rattle.group_rows.proofs.DebtsKept.{refresh_uncreating}
+use Rattle.group_rows.proofs.DebtsKept.{refresh_uncreating, off_unrun, whole_off}
 
 abbrev makes : Message → Bool
 makes (request id method params) = is_creating method
@@ -574,7 +574,7 @@ module _ (settings : Settings) (range : InRange settings) (before : List Event) 
     unasked_there = unasked_now (FromEditor e body) (unasked_by (λ h. let clash : true ≡ false = sym (ran h) ∙ ap has_run was in cc))
 
     first_row : outs_of settings before (FromEditor e body) ≡ outs (message_row settings before e body (message_of body) Answered) there
-    first_row = ap (λ p. outs (from_editor settings before e body (message_of body) p) there) was ∙ ap (λ b. outs (choose b (malformed_row e (message_of body) Answered) (message_row settings before e body (message_of body) Answered)) there) (well_formed (message_of body) runs).0
+    first_row = whole_off settings before e body (off_unrun settings before e body (message_of body) (ap is_running was)) ∙ (ap (λ p. outs (from_editor settings before e body (message_of body) p) there) was ∙ ap (λ b. outs (choose b (malformed_row e (message_of body) Answered) (message_row settings before e body (message_of body) Answered)) there) (well_formed (message_of body) runs).0)
 
     doubled : is_doubled before e (message_of body) ≡ true → Reasons Once there (outs_of settings before (FromEditor e body))
     doubled twice = subst (Reasons Once there) (sym (first_row ∙ ap (λ b. outs (choose b (closing_row settings before e) (told_row settings before e body (message_of body) Answered)) there) twice))
