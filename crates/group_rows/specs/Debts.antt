@@ -1,5 +1,5 @@
 -- S9: what a start wants asked anew, and is owed to an editor whose texts the start hasn't (LSP 3.17, the refresh requests of Language Features).
-use Rattle.std.specs.Prelude.{ℕ, Bool, true, false, ◌&&◌, ◌||◌, List, [], codes, filter, nat_eq, if◌then◌else◌}
+use Rattle.std.specs.Prelude.{ℕ, Bool, true, false, not, ◌&&◌, ◌||◌, List, [], codes, nat_eq, if◌then◌else◌}
 use Rattle.std.specs.Prelude.{Option, Some, None}
 use Rattle.std.specs.List.{list_all}
 use Rattle.std.specs.Option.{option_map_or}
@@ -10,15 +10,14 @@ use Rattle.lsp_method.specs.declared.variants.Class.{Class}
 use Rattle.lsp_method.specs.declared.variants.Class.TheVariants.{Refresh}
 use Rattle.lsp_method.specs.declared.variants.Origin.TheVariants.{Editor, Server}
 use Rattle.rpc_message.specs.Message.{Id, Message, request, notification}
-use Rattle.response_route.specs.document_model.specs.Helds.{HeldText}
+use Rattle.response_route.specs.document_model.specs.declared.agreement.Agreement.{Agreement}
+use Rattle.response_route.specs.document_model.specs.declared.agreement.Agreement.TheVariants.{Agrees}
 use Rattle.response_route.specs.document_model.specs.Opens.{Open}
-use Rattle.response_route.specs.document_model.specs.Rows.{agrees}
 use Rattle.event_model.specs.Event.{Event, took, did, requests}
 use Rattle.event_model.specs.Phases.{desk_of, is_running}
 use Rattle.event_model.specs.Settings.{Settings}
 use Rattle.event_model.specs.Spawns.{group_of}
 use Rattle.event_model.specs.Stages.{life_of, is_ready}
-use Rattle.registrations.specs.mux_model.specs.Documents.{held_at}
 use Rattle.registrations.specs.mux_model.specs.Methods.{goes_on}
 use Rattle.refresh_debts.specs.declared.debts.Debt.{Debt}
 use Rattle.refresh_debts.specs.Tables.{is_same, with_debt, without}
@@ -27,6 +26,7 @@ use Rattle.group_words.specs.Past.{past}
 use Rattle.group_rows.specs.Answers.{shared_texts}
 use Rattle.group_rows.specs.Asks.{serves}
 use Rattle.group_rows.specs.Forwarded.{has_room}
+use Rattle.group_rows.specs.Lists.{agreement_at}
 use Rattle.group_rows.specs.Live.{is_heard}
 use Rattle.group_rows.specs.Waiting.{is_for_start}
 
@@ -37,17 +37,16 @@ names_refresh _ = false
 abbrev pub wants_refresh : List ℕ → Bool
 wants_refresh method = names_refresh (class_of method Server false)
 
--- the start has the language and the text that an editor has of a document
-abbrev pub is_agreed : Open → Option HeldText → Bool
-is_agreed o None = false
-is_agreed o (Some h) = agrees o h
+-- the start has the language and the text that an editor has of each document that the editor has open
+abbrev pub is_agreed : Agreement → Bool
+is_agreed (Agrees held changed) = true
+is_agreed other = false
 
--- and so of each document that the editor has open
-abbrev pub is_opener : ℕ → Open → Bool
-is_opener e o = nat_eq o.editor e
+abbrev pub agrees_on : Settings → ℕ → List Event → ℕ → Open → Bool
+agrees_on settings s events e o = not (nat_eq o.editor e) || is_agreed (agreement_at settings s e events o.uri)
 
 abbrev pub agrees_on_all : Settings → ℕ → List Event → ℕ → Bool
-agrees_on_all settings s events e = list_all (λ (o : Open). is_agreed o (held_at s o.uri events)) (filter (is_opener e) (shared_texts settings s events).opens)
+agrees_on_all settings s events e = list_all (agrees_on settings s events e) (shared_texts settings s events).opens
 
 -- the editor runs, in the group of the start
 abbrev pub runs_at : Settings → ℕ → List Event → ℕ → Bool
