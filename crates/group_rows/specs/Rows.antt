@@ -225,6 +225,10 @@ message_row settings before e body m phase = choose (is_begun phase && is_double
 abbrev pub from_editor : Settings → List Event → ℕ → List ℕ → Message → Phase → Row
 from_editor settings before e body m phase = choose (is_malformed m) (malformed_row e m phase) (message_row settings before e body m phase)
 
+-- what an editor's message gives, before the editor is asked what it is owed
+abbrev pub editor_row : Settings → List Event → ℕ → List ℕ → Row
+editor_row settings before e body = from_editor settings before e body (message_of body) (desk_of e before).phase
+
 -- S2: an editor that waits is answered
 abbrev pub welcome : List ℕ → ℕ → Row
 welcome body e = look (λ events. send (ToEditor e (ok_text (id_bytes (desk_of e events).initialize) (shown_of (result_bytes body)))))
@@ -304,7 +308,7 @@ gone_row settings before e phase = choose (is_served phase) (leave_row settings 
 -- behind what an editor's message gives the editor is asked what it is owed, where the message goes on; X6 gives nothing, as each cause without a row of its own does
 abbrev pub row_of : Settings → List Event → Cause → Row
 row_of settings before (Joined e) = joined_row before e
-row_of settings before (FromEditor e body) = from_editor settings before e body (message_of body) (desk_of e before).phase ⨾ debts_row settings before e body (message_of body)
+row_of settings before (FromEditor e body) = editor_row settings before e body ⨾ debts_row settings before e body (message_of body)
 row_of settings before (EditorGone e why) = gone_row settings before e (desk_of e before).phase
 row_of settings before (FromServer s body) = from_server settings s before body (message_of body) (life_of s before).stage
 row_of settings before (Started s) = started settings s before (life_of s before).stage

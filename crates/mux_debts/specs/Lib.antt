@@ -1,0 +1,3 @@
+pub use Rattle.mux_turns
+pub use Rattle.refresh_debts
+pub mod Stands
