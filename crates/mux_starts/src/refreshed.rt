@@ -64,7 +64,8 @@ fn agreeing(
 {
     let mut those = Vec::new(alloc);
     for e in numbers {
-        if tables.agrees_on_all(g, *e)? {
+        let agrees = tables.agrees_on_all(g, *e)?;
+        if agrees {
             those.push(*e)?;
         }
     }
