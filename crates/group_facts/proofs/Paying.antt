@@ -29,11 +29,11 @@ use Rattle.group_words.specs.Houses.{groups_of, home_of, is_doubled, placed_for}
 use Rattle.group_rows.specs.refresh_debts.specs.declared.debts.Debt.{Debt}
 use Rattle.group_rows.specs.AskRows.{ask, debts_at, debts_row}
 use Rattle.group_rows.specs.Asks.{Asking, asking_next, asking_of, has_number, next_ask, serves}
-use Rattle.group_rows.specs.Debts.{debts_due, debts_of, goes_forth, goes_to}
+use Rattle.group_rows.specs.Debts.{IsDebt, debts_due, debts_of, goes_forth, goes_to}
 use Rattle.group_rows.specs.Forwarded.{has_room}
 use Rattle.group_rows.specs.Reserved.{reserves}
 use Rattle.group_rows.specs.Waiting.{is_for_start, is_misplaced}
-use Rattle.group_rows.proofs.DebtsKept.{IsDebt, debts_kept}
+use Rattle.group_rows.proofs.DebtsKept.{debts_kept}
 use Rattle.group_rows.proofs.Going.{no_exit}
 use Rattle.group_rows.proofs.Versions.{AllMeant}
 use Rattle.event_model.specs.Members.{params_of}

@@ -2,7 +2,6 @@
 use Rattle.std.proofs.Common.{◌≡◌, ℕ, Bool, true, false, ◌&&◌, ◌||◌, cond, List, [], ◌∷◌, ◌++◌, append-nil, bytes_eq, codes, nat_eq, not, if◌then◌else◌, Option, None, Some, refl, sym, ◌∙◌, ap}
 use Rattle.std.specs.List.{AllByRecursion}
 use Rattle.std.proofs.lemmas.Bool.{and_parts}
-use Rattle.json_text.specs.Json.{Json}
 use Rattle.lsp_method.specs.Class.{class_of}
 use Rattle.lsp_method.specs.declared.variants.Class.{Class}
 use Rattle.lsp_method.specs.declared.variants.Class.TheVariants.{Refresh}
@@ -28,7 +27,7 @@ use Rattle.group_words.proofs.Frames.{past_more}
 use Rattle.group_rows.specs.AskRows.{ask, debts_at, debts_row}
 use Rattle.group_rows.specs.Asks.{goes_to_one, is_patient, is_single, may_wait, serves}
 use Rattle.group_rows.specs.Created.{accepts, is_creating, names_create}
-use Rattle.group_rows.specs.Debts.{agrees_on_all, asks_anew, debt_of, debts_asked, debts_next, debts_of, ends_debts, goes_forth, goes_to, names_refresh, owed_by, pays_debts, runs_at, wants_refresh}
+use Rattle.group_rows.specs.Debts.{IsDebt, agrees_on_all, asks_anew, debt_of, debts_asked, debts_next, debts_of, ends_debts, goes_forth, goes_to, names_refresh, owed_by, pays_debts, runs_at, wants_refresh}
 use Rattle.group_rows.specs.Forwarded.{has_room}
 use Rattle.group_rows.specs.Live.{changes_live, is_heard, is_registering}
 use Rattle.group_rows.specs.Reserved.{reserves}
@@ -40,13 +39,6 @@ use Rattle.group_rows.proofs.Versions.{AllMeant, IsMeant}
 -- one event more
 pub debts_more : (settings : Settings) (s e : ℕ) (events : List Event) (ev : Event) → debts_of settings s e (events ++ ev ∷ []) ≡ debts_next settings s e events (debts_of settings s e events) ev
 debts_more settings s e events ev = past_more (debts_next settings s e) [] [] events ev
-
--- a request of the start for a refresh
-pub record IsDebt (d : Debt) : Type 0 where
-  pub id : Id
-  pub params : Option Json
-  pub says : message_of d.body ≡ request id d.method params
-  pub wants : wants_refresh d.method ≡ true
 
 others_kept : (test : Debt → Bool) (ds : List Debt) → AllByRecursion IsDebt ds → AllByRecursion IsDebt (without test ds)
 others_kept test [] h = tt

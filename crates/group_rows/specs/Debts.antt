@@ -1,5 +1,5 @@
 -- S9: what a start wants asked anew, and is owed to an editor whose texts the start hasn't (LSP 3.17, the refresh requests of Language Features).
-use Rattle.std.specs.Prelude.{ℕ, Bool, true, false, not, ◌&&◌, ◌||◌, List, [], codes, nat_eq, if◌then◌else◌}
+use Rattle.std.specs.Prelude.{◌≡◌, ℕ, Bool, true, false, not, ◌&&◌, ◌||◌, List, [], codes, nat_eq, if◌then◌else◌}
 use Rattle.std.specs.Prelude.{Option, Some, None}
 use Rattle.std.specs.List.{list_all}
 use Rattle.std.specs.Option.{option_map_or}
@@ -9,7 +9,8 @@ use Rattle.lsp_method.specs.Class.{class_of}
 use Rattle.lsp_method.specs.declared.variants.Class.{Class}
 use Rattle.lsp_method.specs.declared.variants.Class.TheVariants.{Refresh}
 use Rattle.lsp_method.specs.declared.variants.Origin.TheVariants.{Editor, Server}
-use Rattle.rpc_message.specs.Message.{Id, Message, request, notification}
+use Rattle.json_text.specs.Json.{Json}
+use Rattle.rpc_message.specs.Message.{Id, Message, message_of, request, notification}
 use Rattle.response_route.specs.document_model.specs.declared.agreement.Agreement.{Agreement}
 use Rattle.response_route.specs.document_model.specs.declared.agreement.Agreement.TheVariants.{Agrees}
 use Rattle.response_route.specs.document_model.specs.Opens.{Open}
@@ -93,6 +94,13 @@ pays_debts settings s e before other = false
 abbrev pub debts_next : Settings → ℕ → ℕ → List Event → List Debt → Event → List Debt
 debts_next settings s e before ds (took (FromServer n body) m) = if nat_eq n s then debts_asked settings s e before body m ds else ds
 debts_next settings s e before ds event = if ends_debts s e event || pays_debts settings s e before event then [] else ds
+
+-- what is owed: such a request, as it came
+pub record IsDebt (d : Debt) : Type 0 where
+  pub id : Id
+  pub params : Option Json
+  pub says : message_of d.body ≡ request id d.method params
+  pub wants : wants_refresh d.method ≡ true
 
 -- what start s owes to editor e: of each method the last request, in the order in which the methods came to be owed
 abbrev pub debts_of : Settings → ℕ → ℕ → List Event → List Debt

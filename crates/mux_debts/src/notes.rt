@@ -1,17 +1,18 @@
 //! S9: what a start wants asked anew is owed to the editors of its group that don't agree with it.
-ghost use Rattle.std.specs.Prelude.{◌≡◌, ◌<◌, ◌&&◌, ℕ, List, Some, length, map, IfOk, OnOk, slice_get, if◌then◌else◌};
+ghost use Rattle.std.specs.Prelude.{◌≡◌, ◌<◌, ℕ, List, Option, Some, length, IfOk, OnOk, slice_get};
 ghost use Rattle.event_model.specs.declared.stage.Stage.TheVariants.{Ready};
-ghost use Rattle.event_model.specs.Event.{Event, behind, with_cause};
+ghost use Rattle.event_model.specs.Event.{Event, with_cause};
 ghost use Rattle.event_model.specs.Settings.{Settings};
-ghost use Rattle.group_rows.specs.Debts.{agrees_on_all, asks_anew, debt_of, owed_by};
+ghost use Rattle.group_rows.specs.Debts.{asks_anew, debt_of};
+ghost use Rattle.group_rows.specs.Live.{is_heard};
 ghost use Rattle.json_text.specs.Json.{Json};
+ghost use Rattle.mux_debts.specs.Noted.{all_noted, noted, wants};
 ghost use Rattle.mux_debts.specs.Stands.{DebtsStand};
 ghost use Rattle.mux_history.specs.declared.cause.Cause.TheVariants.{FromServer};
-ghost use Rattle.mux_history.specs.declared.out.Out.{Out};
 ghost use Rattle.mux_tables.specs.declared.tables.Start.{Start};
 ghost use Rattle.mux_tables.specs.Documents.{DocumentsStand, nothing_owed};
-ghost use Rattle.mux_tables.specs.Stands.{Stands, number_in};
-ghost use Rattle.mux_turns.specs.group_facts.specs.Settled.{Settled};
+ghost use Rattle.mux_tables.specs.Stands.{Stands};
+ghost use Rattle.mux_turns.specs.group_facts.specs.Facts.{Known};
 ghost use Rattle.rpc_message.specs.Message.{Id, message_of, request};
 ghost use Rattle.rpc_message.specs.Parsed.{IsRead};
 
@@ -33,11 +34,12 @@ fn debt_in(alloc: Global, s: u64, e: u64, message: &Message) -> Result<Debt, Mem
         Some(method) => Vec::from_slice(alloc, method)?,
         None => Vec::new(alloc),
     };
+    let body = Vec::from_slice(alloc, message.bytes())?;
     Ok(Debt {
         start: s,
         editor: e,
         method: Body::new(method),
-        body: Body::new(Vec::from_slice(alloc, message.bytes())?),
+        body: Body::new(body),
     })
 }
 
@@ -56,32 +58,16 @@ fn note(
         → IsRead message.now body → message_of body ≡ request id method params
         → slice_get tables.now.lasts.items g ≡ Some x → x.life.stage ≡ Ready
         → Stands settings tables.now before → DocumentsStand settings nothing_owed tables.now before
-        → OnOk result (debts.new ≡ owed_by (agrees_on_all settings x.life.start before e) (debt_of x.life.start e method body) debts.old) }
+        → OnOk result (debts.new ≡ noted settings x.life.start before body method debts.old e) }
 {
     let debt = debt_in(alloc, tables.start_number(g), e, message)?;
-    if tables.agrees_on_all(g, e)? {
+    let agrees = tables.agrees_on_all(g, e)?;
+    if agrees {
         debts.settle(debt.start, debt.editor, debt.method.bytes());
     } else {
         debts.owe(debt)?;
     }
     Ok(())
-}
-
-// Whether the group's last start wants something asked anew: it is ready, and asks for that under the id of no open ask.
-fn wants(tables: &Tables, g: usize, message: &Message) -> bool
-    requires { g < length tables.now.lasts.items }
-    ensures asks { (settings : Settings) (before : List Event) (body method : List ℕ) (id : Id) (params : Option Json) (s : ℕ) → IsRead message.now body
-        → message_of body ≡ request id method params → slice_get (map number_in tables.now.lasts.items) g ≡ Some s
-        → Stands settings tables.now before → result ≡ asks_anew settings s before id method }
-{
-    match message.sort() {
-        Sort::Request => match asked_class(message) {
-            Class::Refresh =>
-                stage_at(tables, g).is_ready() && !tables.is_asked(g, message.id_bytes()),
-            _ => false,
-        },
-        Sort::Notification | Sort::Result | Sort::Error => false,
-    }
 }
 
 // It is noted of each of these editors.
@@ -94,6 +80,11 @@ fn note_all(
     message: &Message,
 ) -> Result<(), Memory>
     requires { g < length tables.now.lasts.items }
+    ensures { (settings : Settings) (before : List Event) (body method : List ℕ) (id : Id) (params : Option Json) (x : Start)
+        → IsRead message.now body → message_of body ≡ request id method params
+        → slice_get tables.now.lasts.items g ≡ Some x → x.life.stage ≡ Ready
+        → Stands settings tables.now before → DocumentsStand settings nothing_owed tables.now before
+        → OnOk result (debts.new ≡ all_noted settings x.life.start before body method numbers.now debts.old) }
 {
     for e in numbers {
         note(tables, debts, alloc, g, *e, message)?;
@@ -101,10 +92,48 @@ fn note_all(
     Ok(())
 }
 
-/// S9: before its row a message of a start is looked at: where it wants something asked anew, that is owed to each editor of its group that
+// Whether the group's last start is ready, and the id of its request is that of no open ask.
+fn is_heard(tables: &Tables, g: usize, message: &Message) -> bool
+    requires { g < length tables.now.lasts.items }
+    ensures { (settings : Settings) (before : List Event) (body method : List ℕ) (id : Id) (params : Option Json) (x : Start) → IsRead message.now body
+        → message_of body ≡ request id method params → slice_get tables.now.lasts.items g ≡ Some x
+        → Stands settings tables.now before → result ≡ is_heard settings x.life.start before id }
+{
+    if !stage_at(tables, g).is_ready() {
+        return false;
+    }
+    !tables.is_asked(g, message.id_bytes())
+}
+
+// Whether a request of the group's last start wants something asked anew.
+fn asks_anew(tables: &Tables, g: usize, message: &Message) -> bool
+    requires { g < length tables.now.lasts.items }
+    ensures { (settings : Settings) (before : List Event) (body method : List ℕ) (id : Id) (params : Option Json) (x : Start) → IsRead message.now body
+        → message_of body ≡ request id method params → slice_get tables.now.lasts.items g ≡ Some x
+        → Stands settings tables.now before → result ≡ asks_anew settings x.life.start before id method }
+{
+    match asked_class(message) {
+        Class::Refresh => is_heard(tables, g, message),
+        _ => false,
+    }
+}
+
+// Whether a message of the group's last start does.
+fn wants(tables: &Tables, g: usize, message: &Message) -> bool
+    requires { g < length tables.now.lasts.items }
+    ensures { (settings : Settings) (before : List Event) (body : List ℕ) (x : Start) → IsRead message.now body
+        → slice_get tables.now.lasts.items g ≡ Some x → Stands settings tables.now before
+        → result ≡ wants settings x.life.start before (message_of body) }
+{
+    match message.sort() {
+        Sort::Request => asks_anew(tables, g, message),
+        _ => false,
+    }
+}
+
+/// S9: a message of a start is looked at before its row: where it wants something asked anew, that is owed to each editor of its group that
 /// runs and has a document open on which the start doesn't agree with it, and owed no more to the others. It takes for each editor that runs
-/// as long as a sync that sends nothing, and the time to copy the body for each that is owed it. Where the answer is an error the table
-/// stands for nothing any more.
+/// as long as a sync that sends nothing, and the time to copy the body. Where the answer is an error the table stands for nothing any more.
 pub fn note_refresh(
     tables: &Tables,
     debts: &mut Debts,
@@ -112,9 +141,9 @@ pub fn note_refresh(
     s: u64,
     message: &Message,
 ) -> Result<(), Memory>
-    ensures stands { (settings : Settings) (before : List Event) (body : List ℕ) (outs : List Out) → IsRead message.now body → Settled settings before
+    ensures stands { (settings : Settings) (before : List Event) (body : List ℕ) → IsRead message.now body → Known settings before
         → Stands settings tables.now before → DocumentsStand settings nothing_owed tables.now before → DebtsStand settings debts.old before
-        → OnOk result (DebtsStand settings debts.new (behind (with_cause before (FromServer s body)) outs)) }
+        → OnOk result (DebtsStand settings debts.new (with_cause before (FromServer s body))) }
 {
     let Some(g) = tables.last(s) else {
         return Ok(());

@@ -1,24 +1,28 @@
 //! E10, E16 and E17: behind a message of its own that goes on an editor is asked what it is owed.
-ghost use Rattle.std.specs.Prelude.{◌≡◌, ◌<◌, ◌×◌, ℕ, List, [], Some, None, length, map, IfOk, OnOk, slice_get};
+ghost use Rattle.std.specs.Prelude.{◌≡◌, ◌<◌, ℕ, List, Option, Some, None, bytes_eq, codes, length, true, IfOk, OnOk, slice_get};
 ghost use Rattle.std.specs.List.{AllByRecursion};
 ghost use Rattle.event_model.specs.Does.{Does};
-ghost use Rattle.event_model.specs.Event.{Event, behind, with_cause};
+ghost use Rattle.event_model.specs.declared.phase.Phase.TheVariants.{Running};
+ghost use Rattle.event_model.specs.declared.stage.Stage.TheVariants.{Ready};
+ghost use Rattle.event_model.specs.Event.{Event, behind, requests, with_cause};
 ghost use Rattle.event_model.specs.Phases.{desk_of, is_running};
 ghost use Rattle.event_model.specs.Row.{each};
 ghost use Rattle.event_model.specs.Settings.{Settings};
 ghost use Rattle.group_rows.specs.AskRows.{ask};
 ghost use Rattle.group_rows.specs.Asks.{asking_of};
-ghost use Rattle.group_rows.specs.Debts.{debts_due, goes_to};
-ghost use Rattle.group_rows.proofs.DebtsKept.{IsDebt};
+ghost use Rattle.group_rows.specs.Debts.{IsDebt, goes_forth, goes_to};
+ghost use Rattle.json_text.specs.Json.{Json};
+ghost use Rattle.mux_debts.specs.Going.{IsDue, is_aside};
 ghost use Rattle.mux_debts.specs.Stands.{DebtsStand};
 ghost use Rattle.mux_history.specs.declared.cause.Cause.TheVariants.{FromEditor};
 ghost use Rattle.mux_history.specs.declared.out.Out.{Out};
-ghost use Rattle.mux_tables.specs.Documents.{AllStand, DocumentsStand, nothing_owed};
+ghost use Rattle.mux_tables.specs.declared.tables.Start.{Start};
+ghost use Rattle.mux_tables.specs.Documents.{AllStand, nothing_owed};
 ghost use Rattle.mux_tables.specs.Stands.{Stands, start_for};
 ghost use Rattle.mux_turns.specs.group_facts.specs.Facts.{Known};
 ghost use Rattle.mux_turns.specs.group_facts.specs.Settled.{Settled};
 ghost use Rattle.refresh_debts.specs.declared.debts.Debt.{Debt};
-ghost use Rattle.rpc_message.specs.Message.{message_of};
+ghost use Rattle.rpc_message.specs.Message.{Id, message_of, request};
 ghost use Rattle.rpc_message.specs.Parsed.{IsRead};
 
 use lsp_method::Class;
@@ -34,8 +38,37 @@ use std::alloc::Global;
 // The most bytes of a body of a cause.
 const MOST: usize = 268_435_456;
 
-// E10: whether a request of an editor goes on to the group's last start: under an id that isn't open, none of the multiplexer's own, and
-// without a token that begins as the daemon's do, while a number is left.
+// E9: whether a request is `shutdown`.
+fn is_shutdown(message: &Message) -> bool
+    ensures { (body method : List ℕ) (id : Id) (params : Option Json) → IsRead message.now body → message_of body ≡ request id method params
+        → result ≡ bytes_eq (codes "shutdown") method }
+{
+    match class_in(message) {
+        Class::Shutdown => true,
+        _ => false,
+    }
+}
+
+// E9: whether an editor's message is that.
+fn shuts(message: &Message) -> bool
+    ensures { (body : List ℕ) → IsRead message.now body → result ≡ requests (codes "shutdown") (message_of body) }
+{
+    match message.sort() {
+        Sort::Request => is_shutdown(message),
+        _ => false,
+    }
+}
+
+// E4 to E9: whether a request isn't one for a start, by its method.
+fn is_aside(message: &Message) -> bool
+    ensures { (body method : List ℕ) (id : Id) (params : Option Json) → IsRead message.now body → message_of body ≡ request id method params
+        → result ≡ is_aside method }
+{
+    !matches!(class_in(message), Class::Other)
+}
+
+// E10: whether a request of an editor that runs goes on to the group's last start, which is ready: under an id that isn't open, none of the
+// multiplexer's own, and without a token that begins as the daemon's do, while a number is left.
 fn sends_on(
     tables: &Tables,
     alloc: Global,
@@ -44,19 +77,45 @@ fn sends_on(
     message: &Message,
 ) -> Result<bool, Memory>
     requires { g < length tables.now.lasts.items }
+    ensures { (settings : Settings) (before : List Event) (body method : List ℕ) (id : Id) (params : Option Json) (x : Start) → IsRead message.now body
+        → message_of body ≡ request id method params → Known settings before → Settled settings before
+        → slice_get tables.now.lasts.items g ≡ Some x → x.life.stage ≡ Ready → (desk_of e before).phase ≡ Running → Stands settings tables.now before
+        → IfOk result (λ answer. answer ≡ goes_forth settings x.life.start before e body (message_of body)) }
 {
-    match class_in(message) {
-        Class::Other => {
-            let reserved = reserves(alloc, message)?;
-            Ok(!reserved
-                && tables.can_ask(g)
-                && !doubles(tables, e, tables.phase(e), message.id_bytes()))
-        }
+    if is_aside(message) {
+        return Ok(false);
+    }
+    if doubles(tables, e, tables.phase(e), message.id_bytes()) {
+        return Ok(false);
+    }
+    let reserved = reserves(alloc, message)?;
+    if reserved {
+        return Ok(false);
+    }
+    Ok(tables.can_ask(g))
+}
+
+// E10, E16 and E17: whether a message of an editor that runs goes on to the group's last start, which is ready.
+fn goes_forth(
+    tables: &Tables,
+    alloc: Global,
+    g: usize,
+    e: u64,
+    message: &Message,
+) -> Result<bool, Memory>
+    requires { g < length tables.now.lasts.items }
+    ensures { (settings : Settings) (before : List Event) (body : List ℕ) (x : Start) → IsRead message.now body → Known settings before
+        → Settled settings before → slice_get tables.now.lasts.items g ≡ Some x → x.life.stage ≡ Ready → (desk_of e before).phase ≡ Running
+        → Stands settings tables.now before → IfOk result (λ answer. answer ≡ goes_forth settings x.life.start before e body (message_of body)) }
+{
+    match message.sort() {
+        Sort::Request => sends_on(tables, alloc, g, e, message),
+        Sort::Notification => Ok(goes_on(message)),
         _ => Ok(false),
     }
 }
 
-// E10, E16 and E17: whether a message of an editor that runs goes on to the group's last start.
+// The same of any editor of the group, and wherever its last start stands.
 fn goes_to(
     tables: &Tables,
     alloc: Global,
@@ -65,23 +124,23 @@ fn goes_to(
     message: &Message,
 ) -> Result<bool, Memory>
     requires { g < length tables.now.lasts.items }
-    ensures goes { (settings : Settings) (before : List Event) (body : List ℕ) (s : ℕ) → IsRead message.now body → Known settings before → Settled settings before
-        → start_for settings e before ≡ Some s → Stands settings tables.now before
-        → IfOk result (λ answer. answer ≡ goes_to settings s before e body (message_of body)) }
+    ensures { (settings : Settings) (before : List Event) (body : List ℕ) (x : Start) → IsRead message.now body → Known settings before
+        → Settled settings before → slice_get tables.now.lasts.items g ≡ Some x → start_for settings e before ≡ Some x.life.start
+        → Stands settings tables.now before → IfOk result (λ answer. answer ≡ goes_to settings x.life.start before e body (message_of body)) }
 {
-    if !tables.phase(e).is_running() || !stage_at(tables, g).is_ready() {
+    if !tables.phase(e).is_running() {
         return Ok(false);
     }
-    match message.sort() {
-        Sort::Request => sends_on(tables, alloc, g, e, message),
-        Sort::Notification => Ok(goes_on(message)),
-        Sort::Result | Sort::Error => Ok(false),
+    if !stage_at(tables, g).is_ready() {
+        return Ok(false);
     }
+    goes_forth(tables, alloc, g, e, message)
 }
 
-/// E10, E16 and E17: before its row a message of an editor is looked at: where it goes on to the last start of the editor's group, what that
-/// owes the editor is taken out and given, in its order. It takes time in how much is owed, and, where something is owed to the editor,
-/// that of E10's tests. Where the answer is an error the table stands for nothing any more.
+/// E9, E10, E16 and E17: a message of an editor is looked at before its row: where it goes on to the last start of the editor's group, what
+/// that owes the editor is taken out and given, in its order; where it is the request `shutdown` nothing is owed to the editor any more. It
+/// takes time in how much is owed, and, where something is owed to the editor, that of E10's tests. Where the answer is an error the table
+/// stands for nothing any more.
 pub fn take_debts(
     tables: &Tables,
     debts: &mut Debts,
@@ -89,15 +148,17 @@ pub fn take_debts(
     e: u64,
     message: &Message,
 ) -> Result<Vec<Debt>, Memory>
-    ensures due { (settings : Settings) (before : List Event) (body : List ℕ) (s : ℕ) → IsRead message.now body → Known settings before → Settled settings before
-        → Stands settings tables.now before → DebtsStand settings debts.old before → start_for settings e before ≡ Some s
-        → IfOk result (λ due. due.items ≡ debts_due settings s before e body (message_of body)) }
-    ensures none { (settings : Settings) (before : List Event) → Stands settings tables.now before → start_for settings e before ≡ None
-        → IfOk result (λ due. due.items ≡ []) }
-    ensures stands { (settings : Settings) (before : List Event) (body : List ℕ) (outs : List Out) → IsRead message.now body → Known settings before
+    ensures due { (settings : Settings) (before : List Event) (body : List ℕ) → IsRead message.now body → Known settings before → Settled settings before
+        → Stands settings tables.now before → DebtsStand settings debts.old before
+        → IfOk result (λ due. IsDue settings before e body due.items) }
+    ensures stands { (settings : Settings) (before : List Event) (body : List ℕ) → IsRead message.now body → Known settings before
         → Settled settings before → Stands settings tables.now before → DebtsStand settings debts.old before
-        → OnOk result (DebtsStand settings debts.new (behind (with_cause before (FromEditor e body)) outs)) }
+        → OnOk result (DebtsStand settings debts.new (with_cause before (FromEditor e body))) }
 {
+    if shuts(message) {
+        debts.leave(e);
+        return Ok(Vec::new(alloc));
+    }
     let Some(g) = tables.place(e) else {
         return Ok(Vec::new(alloc));
     };
@@ -105,7 +166,8 @@ pub fn take_debts(
     if !debts.has(s, e) {
         return Ok(Vec::new(alloc));
     }
-    if !goes_to(tables, alloc, g, e, message)? {
+    let goes = goes_to(tables, alloc, g, e, message)?;
+    if !goes {
         return Ok(Vec::new(alloc));
     }
     debts.take(s, e)

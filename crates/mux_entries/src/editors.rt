@@ -560,7 +560,7 @@ pub fn from_editor(
         → OnOk result (CarriedStand settings carries.new (behind (with_cause before (FromEditor e body.now)) outs.new)) }
     ensures owed { (settings : Settings) (before : List Event) → Known settings before → Settled settings before
         → fits_behind before (FromEditor e body.now) ≡ true → DebtsStand settings debts.old before → Stands settings tables.old before
-        → OnOk result (DebtsStand settings debts.new (behind (with_cause before (FromEditor e body.now)) outs.new)) }
+        → OnOk result (DebtsStand settings debts.new (with_cause before (FromEditor e body.now))) }
 {
     if e >= tables.editors.count() {
         return Ok(());

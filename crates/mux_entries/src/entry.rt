@@ -18,7 +18,7 @@ use crate::editors::{from_editor, gone, joined};
 use crate::servers::from_server;
 use event_model::{Limits, Server};
 use message_body::Memory;
-use mux_debts::Debts;
+use mux_debts::{Debts, forget_editor, forget_start};
 use mux_exits::take_exit;
 use mux_history::{Cause, Outs};
 use mux_starts::mux_tables::Tables;
@@ -55,7 +55,7 @@ fn follow(
         → OnOk result (CarriedStand settings carries.new (behind (with_cause before cause.now) outs.new)) }
     ensures owed { (settings : Settings) (before : List Event) → Known settings before → Settled settings before → fits_behind before cause.now ≡ true
         → DebtsStand settings debts.old before → Stands settings tables.old before → DocumentsStand settings nothing_owed tables.old before
-        → OnOk result (DebtsStand settings debts.new (behind (with_cause before cause.now) outs.new)) }
+        → OnOk result (DebtsStand settings debts.new (with_cause before cause.now)) }
 {
     match cause {
         Cause::Joined(e) => {
@@ -63,7 +63,7 @@ fn follow(
             Ok(())
         }
         Cause::EditorGone(e, _) => {
-            debts.leave(*e);
+            forget_editor(debts, *e);
             gone(tables, alloc, outs, *e)?;
             Ok(())
         }
@@ -82,7 +82,7 @@ fn follow(
             Ok(())
         }
         Cause::StartFailed(s) | Cause::ServerGone(s) => {
-            debts.over(*s);
+            forget_start(debts, *s);
             take_exit(tables, alloc, limits.restarts as u64, outs, *s)?;
             Ok(())
         }
@@ -95,7 +95,8 @@ fn follow(
     }
 }
 
-/// Takes a cause that can come: its outs are those of its row. What groups carry and what starts owe stands behind them.
+/// Takes a cause that can come: its outs are those of its row. What groups carry stands behind them, and what starts owe
+/// behind the cause.
 /// Where the answer is an error the tables stand for nothing any more.
 pub fn take(
     tables: &mut Tables,
@@ -124,7 +125,7 @@ pub fn take(
         → IfOk result (λ outs. CarriedStand settings carries.new (behind (with_cause before cause.now) outs)) }
     ensures owed { (settings : Settings) (before : List Event) → Known settings before → Settled settings before → fits_behind before cause.now ≡ true
         → DebtsStand settings debts.old before → Stands settings tables.old before → DocumentsStand settings nothing_owed tables.old before
-        → IfOk result (λ outs. DebtsStand settings debts.new (behind (with_cause before cause.now) outs)) }
+        → OnOk result (DebtsStand settings debts.new (with_cause before cause.now)) }
 {
     let mut outs = Outs::new(alloc);
     follow(

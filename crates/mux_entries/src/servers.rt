@@ -376,9 +376,9 @@ fn take_body(
         → slice_get (map number_in tables.old.lasts.items) g ≡ Some s → Known settings before → Settled settings before
         → CarriedStand settings carries.old before → Stands settings tables.old before → DocumentsStand settings nothing_owed tables.old before
         → OnOk result (CarriedStand settings carries.new (behind (with_cause before (FromServer s body.now)) outs.new)) }
-    ensures owed { (settings : Settings) (before : List Event) → Settled settings before → DebtsStand settings debts.old before
+    ensures owed { (settings : Settings) (before : List Event) → Known settings before → DebtsStand settings debts.old before
         → slice_get (map number_in tables.old.lasts.items) g ≡ Some s → Stands settings tables.old before → DocumentsStand settings nothing_owed tables.old before
-        → OnOk result (DebtsStand settings debts.new (behind (with_cause before (FromServer s body.now)) outs.new)) }
+        → OnOk result (DebtsStand settings debts.new (with_cause before (FromServer s body.now))) }
 {
     match Message::read(alloc, body.bytes()) {
         Ok(message) => {
@@ -418,9 +418,9 @@ pub fn from_server(
         → fits_behind before (FromServer s body.now) ≡ true → CarriedStand settings carries.old before
         → Stands settings tables.old before → DocumentsStand settings nothing_owed tables.old before
         → OnOk result (CarriedStand settings carries.new (behind (with_cause before (FromServer s body.now)) outs.new)) }
-    ensures owed { (settings : Settings) (before : List Event) → Settled settings before → DebtsStand settings debts.old before
+    ensures owed { (settings : Settings) (before : List Event) → Known settings before → DebtsStand settings debts.old before
         → Stands settings tables.old before → DocumentsStand settings nothing_owed tables.old before
-        → OnOk result (DebtsStand settings debts.new (behind (with_cause before (FromServer s body.now)) outs.new)) }
+        → OnOk result (DebtsStand settings debts.new (with_cause before (FromServer s body.now))) }
 {
     match tables.last(s) {
         None => Ok(()),

@@ -21,7 +21,7 @@ use event_model::{Limits, Server};
 use message_body::Memory;
 use mux_causes::mux_tables::Tables;
 use mux_causes::{Backlogs, Carries};
-use mux_debts::Debts;
+use mux_debts::{Debts, forget_closed};
 use mux_history::{Cause, Entry, Outs};
 use mux_steps::{Journal, StepFault, Steps};
 use std::alloc::Global;
@@ -59,6 +59,7 @@ fn turn(
     )?;
     backlogs.take(cause, &outs)?;
     mux_slow::leave_slow(tables, alloc, backlogs, limits.backlog, &mut outs)?;
+    forget_closed(debts, &outs);
     note_spawns(starts, tables, default, &outs)?;
     Ok(outs)
 }
