@@ -1,24 +1,19 @@
 -- What is looked at before the row of an editor's message.
-use Rattle.std.specs.Prelude.{◌≡◌, ℕ, Bool, true, false, not, List, []}
+use Rattle.std.specs.Prelude.{◌≡◌, ℕ, Bool, ◌||◌, List, [], bytes_eq, codes}
 use Rattle.std.specs.Prelude.{Option, Some, None}
-use Rattle.lsp_method.specs.Class.{class_of}
-use Rattle.lsp_method.specs.declared.variants.Class.{Class}
-use Rattle.lsp_method.specs.declared.variants.Class.TheVariants.{Other}
-use Rattle.lsp_method.specs.declared.variants.Origin.TheVariants.{Editor}
-use Rattle.rpc_message.specs.Message.{message_of}
+use Rattle.json_text.specs.Json.{Json}
+use Rattle.rpc_message.specs.Message.{Id, message_of, request}
 use Rattle.event_model.specs.Event.{Event}
+use Rattle.event_model.specs.Phases.{is_multiplexer_request}
 use Rattle.event_model.specs.Settings.{Settings}
 use Rattle.mux_turns.specs.mux_tables.specs.Stands.{start_for}
 use Rattle.refresh_debts.specs.declared.debts.Debt.{Debt}
 use Rattle.group_rows.specs.Debts.{debts_due}
+use Rattle.group_rows.specs.Waiting.{is_misplaced}
 
--- by its method, a request isn't one for a start
-abbrev pub names_other : Class → Bool
-names_other Other = true
-names_other _ = false
-
-abbrev pub is_aside : List ℕ → Bool
-is_aside method = not (names_other (class_of method Editor false))
+-- a request is none for a start, by its method
+abbrev pub is_aside : Id → List ℕ → Option Json → Bool
+is_aside id method params = is_multiplexer_request (request id method params) || (is_misplaced method || bytes_eq (codes "shutdown") method)
 
 -- what the last start of its group owes it, where there is one
 abbrev pub IsDueOf : Settings → List Event → ℕ → List ℕ → List Debt → Option ℕ → Type 0

@@ -1,9 +1,9 @@
 //! S9: what a start wants asked anew is owed to the editors of its group that don't agree with it.
-ghost use Rattle.std.specs.Prelude.{◌≡◌, ◌<◌, ℕ, List, Option, Some, length, IfOk, OnOk, slice_get};
+ghost use Rattle.std.specs.Prelude.{◌≡◌, ◌<◌, ℕ, List, Option, Some, length, true, IfOk, OnOk, slice_get};
 ghost use Rattle.event_model.specs.declared.stage.Stage.TheVariants.{Ready};
 ghost use Rattle.event_model.specs.Event.{Event, with_cause};
 ghost use Rattle.event_model.specs.Settings.{Settings};
-ghost use Rattle.group_rows.specs.Debts.{asks_anew, debt_of};
+ghost use Rattle.group_rows.specs.Debts.{asks_anew, debt_of, wants_refresh};
 ghost use Rattle.group_rows.specs.Live.{is_heard};
 ghost use Rattle.json_text.specs.Json.{Json};
 ghost use Rattle.mux_debts.specs.Noted.{all_noted, noted, wants};
@@ -18,7 +18,7 @@ ghost use Rattle.rpc_message.specs.Parsed.{IsRead};
 
 use lsp_method::Class;
 use message_body::{Body, Memory};
-use mux_starts::mux_members::asked_class;
+use mux_turns::mux_members::asked_class;
 use mux_tables::Tables;
 use mux_turns::stage_at;
 use refresh_debts::{Debt, Debts};
@@ -28,7 +28,7 @@ use std::alloc::Global;
 // What a start owes an editor: the request as it came.
 fn debt_in(alloc: Global, s: u64, e: u64, message: &Message) -> Result<Debt, Memory>
     ensures { (body method : List ℕ) (id : Id) (params : Option Json) → IsRead message.now body → message_of body ≡ request id method params
-        → IfOk result (λ debt. debt ≡ debt_of s e method body) }
+        → wants_refresh method ≡ true → IfOk result (λ debt. debt ≡ debt_of s e method body) }
 {
     let method = match message.method() {
         Some(method) => Vec::from_slice(alloc, method)?,
@@ -55,7 +55,7 @@ fn note(
 ) -> Result<(), Memory>
     requires { g < length tables.now.lasts.items }
     ensures { (settings : Settings) (before : List Event) (body method : List ℕ) (id : Id) (params : Option Json) (x : Start)
-        → IsRead message.now body → message_of body ≡ request id method params
+        → IsRead message.now body → message_of body ≡ request id method params → wants_refresh method ≡ true
         → slice_get tables.now.lasts.items g ≡ Some x → x.life.stage ≡ Ready
         → Stands settings tables.now before → DocumentsStand settings nothing_owed tables.now before
         → OnOk result (debts.new ≡ noted settings x.life.start before body method debts.old e) }
@@ -81,7 +81,7 @@ fn note_all(
 ) -> Result<(), Memory>
     requires { g < length tables.now.lasts.items }
     ensures { (settings : Settings) (before : List Event) (body method : List ℕ) (id : Id) (params : Option Json) (x : Start)
-        → IsRead message.now body → message_of body ≡ request id method params
+        → IsRead message.now body → message_of body ≡ request id method params → wants_refresh method ≡ true
         → slice_get tables.now.lasts.items g ≡ Some x → x.life.stage ≡ Ready
         → Stands settings tables.now before → DocumentsStand settings nothing_owed tables.now before
         → OnOk result (debts.new ≡ all_noted settings x.life.start before body method numbers.now debts.old) }

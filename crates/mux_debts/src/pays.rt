@@ -25,10 +25,9 @@ ghost use Rattle.refresh_debts.specs.declared.debts.Debt.{Debt};
 ghost use Rattle.rpc_message.specs.Message.{Id, message_of, request};
 ghost use Rattle.rpc_message.specs.Parsed.{IsRead};
 
-use lsp_method::Class;
 use message_body::Memory;
 use mux_history::Outs;
-use mux_starts::mux_members::{class_in, goes_on};
+use mux_turns::mux_members::{goes_on, is_initialize, is_open, is_status, is_stop, is_wrong};
 use mux_tables::Tables;
 use mux_turns::{doubles, reserves, stage_at};
 use refresh_debts::{Debt, Debts};
@@ -43,9 +42,9 @@ fn is_shutdown(message: &Message) -> bool
     ensures { (body method : List ℕ) (id : Id) (params : Option Json) → IsRead message.now body → message_of body ≡ request id method params
         → result ≡ bytes_eq (codes "shutdown") method }
 {
-    match class_in(message) {
-        Class::Shutdown => true,
-        _ => false,
+    match message.method() {
+        Some(method) => method == b"shutdown",
+        None => false,
     }
 }
 
@@ -59,12 +58,18 @@ fn shuts(message: &Message) -> bool
     }
 }
 
-// E4 to E9: whether a request isn't one for a start, by its method.
+// E4 to E9: whether a request is none for a start, by its method.
 fn is_aside(message: &Message) -> bool
     ensures { (body method : List ℕ) (id : Id) (params : Option Json) → IsRead message.now body → message_of body ≡ request id method params
-        → result ≡ is_aside method }
+        → result ≡ is_aside id method params }
 {
-    !matches!(class_in(message), Class::Other)
+    let opens = is_open(message);
+    let status = is_status(message);
+    let stops = is_stop(message);
+    let begins = is_initialize(message);
+    let wrong = is_wrong(message);
+    let shuts = is_shutdown(message);
+    (opens || (status || stops)) || ((begins || wrong) || shuts)
 }
 
 // E10: whether a request of an editor that runs goes on to the group's last start, which is ready: under an id that isn't open, none of the

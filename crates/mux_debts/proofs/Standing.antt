@@ -1,0 +1,46 @@
+-- A table of debts, one event further: where an editor leaves, or a start ends.
+use Rattle.std.proofs.Common.{◌≡◌, ℕ, Bool, true, false, ◌||◌, List, [], ◌∷◌, ◌++◌, nat_eq, if◌then◌else◌, refl, ap, sym, ◌∙◌}
+use Rattle.mux_history.specs.declared.cause.Cause.TheVariants.{EditorGone, ServerGone, StartFailed}
+use Rattle.mux_history.specs.declared.cause.Why.{Why}
+use Rattle.mux_history.specs.declared.out.Out.{Out}
+use Rattle.mux_history.specs.declared.out.Out.TheVariants.{CloseEditor, EndServer, Spawn, ToEditor, ToServer}
+use Rattle.event_model.specs.Event.{Event, heard, said, with_cause}
+use Rattle.event_model.specs.Settings.{Settings}
+use Rattle.refresh_debts.specs.declared.debts.Debt.{Debt}
+use Rattle.refresh_debts.specs.Tables.{is_at, is_with, of, without}
+use Rattle.refresh_debts.proofs.Parts.{left_of, over_of}
+use Rattle.group_rows.specs.Debts.{debts_next}
+use Rattle.group_rows.proofs.DebtsKept.{debts_more}
+use Rattle.mux_debts.specs.Stands.{DebtsStand}
+
+ends : (b : Bool) (ds : List Debt) → (if b then [] else ds) ≡ (if b || false then [] else ds)
+ends true ds = refl
+ends false ds = refl
+
+module _ (settings : Settings) (rows : List Debt) (events : List Event) (st : DebtsStand settings rows events) where
+  -- it has what the event makes of what it had
+  pub step_stands : (new : List Debt) (ev : Event) → ((s e : ℕ) → of s e new ≡ debts_next settings s e events (of s e rows) ev) → DebtsStand settings new (events ++ ev ∷ [])
+  step_stands new ev is = λ s e. is s e ∙ (ap (λ ds. debts_next settings s e events ds ev) (st s e) ∙ sym (debts_more settings s e events ev))
+
+  pub left_stands : (n : ℕ) (why : Why) → DebtsStand settings (without (is_with n) rows) (with_cause events (EditorGone n why))
+  left_stands n why = step_stands (without (is_with n) rows) (heard (EditorGone n why)) (λ s e. left_of s e n rows ∙ ends (nat_eq n e) (of s e rows))
+
+  pub gone_stands : (n : ℕ) → DebtsStand settings (without (is_at n) rows) (with_cause events (ServerGone n))
+  gone_stands n = step_stands (without (is_at n) rows) (heard (ServerGone n)) (λ s e. over_of s e n rows ∙ ends (nat_eq n s) (of s e rows))
+
+  pub failed_stands : (n : ℕ) → DebtsStand settings (without (is_at n) rows) (with_cause events (StartFailed n))
+  failed_stands n = step_stands (without (is_at n) rows) (heard (StartFailed n)) (λ s e. over_of s e n rows ∙ ends (nat_eq n s) (of s e rows))
+
+  pub closed_stands : (n : ℕ) → DebtsStand settings (without (is_with n) rows) (events ++ said (CloseEditor n) ∷ [])
+  closed_stands n = step_stands (without (is_with n) rows) (said (CloseEditor n)) (λ s e. left_of s e n rows ∙ ends (nat_eq n e) (of s e rows))
+
+  -- the other outs, and the other causes, leave what is owed as it is
+  pub said_stands : (out : Out) → ((n : ℕ) → out ≡ CloseEditor n → ⊥) → DebtsStand settings rows (events ++ said out ∷ [])
+  said_stands (CloseEditor n) other = absurd (other n refl)
+  said_stands (ToEditor n body) other = step_stands rows (said (ToEditor n body)) (λ s e. refl)
+  said_stands (ToServer n body) other = step_stands rows (said (ToServer n body)) (λ s e. refl)
+  said_stands (Spawn n g) other = step_stands rows (said (Spawn n g)) (λ s e. refl)
+  said_stands (EndServer n) other = step_stands rows (said (EndServer n)) (λ s e. refl)
+
+  pub event_stands : (ev : Event) → ((s e : ℕ) → of s e rows ≡ debts_next settings s e events (of s e rows) ev) → DebtsStand settings rows (events ++ ev ∷ [])
+  event_stands ev stay = step_stands rows ev stay
