@@ -15,6 +15,7 @@ pub mod WorkedAsks
 pub mod WorkedLive
 pub mod WorkedDebts
 pub mod DebtsKept
+pub mod Onward
 pub mod LiveTexts
 pub mod TokenTexts
 pub mod WorkedTokens

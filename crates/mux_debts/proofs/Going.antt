@@ -14,7 +14,7 @@ use Rattle.event_model.specs.declared.stage.Stage.{Stage}
 use Rattle.event_model.specs.declared.stage.Stage.TheVariants.{Ended, Ready}
 use Rattle.event_model.specs.Event.{Event, heard, requests, with_cause}
 use Rattle.event_model.specs.Members.{params_of}
-use Rattle.event_model.specs.Phases.{desk_of, is_multiplexer_request, is_running}
+use Rattle.event_model.specs.Phases.{desk_of, is_malformed, is_multiplexer_request, is_running}
 use Rattle.event_model.specs.Requests.{is_open, open_of}
 use Rattle.event_model.specs.Settings.{Settings}
 use Rattle.event_model.specs.Spawns.{start_of}
@@ -261,3 +261,26 @@ none_of s e (d ∷ rows) off = go (is_of s e d) off (none_of s e rows)
     go : (b : Bool) → (b || list_any (is_of s e) rows) ≡ false → (list_any (is_of s e) rows ≡ false → of s e rows ≡ []) → cond b (d ∷ of s e rows) (of s e rows) ≡ []
     go true h rest = never h
     go false h rest = rest h
+
+-- what is no message doesn't go on, and changes nothing
+pub malformed_stops : (settings : Settings) (before : List Event) (e : ℕ) (body : List ℕ) (m : Message) → is_malformed m ≡ true → (s : ℕ) → goes_to settings s before e body m ≡ false
+malformed_stops settings before e body m bad = off_forth settings before e body m (by_message m bad)
+  where
+    by_message : (m : Message) → is_malformed m ≡ true → (s : ℕ) → goes_forth settings s before e body m ≡ false
+    by_message not_json h s = refl
+    by_message not_message h s = refl
+    by_message (request id method params) h s = never (sym h)
+    by_message (notification method params) h s = never (sym h)
+    by_message (result id r) h s = refl
+    by_message (error id x) h s = refl
+
+pub malformed_stands : (settings : Settings) (rows : List Debt) (events : List Event) → DebtsStand settings rows events → (n : ℕ) (body : List ℕ) → is_malformed (message_of body) ≡ true → DebtsStand settings rows (with_cause events (FromEditor n body))
+malformed_stands settings rows events st n body bad = idle_stands settings rows events st n body (by_message (message_of body) bad) (λ s. inl (malformed_stops settings events n body (message_of body) bad s))
+  where
+    by_message : (m : Message) → is_malformed m ≡ true → requests (codes "shutdown") m ≡ false
+    by_message not_json h = refl
+    by_message not_message h = refl
+    by_message (request id method params) h = never (sym h)
+    by_message (notification method params) h = refl
+    by_message (result id r) h = refl
+    by_message (error id x) h = refl

@@ -9,7 +9,9 @@ use Rattle.json_text.specs.Json.{Json}
 use Rattle.mux_history.specs.declared.cause.Cause.TheVariants.{FromServer}
 use Rattle.rpc_message.specs.Message.{Id, Message, message_of, request, notification, result, error, not_json, not_message}
 use Rattle.event_model.specs.Event.{Event, heard, with_cause}
-use Rattle.event_model.specs.Phases.{desk_of, editors_of, is_running}
+use Rattle.event_model.specs.declared.stage.Stage.{Stage}
+use Rattle.event_model.specs.declared.stage.Stage.TheVariants.{Ready}
+use Rattle.event_model.specs.Phases.{desk_of, editors_of, is_malformed, is_running}
 use Rattle.event_model.specs.Settings.{Settings}
 use Rattle.event_model.specs.Spawns.{group_of}
 use Rattle.event_model.specs.Stages.{is_ready, life_of}
@@ -22,6 +24,7 @@ use Rattle.group_rows.specs.Asks.{asking_of, is_taken, running_in}
 use Rattle.group_rows.specs.Debts.{agrees_on_all, asks_anew, debt_of, debts_asked, owed_by, runs_at, wants_refresh}
 use Rattle.group_rows.specs.Live.{is_heard}
 use Rattle.mux_turns.specs.group_facts.specs.Facts.{NoEditors}
+use Rattle.mux_tables.specs.Stands.{is_over}
 use Rattle.mux_debts.specs.Noted.{all_noted, noted, wants}
 use Rattle.mux_debts.specs.Stands.{DebtsStand}
 use Rattle.mux_debts.proofs.Standing.{step_stands}
@@ -171,3 +174,20 @@ module _ (settings : Settings) (rows : List Debt) (events : List Event) (st : De
       by_message (error id x) = refl
       by_message not_json = refl
       by_message not_message = refl
+
+  -- nor one that says nothing
+  pub malformed_noted : is_malformed (message_of body) ≡ true → DebtsStand settings rows (with_cause events (FromServer n body))
+  malformed_noted bad = unwanted_stands (by_message (message_of body) bad)
+    where
+      by_message : (m : Message) → is_malformed m ≡ true → wants settings n events m ≡ false
+      by_message not_json h = refl
+      by_message not_message h = refl
+      by_message (notification method params) h = refl
+      by_message (result id r) h = refl
+      by_message (error id x) h = refl
+      by_message (request id method params) h = never (sym h)
+
+-- one that is over isn't ready
+pub over_idle : (stage : Stage) → is_over stage ≡ true → is_ready stage ≡ false
+over_idle Ready h = never (sym h)
+over_idle other h = refl

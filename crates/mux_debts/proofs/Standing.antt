@@ -1,6 +1,7 @@
 -- A table of debts, one event further: where an editor leaves, or a start ends.
-use Rattle.std.proofs.Common.{◌≡◌, ℕ, Bool, true, false, ◌||◌, List, [], ◌∷◌, ◌++◌, nat_eq, if◌then◌else◌, refl, ap, sym, ◌∙◌}
-use Rattle.mux_history.specs.declared.cause.Cause.TheVariants.{EditorGone, ServerGone, StartFailed}
+use Rattle.std.proofs.Common.{◌≡◌, ℕ, Bool, true, false, ◌||◌, List, [], ◌∷◌, ◌++◌, nat_eq, if◌then◌else◌, ◌⊎◌, inl, inr, refl, ap, sym, subst, ◌∙◌}
+use Rattle.mux_history.specs.declared.cause.Cause.{Cause}
+use Rattle.mux_history.specs.declared.cause.Cause.TheVariants.{Drained, EditorGone, FromEditor, FromServer, Joined, ServerGone, StartFailed, Started, Tick}
 use Rattle.mux_history.specs.declared.cause.Why.{Why}
 use Rattle.mux_history.specs.declared.out.Out.{Out}
 use Rattle.mux_history.specs.declared.out.Out.TheVariants.{CloseEditor, EndServer, Spawn, ToEditor, ToServer}
@@ -13,9 +14,21 @@ use Rattle.group_rows.specs.Debts.{debts_next}
 use Rattle.group_rows.proofs.DebtsKept.{debts_more}
 use Rattle.mux_debts.specs.Stands.{DebtsStand}
 
+-- a cause that changes nothing that is owed
+abbrev pub IsOther : Cause → Type 0
+IsOther (Joined e) = Unit {0}
+IsOther (Started n) = Unit {0}
+IsOther (Drained e k) = Unit {0}
+IsOther (Tick t) = Unit {0}
+IsOther other = ⊥
+
 ends : (b : Bool) (ds : List Debt) → (if b then [] else ds) ≡ (if b || false then [] else ds)
 ends true ds = refl
 ends false ds = refl
+
+-- nothing happened, and nothing is owed
+pub nothing_stands : (settings : Settings) (rows : List Debt) → rows ≡ [] → DebtsStand settings rows []
+nothing_stands settings rows none = λ s e. ap (of s e) none
 
 module _ (settings : Settings) (rows : List Debt) (events : List Event) (st : DebtsStand settings rows events) where
   -- it has what the event makes of what it had
@@ -42,5 +55,19 @@ module _ (settings : Settings) (rows : List Debt) (events : List Event) (st : De
   said_stands (Spawn n g) other = step_stands rows (said (Spawn n g)) (λ s e. refl)
   said_stands (EndServer n) other = step_stands rows (said (EndServer n)) (λ s e. refl)
 
-  pub event_stands : (ev : Event) → ((s e : ℕ) → of s e rows ≡ debts_next settings s e events (of s e rows) ev) → DebtsStand settings rows (events ++ ev ∷ [])
-  event_stands ev stay = step_stands rows ev stay
+  pub other_stands : (cause : Cause) → IsOther cause → DebtsStand settings rows (with_cause events cause)
+  other_stands (Joined e) other = step_stands rows (heard (Joined e)) (λ s e. refl)
+  other_stands (Started n) other = step_stands rows (heard (Started n)) (λ s e. refl)
+  other_stands (Drained e k) other = step_stands rows (heard (Drained e k)) (λ s e. refl)
+  other_stands (Tick t) other = step_stands rows (heard (Tick t)) (λ s e. refl)
+  other_stands (FromEditor e body) other = absurd other
+  other_stands (EditorGone e why) other = absurd other
+  other_stands (FromServer n body) other = absurd other
+  other_stands (StartFailed n) other = absurd other
+  other_stands (ServerGone n) other = absurd other
+
+-- by either of the causes by which a program ends
+pub exit_stands : (settings : Settings) (new : List Debt) (events : List Event) (cause : Cause) (n : ℕ) → (cause ≡ StartFailed n) ⊎ (cause ≡ ServerGone n)
+    → DebtsStand settings new (with_cause events (StartFailed n)) → DebtsStand settings new (with_cause events (ServerGone n)) → DebtsStand settings new (with_cause events cause)
+exit_stands settings new events cause n (inl is) failed gone = subst (λ k. DebtsStand settings new (with_cause events k)) (sym is) failed
+exit_stands settings new events cause n (inr is) failed gone = subst (λ k. DebtsStand settings new (with_cause events k)) (sym is) gone

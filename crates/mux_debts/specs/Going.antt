@@ -4,10 +4,14 @@ use Rattle.std.specs.Prelude.{Option, Some, None}
 use Rattle.json_text.specs.Json.{Json}
 use Rattle.rpc_message.specs.Message.{Id, message_of, request}
 use Rattle.event_model.specs.Event.{Event}
-use Rattle.event_model.specs.Phases.{is_multiplexer_request}
+use Rattle.event_model.specs.declared.phase.Phase.TheVariants.{Running}
+use Rattle.event_model.specs.Phases.{desk_of, is_multiplexer_request}
+use Rattle.event_model.specs.Row.{Row}
 use Rattle.event_model.specs.Settings.{Settings}
 use Rattle.mux_turns.specs.mux_tables.specs.Stands.{start_for}
 use Rattle.refresh_debts.specs.declared.debts.Debt.{Debt}
+use Rattle.group_rows.specs.AskRows.{ask}
+use Rattle.group_rows.specs.Asks.{asking_of}
 use Rattle.group_rows.specs.Debts.{debts_due}
 use Rattle.group_rows.specs.Waiting.{is_misplaced}
 
@@ -22,3 +26,12 @@ IsDueOf settings before e body due (Some s) = due ≡ debts_due settings s befor
 
 abbrev pub IsDue : Settings → List Event → ℕ → List ℕ → List Debt → Type 0
 IsDue settings before e body due = IsDueOf settings before e body due (start_for settings e before)
+
+-- an editor runs, and no request is at work that one editor answers
+pub record CanPay (settings : Settings) (e : ℕ) (events : List Event) : Type 0 where
+  pub runs : (desk_of e events).phase ≡ Running
+  pub idle : (s : ℕ) → (asking_of settings s events).asker ≡ None
+
+-- it is asked what is owed
+abbrev pub pays : ℕ → Debt → Row
+pays e d = ask d.body e

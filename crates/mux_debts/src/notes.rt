@@ -141,7 +141,7 @@ pub fn note_refresh(
     s: u64,
     message: &Message,
 ) -> Result<(), Memory>
-    ensures stands { (settings : Settings) (before : List Event) (body : List ℕ) → IsRead message.now body → Known settings before
+    ensures { (settings : Settings) (before : List Event) (body : List ℕ) → IsRead message.now body → Known settings before
         → Stands settings tables.now before → DocumentsStand settings nothing_owed tables.now before → DebtsStand settings debts.old before
         → OnOk result (DebtsStand settings debts.new (with_cause before (FromServer s body))) }
 {

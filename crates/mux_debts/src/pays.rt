@@ -5,14 +5,13 @@ ghost use Rattle.event_model.specs.Does.{Does};
 ghost use Rattle.event_model.specs.declared.phase.Phase.TheVariants.{Running};
 ghost use Rattle.event_model.specs.declared.stage.Stage.TheVariants.{Ready};
 ghost use Rattle.event_model.specs.Event.{Event, behind, requests, with_cause};
-ghost use Rattle.event_model.specs.Phases.{desk_of, is_running};
+ghost use Rattle.event_model.specs.Phases.{desk_of};
 ghost use Rattle.event_model.specs.Row.{each};
 ghost use Rattle.event_model.specs.Settings.{Settings};
 ghost use Rattle.group_rows.specs.AskRows.{ask};
-ghost use Rattle.group_rows.specs.Asks.{asking_of};
 ghost use Rattle.group_rows.specs.Debts.{IsDebt, goes_forth, goes_to};
 ghost use Rattle.json_text.specs.Json.{Json};
-ghost use Rattle.mux_debts.specs.Going.{IsDue, is_aside};
+ghost use Rattle.mux_debts.specs.Going.{CanPay, IsDue, is_aside, pays};
 ghost use Rattle.mux_debts.specs.Stands.{DebtsStand};
 ghost use Rattle.mux_history.specs.declared.cause.Cause.TheVariants.{FromEditor};
 ghost use Rattle.mux_history.specs.declared.out.Out.{Out};
@@ -190,8 +189,7 @@ fn pay_one(
     ensures requests { tables.new.requests ≡ tables.old.requests }
     ensures versions { tables.new.versions ≡ tables.old.versions }
     ensures count { OnOk result (length tables.new.editors ≡ length tables.old.editors) }
-    ensures does { (settings : Settings) (base : List Event) → IsDebt debt.now → is_running (desk_of e (behind base outs.old)).phase ≡ true
-        → ((s : ℕ) → (asking_of settings s (behind base outs.old)).asker ≡ None)
+    ensures does { (settings : Settings) (base : List Event) → IsDebt debt.now → CanPay settings e (behind base outs.old)
         → OnOk result (Does (λ k events. AllStand settings k events) (ask debt.now.body e) base (tables.old, nothing_owed) outs.old (tables.new, nothing_owed) outs.new) }
 {
     let bytes = debt.body.bytes();
@@ -207,9 +205,8 @@ fn pay_one(
     }
 }
 
-/// E10, E16 and E17: an editor that runs is asked these, in their order, each under its next number. It takes time in the bytes that are
-/// sent. Where the answer is an error the tables stand for nothing any more.
-pub fn pay(
+// These are asked, in their order.
+fn pay_all(
     tables: &mut Tables,
     alloc: Global,
     outs: &mut Outs,
@@ -219,12 +216,35 @@ pub fn pay(
     requires { e < length tables.old.editors }
     ensures requests { tables.new.requests ≡ tables.old.requests }
     ensures versions { tables.new.versions ≡ tables.old.versions }
-    ensures does { (settings : Settings) (base : List Event) → AllByRecursion IsDebt due.now → is_running (desk_of e (behind base outs.old)).phase ≡ true
-        → ((s : ℕ) → (asking_of settings s (behind base outs.old)).asker ≡ None)
-        → OnOk result (Does (λ k events. AllStand settings k events) (each (λ (d : Debt). ask d.body e) due.now) base (tables.old, nothing_owed) outs.old (tables.new, nothing_owed) outs.new) }
+    ensures does { (settings : Settings) (base : List Event) → AllByRecursion IsDebt due.now → CanPay settings e (behind base outs.old)
+        → OnOk result (Does (λ k events. AllStand settings k events) (each (pays e) due.now) base (tables.old, nothing_owed) outs.old (tables.new, nothing_owed) outs.new) }
 {
     for debt in due {
         pay_one(tables, alloc, outs, e, debt)?;
     }
     Ok(())
+}
+
+/// E10, E16 and E17: an editor that runs is asked what it is due, in its order, each under its next number. It takes time in the bytes that
+/// are sent. Where the answer is an error the tables stand for nothing any more.
+pub fn pay(
+    tables: &mut Tables,
+    alloc: Global,
+    outs: &mut Outs,
+    e: u64,
+    due: &[Debt],
+) -> Result<(), Memory>
+    ensures requests { tables.new.requests ≡ tables.old.requests }
+    ensures versions { tables.new.versions ≡ tables.old.versions }
+    ensures does { (settings : Settings) (base : List Event) → AllByRecursion IsDebt due.now
+        → (0 < length due.now → CanPay settings e (behind base outs.old))
+        → OnOk result (Does (λ k events. AllStand settings k events) (each (pays e) due.now) base (tables.old, nothing_owed) outs.old (tables.new, nothing_owed) outs.new) }
+{
+    if due.is_empty() {
+        return Ok(());
+    }
+    if e >= tables.editors.count() {
+        return Ok(());
+    }
+    pay_all(tables, alloc, outs, e, due)
 }
