@@ -165,16 +165,50 @@ const EDITING: [(&str, &str); 6] = [
     ),
 ];
 
+// Two editors have two texts of a document: a refresh goes to the one whose text the start has, and is owed to the other, of each method the
+// last one. It is asked behind its next request, which switches the start; then the first is owed, and is asked behind a notification, once.
+const OWING: [(&str, &str); 7] = [
+    (
+        "sv 0 {\"jsonrpc\":\"2.0\",\"id\":9,\"method\":\"workspace/semanticTokens/refresh\"}\n",
+        ">sv 0 {\"jsonrpc\":\"2.0\",\"id\":9,\"result\":null}\n>ed 1 {\"jsonrpc\":\"2.0\",\"id\":1,\"method\":\"workspace/semanticTokens/refresh\"}\n",
+    ),
+    (
+        "sv 0 {\"jsonrpc\":\"2.0\",\"id\":8,\"method\":\"workspace/codeLens/refresh\"}\n",
+        ">sv 0 {\"jsonrpc\":\"2.0\",\"id\":8,\"result\":null}\n>ed 1 {\"jsonrpc\":\"2.0\",\"id\":2,\"method\":\"workspace/codeLens/refresh\"}\n",
+    ),
+    (
+        "sv 0 {\"jsonrpc\":\"2.0\", \"id\":9, \"method\":\"workspace/semanticTokens/refresh\"}\n",
+        ">sv 0 {\"jsonrpc\":\"2.0\",\"id\":9,\"result\":null}\n>ed 1 {\"jsonrpc\":\"2.0\", \"id\":3, \"method\":\"workspace/semanticTokens/refresh\"}\n",
+    ),
+    (
+        "ed 0 {\"jsonrpc\":\"2.0\",\"id\":2,\"method\":\"textDocument/hover\",\"params\":{}}\n",
+        ">sv 0 {\"jsonrpc\":\"2.0\",\"method\":\"textDocument/didChange\",\"params\":{\"textDocument\":{\"uri\":\"file:///u\",\"version\":5},\"contentChanges\":[{\"text\":\"a\"}]}}\n>sv 0 {\"jsonrpc\":\"2.0\",\"id\":5,\"method\":\"textDocument/hover\",\"params\":{}}\n>ed 0 {\"jsonrpc\":\"2.0\", \"id\":1, \"method\":\"workspace/semanticTokens/refresh\"}\n>ed 0 {\"jsonrpc\":\"2.0\",\"id\":2,\"method\":\"workspace/codeLens/refresh\"}\n",
+    ),
+    (
+        "sv 0 {\"jsonrpc\":\"2.0\",\"id\":9,\"method\":\"workspace/codeLens/refresh\"}\n",
+        ">sv 0 {\"jsonrpc\":\"2.0\",\"id\":9,\"result\":null}\n>ed 0 {\"jsonrpc\":\"2.0\",\"id\":3,\"method\":\"workspace/codeLens/refresh\"}\n",
+    ),
+    (
+        "ed 1 {\"jsonrpc\":\"2.0\",\"method\":\"x\"}\n",
+        ">sv 0 {\"jsonrpc\":\"2.0\",\"method\":\"textDocument/didChange\",\"params\":{\"textDocument\":{\"uri\":\"file:///u\",\"version\":6},\"contentChanges\":[{\"text\":\"b\"}]}}\n>sv 0 {\"jsonrpc\":\"2.0\",\"method\":\"x\"}\n>ed 1 {\"jsonrpc\":\"2.0\",\"id\":4,\"method\":\"workspace/codeLens/refresh\"}\n",
+    ),
+    (
+        "ed 1 {\"jsonrpc\":\"2.0\",\"method\":\"x\"}\n",
+        ">sv 0 {\"jsonrpc\":\"2.0\",\"method\":\"x\"}\n",
+    ),
+];
+
 #[test]
 fn a_start_asks_and_tells_editors(rt: HostRuntime) -> Result<(), Fail> {
     let alloc = rt.alloc();
-    let sessions: [&[&[(&str, &str)]]; 6] = [
+    let sessions: [&[&[(&str, &str)]]; 7] = [
         &[&TWO_EDITORS, &ASKING],
         &[&TWO_EDITORS, &FOCUSED],
         &[&TWO_EDITORS, &REFRESHING],
         &[&TWO_EDITORS, &LEAVING],
         &[&TWO_EDITORS, &WAITING],
         &[&TWO_EDITORS, &SWITCHING, &EDITING],
+        &[&TWO_EDITORS, &SWITCHING, &OWING],
     ];
     for parts in sessions {
         play(&rt, alloc, limits(MOST, MOST), parts, Ok(()))?;
