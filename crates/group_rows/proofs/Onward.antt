@@ -79,7 +79,7 @@ running_is Closed h = never (sym h)
 running_is Gone h = never (sym h)
 
 module _ (settings : Settings) (s : ℕ) (before : List Event) (e : ℕ) (body : List ℕ) (seat : Seat settings before s e) (ready : is_ready (life_of s before).stage ≡ true) (events : List Event) where
-  g : ℕ
+  abbrev g : ℕ
   g = seat.group
 
   request_onward : (id : Id) (method : List ℕ) (params : Option Json) → goes_forth settings s before e body (request id method params) ≡ true

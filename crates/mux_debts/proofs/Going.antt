@@ -142,11 +142,11 @@ module _ (settings : Settings) (before : List Event) (e : ℕ) (body : List ℕ)
 
   -- by its parts, a request
   module _ (s : ℕ) (id : Id) (method : List ℕ) (params : Option Json) where
-    m : Message
+    abbrev m : Message
     m = request id method params
 
     -- each of what keeps it from going on
-    forth : Bool → Bool → Bool → Bool → Bool → Bool → Bool
+    abbrev forth : Bool → Bool → Bool → Bool → Bool → Bool → Bool
     forth doubled own misplaced shuts reserved room = (not doubled && (not own && (not misplaced && (not shuts && not reserved)))) && room
 
     forth_aside : (d o p h r k : Bool) → (o || (p || h)) ≡ true → forth d o p h r k ≡ false
@@ -197,7 +197,7 @@ none_either true ds none = none
 none_either false ds none = refl
 
 module _ (settings : Settings) (rows : List Debt) (events : List Event) (st : DebtsStand settings rows events) (n : ℕ) (body : List ℕ) where
-  Behind : ℕ → ℕ → Bool → List Debt → Type 0
+  abbrev Behind : ℕ → ℕ → Bool → List Debt → Type 0
   Behind s e b ds = ds ≡ (if (b && requests (codes "shutdown") (message_of body)) || (b && goes_to settings s events e body (message_of body)) then [] else of s e rows)
 
   pub shut_stands : requests (codes "shutdown") (message_of body) ≡ true → DebtsStand settings (without (is_with n) rows) (with_cause events (FromEditor n body))

@@ -36,10 +36,10 @@ itself : (n : ℕ) → nat_eq n n ≡ true
 itself n = grind (arith, nat_tests)
 
 module _ (settings : Settings) (n : ℕ) (events : List Event) (body method : List ℕ) where
-  agreed : ℕ → Bool
+  abbrev agreed : ℕ → Bool
   agreed e = agrees_on_all settings n events e
 
-  debt : ℕ → Debt
+  abbrev debt : ℕ → Debt
   debt e = debt_of n e method body
 
   -- of one editor

@@ -85,7 +85,7 @@ one_debt (x ∷ ds) (suc i) d all less = one_debt ds i d all.1 (omega (arith, le
 -- Behind the row of the editor's message
 
 module _ (settings : Settings) (before : List Event) (e : ℕ) (body : List ℕ) where
-  base : List Event
+  abbrev base : List Event
   base = with_cause before (FromEditor e body)
 
   starts_pays : (s : ℕ) → goes_to settings s before e body (message_of body) ≡ true → CanPay settings e base
