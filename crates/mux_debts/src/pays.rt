@@ -42,7 +42,7 @@ fn is_shutdown(message: &Message) -> bool
         → result ≡ bytes_eq (codes "shutdown") method }
 {
     match message.method() {
-        Some(method) => method == b"shutdown",
+        Some(method) => method == b"shutdown".as_slice(),
         None => false,
     }
 }
