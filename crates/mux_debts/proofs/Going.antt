@@ -20,6 +20,7 @@ use Rattle.event_model.specs.Settings.{Settings}
 use Rattle.event_model.specs.Spawns.{start_of}
 use Rattle.event_model.specs.Stages.{is_ready, life_of}
 use Rattle.event_model.proofs.Frames.{never}
+use Rattle.mux_turns.specs.group_facts.specs.mux_members.specs.Finds.{is_ascii}
 use Rattle.mux_turns.specs.group_facts.specs.mux_members.proofs.Encoded.{ascii_encoded}
 use Rattle.refresh_debts.specs.declared.debts.Debt.{Debt}
 use Rattle.refresh_debts.specs.Tables.{is_of, is_with, of, without}
@@ -59,10 +60,8 @@ refresh_class : (method : List ℕ) → names_refresh (class_of method Server fa
 unfolding server_request
 refresh_class method h = grind arith
 
-written : (method name : List ℕ) → bytes_eq (encode_utf8_all name) name ≡ true → bytes_eq method name ≡ true → encode_utf8_all method ≡ method
-written method name ascii h =
-    let is : method ≡ name = (bytes_eq-Decides method name).0 h in
-    subst (λ w. encode_utf8_all w ≡ w) (sym is) ((bytes_eq-Decides (encode_utf8_all name) name).0 ascii)
+written : (method name : List ℕ) → is_ascii name ≡ true → bytes_eq method name ≡ true → encode_utf8_all method ≡ method
+written method name ascii h = (bytes_eq-Decides (encode_utf8_all method) name).0 (ascii_encoded method name ascii ∙ h) ∙ sym ((bytes_eq-Decides method name).0 h)
 
 refresh_written : (method : List ℕ) → is_refresh method ≡ true → encode_utf8_all method ≡ method
 unfolding is_refresh
