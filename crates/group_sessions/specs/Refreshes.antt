@@ -1,5 +1,5 @@
 -- What comes of a request by which a ready start wants something asked anew: each editor that runs in the start's group is asked, at once or behind its next message that goes on to the start; and an editor on whose texts the start agrees is left at rest (LSP 3.17, the refresh requests of Language Features).
-use Rattle.std.specs.Prelude.{◌≡◌, ◌⊎◌, ℕ, Bool, true, false, not, ◌&&◌, ◌||◌, List, [], ◌∷◌, ◌++◌, bytes_eq, codes, decimal, nat_eq, if◌then◌else◌}
+use Rattle.std.specs.Prelude.{◌≡◌, ◌⊎◌, ℕ, Bool, true, false, not, ◌&&◌, ◌||◌, List, [], ◌∷◌, ◌++◌, bytes_eq, codes, decimal, nat_eq}
 use Rattle.std.specs.Prelude.{Option, Some, None}
 use Rattle.std.specs.List.{list_any}
 use Rattle.json_text.specs.Json.{Json}
@@ -24,6 +24,15 @@ use Rattle.group_rows.specs.Asks.{has_number}
 use Rattle.group_rows.specs.Debts.{agrees_on_all, asks_anew, debts_of, ends_debts, runs_at}
 use Rattle.group_rows.specs.Lists.{is_about}
 use Rattle.group_rows.specs.Texts.{is_synced}
+
+-- the second, but where the first is so; and one of two
+abbrev pub Unless : Bool → Type 0 → Type 0
+Unless true P = Unit {0}
+Unless false P = P
+
+abbrev pub Either : Bool → Type 0 → Type 0 → Type 0
+Either true P Q = P
+Either false P Q = Q
 
 -- Each is asked
 
@@ -67,9 +76,8 @@ goes_on s e entry = is_from e entry.cause && list_any (is_onward s) entry.outs
 abbrev pub Reaches : Settings → ℕ → ℕ → List ℕ → List ℕ → List Entry → List Entry → Type 0
 Reaches settings s e method body before [] = Unit {0}
 Reaches settings s e method body before (entry ∷ rest) =
-    if is_over s e entry || wants_again settings s (events_of before) method entry.cause then Unit {0}
-    else if goes_on s e entry then IsAsked e body before entry
-    else Reaches settings s e method body (before ++ entry ∷ []) rest
+    Unless (is_over s e entry || wants_again settings s (events_of before) method entry.cause)
+    (Either (goes_on s e entry) (IsAsked e body before entry) (Reaches settings s e method body (before ++ entry ∷ []) rest))
 
 -- s, which is ready, wants something asked anew: each editor that runs in its group is asked in the entry, or so
 abbrev pub OnRefresh : Settings → List Entry → Entry → List Entry → Type 0
@@ -130,8 +138,7 @@ AllOnDocuments settings s e events (out ∷ outs) = OnDocument settings s e even
 abbrev pub StaysAtRest : Settings → ℕ → ℕ → List Entry → List Entry → Type 0
 StaysAtRest settings s e before [] = Unit {0}
 StaysAtRest settings s e before (entry ∷ rest) =
-    if disturbs s e entry || is_over s e entry then Unit {0}
-    else AllOnDocuments settings s e (with_cause (events_of before) entry.cause) entry.outs × ((is_ready (life_of s (events_of (before ++ entry ∷ []))).stage ≡ true → IsAtRest settings s e (events_of (before ++ entry ∷ []))) × StaysAtRest settings s e (before ++ entry ∷ []) rest)
+    Unless (disturbs s e entry || is_over s e entry) (AllOnDocuments settings s e (with_cause (events_of before) entry.cause) entry.outs × ((is_ready (life_of s (events_of (before ++ entry ∷ []))).stage ≡ true → IsAtRest settings s e (events_of (before ++ entry ∷ []))) × StaysAtRest settings s e (before ++ entry ∷ []) rest))
 
 abbrev pub KeepsRest : Settings → List Entry → Type 0
 KeepsRest settings history = (before rest : List Entry) → history ≡ before ++ rest → (s e : ℕ) → IsAtRest settings s e (events_of before) → StaysAtRest settings s e before rest

@@ -148,7 +148,7 @@ module _ (settings : Settings) (before : List Event) (e : ℕ) (body : List ℕ)
   -- the whole row
   pub whole_row : {K : Type 0} (Stands : K → List Event → Type 0) (due : List Debt) (u v : K) (xs ys : List Out) → IsDue settings before e body due → Done Stands (editor_row settings before e body) base [] u xs → Does Stands (each (pays e) due) base u xs v ys
       → Done Stands (row_of settings before (FromEditor e body)) base [] v ys
-  whole_row Stands due u v xs ys is first then = record {
+  whole_row Stands due u v xs ys is first asks = record {
     outs = last.outs ∙ (ap (λ zs. zs ++ outs (each (pays e) due) (behind base zs)) first.outs
         ∙ (ap (λ es. here ++ outs (each (pays e) due) es) (behind_more base [] here)
         ∙ ap (λ r. here ++ outs r (behind (behind base []) here)) (sym (due_row due is))));
@@ -159,7 +159,7 @@ module _ (settings : Settings) (before : List Event) (e : ℕ) (body : List ℕ)
       here = outs (editor_row settings before e body) (behind base [])
 
       last : Done Stands (each (pays e) due) base xs v ys
-      last = then.done first.stands
+      last = asks.done first.stands
 
   -- of a message that isn't one nothing is due
   pub whole_alone : {K : Type 0} (Stands : K → List Event → Type 0) (u : K) (xs : List Out) → ((s : ℕ) → goes_to settings s before e body (message_of body) ≡ false) → Done Stands (editor_row settings before e body) base [] u xs → Done Stands (row_of settings before (FromEditor e body)) base [] u xs
