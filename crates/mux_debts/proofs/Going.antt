@@ -187,10 +187,6 @@ module _ (settings : Settings) (before : List Event) (e : ℕ) (body : List ℕ)
 
 -- What it has behind the message
 
-
-
-
-
 none_either : (b : Bool) (ds : List Debt) → ds ≡ [] → ds ≡ (if b then [] else ds)
 none_either true ds none = none
 none_either false ds none = refl

@@ -18,8 +18,8 @@ ghost use Rattle.rpc_message.specs.Parsed.{IsRead};
 
 use lsp_method::Class;
 use message_body::{Body, Memory};
-use mux_turns::mux_members::asked_class;
 use mux_tables::Tables;
+use mux_turns::mux_members::asked_class;
 use mux_turns::stage_at;
 use refresh_debts::{Debt, Debts};
 use rpc_message::{Message, Sort};

@@ -26,8 +26,8 @@ ghost use Rattle.rpc_message.specs.Parsed.{IsRead};
 
 use message_body::Memory;
 use mux_history::Outs;
-use mux_turns::mux_members::{goes_on, is_initialize, is_open, is_status, is_stop, is_wrong};
 use mux_tables::Tables;
+use mux_turns::mux_members::{goes_on, is_initialize, is_open, is_status, is_stop, is_wrong};
 use mux_turns::{doubles, reserves, stage_at};
 use refresh_debts::{Debt, Debts};
 use rpc_message::{Message, Sort};

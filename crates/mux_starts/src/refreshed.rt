@@ -50,12 +50,7 @@ fn ask_all(
 }
 
 // Those of these editors that agree with the group's last start, which is ready, on each document that they have open.
-fn agreeing(
-    tables: &Tables,
-    alloc: Global,
-    g: usize,
-    numbers: &[u64],
-) -> Result<Vec<u64>, Memory>
+fn agreeing(tables: &Tables, alloc: Global, g: usize, numbers: &[u64]) -> Result<Vec<u64>, Memory>
     requires { g < length tables.now.lasts.items }
     ensures those { (settings : Settings) (events : List Event) (x : Start) → slice_get tables.now.lasts.items g ≡ Some x → x.life.stage ≡ Ready
         → Stands settings tables.now events → DocumentsStand settings nothing_owed tables.now events

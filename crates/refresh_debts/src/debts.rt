@@ -94,12 +94,7 @@ impl Debts {
         ensures ok { OnOk result (self.new ≡ with_debt debt self.old) }
         ensures err { OnErr result (self.new ≡ self.old) }
     {
-        match place_in(
-            &self.rows,
-            debt.start,
-            debt.editor,
-            debt.method.bytes(),
-        ) {
+        match place_in(&self.rows, debt.start, debt.editor, debt.method.bytes()) {
             Some(place) => {
                 self.rows[place] = debt;
                 Ok(())
