@@ -1,18 +1,16 @@
 -- E10, E16 and E17: why an editor is asked what it is owed, behind a message of its own that goes on.
-use Rattle.std.proofs.Common.{append_assoc, ◌≡◌, ℕ, ◌^◌, ◌<◌, Bool, true, false, ◌&&◌, ◌||◌, not, List, [], ◌∷◌, ◌++◌, append-nil, codes, bytes_eq, decimal, nat_eq, if◌then◌else◌, Option, Some, None, refl, sym, ◌∙◌, ap, ap₂, subst, ltb-true, arith}
+use Rattle.std.proofs.Common.{append_assoc, ◌≡◌, ℕ, ◌^◌, Bool, true, false, ◌&&◌, ◌||◌, not, List, [], ◌∷◌, ◌++◌, append-nil, codes, bytes_eq, decimal, nat_eq, if◌then◌else◌, Option, Some, None, refl, sym, ◌∙◌, ap, ap₂, subst, ltb-true}
 use Rattle.std.specs.List.{AllByRecursion}
 use Rattle.std.proofs.lemmas.Bool.{and_parts}
 use Rattle.mux_history.specs.declared.cause.Cause.TheVariants.{FromEditor}
 use Rattle.mux_history.specs.declared.out.Out.{Out}
 use Rattle.mux_history.specs.declared.out.Out.TheVariants.{ToEditor, ToServer, Spawn, CloseEditor, EndServer}
-use Rattle.lsp_method.specs.Class.{class_of}
-use Rattle.lsp_method.specs.declared.variants.Origin.TheVariants.{Editor}
 use Rattle.rpc_message.specs.Message.{Message, request, notification, result, error, not_json, not_message, integer, message_of}
 use Rattle.rpc_message.specs.Texts.{with_id_text}
 use Rattle.rpc_message.proofs.Decimals.{decimal_law}
 use Rattle.rpc_message.proofs.Ids.{request_with_id}
 use Rattle.event_model.specs.declared.phase.Phase.TheVariants.{Down, Running}
-use Rattle.event_model.specs.Event.{Event, behind, did, heard, notifies, requests, said, with_cause}
+use Rattle.event_model.specs.Event.{Event, behind, heard, requests, said, with_cause}
 use Rattle.event_model.specs.Phases.{Desk, desk_hears, desk_of, is_multiplexer_request, is_new, is_running, is_there, is_waiting, makes_running, phase_closed}
 use Rattle.event_model.specs.Row.{choose, each, nothing, on, outs, send}
 use Rattle.event_model.specs.Settings.{Settings}
@@ -24,12 +22,11 @@ use Rattle.mux_facts.proofs.Folds.{desk_more}
 use Rattle.mux_facts.proofs.Lists.{all_join}
 use Rattle.mux_facts.proofs.Reasons.{Because, Reasons, by_choose, by_look, by_nothing, by_on, by_send, by_then, reasons_keep}
 use Rattle.mux_facts.proofs.Words.{number_same, same_number}
-use Rattle.mux_model.specs.Methods.{goes_on}
 use Rattle.group_words.specs.Houses.{groups_of, home_of, is_doubled, placed_for}
 use Rattle.group_rows.specs.refresh_debts.specs.declared.debts.Debt.{Debt}
 use Rattle.group_rows.specs.AskRows.{ask, debts_at, debts_row}
 use Rattle.group_rows.specs.Asks.{Asking, asking_next, asking_of, has_number, next_ask, serves}
-use Rattle.group_rows.specs.Debts.{IsDebt, debts_due, debts_of, goes_forth, goes_to}
+use Rattle.group_rows.specs.Debts.{IsDebt, debts_of, goes_forth, goes_to}
 use Rattle.group_rows.specs.Forwarded.{has_room}
 use Rattle.group_rows.specs.Reserved.{reserves}
 use Rattle.group_rows.specs.Waiting.{is_for_start, is_misplaced}
@@ -37,7 +34,7 @@ use Rattle.group_rows.proofs.DebtsKept.{debts_kept}
 use Rattle.group_rows.proofs.Going.{no_exit}
 use Rattle.group_rows.proofs.Versions.{AllMeant}
 use Rattle.event_model.specs.Members.{params_of}
-use Rattle.group_facts.specs.Facts.{ends_link, is_parting, is_put_out, is_too_many, turned_away}
+use Rattle.group_facts.specs.Facts.{ends_link, is_too_many, turned_away}
 use Rattle.group_facts.specs.Why.{IsPaid, IsQuestion, Why, has_method, pays}
 use Rattle.group_facts.proofs.Asks.{asking_more}
 use Rattle.group_facts.proofs.AskingRows.{running_is, still_runs, work_sent, work_told}

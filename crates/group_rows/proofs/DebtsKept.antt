@@ -8,7 +8,7 @@ use Rattle.lsp_method.specs.declared.variants.Class.TheVariants.{Refresh}
 use Rattle.lsp_method.specs.declared.variants.Origin.TheVariants.{Editor, Server}
 use Rattle.mux_history.specs.declared.cause.Cause.TheVariants.{FromEditor, FromServer}
 use Rattle.mux_history.specs.declared.out.Out.{Out}
-use Rattle.rpc_message.specs.Message.{Id, Message, message_of, request, notification, result, error, not_json, not_message}
+use Rattle.rpc_message.specs.Message.{Message, message_of, request, notification, result, error, not_json, not_message}
 use Rattle.response_route.specs.document_model.specs.Sayings.{saying_of, speaks}
 use Rattle.event_model.specs.Event.{Event, behind, notifies, requests, took, with_cause}
 use Rattle.event_model.specs.Members.{params_of}

@@ -1,5 +1,5 @@
 -- E10, E16 and E17: where an editor's message goes on, nothing but bodies to the start come of it, before the editor is asked what it is owed.
-use Rattle.std.proofs.Common.{◌≡◌, ℕ, Bool, true, false, not, ◌&&◌, ◌||◌, List, [], ◌∷◌, ◌++◌, codes, bytes_eq, nat_eq, Option, None, Some, refl, sym, subst, ◌∙◌, ap, ap₂, arith}
+use Rattle.std.proofs.Common.{◌≡◌, ℕ, Bool, true, false, not, ◌&&◌, List, [], ◌∷◌, ◌++◌, codes, bytes_eq, nat_eq, Option, None, Some, refl, sym, subst, ◌∙◌, ap, ap₂, arith}
 use Rattle.std.specs.List.{AllByRecursion}
 use Rattle.std.specs.Option.{option_and_then, option_map_or}
 use Rattle.std.proofs.lemmas.Bool.{and_parts}
@@ -8,7 +8,7 @@ use Rattle.json_text.specs.Json.{Json}
 use Rattle.lsp_method.specs.Class.{class_of}
 use Rattle.lsp_method.specs.declared.variants.Origin.TheVariants.{Editor}
 use Rattle.mux_history.specs.declared.out.Out.{Out}
-use Rattle.mux_history.specs.declared.out.Out.TheVariants.{CloseEditor, EndServer, Spawn, ToEditor, ToServer}
+use Rattle.mux_history.specs.declared.out.Out.TheVariants.{ToServer}
 use Rattle.rpc_message.specs.Message.{Id, Message, request, notification, result, error, not_json, not_message}
 use Rattle.rpc_message.specs.Texts.{invalid_params, invalid_request, request_failed}
 use Rattle.response_route.specs.document_model.specs.Sayings.{saying_by}
@@ -30,7 +30,7 @@ use Rattle.group_rows.specs.CreatedRows.{work_row}
 use Rattle.group_rows.specs.Debts.{goes_forth, goes_to}
 use Rattle.group_rows.specs.Forwarded.{has_room}
 use Rattle.group_rows.specs.Reserved.{reserves}
-use Rattle.group_rows.specs.Rows.{answer_error, can_ask, cancel_row, closing_row, document_row, forward, from_editor, lspmux_row, may_wait, notice_at, notice_row, request_at, request_row, served_notice, served_request, shutdown_row, sync_row, told_row, wrong_code}
+use Rattle.group_rows.specs.Rows.{answer_error, cancel_row, closing_row, document_row, forward, from_editor, lspmux_row, may_wait, notice_at, notice_row, request_at, request_row, served_request, shutdown_row, sync_row, told_row, wrong_code}
 use Rattle.group_rows.specs.Waiting.{is_for_start, is_misplaced}
 use Rattle.group_rows.proofs.Going.{no_exit}
 

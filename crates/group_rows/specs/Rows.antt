@@ -1,5 +1,5 @@
 -- The routing table over several editors and groups, in part: J1, J2, E2 to E10, E11, E12 to E17, E19, S1, S2 with X4, S3, S4, S5 with V1 and V2, S6 to S12 with V3, S13 to S15, L2, X1 to X3, and X5 to X7.
-use Rattle.std.specs.Prelude.{ℕ, Bool, true, false, ◌&&◌, ◌||◌, List, [], ◌∷◌, ◌++◌, filter, flat_map, codes, length, nat_eq, nat_lt, bytes_eq, if◌then◌else◌}
+use Rattle.std.specs.Prelude.{ℕ, Bool, true, false, ◌&&◌, ◌||◌, List, [], ◌∷◌, ◌++◌, filter, flat_map, codes, length, nat_eq, bytes_eq, if◌then◌else◌}
 use Rattle.std.specs.Prelude.{Option, Some, None, slice_get}
 use Rattle.std.specs.List.{list_any}
 use Rattle.std.specs.Option.{option_and_then, option_map_or}

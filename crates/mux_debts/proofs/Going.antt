@@ -1,8 +1,8 @@
 -- E9, E10, E16 and E17: what a table of debts has behind an editor's message.
-use Rattle.std.proofs.Common.{◌≡◌, ℕ, Bool, true, false, not, ◌&&◌, ◌||◌, cond, filter, List, [], ◌∷◌, codes, bytes_eq, nat_eq, nat_lt, if◌then◌else◌, ◌⊎◌, inl, inr, refl, ap, ap₂, sym, subst, ◌∙◌, arith}
+use Rattle.std.proofs.Common.{◌≡◌, ℕ, Bool, true, false, not, ◌&&◌, ◌||◌, cond, List, [], ◌∷◌, codes, bytes_eq, nat_eq, if◌then◌else◌, ◌⊎◌, inl, inr, refl, ap, ap₂, sym, subst, ◌∙◌, arith}
 use Rattle.std.specs.Prelude.{Option, Some, None, encode_utf8_all}
 use Rattle.std.specs.List.{list_any}
-use Rattle.std.specs.Option.{option_and_then, option_map_or}
+use Rattle.std.specs.Option.{option_map_or}
 use Rattle.std.proofs.lemmas.Bool.Decides.{nat_tests}
 use Rattle.std.proofs.lemmas.Slice.Eq.{bytes_eq-Decides}
 use Rattle.json_text.specs.Json.{Json}
@@ -10,14 +10,11 @@ use Rattle.lsp_method.specs.Class.{class_of, is_refresh, server_request}
 use Rattle.lsp_method.specs.declared.variants.Origin.TheVariants.{Server}
 use Rattle.mux_history.specs.declared.cause.Cause.TheVariants.{FromEditor}
 use Rattle.rpc_message.specs.Message.{Id, Message, message_of, request, notification, result, error, not_json, not_message}
-use Rattle.event_model.specs.declared.stage.Stage.{Stage}
-use Rattle.event_model.specs.declared.stage.Stage.TheVariants.{Ended, Ready}
 use Rattle.event_model.specs.Event.{Event, heard, requests, with_cause}
 use Rattle.event_model.specs.Members.{params_of}
 use Rattle.event_model.specs.Phases.{desk_of, is_malformed, is_multiplexer_request, is_running}
 use Rattle.event_model.specs.Requests.{is_open, open_of}
 use Rattle.event_model.specs.Settings.{Settings}
-use Rattle.event_model.specs.Spawns.{start_of}
 use Rattle.event_model.specs.Stages.{is_ready, life_of}
 use Rattle.event_model.proofs.Frames.{never}
 use Rattle.mux_turns.specs.group_facts.specs.mux_members.specs.Finds.{is_ascii}
@@ -25,13 +22,12 @@ use Rattle.mux_turns.specs.group_facts.specs.mux_members.proofs.Encoded.{ascii_e
 use Rattle.refresh_debts.specs.declared.debts.Debt.{Debt}
 use Rattle.refresh_debts.specs.Tables.{is_of, is_with, of, without}
 use Rattle.refresh_debts.proofs.Parts.{left_of, taken_of}
-use Rattle.group_words.specs.Houses.{home_of, is_doubled}
 use Rattle.group_rows.specs.Asks.{serves}
 use Rattle.group_rows.specs.Debts.{debts_due, debts_of, goes_forth, goes_to, names_refresh, wants_refresh}
 use Rattle.group_rows.specs.Forwarded.{has_room}
 use Rattle.group_rows.specs.Reserved.{reserves}
 use Rattle.group_rows.specs.Rows.{can_ask}
-use Rattle.group_rows.specs.Waiting.{is_for_start, is_misplaced}
+use Rattle.group_rows.specs.Waiting.{is_misplaced}
 use Rattle.group_rows.proofs.DebtsKept.{forth_shutdown, off_forth}
 use Rattle.mux_turns.specs.mux_tables.specs.Stands.{HasEnded, start_for}
 use Rattle.mux_debts.specs.Going.{IsDue, IsDueOf, is_aside}

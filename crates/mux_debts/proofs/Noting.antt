@@ -1,5 +1,5 @@
 -- S9: what a table of debts has behind a start's request for a refresh.
-use Rattle.std.proofs.Common.{◌≡◌, ℕ, zero, suc, ◌+◌, ◌<◌, ◌≤◌, Bool, true, false, not, ◌&&◌, cond, filter, fold, List, [], ◌∷◌, nat_eq, if◌then◌else◌, refl, ap, sym, subst, ◌∙◌, arith}
+use Rattle.std.proofs.Common.{◌≡◌, ℕ, zero, suc, ◌+◌, ◌<◌, ◌≤◌, Bool, true, false, not, ◌&&◌, cond, filter, List, [], ◌∷◌, nat_eq, if◌then◌else◌, refl, ap, sym, subst, ◌∙◌, arith}
 use Rattle.std.specs.Prelude.{Option, Some}
 use Rattle.std.specs.List.{AllByRecursion, range_with_len}
 use Rattle.std.specs.Option.{option_map_or}
@@ -17,12 +17,11 @@ use Rattle.event_model.specs.Spawns.{group_of}
 use Rattle.event_model.specs.Stages.{is_ready, life_of}
 use Rattle.event_model.proofs.Frames.{never}
 use Rattle.refresh_debts.specs.declared.debts.Debt.{Debt}
-use Rattle.refresh_debts.specs.Tables.{is_same, of, with_debt, without}
+use Rattle.refresh_debts.specs.Tables.{of}
 use Rattle.refresh_debts.proofs.Parts.{owed_of, owed_other, settled_of, settled_other}
 use Rattle.group_words.specs.Houses.{home_of, is_home}
 use Rattle.group_rows.specs.Asks.{asking_of, is_taken, running_in}
 use Rattle.group_rows.specs.Debts.{agrees_on_all, asks_anew, debt_of, debts_asked, owed_by, runs_at, wants_refresh}
-use Rattle.group_rows.specs.Live.{is_heard}
 use Rattle.mux_turns.specs.group_facts.specs.Facts.{NoEditors}
 use Rattle.mux_tables.specs.Stands.{is_over}
 use Rattle.mux_debts.specs.Noted.{all_noted, noted, wants}

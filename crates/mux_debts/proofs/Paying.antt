@@ -1,5 +1,5 @@
 -- E10, E16 and E17: what an editor is due is asked of it behind its own message, which it still runs behind.
-use Rattle.std.proofs.Common.{◌≡◌, ℕ, zero, suc, ◌<◌, ◌^◌, Bool, true, false, ◌&&◌, List, [], ◌∷◌, ◌++◌, append-nil, codes, decimal, get_or, length, nat_eq, if◌then◌else◌, Option, None, Some, refl, sym, subst, ◌∙◌, ap, arith}
+use Rattle.std.proofs.Common.{◌≡◌, ℕ, zero, suc, ◌<◌, Bool, true, false, ◌&&◌, List, [], ◌∷◌, ◌++◌, append-nil, codes, decimal, get_or, length, nat_eq, if◌then◌else◌, Option, None, Some, refl, sym, subst, ◌∙◌, ap, arith}
 use Rattle.std.specs.List.{AllByRecursion}
 use Rattle.std.specs.Option.{option_and_then}
 use Rattle.std.proofs.lemmas.Bool.{and_parts}
@@ -10,20 +10,20 @@ use Rattle.mux_history.specs.declared.out.Out.TheVariants.{CloseEditor, EndServe
 use Rattle.rpc_message.specs.Message.{message_of}
 use Rattle.rpc_message.specs.Texts.{with_id_text}
 use Rattle.event_model.specs.declared.phase.Phase.TheVariants.{Down, Running}
-use Rattle.event_model.specs.Does.{Alike, Does, Done}
+use Rattle.event_model.specs.Does.{Does, Done}
 use Rattle.event_model.specs.Event.{Event, behind, heard, requests, said, with_cause}
 use Rattle.event_model.specs.Phases.{Desk, desk_hears, desk_of, is_running}
-use Rattle.event_model.specs.Row.{Row, after, choose, each, nothing, on, outs, send}
+use Rattle.event_model.specs.Row.{choose, each, nothing, on, outs, send}
 use Rattle.event_model.specs.Settings.{Settings}
 use Rattle.event_model.specs.Spawns.{start_of}
 use Rattle.event_model.specs.Stages.{is_ready, life_of}
 use Rattle.event_model.proofs.Frames.{never}
-use Rattle.event_model.proofs.Turns.{alike, behind_more}
+use Rattle.event_model.proofs.Turns.{behind_more}
 use Rattle.refresh_debts.specs.declared.debts.Debt.{Debt}
 use Rattle.group_words.specs.Houses.{home_of}
 use Rattle.group_rows.specs.AskRows.{debts_at, debts_row}
 use Rattle.group_rows.specs.Asks.{Asking, asking_of, has_number, next_ask, serves}
-use Rattle.group_rows.specs.Debts.{IsDebt, debts_due, debts_of, goes_forth, goes_to}
+use Rattle.group_rows.specs.Debts.{IsDebt, debts_of, goes_forth, goes_to}
 use Rattle.group_rows.specs.Rows.{editor_row, row_of}
 use Rattle.group_rows.proofs.DebtsKept.{debts_kept, forth_shutdown}
 use Rattle.group_rows.proofs.Onward.{IsOnward, goes_onward}

@@ -1,8 +1,8 @@
 -- What a table of debts has behind what a start, or an editor, says.
-use Rattle.std.specs.Prelude.{ℕ, Bool, false, ◌&&◌, List, fold, codes}
+use Rattle.std.specs.Prelude.{ℕ, Bool, false, List, fold}
 use Rattle.rpc_message.specs.Message.{Message, request}
 use Rattle.refresh_debts.specs.declared.debts.Debt.{Debt}
-use Rattle.event_model.specs.Event.{Event, requests}
+use Rattle.event_model.specs.Event.{Event}
 use Rattle.event_model.specs.Settings.{Settings}
 use Rattle.group_rows.specs.Debts.{agrees_on_all, asks_anew, debt_of, owed_by}
 

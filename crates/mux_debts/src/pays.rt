@@ -1,5 +1,5 @@
 //! E10, E16 and E17: behind a message of its own that goes on an editor is asked what it is owed.
-ghost use Rattle.std.specs.Prelude.{◌≡◌, ◌<◌, ℕ, List, Option, Some, None, bytes_eq, codes, length, true, IfOk, OnOk, slice_get};
+ghost use Rattle.std.specs.Prelude.{◌≡◌, ◌<◌, ℕ, List, Option, Some, None, bytes_eq, codes, length, IfOk, OnOk, slice_get};
 ghost use Rattle.std.specs.List.{AllByRecursion};
 ghost use Rattle.event_model.specs.Does.{Does};
 ghost use Rattle.event_model.specs.declared.phase.Phase.TheVariants.{Running};
@@ -14,7 +14,6 @@ ghost use Rattle.json_text.specs.Json.{Json};
 ghost use Rattle.mux_debts.specs.Going.{CanPay, IsDue, is_aside, pays};
 ghost use Rattle.mux_debts.specs.Stands.{DebtsStand};
 ghost use Rattle.mux_history.specs.declared.cause.Cause.TheVariants.{FromEditor};
-ghost use Rattle.mux_history.specs.declared.out.Out.{Out};
 ghost use Rattle.mux_tables.specs.declared.tables.Start.{Start};
 ghost use Rattle.mux_tables.specs.Documents.{AllStand, nothing_owed};
 ghost use Rattle.mux_tables.specs.Stands.{Stands, start_for};

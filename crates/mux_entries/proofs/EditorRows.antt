@@ -3,7 +3,7 @@ use Rattle.std.proofs.Common.{◌≡◌, ℕ, Bool, true, false, ◌&&◌, List,
 use Rattle.std.specs.Prelude.{Option, Some}
 use Rattle.json_text.specs.Json.{Json}
 use Rattle.json_nodes.specs.Doc.{Doc}
-use Rattle.mux_history.specs.declared.cause.Cause.TheVariants.{Drained, FromEditor}
+use Rattle.mux_history.specs.declared.cause.Cause.TheVariants.{Drained}
 use Rattle.mux_history.specs.declared.out.Out.{Out}
 use Rattle.rpc_message.specs.declared.envelope.Envelope.{Envelope}
 use Rattle.rpc_message.specs.declared.envelope.Envelope.TheVariants as envelope

@@ -37,7 +37,7 @@ use Rattle.mux_tables.specs.declared.tables.Start.{Start}
 use Rattle.mux_tables.specs.declared.tables.Tables.{Tables}
 use Rattle.mux_tables.specs.Documents.{DocumentsStand, Owed}
 use Rattle.mux_tables.specs.Puts.{IsAtWork, IsNextAsk}
-use Rattle.mux_tables.specs.Stands.{AreApart, AsksAt, AsksStand, CountStands, EditorsStand, HasText, IsAtRest, IsOther, Part, of_life, of_ids, of_shown, of_stop, of_asks, of_parked, of_live, of_lists, ParkedAt, ParkedStand, PartStands, Stands, WasAsked, is_beside, is_request, kept_ask, phase_in}
+use Rattle.mux_tables.specs.Stands.{AreApart, AsksAt, AsksStand, CountStands, EditorsStand, HasText, IsOther, Part, of_life, of_ids, of_shown, of_stop, of_asks, of_parked, of_live, of_lists, ParkedAt, ParkedStand, PartStands, Stands, WasAsked, is_beside, is_request, kept_ask, phase_in}
 use Rattle.mux_tables.proofs.Apart.{id_flip}
 use Rattle.mux_tables.proofs.Asking.{asking_more, asks_later}
 use Rattle.mux_tables.proofs.Counted.{asked_more, next_more}

@@ -13,7 +13,7 @@ use Rattle.mux_history.specs.declared.out.Out.TheVariants.{ToEditor}
 use Rattle.rpc_message.specs.Message.{Id, message_of, request}
 use Rattle.event_model.specs.declared.stage.Stage.TheVariants.{Ready}
 use Rattle.event_model.specs.Does.{Does}
-use Rattle.event_model.specs.Event.{Event, behind, did, said, took}
+use Rattle.event_model.specs.Event.{Event, behind, said, took}
 use Rattle.event_model.specs.Phases.{desk_of, is_running}
 use Rattle.event_model.specs.Requests.{answered_id}
 use Rattle.event_model.specs.Row.{Row, send}
@@ -24,14 +24,14 @@ use Rattle.event_model.proofs.Turns.{does_knowing}
 use Rattle.editor_session.specs.Sessions as sessions
 use Rattle.editor_session.specs.Sessions.{session_of, unless_gone, with_session}
 use Rattle.group_words.specs.Houses.{is_first_error}
-use Rattle.group_laws.specs.group_rows.specs.Asks.{Asking, asked_next, asking_next, asking_of, is_own_work, is_patient, is_taken, may_wait, next_ask, serves, unparked}
+use Rattle.group_laws.specs.group_rows.specs.Asks.{asking_of, is_patient, is_taken, may_wait, next_ask}
 use Rattle.group_laws.specs.group_rows.specs.Live.{if_live, live_by, live_of, with_registered, without_these}
 use Rattle.group_laws.specs.registrations.specs.declared.registration.Registration.{Registration}
 use Rattle.group_laws.specs.registrations.specs.Items.{are_live, others, registered, unregistered}
 use Rattle.mux_tables.specs.declared.tables.Start.{Start}
 use Rattle.mux_tables.specs.declared.tables.Tables.{Tables}
 use Rattle.mux_tables.specs.Puts.{IsNextAsk}
-use Rattle.mux_tables.specs.Stands.{AsksStay, LiveAt, NamesAt, Stands, is_early, is_request, number_in, of_life, of_live}
+use Rattle.mux_tables.specs.Stands.{LiveAt, NamesAt, Stands, is_early, is_request, number_in, of_life, of_live}
 use Rattle.mux_tables.proofs.Asking.{parked_by}
 use Rattle.mux_tables.proofs.Frames.{open_stay}
 use Rattle.group_laws.specs.group_rows.specs.Created.{created_next, created_of, is_creating, names_create}

@@ -22,7 +22,7 @@ ghost use Rattle.mux_tables.specs.declared.tables.Start.{Start};
 ghost use Rattle.mux_tables.specs.Documents.{DocumentsStand, Owed};
 ghost use Rattle.mux_tables.specs.Puts.{IsAtWork, IsNextAsk};
 ghost use Rattle.mux_tables.specs.Refusals.{seat_from};
-ghost use Rattle.mux_tables.specs.Stands.{IsAtRest, Stands, number_in, stage_in};
+ghost use Rattle.mux_tables.specs.Stands.{Stands, number_in, stage_in};
 
 use crate::tables::{Start, Tables};
 use ask_route::Seat;

@@ -1,6 +1,6 @@
 -- A debt in the place of that of its method, or behind all others.
-use Rattle.std.proofs.Common.{◌≡◌, ℕ, suc, ◌+◌, ◌<◌, Bool, true, false, cond, List, [], ◌∷◌, ◌++◌, length, get_or, drop, slice_set, refl, ap, subst, arith, add-one, drop-cons}
-use Rattle.std.specs.Prelude.{Option, Some, None}
+use Rattle.std.proofs.Common.{◌≡◌, ℕ, suc, ◌+◌, ◌<◌, Bool, true, false, cond, List, [], ◌∷◌, ◌++◌, length, slice_set, refl, ap, subst, arith}
+use Rattle.std.specs.Prelude.{Some, None}
 use Rattle.refresh_debts.specs.declared.debts.Debt.{Debt}
 use Rattle.refresh_debts.specs.Tables.{is_same, place_in, with_debt}
 

@@ -1,5 +1,5 @@
 //! The table of debts: one behind the other, in the order in which they came to be owed.
-ghost use Rattle.std.specs.Prelude.{◌≡◌, ◌<◌, [], None, filter, length, not, IfOk, IfSome, OnErr, OnOk};
+ghost use Rattle.std.specs.Prelude.{◌≡◌, ◌<◌, [], None, length, IfOk, IfSome, OnErr, OnOk};
 ghost use Rattle.std.specs.List.{list_any};
 ghost use Rattle.refresh_debts.specs.Tables.{is_at, is_of, is_same, is_with, of, place_in, with_debt, without};
 

@@ -1,5 +1,5 @@
 -- Those of a list that agree.
-use Rattle.std.proofs.Common.{ℕ, ◌<◌, ap, sym, subst, ◌∙◌}
+use Rattle.std.proofs.Common.{◌<◌, ap, sym, subst, ◌∙◌}
 use Rattle.std.specs.List.{All}
 use Rattle.group_rows.specs.Debts.{agrees_on_all}
 use Rattle.mux_starts.proofs.Offered.{all_kept, one_kept, one_left}
