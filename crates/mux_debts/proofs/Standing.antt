@@ -1,12 +1,14 @@
 -- A table of debts, one event further: where an editor leaves, or a start ends.
-use Rattle.std.proofs.Common.{◌≡◌, ℕ, Bool, true, false, ◌||◌, List, [], ◌∷◌, ◌++◌, nat_eq, if◌then◌else◌, ◌⊎◌, inl, inr, refl, ap, sym, subst, ◌∙◌}
+use Rattle.std.proofs.Common.{◌≡◌, ℕ, ◌+◌, ◌<◌, ◌≤◌, Bool, true, false, ◌||◌, List, [], ◌∷◌, ◌++◌, get_or, length, nat_eq, take, if◌then◌else◌, ◌⊎◌, inl, inr, refl, ap, sym, subst, ◌∙◌}
+use Rattle.std.proofs.lemmas.List.{take_all, take_more}
 use Rattle.mux_history.specs.declared.cause.Cause.{Cause}
 use Rattle.mux_history.specs.declared.cause.Cause.TheVariants.{Drained, EditorGone, FromEditor, FromServer, Joined, ServerGone, StartFailed, Started, Tick}
 use Rattle.mux_history.specs.declared.cause.Why.{Why}
 use Rattle.mux_history.specs.declared.out.Out.{Out}
 use Rattle.mux_history.specs.declared.out.Out.TheVariants.{CloseEditor, EndServer, Spawn, ToEditor, ToServer}
-use Rattle.event_model.specs.Event.{Event, heard, said, with_cause}
+use Rattle.event_model.specs.Event.{Event, behind, heard, said, with_cause}
 use Rattle.event_model.specs.Settings.{Settings}
+use Rattle.event_model.proofs.Turns.{behind_more}
 use Rattle.refresh_debts.specs.declared.debts.Debt.{Debt}
 use Rattle.refresh_debts.specs.Tables.{is_at, is_with, of, without}
 use Rattle.refresh_debts.proofs.Parts.{left_of, over_of}
@@ -21,6 +23,13 @@ IsOther (Started n) = Unit {0}
 IsOther (Drained e k) = Unit {0}
 IsOther (Tick t) = Unit {0}
 IsOther other = ⊥
+
+-- an out more, and all of them
+pub behind_next : (base : List Event) (xs : List Out) (i : ℕ) (d : Out) → i < length xs → behind base (take (i + 1) xs) ≡ behind base (take i xs) ++ said (get_or xs i d) ∷ []
+behind_next base xs i d h = ap (behind base) (take_more xs i d h) ∙ behind_more base (take i xs) (get_or xs i d ∷ [])
+
+pub behind_all : (base : List Event) (xs ys : List Out) (i : ℕ) → length xs ≤ i → xs ≡ ys → behind base (take i xs) ≡ behind base ys
+behind_all base xs ys i over same = ap (behind base) (take_all i xs over ∙ same)
 
 ends : (b : Bool) (ds : List Debt) → (if b then [] else ds) ≡ (if b || false then [] else ds)
 ends true ds = refl
