@@ -82,7 +82,7 @@ module _ (settings : Settings) (s : ℕ) (before : List Event) (e : ℕ) (body :
   abbrev g : ℕ
   g = seat.group
 
-  request_onward : (id : Id) (method : List ℕ) (params : Option Json) → goes_forth settings s before e body (request id method params) ≡ true
+  pub request_onward : (id : Id) (method : List ℕ) (params : Option Json) → goes_forth settings s before e body (request id method params) ≡ true
       → outs (from_editor settings before e body (request id method params) Running) events ≡ outs (sync_row settings before g s e ⨾ forward settings s body) events
   request_onward id method params forth =
       ap (λ b. outs (choose b (closing_row settings before e) (told_row settings before e body m Running)) events) (off_is (is_doubled before e m) one.0)
@@ -112,7 +112,7 @@ module _ (settings : Settings) (s : ℕ) (before : List Event) (e : ℕ) (body :
       four : (not (bytes_eq (codes "shutdown") method) ≡ true) × (not (reserves (params_of body)) ≡ true)
       four = and_parts (not (bytes_eq (codes "shutdown") method)) (not (reserves (params_of body))) three.1
 
-  notice_onward : (method : List ℕ) (params : Option Json) → goes_on (class_of method Editor true) ≡ true
+  pub notice_onward : (method : List ℕ) (params : Option Json) → goes_on (class_of method Editor true) ≡ true
       → outs (from_editor settings before e body (notification method params) Running) events ≡ outs (sync_row settings before g s e ⨾ send (ToServer s body)) events
   notice_onward method params going =
       ap (λ b. outs (choose b (closing_row settings before e) (choose (goes_on (class_of method Editor true)) (notice_row settings before e body) (later_row))) events) (no_exit method going)
