@@ -79,10 +79,10 @@ Reaches settings s e method body before (entry ∷ rest) =
     Unless (is_over s e entry || wants_again settings s (events_of before) method entry.cause)
     (Either (goes_on s e entry) (IsAsked e body before entry) (Reaches settings s e method body (before ++ entry ∷ []) rest))
 
--- s, which is ready, wants something asked anew: each editor that runs in its group is asked in the entry, or so
+-- s, which is ready, wants something asked anew: each editor that runs in its group is asked in the entry, or so, unless it leaves in it
 abbrev pub OnRefresh : Settings → List Entry → Entry → List Entry → Type 0
 OnRefresh settings before entry rest = (s : ℕ) (body method : List ℕ) (id : Id) (params : Option Json) → entry.cause ≡ FromServer s body → message_of body ≡ request id method params → asks_anew settings s (events_of before) id method ≡ true
-    → (e : ℕ) → runs_at settings s (events_of before) e ≡ true → IsAsked e body before entry ⊎ Reaches settings s e method body (before ++ entry ∷ []) rest
+    → (e : ℕ) → runs_at settings s (events_of before) e ≡ true → IsAsked e body before entry ⊎ Unless (is_over s e entry) (Reaches settings s e method body (before ++ entry ∷ []) rest)
 
 abbrev pub RefreshesFrom : Settings → List Entry → List Entry → Type 0
 RefreshesFrom settings before [] = Unit {0}

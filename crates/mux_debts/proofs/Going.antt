@@ -236,7 +236,7 @@ module _ (settings : Settings) (before : List Event) (e : ℕ) (body : List ℕ)
       go (Some s) = is ∙ sym (none s)
 
   pub none_due : ((s : ℕ) → goes_to settings s before e body (message_of body) ≡ false) → (due : List Debt) → due ≡ [] → IsDue settings before e body due
-  none_due off due is = due_by (λ s. ap (λ b. if b then debts_of settings s before e else []) (off s)) due is
+  none_due off due is = due_by (λ s. ap (λ b. if b then debts_of settings s e before else []) (off s)) due is
 
   pub this_due : (s : ℕ) → start_for settings e before ≡ Some s → (due : List Debt) → due ≡ debts_due settings s before e body (message_of body) → IsDue settings before e body due
   this_due s start due is = subst (IsDueOf settings before e body due) (sym start) is
