@@ -80,7 +80,7 @@ use Rattle.group_facts.proofs.LiveGroups.{lives_past}
 use Rattle.group_facts.proofs.PlacingRow.{IsNext, placed_next}
 use Rattle.group_facts.proofs.Waiting.{first_unasked, new_is, whole_is}
 use Rattle.group_rows.proofs.DebtsKept.{off_unrun, whole_off}
-use Rattle.group_rows.specs.Debts.{debts_due}
+use Rattle.group_rows.specs.Debts.{agrees_on_all, debts_due}
 use Rattle.group_rows.specs.refresh_debts.specs.declared.debts.Debt.{Debt}
 
 -- Outs that spawn none
@@ -511,7 +511,7 @@ module _ (settings : Settings) (before : List Event) where
   quiet_edit s e body events = by_look (by_choose (λ room. quiet_edited s e body (asked_text (current_version settings before s e) body (decimal (next_ask e events))) events) (λ none. by_nothing))
 
   quiet_asking : (g s : ℕ) (body method : List ℕ) (c : Class) (events : List Event) → Quiet events (asking_row settings before g s body method c)
-  quiet_asking g s body method Refresh events = by_then (by_send tt) (quiet_each body (running_in settings g before) (behind events (ToServer s (ok_text (id_bytes body) (codes "null")) ∷ [])))
+  quiet_asking g s body method Refresh events = by_then (by_send tt) (quiet_each body (filter (agrees_on_all settings s before) (running_in settings g before)) (behind events (ToServer s (ok_text (id_bytes body) (codes "null")) ∷ [])))
   quiet_asking g s body method Folders events = by_on (λ none. by_nothing) (λ x found. by_send tt)
   quiet_asking g s body method Focused events = by_on (λ none. by_send tt) (λ e found. by_choose (λ edit. quiet_edit s e body events) (λ plain. quiet_ask body e events))
   quiet_asking g s body method Lowest events = by_on (λ none. by_nothing) (λ e found. quiet_ask body e events)

@@ -13,6 +13,7 @@ use Rattle.event_model.specs.declared.phase.Phase.{Phase}
 use Rattle.event_model.specs.declared.phase.Phase.TheVariants.{Absent, New, Waiting, Answered, Running, Down, Closed, Gone}
 use Rattle.event_model.specs.Event.{Event, said, behind, with_cause, requests}
 use Rattle.event_model.specs.Phases.{Desk, desk_of, desk_behind, has_id, is_begun, is_malformed, is_new, is_waiting, phase_closed, phase_told, is_running}
+use Rattle.event_model.specs.Row.{outs}
 use Rattle.event_model.specs.Requests.{answered_id, open_behind, open_of, without}
 use Rattle.event_model.specs.Settings.{Settings}
 use Rattle.event_model.proofs.Frames.{never}

@@ -324,13 +324,13 @@ module _ (settings : Settings) (range : InRange settings) (s : ℕ) (body method
   free : (is_ready (life_of s before).stage ≡ true) × (not (is_taken (Some id) (asking_of settings s before)) ≡ true)
   free = and_parts (is_ready (life_of s before).stage) (not (is_taken (Some id) (asking_of settings s before))) wanted.1
 
-  abbrev ready : (life_of s before).stage ≡ Ready
+  ready : (life_of s before).stage ≡ Ready
   ready = ready_is (life_of s before).stage free.0
 
   place : (is_running (desk_of e before).phase ≡ true) × (option_map_or (λ g. is_home g (home_of settings e before)) (group_of s before) false ≡ true)
   place = and_parts (is_running (desk_of e before).phase) (option_map_or (λ g. is_home g (home_of settings e before)) (group_of s before) false) runs
 
-  abbrev serving : IsServing settings before s
+  serving : IsServing settings before s
   serving = (settled_at settings range before at).serving s ready
 
   running : (desk_of e before).phase ≡ Running
