@@ -10,6 +10,8 @@ use Rattle.lsp_method.specs.Class.{class_of, is_refresh, server_request}
 use Rattle.lsp_method.specs.declared.variants.Origin.TheVariants.{Server}
 use Rattle.mux_history.specs.declared.cause.Cause.TheVariants.{FromEditor}
 use Rattle.rpc_message.specs.Message.{Id, Message, message_of, request, notification, result, error, not_json, not_message}
+use Rattle.rpc_message.specs.declared.sort.Sort.TheVariants as sort
+use Rattle.rpc_message.specs.Sorts.{sort_of}
 use Rattle.event_model.specs.Event.{Event, heard, requests, with_cause}
 use Rattle.event_model.specs.Members.{params_of}
 use Rattle.event_model.specs.Phases.{desk_of, is_malformed, is_multiplexer_request, is_running}
@@ -275,3 +277,56 @@ malformed_stands settings rows events st n body bad = idle_stands settings rows 
     by_message (notification method params) h = refl
     by_message (result id r) h = refl
     by_message (error id x) h = refl
+
+-- By their sorts
+
+-- a notification
+pub record Tells (m : Message) : Type 0 where
+  pub method : List ℕ
+  pub params : Option Json
+  pub is : m ≡ notification method params
+
+pub tells_by_sort : (m : Message) → sort_of m ≡ Some sort.Notification → Tells m
+tells_by_sort (notification method params) h = record { method = method; params = params; is = refl }
+tells_by_sort (request id method params) h = absurd (cc)
+tells_by_sort (result id r) h = absurd (cc)
+tells_by_sort (error id r) h = absurd (cc)
+tells_by_sort not_json h = absurd (cc)
+tells_by_sort not_message h = absurd (cc)
+
+pub unshut_sort : (name : List ℕ) (m : Message) → (sort_of m ≡ Some sort.Request → ⊥) → requests name m ≡ false
+unshut_sort name (request id method params) h = absurd (h refl)
+unshut_sort name (notification method params) h = refl
+unshut_sort name (result id r) h = refl
+unshut_sort name (error id r) h = refl
+unshut_sort name not_json h = refl
+unshut_sort name not_message h = refl
+
+pub idle_sort : (settings : Settings) (s : ℕ) (before : List Event) (e : ℕ) (body : List ℕ) (m : Message) → (sort_of m ≡ Some sort.Request → ⊥) → (sort_of m ≡ Some sort.Notification → ⊥) → goes_forth settings s before e body m ≡ false
+idle_sort settings s before e body (request id method params) h k = absurd (h refl)
+idle_sort settings s before e body (notification method params) h k = absurd (k refl)
+idle_sort settings s before e body (result id r) h k = refl
+idle_sort settings s before e body (error id r) h k = refl
+idle_sort settings s before e body not_json h k = refl
+idle_sort settings s before e body not_message h k = refl
+
+-- To no other start than the last one of its group
+
+turned : (s k : ℕ) → nat_eq k s ≡ false → nat_eq s k ≡ false
+turned s k h = grind (arith, nat_tests)
+
+module _ (settings : Settings) (before : List Event) (e : ℕ) (body : List ℕ) (k : ℕ) (start : start_for settings e before ≡ Some k) where
+  pub to_others : (m : Message) (s : ℕ) → nat_eq k s ≡ false → goes_to settings s before e body m ≡ false
+  to_others m s other = elsewhere settings before e body m k start s (turned s k other)
+
+  -- where it doesn't go there either, or that start owes nothing, nothing changes
+  pub either_idle : (rows : List Debt) → (goes_to settings k before e body (message_of body) ≡ false) ⊎ (of k e rows ≡ []) → (s : ℕ) → (goes_to settings s before e body (message_of body) ≡ false) ⊎ (of s e rows ≡ [])
+  either_idle rows own s = go (nat_eq k s) refl
+    where
+      go : (b : Bool) → nat_eq k s ≡ b → (goes_to settings s before e body (message_of body) ≡ false) ⊎ (of s e rows ≡ [])
+      go true same = subst (λ j. (goes_to settings j before e body (message_of body) ≡ false) ⊎ (of j e rows ≡ [])) (same_number k s same) own
+      go false other = inl (to_others (message_of body) s other)
+
+pub empty_due : (b : Bool) (ds : List Debt) → ds ≡ [] → [] ≡ (if b then ds else [])
+empty_due true ds none = sym none
+empty_due false ds none = refl

@@ -1,29 +1,37 @@
 -- S9: what a table of debts has behind a start's request for a refresh.
-use Rattle.std.proofs.Common.{◌≡◌, ℕ, zero, suc, ◌+◌, ◌<◌, ◌≤◌, Bool, true, false, not, ◌&&◌, cond, filter, List, [], ◌∷◌, nat_eq, if◌then◌else◌, refl, ap, sym, subst, ◌∙◌, arith}
-use Rattle.std.specs.Prelude.{Option, Some}
+use Rattle.std.proofs.Common.{length, map, ◌≡◌, ℕ, zero, suc, ◌+◌, ◌<◌, ◌≤◌, Bool, true, false, not, ◌&&◌, cond, filter, List, [], ◌∷◌, nat_eq, if◌then◌else◌, refl, ap, sym, subst, ◌∙◌, arith}
+use Rattle.std.specs.Prelude.{Option, Some, slice_get}
 use Rattle.std.specs.List.{AllByRecursion, range_with_len}
 use Rattle.std.specs.Option.{option_map_or}
 use Rattle.std.proofs.lemmas.Bool.{and_parts}
 use Rattle.std.proofs.lemmas.Bool.Decides.{nat_tests}
 use Rattle.json_text.specs.Json.{Json}
+use Rattle.lsp_method.specs.declared.variants.Class.{Class}
+use Rattle.lsp_method.specs.declared.variants.Class.TheVariants.{Refresh}
 use Rattle.mux_history.specs.declared.cause.Cause.TheVariants.{FromServer}
 use Rattle.rpc_message.specs.Message.{Id, Message, message_of, request, notification, result, error, not_json, not_message}
+use Rattle.rpc_message.specs.declared.sort.Sort.{Sort}
+use Rattle.rpc_message.specs.declared.sort.Sort.TheVariants as sort
+use Rattle.rpc_message.specs.Sorts.{sort_of}
 use Rattle.event_model.specs.Event.{Event, heard, with_cause}
 use Rattle.event_model.specs.declared.stage.Stage.{Stage}
 use Rattle.event_model.specs.declared.stage.Stage.TheVariants.{Ready}
 use Rattle.event_model.specs.Phases.{desk_of, editors_of, is_malformed, is_running}
 use Rattle.event_model.specs.Settings.{Settings}
 use Rattle.event_model.specs.Spawns.{group_of}
-use Rattle.event_model.specs.Stages.{is_ready, life_of}
+use Rattle.event_model.specs.Stages.{Life, is_ready, life_of}
 use Rattle.event_model.proofs.Frames.{never}
 use Rattle.refresh_debts.specs.declared.debts.Debt.{Debt}
 use Rattle.refresh_debts.specs.Tables.{of}
 use Rattle.refresh_debts.proofs.Parts.{owed_of, owed_other, settled_of, settled_other}
 use Rattle.group_words.specs.Houses.{home_of, is_home}
 use Rattle.group_rows.specs.Asks.{asking_of, is_taken, running_in}
-use Rattle.group_rows.specs.Debts.{agrees_on_all, asks_anew, debt_of, debts_asked, owed_by, runs_at, wants_refresh}
+use Rattle.group_rows.specs.Debts.{agrees_on_all, asks_anew, debt_of, debts_asked, names_refresh, owed_by, runs_at, wants_refresh}
 use Rattle.mux_turns.specs.group_facts.specs.Facts.{NoEditors}
-use Rattle.mux_tables.specs.Stands.{is_over}
+use Rattle.mux_tables.specs.declared.tables.Start.{Start}
+use Rattle.mux_tables.specs.declared.tables.Tables.{Tables}
+use Rattle.mux_tables.specs.Stands.{Stands, is_over, number_in, of_life}
+use Rattle.mux_tables.proofs.Starts.{start_at_place, start_there}
 use Rattle.mux_debts.specs.Noted.{all_noted, noted, wants}
 use Rattle.mux_debts.specs.Stands.{DebtsStand}
 use Rattle.mux_debts.proofs.Standing.{step_stands}
@@ -190,3 +198,63 @@ module _ (settings : Settings) (rows : List Debt) (events : List Event) (st : De
 pub over_idle : (stage : Stage) → is_over stage ≡ true → is_ready stage ≡ false
 over_idle Ready h = never (sym h)
 over_idle other h = refl
+
+-- By their sorts
+
+-- a request
+pub record Asks (m : Message) : Type 0 where
+  pub id : Id
+  pub method : List ℕ
+  pub params : Option Json
+  pub is : m ≡ request id method params
+
+pub asks_by_sort : (m : Message) → sort_of m ≡ Some sort.Request → Asks m
+asks_by_sort (request id method params) h = record { id = id; method = method; params = params; is = refl }
+asks_by_sort (notification method params) h = absurd (cc)
+asks_by_sort (result id r) h = absurd (cc)
+asks_by_sort (error id r) h = absurd (cc)
+asks_by_sort not_json h = absurd (cc)
+asks_by_sort not_message h = absurd (cc)
+
+-- a message of another sort
+pub sort_other : (m : Message) (x y : Sort) → sort_of m ≡ Some x → (x ≡ y → ⊥) → sort_of m ≡ Some y → ⊥
+sort_other m x y at other h = other (cc)
+
+pub unwanted_sort : (settings : Settings) (s : ℕ) (before : List Event) (m : Message) → (sort_of m ≡ Some sort.Request → ⊥) → wants settings s before m ≡ false
+unwanted_sort settings s before (request id method params) h = absurd (h refl)
+unwanted_sort settings s before (notification method params) h = refl
+unwanted_sort settings s before (result id r) h = refl
+unwanted_sort settings s before (error id r) h = refl
+unwanted_sort settings s before not_json h = refl
+unwanted_sort settings s before not_message h = refl
+
+-- a request of another class
+pub other_class : (c : Class) → (c ≡ Refresh → ⊥) → names_refresh c ≡ false
+other_class Refresh h = absurd (h refl)
+other_class other h = refl
+
+-- one that wants something asked anew
+pub record Wanted (settings : Settings) (s : ℕ) (before : List Event) (m : Message) : Type 0 where
+  pub id : Id
+  pub method : List ℕ
+  pub params : Option Json
+  pub is : m ≡ request id method params
+  pub anew : asks_anew settings s before id method ≡ true
+
+pub wanted_by : (settings : Settings) (s : ℕ) (before : List Event) (m : Message) → wants settings s before m ≡ true → Wanted settings s before m
+wanted_by settings s before (request id method params) h = record { id = id; method = method; params = params; is = refl; anew = h }
+wanted_by settings s before (notification method params) h = never (sym h)
+wanted_by settings s before (result id r) h = never (sym h)
+wanted_by settings s before (error id r) h = never (sym h)
+wanted_by settings s before not_json h = never (sym h)
+wanted_by settings s before not_message h = never (sym h)
+
+-- The last start of a group
+
+pub number_there : (xs : List Start) (g : ℕ) (x : Start) → g < length xs → slice_get xs g ≡ Some x → slice_get (map number_in xs) g ≡ Some x.life.start
+number_there xs g x within here =
+    let s = start_there xs g within in
+    s.1 ∙ ap (λ n. Some n) (sym (start_at_place xs g s.0 x here s.1))
+
+pub stage_now : (settings : Settings) (t : Tables) (events : List Event) (g : ℕ) (x : Start) → slice_get t.lasts.items g ≡ Some x → Stands settings t events → (life_of x.life.start events).stage ≡ x.life.stage
+stage_now settings t events g x here st = ap (λ (l : Life). l.stage) ((st.lasts.each g x here).parts of_life)

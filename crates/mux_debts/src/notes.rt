@@ -1,5 +1,5 @@
 //! S9: what a start wants asked anew is owed to the editors of its group that don't agree with it.
-ghost use Rattle.std.specs.Prelude.{◌≡◌, ◌<◌, ℕ, List, Option, Some, length, true, IfOk, OnOk, slice_get};
+ghost use Rattle.std.specs.Prelude.{◌≡◌, ◌<◌, ℕ, List, Option, Some, encode_utf8_all, length, true, IfOk, OnOk, slice_get};
 ghost use Rattle.event_model.specs.declared.stage.Stage.TheVariants.{Ready};
 ghost use Rattle.event_model.specs.Event.{Event, with_cause};
 ghost use Rattle.event_model.specs.Settings.{Settings};
@@ -25,15 +25,23 @@ use refresh_debts::{Debt, Debts};
 use rpc_message::{Message, Sort};
 use std::alloc::Global;
 
+// The characters of a request's method.
+fn method_in(alloc: Global, message: &Message) -> Result<Vec<u8>, Memory>
+    ensures { (body method : List ℕ) (id : Id) (params : Option Json) → IsRead message.now body → message_of body ≡ request id method params
+        → IfOk result (λ name. name.items ≡ encode_utf8_all method) }
+{
+    match message.method() {
+        Some(method) => Ok(Vec::from_slice(alloc, method)?),
+        None => Ok(Vec::new(alloc)),
+    }
+}
+
 // What a start owes an editor: the request as it came.
 fn debt_in(alloc: Global, s: u64, e: u64, message: &Message) -> Result<Debt, Memory>
     ensures { (body method : List ℕ) (id : Id) (params : Option Json) → IsRead message.now body → message_of body ≡ request id method params
         → wants_refresh method ≡ true → IfOk result (λ debt. debt ≡ debt_of s e method body) }
 {
-    let method = match message.method() {
-        Some(method) => Vec::from_slice(alloc, method)?,
-        None => Vec::new(alloc),
-    };
+    let method = method_in(alloc, message)?;
     let body = Vec::from_slice(alloc, message.bytes())?;
     Ok(Debt {
         start: s,
@@ -60,14 +68,16 @@ fn note(
         → Stands settings tables.now before → DocumentsStand settings nothing_owed tables.now before
         → OnOk result (debts.new ≡ noted settings x.life.start before body method debts.old e) }
 {
-    let debt = debt_in(alloc, tables.start_number(g), e, message)?;
+    let s = tables.start_number(g);
+    let debt = debt_in(alloc, s, e, message)?;
     let agrees = tables.agrees_on_all(g, e)?;
     if agrees {
         debts.settle(debt.start, debt.editor, debt.method.bytes());
+        Ok(())
     } else {
         debts.owe(debt)?;
+        Ok(())
     }
-    Ok(())
 }
 
 // It is noted of each of these editors.
@@ -99,10 +109,11 @@ fn is_heard(tables: &Tables, g: usize, message: &Message) -> bool
         → message_of body ≡ request id method params → slice_get tables.now.lasts.items g ≡ Some x
         → Stands settings tables.now before → result ≡ is_heard settings x.life.start before id }
 {
-    if !stage_at(tables, g).is_ready() {
-        return false;
+    if stage_at(tables, g).is_ready() {
+        !tables.is_asked(g, message.id_bytes())
+    } else {
+        false
     }
-    !tables.is_asked(g, message.id_bytes())
 }
 
 // Whether a request of the group's last start wants something asked anew.
@@ -131,6 +142,48 @@ fn wants(tables: &Tables, g: usize, message: &Message) -> bool
     }
 }
 
+// The group's last start wants something asked anew.
+fn note_wanted(
+    tables: &Tables,
+    debts: &mut Debts,
+    alloc: Global,
+    g: usize,
+    message: &Message,
+) -> Result<(), Memory>
+    requires { g < length tables.now.lasts.items }
+    ensures { (settings : Settings) (before : List Event) (body : List ℕ) (x : Start) → IsRead message.now body → Known settings before
+        → slice_get tables.now.lasts.items g ≡ Some x → wants settings x.life.start before (message_of body) ≡ true
+        → Stands settings tables.now before → DocumentsStand settings nothing_owed tables.now before → DebtsStand settings debts.old before
+        → OnOk result (DebtsStand settings debts.new (with_cause before (FromServer x.life.start body))) }
+{
+    let group = tables.group_number(g);
+    let numbers = tables.running(group)?;
+    note_all(tables, debts, alloc, g, &numbers, message)?;
+    Ok(())
+}
+
+// What the group's last start says is looked at.
+fn note_said(
+    tables: &Tables,
+    debts: &mut Debts,
+    alloc: Global,
+    g: usize,
+    message: &Message,
+) -> Result<(), Memory>
+    requires { g < length tables.now.lasts.items }
+    ensures { (settings : Settings) (before : List Event) (body : List ℕ) (x : Start) → IsRead message.now body → Known settings before
+        → slice_get tables.now.lasts.items g ≡ Some x
+        → Stands settings tables.now before → DocumentsStand settings nothing_owed tables.now before → DebtsStand settings debts.old before
+        → OnOk result (DebtsStand settings debts.new (with_cause before (FromServer x.life.start body))) }
+{
+    if wants(tables, g, message) {
+        note_wanted(tables, debts, alloc, g, message)?;
+        Ok(())
+    } else {
+        Ok(())
+    }
+}
+
 /// S9: a message of a start is looked at before its row: where it wants something asked anew, that is owed to each editor of its group that
 /// runs and has a document open on which the start doesn't agree with it, and owed no more to the others. It takes for each editor that runs
 /// as long as a sync that sends nothing, and the time to copy the body. Where the answer is an error the table stands for nothing any more.
@@ -145,12 +198,11 @@ pub fn note_refresh(
         → Stands settings tables.now before → DocumentsStand settings nothing_owed tables.now before → DebtsStand settings debts.old before
         → OnOk result (DebtsStand settings debts.new (with_cause before (FromServer s body))) }
 {
-    let Some(g) = tables.last(s) else {
-        return Ok(());
-    };
-    if !wants(tables, g, message) {
-        return Ok(());
+    match tables.last(s) {
+        None => Ok(()),
+        Some(g) => {
+            note_said(tables, debts, alloc, g, message)?;
+            Ok(())
+        }
     }
-    let numbers = tables.running(tables.group_number(g))?;
-    note_all(tables, debts, alloc, g, &numbers, message)
 }

@@ -131,13 +131,71 @@ fn goes_to(
         → Settled settings before → slice_get tables.now.lasts.items g ≡ Some x → start_for settings e before ≡ Some x.life.start
         → Stands settings tables.now before → IfOk result (λ answer. answer ≡ goes_to settings x.life.start before e body (message_of body)) }
 {
-    if !tables.phase(e).is_running() {
-        return Ok(false);
+    if tables.phase(e).is_running() {
+        if stage_at(tables, g).is_ready() {
+            goes_forth(tables, alloc, g, e, message)
+        } else {
+            Ok(false)
+        }
+    } else {
+        Ok(false)
     }
-    if !stage_at(tables, g).is_ready() {
-        return Ok(false);
+}
+
+// What the last start of the editor's group owes it is taken out, where the message goes on to that start.
+fn take_going(
+    tables: &Tables,
+    debts: &mut Debts,
+    alloc: Global,
+    g: usize,
+    e: u64,
+    message: &Message,
+) -> Result<Vec<Debt>, Memory>
+    requires { g < length tables.now.lasts.items }
+    ensures due { (settings : Settings) (before : List Event) (body : List ℕ) (x : Start) → IsRead message.now body → Known settings before
+        → Settled settings before → slice_get tables.now.lasts.items g ≡ Some x → start_for settings e before ≡ Some x.life.start
+        → Stands settings tables.now before → DebtsStand settings debts.old before
+        → IfOk result (λ due. IsDue settings before e body due.items) }
+    ensures stands { (settings : Settings) (before : List Event) (body : List ℕ) (x : Start) → IsRead message.now body → Known settings before
+        → Settled settings before → slice_get tables.now.lasts.items g ≡ Some x → start_for settings e before ≡ Some x.life.start
+        → requests (codes "shutdown") (message_of body) ≡ false → Stands settings tables.now before → DebtsStand settings debts.old before
+        → OnOk result (DebtsStand settings debts.new (with_cause before (FromEditor e body))) }
+{
+    let goes = goes_to(tables, alloc, g, e, message)?;
+    if goes {
+        let s = tables.start_number(g);
+        let due = debts.take(s, e)?;
+        Ok(due)
+    } else {
+        Ok(Vec::new(alloc))
     }
-    goes_forth(tables, alloc, g, e, message)
+}
+
+// The same, where that start owes it anything.
+fn take_owed(
+    tables: &Tables,
+    debts: &mut Debts,
+    alloc: Global,
+    g: usize,
+    e: u64,
+    message: &Message,
+) -> Result<Vec<Debt>, Memory>
+    requires { g < length tables.now.lasts.items }
+    ensures due { (settings : Settings) (before : List Event) (body : List ℕ) (x : Start) → IsRead message.now body → Known settings before
+        → Settled settings before → slice_get tables.now.lasts.items g ≡ Some x → start_for settings e before ≡ Some x.life.start
+        → Stands settings tables.now before → DebtsStand settings debts.old before
+        → IfOk result (λ due. IsDue settings before e body due.items) }
+    ensures stands { (settings : Settings) (before : List Event) (body : List ℕ) (x : Start) → IsRead message.now body → Known settings before
+        → Settled settings before → slice_get tables.now.lasts.items g ≡ Some x → start_for settings e before ≡ Some x.life.start
+        → requests (codes "shutdown") (message_of body) ≡ false → Stands settings tables.now before → DebtsStand settings debts.old before
+        → OnOk result (DebtsStand settings debts.new (with_cause before (FromEditor e body))) }
+{
+    let s = tables.start_number(g);
+    if debts.has(s, e) {
+        take_going(tables, debts, alloc, g, e, message)
+    } else {
+        Ok(Vec::new(alloc))
+    }
 }
 
 /// E9, E10, E16 and E17: a message of an editor is looked at before its row: where it goes on to the last start of the editor's group, what
@@ -160,20 +218,13 @@ pub fn take_debts(
 {
     if shuts(message) {
         debts.leave(e);
-        return Ok(Vec::new(alloc));
+        Ok(Vec::new(alloc))
+    } else {
+        match tables.place(e) {
+            None => Ok(Vec::new(alloc)),
+            Some(g) => take_owed(tables, debts, alloc, g, e, message),
+        }
     }
-    let Some(g) = tables.place(e) else {
-        return Ok(Vec::new(alloc));
-    };
-    let s = tables.start_number(g);
-    if !debts.has(s, e) {
-        return Ok(Vec::new(alloc));
-    }
-    let goes = goes_to(tables, alloc, g, e, message)?;
-    if !goes {
-        return Ok(Vec::new(alloc));
-    }
-    debts.take(s, e)
 }
 
 // One is asked. Its body was read as it came, so that only memory can fail.
