@@ -1,6 +1,6 @@
 -- E9, E10, E16 and E17: what a table of debts has behind an editor's message.
-use Rattle.std.proofs.Common.{◌≡◌, ℕ, Bool, true, false, not, ◌&&◌, ◌||◌, cond, List, [], ◌∷◌, codes, bytes_eq, nat_eq, if◌then◌else◌, ◌⊎◌, inl, inr, refl, ap, ap₂, sym, subst, ◌∙◌, arith}
-use Rattle.std.specs.Prelude.{Option, Some, None, encode_utf8_all}
+use Rattle.std.proofs.Common.{length, zero, suc, ◌≤◌, ◌≡◌, ℕ, Bool, true, false, not, ◌&&◌, ◌||◌, cond, List, [], ◌∷◌, codes, bytes_eq, nat_eq, if◌then◌else◌, ◌⊎◌, inl, inr, refl, ap, ap₂, sym, subst, ◌∙◌, arith}
+use Rattle.std.specs.Prelude.{Option, Some, None, encode_utf8_all, slice_get}
 use Rattle.std.specs.List.{list_any}
 use Rattle.std.specs.Option.{option_map_or}
 use Rattle.std.proofs.lemmas.Bool.Decides.{nat_tests}
@@ -24,6 +24,7 @@ use Rattle.mux_turns.specs.group_facts.specs.mux_members.proofs.Encoded.{ascii_e
 use Rattle.refresh_debts.specs.declared.debts.Debt.{Debt}
 use Rattle.refresh_debts.specs.Tables.{is_of, is_with, of, without}
 use Rattle.refresh_debts.proofs.Parts.{left_of, taken_of}
+use Rattle.mux_tables.specs.editor_session.specs.declared.sessions.Session.{Session}
 use Rattle.group_rows.specs.Asks.{serves}
 use Rattle.group_rows.specs.Debts.{debts_due, debts_of, goes_forth, goes_to, names_refresh, wants_refresh}
 use Rattle.group_rows.specs.Forwarded.{has_room}
@@ -330,3 +331,56 @@ module _ (settings : Settings) (before : List Event) (e : ℕ) (body : List ℕ)
 pub empty_due : (b : Bool) (ds : List Debt) → ds ≡ [] → [] ≡ (if b then ds else [])
 empty_due true ds none = sym none
 empty_due false ds none = refl
+
+-- What keeps a request from a start, one after the other
+
+abbrev pub any_of : Bool → Bool → Bool → Bool → Bool → Bool → Bool
+any_of a b c d f g = (a || (b || c)) || ((d || f) || g)
+
+pub any_first : (a b c d f g : Bool) → a ≡ true → a ≡ any_of a b c d f g
+any_first true b c d f g h = refl
+any_first false b c d f g h = never (sym h)
+
+pub any_second : (a b c d f g : Bool) → a ≡ false → b ≡ true → b ≡ any_of a b c d f g
+any_second true b c d f g h k = never h
+any_second false true c d f g h k = refl
+any_second false false c d f g h k = never (sym k)
+
+pub any_third : (a b c d f g : Bool) → a ≡ false → b ≡ false → c ≡ true → c ≡ any_of a b c d f g
+any_third true b c d f g h k l = never h
+any_third false true c d f g h k l = never k
+any_third false false true d f g h k l = refl
+any_third false false false d f g h k l = never (sym l)
+
+pub any_fourth : (a b c d f g : Bool) → a ≡ false → b ≡ false → c ≡ false → d ≡ true → d ≡ any_of a b c d f g
+any_fourth true b c d f g h k l m = never h
+any_fourth false true c d f g h k l m = never k
+any_fourth false false true d f g h k l m = never l
+any_fourth false false false true f g h k l m = refl
+any_fourth false false false false f g h k l m = never (sym m)
+
+pub any_last : (a b c d f g : Bool) → a ≡ false → b ≡ false → c ≡ false → d ≡ false → (f || g) ≡ any_of a b c d f g
+any_last true b c d f g h k l m = never h
+any_last false true c d f g h k l m = never k
+any_last false false true d f g h k l m = never l
+any_last false false false true f g h k l m = never m
+any_last false false false false f g h k l m = refl
+
+pub on_first : (a b : Bool) → a ≡ true → a ≡ (a || b)
+on_first true b h = refl
+on_first false b h = never (sym h)
+
+pub on_second : (a b : Bool) → a ≡ false → b ≡ (a || b)
+on_second true b h = never h
+on_second false b h = refl
+
+-- Where nothing is due, or its editor isn't there
+
+pub empty_of : (ds : List Debt) → nat_eq (length ds) 0 ≡ true → ds ≡ []
+empty_of [] h = refl
+empty_of (d ∷ ds) h = never (sym h)
+
+pub past_none : (xs : List Session) (i : ℕ) → length xs ≤ i → slice_get xs i ≡ None
+past_none [] i h = refl
+past_none (x ∷ xs) zero h = absurd (omega (arith, h))
+past_none (x ∷ xs) (suc i) h = past_none xs i (omega (arith, h))

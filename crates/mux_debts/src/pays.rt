@@ -61,13 +61,10 @@ fn is_aside(message: &Message) -> bool
     ensures { (body method : List ℕ) (id : Id) (params : Option Json) → IsRead message.now body → message_of body ≡ request id method params
         → result ≡ is_aside id method params }
 {
-    let opens = is_open(message);
-    let status = is_status(message);
-    let stops = is_stop(message);
-    let begins = is_initialize(message);
-    let wrong = is_wrong(message);
-    let shuts = is_shutdown(message);
-    (opens || (status || stops)) || ((begins || wrong) || shuts)
+    is_open(message)
+        || (is_status(message)
+            || (is_stop(message)
+                || (is_initialize(message) || (is_wrong(message) || is_shutdown(message)))))
 }
 
 // E10: whether a request of an editor that runs goes on to the group's last start, which is ready: under an id that isn't open, none of the
