@@ -24,7 +24,7 @@ use Rattle.mux_turns.specs.group_facts.specs.mux_members.proofs.Encoded.{ascii_e
 use Rattle.refresh_debts.specs.declared.debts.Debt.{Debt}
 use Rattle.refresh_debts.specs.Tables.{is_of, is_with, of, without}
 use Rattle.refresh_debts.proofs.Parts.{left_of, taken_of}
-use Rattle.mux_tables.specs.editor_session.specs.declared.sessions.Session.{Session}
+use Rattle.mux_tables.specs.editor_session.specs.declared.session.Session.{Session}
 use Rattle.group_rows.specs.Asks.{serves}
 use Rattle.group_rows.specs.Debts.{debts_due, debts_of, goes_forth, goes_to, names_refresh, wants_refresh}
 use Rattle.group_rows.specs.Forwarded.{has_room}

@@ -22,31 +22,31 @@ pub returns-then-is_stop : goal.returns-then-is_stop
 returns-then-is_stop c = λ body method id params read says.
     let a = c.is_open.ensures body read ∙ ap (requests (codes "lspmux/open")) says in
     let b = c.is_status.ensures body read ∙ ap (requests (codes "lspmux/status")) says in
-    let c = c.is_stop.ensures body read ∙ ap (requests (codes "lspmux/stop")) says in
-    c ∙ any_third (bytes_eq (codes "lspmux/open") method) (bytes_eq (codes "lspmux/status") method) (bytes_eq (codes "lspmux/stop") method) (bytes_eq (codes "initialize") method) (is_wrong (class_of method Editor false)) (bytes_eq (codes "shutdown") method) (sym a ∙ c.if-is_open.false) (sym b ∙ c.if-is_status.false) (sym c ∙ c.if-is_stop.true)
+    let t = c.is_stop.ensures body read ∙ ap (requests (codes "lspmux/stop")) says in
+    t ∙ any_third (bytes_eq (codes "lspmux/open") method) (bytes_eq (codes "lspmux/status") method) (bytes_eq (codes "lspmux/stop") method) (bytes_eq (codes "initialize") method) (is_wrong (class_of method Editor false)) (bytes_eq (codes "shutdown") method) (sym a ∙ c.if-is_open.false) (sym b ∙ c.if-is_status.false) (sym t ∙ c.if-is_stop.true)
 
 pub returns-then-is_initialize : goal.returns-then-is_initialize
 returns-then-is_initialize c = λ body method id params read says.
     let a = c.is_open.ensures body read ∙ ap (requests (codes "lspmux/open")) says in
     let b = c.is_status.ensures body read ∙ ap (requests (codes "lspmux/status")) says in
-    let c = c.is_stop.ensures body read ∙ ap (requests (codes "lspmux/stop")) says in
+    let t = c.is_stop.ensures body read ∙ ap (requests (codes "lspmux/stop")) says in
     let d = c.is_initialize.ensures body read ∙ ap (requests (codes "initialize")) says in
-    d ∙ any_fourth (bytes_eq (codes "lspmux/open") method) (bytes_eq (codes "lspmux/status") method) (bytes_eq (codes "lspmux/stop") method) (bytes_eq (codes "initialize") method) (is_wrong (class_of method Editor false)) (bytes_eq (codes "shutdown") method) (sym a ∙ c.if-is_open.false) (sym b ∙ c.if-is_status.false) (sym c ∙ c.if-is_stop.false) (sym d ∙ c.if-is_initialize.true)
+    d ∙ any_fourth (bytes_eq (codes "lspmux/open") method) (bytes_eq (codes "lspmux/status") method) (bytes_eq (codes "lspmux/stop") method) (bytes_eq (codes "initialize") method) (is_wrong (class_of method Editor false)) (bytes_eq (codes "shutdown") method) (sym a ∙ c.if-is_open.false) (sym b ∙ c.if-is_status.false) (sym t ∙ c.if-is_stop.false) (sym d ∙ c.if-is_initialize.true)
 
 pub returns-then-is_wrong : goal.returns-then-is_wrong
 returns-then-is_wrong c = λ body method id params read says.
     let a = c.is_open.ensures body read ∙ ap (requests (codes "lspmux/open")) says in
     let b = c.is_status.ensures body read ∙ ap (requests (codes "lspmux/status")) says in
-    let c = c.is_stop.ensures body read ∙ ap (requests (codes "lspmux/stop")) says in
+    let t = c.is_stop.ensures body read ∙ ap (requests (codes "lspmux/stop")) says in
     let d = c.is_initialize.ensures body read ∙ ap (requests (codes "initialize")) says in
     let w = c.is_wrong.ensures body method id params read says in
-    w ∙ (on_first (is_wrong (class_of method Editor false)) (bytes_eq (codes "shutdown") method) (sym w ∙ c.if-is_wrong.true) ∙ any_last (bytes_eq (codes "lspmux/open") method) (bytes_eq (codes "lspmux/status") method) (bytes_eq (codes "lspmux/stop") method) (bytes_eq (codes "initialize") method) (is_wrong (class_of method Editor false)) (bytes_eq (codes "shutdown") method) (sym a ∙ c.if-is_open.false) (sym b ∙ c.if-is_status.false) (sym c ∙ c.if-is_stop.false) (sym d ∙ c.if-is_initialize.false))
+    w ∙ (on_first (is_wrong (class_of method Editor false)) (bytes_eq (codes "shutdown") method) (sym w ∙ c.if-is_wrong.true) ∙ any_last (bytes_eq (codes "lspmux/open") method) (bytes_eq (codes "lspmux/status") method) (bytes_eq (codes "lspmux/stop") method) (bytes_eq (codes "initialize") method) (is_wrong (class_of method Editor false)) (bytes_eq (codes "shutdown") method) (sym a ∙ c.if-is_open.false) (sym b ∙ c.if-is_status.false) (sym t ∙ c.if-is_stop.false) (sym d ∙ c.if-is_initialize.false))
 
 pub returns-else-is_wrong : goal.returns-else-is_wrong
 returns-else-is_wrong c = λ body method id params read says.
     let a = c.is_open.ensures body read ∙ ap (requests (codes "lspmux/open")) says in
     let b = c.is_status.ensures body read ∙ ap (requests (codes "lspmux/status")) says in
-    let c = c.is_stop.ensures body read ∙ ap (requests (codes "lspmux/stop")) says in
+    let t = c.is_stop.ensures body read ∙ ap (requests (codes "lspmux/stop")) says in
     let d = c.is_initialize.ensures body read ∙ ap (requests (codes "initialize")) says in
     let w = c.is_wrong.ensures body method id params read says in
-    c.is_shutdown.ensures body method id params read says ∙ (on_second (is_wrong (class_of method Editor false)) (bytes_eq (codes "shutdown") method) (sym w ∙ c.if-is_wrong.false) ∙ any_last (bytes_eq (codes "lspmux/open") method) (bytes_eq (codes "lspmux/status") method) (bytes_eq (codes "lspmux/stop") method) (bytes_eq (codes "initialize") method) (is_wrong (class_of method Editor false)) (bytes_eq (codes "shutdown") method) (sym a ∙ c.if-is_open.false) (sym b ∙ c.if-is_status.false) (sym c ∙ c.if-is_stop.false) (sym d ∙ c.if-is_initialize.false))
+    c.is_shutdown.ensures body method id params read says ∙ (on_second (is_wrong (class_of method Editor false)) (bytes_eq (codes "shutdown") method) (sym w ∙ c.if-is_wrong.false) ∙ any_last (bytes_eq (codes "lspmux/open") method) (bytes_eq (codes "lspmux/status") method) (bytes_eq (codes "lspmux/stop") method) (bytes_eq (codes "initialize") method) (is_wrong (class_of method Editor false)) (bytes_eq (codes "shutdown") method) (sym a ∙ c.if-is_open.false) (sym b ∙ c.if-is_status.false) (sym t ∙ c.if-is_stop.false) (sym d ∙ c.if-is_initialize.false))
