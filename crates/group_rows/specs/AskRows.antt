@@ -42,7 +42,7 @@ ask body e = look (λ events. choose (has_number e events) (send (ToEditor e (wi
 abbrev pub refresh_row : Settings → List Event → ℕ → ℕ → List ℕ → Row
 refresh_row settings before g s body = send (ToServer s (ok_text (id_bytes body) (codes "null"))) ⨾ each (ask body) (filter (agrees_on_all settings s before) (running_in settings g before))
 
--- E10, E16 and E17: behind a message of its own that goes on the editor is asked what the start owes it, in the order in which that came to be
+-- L3, behind E10, E16 and E17: behind a message of its own that goes on the editor is asked what the start owes it, in the order in which that came to be
 abbrev pub debts_at : Settings → List Event → ℕ → List ℕ → Message → ℕ → Row
 debts_at settings before e body m s = each (λ (d : Debt). ask d.body e) (debts_due settings s before e body m)
 

@@ -55,7 +55,6 @@ use Rattle.group_facts.proofs.SlowRow.{parting, parting_calm, whole_entry}
 use Rattle.group_facts.proofs.Begun.{starts_stay}
 use Rattle.group_sessions.proofs.Owed.{Has, Told, debt, each_paid, each_told, outs_has, put_has, sent_before, told_before, told_behind, took_has}
 use Rattle.group_sessions.proofs.Onwards.{goes_nowhere, goes_out, owed_quiet, slow_quiet}
-use Rattle.group_sessions.proofs.TellingPlaces.{last_starts}
 use Rattle.group_sessions.specs.Refreshes.{Either, IsAsked, IsSent, KeepsRefreshes, OnRefresh, Reaches, RefreshesFrom, Unless, goes_on, is_from, is_onward, is_over, wants_again}
 
 unless : (b : Bool) (P : Type 0) → (b ≡ false → P) → Unless b P
@@ -107,7 +106,7 @@ module _ (settings : Settings) (range : InRange settings) (s e : ℕ) where
   tied_row before at cause fits old stays goes_on k = record {
     group = k.group;
     home = homes_stay settings e (with_cause before cause) (outs_of settings before cause) ∙ (took_home settings before e old cause stays ∙ k.home);
-    last = start_kept settings before cause (settled_at settings range before at).begun fits (last_starts settings range before at) k.group s k.last goes_on;
+    last = start_kept settings before cause (settled_at settings range before at).begun fits (rests_at settings range before at).lasts k.group s k.last goes_on;
     begun = onward_rests settings range before (facts_at settings range before at) cause fits s k.begun;
   }
 

@@ -272,7 +272,7 @@ fn pay_all(
     Ok(())
 }
 
-/// E10, E16 and E17: an editor that runs is asked what it is due, in its order, each under its next number. It takes time in the bytes that
+/// L3, behind E10, E16 and E17: an editor that runs is asked what it is due, in its order, each under its next number. It takes time in the bytes that
 /// are sent. Where the answer is an error the tables stand for nothing any more.
 pub fn pay(
     tables: &mut Tables,
