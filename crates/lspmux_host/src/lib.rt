@@ -1,14 +1,14 @@
 //! The program `lspmux` over sockets, programs, files, the clock and the standard streams of this machine.
 #![tactic(auto)]
 
-mod outside;
-mod words;
+mod arguments;
+mod real;
 
+pub use arguments::words;
 use lspmux_program::{log_level, lspmux};
 use std::io;
 use std::sync::Wait;
 use std::thread::Threads;
-pub use words::words;
 
 // The status where memory is wanted for the outside, or the clock can't be read.
 const NO_OUTSIDE: u8 = 5;
@@ -19,7 +19,7 @@ fn status<R: Threads + Wait + Sync>(
     rt: HostRuntime,
     words: &[String],
 ) -> io::Result<u8> {
-    let outside = outside::outside(rt, log_level(rt.alloc(), words))?;
+    let outside = real::outside(rt, log_level(rt.alloc(), words))?;
     Ok(lspmux(threads, rt.alloc(), words, outside).status)
 }
 
