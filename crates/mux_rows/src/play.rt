@@ -1,60 +1,63 @@
 // A session is played: its lines are driven through a hub.
-ghost use Rattle.std.specs.Prelude.{◌≡◌, [], IfOk, false};
+ghost use Rattle.std.specs.Prelude.{◌≡◌, [], IfSome, false};
 ghost use Rattle.mux_hub.specs.Hubs.{HubStands};
 
 use crate::session::Session;
-use drive_program::{Hub, Limits, Server, Stop, drive};
-use message_body::Body;
+use drive_program::{Hub, Limits, Stop, drive};
+use mux_config::Config;
 use mux_steps::{Journal, MemJournal};
 use outside_io::{MemSink, MemSource};
-use std::alloc::{AllocError, Global};
+use settled_hub::{Settled, hub_of};
+use std::alloc::Global;
 use std::test::Fail;
 
 // The most bytes of a body.
 const CONTENT: u32 = 67_108_864;
 
-// A server's name.
-fn name(alloc: Global, name: &str) -> Result<Body, AllocError> {
-    Ok(Body::new(Vec::from_slice(alloc, name.as_bytes())?))
+// The settings with these limits and the servers `main` and `aux`.
+fn config(alloc: Global, limits: Limits) -> Result<Config, Fail> {
+    let text = format!(in alloc;
+        "groups = {}\nrestarts = {}\nbacklog = {}\nrequests = {}\nversions = {}\ndefault = \"main\"\n[server.main]\ncommand = [\"main\"]\n[server.aux]\ncommand = [\"aux\"]\n",
+        limits.groups, limits.restarts, limits.backlog, limits.requests, limits.versions
+    )?;
+    match Config::read(alloc, text.as_bytes()) {
+        Ok(config) => Ok(config),
+        Err(_fault) => Err(Fail::new("settings that are refused")),
+    }
 }
 
-// A hub with the servers `main` and `aux`.
-fn hub(alloc: Global, limits: Limits) -> Result<Hub<MemJournal>, Fail>
-    ensures stands { IfOk result (λ hub. HubStands ⟦<MemJournal as Journal>⟧.told hub []) }
-    ensures ready { IfOk result (λ hub. hub.spent ≡ false) }
+// A hub by these settings.
+fn hub(alloc: Global, config: Config) -> Option<Hub<MemJournal>>
+    ensures stands { IfSome result (λ hub. HubStands ⟦<MemJournal as Journal>⟧.told hub []) }
+    ensures ready { IfSome result (λ hub. hub.spent ≡ false) }
 {
-    if limits.requests < 2 || limits.versions < 1 {
-        return Err(Fail::new("limits without numbers"));
-    }
-    let mut servers = Vec::new(alloc);
-    servers.push(Server {
-        name: name(alloc, "main")?,
-        ceiling: None,
-    })?;
-    servers.push(Server {
-        name: name(alloc, "aux")?,
-        ceiling: None,
-    })?;
     let journal = MemJournal::new(alloc, Vec::new(alloc));
-    match Hub::new(alloc, limits, servers, 0, journal) {
-        Ok(hub) => Ok(hub),
-        Err(_journal) => Err(Fail::new("no hub")),
+    match hub_of(alloc, config, journal) {
+        Ok(settled) => {
+            let Settled { hub, .. } = settled;
+            Some(hub)
+        }
+        Err(_journal) => None,
     }
 }
 
-// What these lines bring over a hub with these limits, and how the run ends.
-fn driven(alloc: Global, limits: Limits, lines: &str) -> Result<(MemSink, Result<(), Stop>), Fail> {
-    let mut hub = hub(alloc, limits)?;
-    let lines = Vec::from_slice(alloc, lines.as_bytes())?;
-    let mut input = MemSource::new(lines, Vec::new(alloc), None);
+// What these bytes bring over a hub by these settings, and how the run ends; none where there is no hub.
+fn driven(alloc: Global, config: Config, input: MemSource) -> Option<(MemSink, Result<(), Stop>)> {
+    let mut hub = hub(alloc, config)?;
+    let mut input = input;
     let mut output = MemSink::new(alloc, Vec::new(alloc), None);
     let end = drive(alloc, &mut hub, CONTENT, &mut input, &mut output);
-    Ok((output, end))
+    Some((output, end))
 }
 
 /// Plays a session. It writes its name, its out lines and how it ended.
 pub fn play(rt: HostRuntime, session: &Session) -> Result<(), Fail> {
-    let (output, end) = driven(rt.alloc(), session.limits, session.lines.as_str())?;
+    let alloc = rt.alloc();
+    let lines = Vec::from_slice(alloc, session.lines.as_bytes())?;
+    let input = MemSource::new(lines, Vec::new(alloc), None);
+    let Some((output, end)) = driven(alloc, config(alloc, session.limits)?, input) else {
+        return Err(Fail::new("no hub"));
+    };
     let Ok(outs) = str::from_utf8(output.bytes()) else {
         return Err(Fail::new("outs that are no text"));
     };
