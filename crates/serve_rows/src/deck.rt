@@ -4,12 +4,13 @@ ghost use Rattle.mux_hub.specs.Hubs.{HubStands};
 
 use crate::session::run;
 use drive_text::LineJournal;
-use event_model::Limits;
 use lane_lists::Order;
 use message_body::Body;
+use mux_config::Config;
 use mux_hub::Hub;
 use mux_steps::Journal;
 use outside_io::{MemSink, SetClock};
+use settled_hub::{Settled, hub_of};
 use std::alloc::Global;
 use std::sync::Wait;
 use std::test::Fail;
@@ -17,22 +18,20 @@ use std::test::Fail;
 const HOVER: &[u8] =
     b"{\"jsonrpc\":\"2.0\",\"id\":1,\"method\":\"textDocument/hover\",\"params\":{}}";
 
-const LIMITS: Limits = Limits {
-    groups: 8,
-    restarts: 5,
-    idle: 300,
-    grace: 5,
-    backlog: 134_217_728,
-    requests: 4_294_967_295,
-    versions: 2_147_483_647,
-};
-
-// A hub without a history, which writes its journal as lines.
+// A hub without a history by the built-in settings, which writes its journal as lines.
 fn hub(alloc: Global) -> Option<Hub<LineJournal<MemSink>>>
-    ensures { IfSome result (λ hub. HubStands (λ _. None) hub [] × (hub.spent ≡ false)) }
+    ensures stands { IfSome result (λ hub. HubStands ⟦<LineJournal<MemSink> as Journal>⟧.told hub []) }
+    ensures ready { IfSome result (λ hub. hub.spent ≡ false) }
 {
+    let config = Config::built_in(alloc).ok()?;
     let journal = LineJournal::new(alloc, MemSink::new(alloc, Vec::new(alloc), None));
-    Hub::new(alloc, LIMITS, Vec::new(alloc), 0, journal).ok()
+    match hub_of(alloc, config, journal) {
+        Ok(settled) => {
+            let Settled { hub, .. } = settled;
+            Some(hub)
+        }
+        Err(_journal) => None,
+    }
 }
 
 // The moments of the clock.
