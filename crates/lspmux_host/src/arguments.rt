@@ -31,11 +31,20 @@ impl<'a> Alloc for BehindName<'a> {
     }
 }
 
-/// The words behind the program's name. Words that aren't UTF-8 are none that the program knows, as none at all are.
+// A word in the place of words that aren't UTF-8: none that the program knows.
+const NOT_UTF_8: &str = "\u{fffd}";
+
+fn not_utf_8(alloc: Global) -> io::Result<Vec<String>> {
+    let mut words = Vec::new(alloc);
+    words.push(String::from_str(alloc, NOT_UTF_8)?)?;
+    Ok(words)
+}
+
+/// The words behind the program's name. Words that aren't UTF-8 are one that the program doesn't know.
 pub fn words(runtime: &HostRuntime) -> io::Result<Vec<String>> {
     match env::args(&BehindName { runtime }) {
         Ok(words) => Ok(words.collect(runtime.alloc())?),
         Err(error) if error.kind() == ErrorKind::OutOfMemory => Err(error),
-        Err(_) => Ok(Vec::new(runtime.alloc())),
+        Err(_) => not_utf_8(runtime.alloc()),
     }
 }

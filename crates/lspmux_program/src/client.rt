@@ -5,10 +5,8 @@ ghost use Rattle.program_settings.specs.Lines.{Reported};
 ghost use Rattle.lspmux_program.specs.Clients.{client_line, client_status};
 
 use mux_client::ClientFault;
-use mux_config::Config;
 use outside_io::Sink;
 use program_settings::write_line;
-use std::alloc::{AllocError, Global};
 
 fn line(ended: Result<(), ClientFault>) -> &'static str
     ensures { result.now ≡ client_line ended }
@@ -39,44 +37,4 @@ pub fn report<O: Sink>(output: &mut O, ended: Result<(), ClientFault>) -> u8
 {
     write_line(output, line(ended).as_bytes());
     status(ended)
-}
-
-// The sentence about a server's name that the daemon refused: which names these settings have.
-fn refusal(alloc: Global, config: &Config, name: &str) -> Result<Vec<u8>, AllocError> {
-    let servers = config.servers.as_slice();
-    let is_there = servers
-        .iter()
-        .any(|server| server.name.bytes() == name.as_bytes());
-    let mut text = Vec::new(alloc);
-    text.extend_from_slice(b"error: the daemon refused the server ")?;
-    text.extend_from_slice(name.as_bytes())?;
-    let settings = if is_there {
-        "; the settings here have"
-    } else {
-        "; the settings here lack it too, and have"
-    };
-    text.extend_from_slice(settings.as_bytes())?;
-    let mut before = " ";
-    for server in servers {
-        text.extend_from_slice(before.as_bytes())?;
-        text.extend_from_slice(server.name.bytes())?;
-        before = ", ";
-    }
-    text.push(b'\n')?;
-    Ok(text)
-}
-
-/// Where the daemon refused the server's name, notes which names these settings have.
-pub fn note_refusal<N: Sink>(
-    alloc: Global,
-    notes: &mut N,
-    config: &Config,
-    server: Option<&str>,
-    ended: Result<(), ClientFault>,
-) {
-    if let (Err(ClientFault::Refused), Some(name)) = (ended, server) {
-        if let Ok(text) = refusal(alloc, config, name) {
-            write_line(notes, &text);
-        }
-    }
 }

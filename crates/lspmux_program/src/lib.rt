@@ -2,6 +2,7 @@
 #![tactic(auto)]
 
 mod client;
+mod notes;
 mod outside;
 mod program;
 

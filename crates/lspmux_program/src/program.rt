@@ -8,7 +8,8 @@ ghost use Rattle.serve_program.specs.Faults.{ended_line, ended_status};
 ghost use Rattle.lspmux_words.specs.Meaning as meaning;
 ghost use Rattle.lspmux_program.specs.Programs.{AskedBy, Came, Did, DroveBy, Idle, JoinedBy, MadeBy, Says, ServedBy, WroteLines, file_of, is_streams, words_line};
 
-use crate::client::{note_refusal, report};
+use crate::client::report;
+use crate::notes::{note_end, note_settings};
 use crate::outside::{Left, Outside};
 use drive_program::drive_command;
 use lspmux_words::{Command, Level, USAGE, WordsFault, command_of};
@@ -229,7 +230,7 @@ fn join<
         &mut input,
         &mut output,
     );
-    note_refusal(alloc, &mut notes, config, server, ended);
+    note_end(alloc, &mut notes, config, server, ended);
     let status = report(&mut output, ended);
     Left {
         status,
@@ -271,10 +272,11 @@ fn inquire<
         folder,
         input,
         mut output,
-        notes,
+        mut notes,
     } = outside;
     let mut port = None;
     let ended = ask(alloc, config, question, &mut door, &mut port, &mut output);
+    note_end(alloc, &mut notes, config, None, ended);
     let status = report(&mut output, ended);
     Left {
         status,
@@ -468,9 +470,11 @@ pub fn lspmux<
         Err(WordsFault::Memory) => return idle(outside, 5),
     };
     let mut outside = outside;
-    let config = match settings(alloc, &mut outside.folder, file_of(command)) {
+    let file = file_of(command);
+    let config = match settings(alloc, &mut outside.folder, file) {
         Ok(config) => config,
         Err(fault) => {
+            note_settings(alloc, &mut outside.notes, &outside.folder, file, &fault);
             let status = refuse(alloc, &mut outside.output, &fault);
             return idle(outside, status);
         }
