@@ -52,7 +52,10 @@ fn settings_sentence(
             format!(in alloc; "error: {file} lacks {path}: {}\n", range_of(path.as_str()))
         }
         SettingsFault::Range(path) => {
-            format!(in alloc; "error: {path} in {file} has to be {}\n", range_of(path.as_str()))
+            format!(in alloc;
+                "error: {path} in {file} has to be {}\n",
+                range_of(path.as_str())
+            )
         }
         SettingsFault::Memory => Ok(String::new(alloc)),
     }
