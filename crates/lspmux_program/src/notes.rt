@@ -43,6 +43,9 @@ fn settings_sentence(
     fault: &SettingsFault,
 ) -> Result<String, AllocError> {
     match fault {
+        SettingsFault::Unread if reason.is_empty() => {
+            format!(in alloc; "error: {file} can't be read\n")
+        }
         SettingsFault::Unread => format!(in alloc; "error: {file} can't be read: {reason}\n"),
         SettingsFault::NotToml => format!(in alloc; "error: {file} is no TOML document\n"),
         SettingsFault::Unknown(path) => {
