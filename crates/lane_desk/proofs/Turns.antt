@@ -12,6 +12,8 @@ use Rattle.mux_history.specs.declared.cause.Cause.TheVariants as cause
 use Rattle.mux_history.specs.declared.entry.Entry.{Entry}
 use Rattle.mux_history.specs.declared.out.Out.{Out}
 use Rattle.mux_history.specs.Cores.{joined, spawns}
+use Rattle.mux_steps.specs.declared.fault.StepFault.{StepFault}
+use Rattle.mux_steps.specs.declared.fault.StepFault.TheVariants as fault
 use Rattle.lane_lists.specs.declared.item.LaneName.{LaneName}
 use Rattle.lane_lists.specs.declared.item.LaneName.TheVariants as lane
 use Rattle.lane_lists.specs.declared.item.Item.{Item}
@@ -163,9 +165,9 @@ own_behind n m deeds l x (cause.ServerGone s) outs was_last fair lanes means h o
 own_behind n m deeds l x (cause.Drained e k) outs was_last fair lanes means h own = own_more n m deeds (record { lane = l; item = x; entry = Some record { cause = cause.Drained e k; outs = outs } }) refl (own h)
 own_behind n m deeds l x (cause.Tick t) outs was_last fair lanes means h own = own_more n m deeds (record { lane = l; item = x; entry = Some record { cause = cause.Tick t; outs = outs } }) refl (own h)
 
-module _ {K : Type 0} (stands : K → List Entry → Type 0) (n m : ℕ) where
+module _ {K : Type 0} (stands : K → List Entry → Type 0) (too_many : List Entry → Type 0) (n m : ℕ) where
   -- a deck of which it isn't known whether the last editor is of the last lane
-  none_last : {all : Bool} {last last' : Bool} (core : K) (ends : List HubSide) (seats : Seats) → (last' ≡ true → ⊥) → Kept stands n m all last core ends seats → Kept stands n m all last' core ends seats
+  none_last : {all : Bool} {last last' : Bool} {why : Option StepFault} (core : K) (ends : List HubSide) (seats : Seats) → (last' ≡ true → ⊥) → Kept stands too_many n m all last why core ends seats → Kept stands too_many n m all last' why core ends seats
   none_last core ends seats no_last k = record {
     deeds = k.deeds;
     fair = k.fair;
@@ -173,6 +175,7 @@ module _ {K : Type 0} (stands : K → List Entry → Type 0) (n m : ℕ) where
     own_last = λ e. absurd (no_last e);
     stands_for = k.stands_for;
     once = k.once;
+    numbers = k.numbers;
     more = k.more;
     none_more = k.none_more;
     ends_are = k.ends_are;
@@ -180,14 +183,15 @@ module _ {K : Type 0} (stands : K → List Entry → Type 0) (n m : ℕ) where
   }
 
   -- a deck that goes on no more
-  pub kept_over : (last : Bool) (core : K) (ends : List HubSide) (seats seats' : Seats) → Kept stands n m true last core ends seats → Kept stands n m false last core ends seats'
-  kept_over last core ends seats seats' k = record {
+  pub kept_over : (last : Bool) (why : Option StepFault) (core : K) (ends : List HubSide) (seats seats' : Seats) → Kept stands too_many n m true last why core ends seats → Kept stands too_many n m false last why core ends seats'
+  kept_over last why core ends seats seats' k = record {
     deeds = k.deeds;
     fair = k.fair;
     lanes = k.lanes;
     own_last = k.own_last;
     stands_for = k.stands_for;
     once = k.once;
+    numbers = k.numbers;
     more = k.more;
     none_more = λ e. absurd cc;
     ends_are = λ i x at. let w = k.ends_are i x at in record { posted = w.posted; sides = w.sides; rest = w.rest; pushed = w.pushed; whole = λ e. absurd cc };
@@ -195,7 +199,7 @@ module _ {K : Type 0} (stands : K → List Entry → Type 0) (n m : ℕ) where
   }
 
   -- nothing was there
-  pub kept_same : (last : Bool) (core : K) (place : ℕ) (old new : List HubSide) (seats : Seats) → Became place Same old new → Kept stands n m true last core old seats → Kept stands n m true last core new seats
+  pub kept_same : (last : Bool) (core : K) (place : ℕ) (old new : List HubSide) (seats : Seats) → Became place Same old new → Kept stands too_many n m true last None core old seats → Kept stands too_many n m true last None core new seats
   kept_same last core place old new seats b k = record {
     deeds = k.deeds;
     fair = k.fair;
@@ -203,6 +207,7 @@ module _ {K : Type 0} (stands : K → List Entry → Type 0) (n m : ℕ) where
     own_last = k.own_last;
     stands_for = k.stands_for;
     once = k.once;
+    numbers = k.numbers;
     more = k.more;
     none_more = k.none_more;
     ends_are = through (λ i x. EndsAre n m k.deeds k.more true (name n m i) x) (λ i x. EndsAre n m k.deeds k.more true (name n m i) x) (λ _. Same) old new (all_same place old new b) k.ends_are
@@ -215,14 +220,16 @@ module _ {K : Type 0} (stands : K → List Entry → Type 0) (n m : ℕ) where
     each = took_each n m l x is_in old new size b
 
     -- an item that gave nothing
-    pub kept_stray : (last : Bool) (core core' : K) (seats seats' : Seats) → ((history : List Entry) → stands core history → stands core' history) → Kept stands n m true last core old seats → Kept stands n m false last core' new seats'
-    kept_stray last core core' seats seats' go k = record {
+    pub kept_stray : (last : Bool) (why : Option StepFault) (core core' : K) (seats seats' : Seats) → (why ≡ Some fault.Numbers → (history : List Entry) → stands core history → too_many history) → ((history : List Entry) → stands core history → stands core' history)
+        → Kept stands too_many n m true last None core old seats → Kept stands too_many n m false last why core' new seats'
+    kept_stray last why core core' seats seats' numbers go k = record {
       deeds = k.deeds;
       fair = k.fair;
       lanes = k.lanes;
       own_last = k.own_last;
       stands_for = go (entries n m k.deeds) k.stands_for;
       once = k.once;
+      numbers = λ e. numbers e (entries n m k.deeds) k.stands_for;
       more = Some (l, x);
       none_more = λ e. absurd cc;
       ends_are = through (λ i z. EndsAre n m k.deeds k.more true (name n m i) z) (λ i z. EndsAre n m k.deeds (Some (l, x)) false (name n m i) z) (λ i. TookAt (name n m i) l x) old new each k.ends_are
@@ -242,7 +249,7 @@ module _ {K : Type 0} (stands : K → List Entry → Type 0) (n m : ℕ) where
       pub sides : q.sides.taken ≡ sides n m k (deeds ++ record { lane = l; item = x; entry = entry } ∷ [])
       pub pushed : q.orders.pushed ++ only k (given (seats_of n m deeds) record { lane = l; item = x; entry = entry }).orders ≡ orders n m k (deeds ++ record { lane = l; item = x; entry = entry } ∷ [])
 
-    pub ends_behind : (last : Bool) (core : K) (seats : Seats) (entry : Option Entry) (k : Kept stands n m true last core old seats) → Each (λ i q. Behind k.deeds entry (name n m i) q) new
+    pub ends_behind : (last : Bool) (core : K) (seats : Seats) (entry : Option Entry) (k : Kept stands too_many n m true last None core old seats) → Each (λ i q. Behind k.deeds entry (name n m i) q) new
     ends_behind last core seats entry k = through (λ i z. EndsAre n m k.deeds k.more true (name n m i) z) (λ i q. Behind k.deeds entry (name n m i) q) (λ i. TookAt (name n m i) l x) old new each k.ends_are
         (λ i p q within t w. record {
           posted = t.posted ∙ ap (λ ys. ys ++ (if same_lane (name n m i) l then posted_in x else [])) (w.posted ∙ ap (λ o. posts n m (name n m i) k.deeds ++ posted_at (name n m i) o) (k.none_more refl) ∙ append-nil (posts n m (name n m i) k.deeds)) ∙ sym (more_posts n m k.deeds l x entry (name n m i));
@@ -251,7 +258,7 @@ module _ {K : Type 0} (stands : K → List Entry → Type 0) (n m : ℕ) where
         })
 
     -- a late item
-    pub kept_silent : (last : Bool) (core : K) (seats seats' : Seats) → meaning seats l x ≡ meant.Silent → seats' ≡ on_seat l (marked (mark_of x)) seats → Kept stands n m true last core old seats → Kept stands n m true last core new seats'
+    pub kept_silent : (last : Bool) (core : K) (seats seats' : Seats) → meaning seats l x ≡ meant.Silent → seats' ≡ on_seat l (marked (mark_of x)) seats → Kept stands too_many n m true last None core old seats → Kept stands too_many n m true last None core new seats'
     kept_silent last core seats seats' silent s k =
         let deed : Deed = record { lane = l; item = x; entry = None } in
         let was : seats ≡ seats_of n m k.deeds = k.seats_are refl in record {
@@ -261,6 +268,7 @@ module _ {K : Type 0} (stands : K → List Entry → Type 0) (n m : ℕ) where
           own_last = λ e. own_more n m k.deeds deed refl (k.own_last e);
           stands_for = subst (λ (h : List Entry). stands core h) (sym (gather_more entries_by (start n m) k.deeds deed ∙ append-nil (entries n m k.deeds))) k.stands_for;
           once = λ s. subst (λ (h : List Entry). spawns s h ≤ 1) (sym (gather_more entries_by (start n m) k.deeds deed ∙ append-nil (entries n m k.deeds))) (k.once s);
+          numbers = λ e. absurd cc;
           more = None;
           none_more = λ _. refl;
           ends_are = λ i q at. let w = ends_behind last core seats None k i q at in record {
@@ -274,12 +282,12 @@ module _ {K : Type 0} (stands : K → List Entry → Type 0) (n m : ℕ) where
         }
 
     -- what the core did
-    pub kept_acted : (c : Cause) (all was_last last : Bool) (core core' : K) (given_ends : List HubSide) (seats seats' : Seats) → meaning seats l x ≡ meant.Means c → (last ≡ true → (all ≡ true) × (last_behind n seats l (kind_of c) was_last ≡ true))
-        → Acted stands n m l (mark_of x) c all core core' new given_ends seats seats' → Kept stands n m true was_last core old seats → Kept stands n m all last core' given_ends seats'
-    kept_acted c all was_last last core core' given_ends seats seats' means own (Failed a go same) k =
-        subst (λ (b : Bool). Kept stands n m b last core' given_ends seats') (sym a)
-        (subst (λ (z : List HubSide). Kept stands n m false last core' z seats') (sym same) (none_last core' new seats' (λ e. let f : true ≡ false = sym (own e).0 ∙ a in absurd cc) (kept_stray was_last core core' seats seats' go k)))
-    kept_acted c all was_last last core core' given_ends seats seats' means own (Did outs go few dealt lanes) k =
+    pub kept_acted : (c : Cause) (all was_last last : Bool) (why : Option StepFault) (core core' : K) (given_ends : List HubSide) (seats seats' : Seats) → meaning seats l x ≡ meant.Means c → (last ≡ true → (all ≡ true) × (last_behind n seats l (kind_of c) was_last ≡ true))
+        → Acted stands too_many n m l (mark_of x) c all why core core' new given_ends seats seats' → Kept stands too_many n m true was_last None core old seats → Kept stands too_many n m all last why core' given_ends seats'
+    kept_acted c all was_last last why core core' given_ends seats seats' means own (Failed a numbers go same) k =
+        subst (λ (b : Bool). Kept stands too_many n m b last why core' given_ends seats') (sym a)
+        (subst (λ (z : List HubSide). Kept stands too_many n m false last why core' z seats') (sym same) (none_last core' new seats' (λ e. let f : true ≡ false = sym (own e).0 ∙ a in absurd cc) (kept_stray was_last why core core' seats seats' numbers go k)))
+    kept_acted c all was_last last why core core' given_ends seats seats' means own (Did calm outs go few dealt lanes) k =
         let entry : Entry = record { cause = c; outs = outs } in
         let deed : Deed = record { lane = l; item = x; entry = Some entry } in
         let was : seats ≡ seats_of n m k.deeds = k.seats_are refl in
@@ -293,6 +301,7 @@ module _ {K : Type 0} (stands : K → List Entry → Type 0) (n m : ℕ) where
           own_last = λ e. own_behind n m k.deeds l x c outs was_last k.fair k.lanes meant_so (subst (λ (z : Seats). last_behind n z l (kind_of c) was_last ≡ true) was (own e).1) k.own_last;
           stands_for = subst (λ (h : List Entry). stands core' h) (sym (gather_more entries_by (start n m) k.deeds deed)) (go (entries n m k.deeds) k.stands_for);
           once = λ s. subst (λ (h : List Entry). spawns s h ≤ 1) (sym (gather_more entries_by (start n m) k.deeds deed)) (few (entries n m k.deeds) s k.stands_for);
+          numbers = λ e. let f : None ≡ Some fault.Numbers = sym calm ∙ e in absurd cc;
           more = None;
           none_more = λ _. refl;
           ends_are = through (λ i q. Behind k.deeds (Some entry) (name n m i) q) (λ i q. EndsAre n m (k.deeds ++ deed ∷ []) None all (name n m i) q)
@@ -308,17 +317,17 @@ module _ {K : Type 0} (stands : K → List Entry → Type 0) (n m : ℕ) where
         }
 
 -- the core gave an entry, and its orders were given
-pub did_give : {K : Type 0} (stands : K → List Entry → Type 0) (n m : ℕ) (l : LaneName) (x : Mark) (c : Cause) (gave spent : Bool) (core core' : K) (old new : List HubSide) (seats mid seats' : Seats) (k : Kind) (outs : List Out)
-    → not spent ≡ gave → mid ≡ on_seat l (marked x) seats → k ≡ kind_of c → ((history : List Entry) → stands core history → stands core' (history ++ record { cause = c; outs = outs } ∷ []))
+pub did_give : {K : Type 0} (stands : K → List Entry → Type 0) (too_many : List Entry → Type 0) (n m : ℕ) (l : LaneName) (x : Mark) (c : Cause) (gave spent : Bool) (why : Option StepFault) (core core' : K) (old new : List HubSide) (seats mid seats' : Seats) (k : Kind) (outs : List Out)
+    → not spent ≡ gave → why ≡ None → mid ≡ on_seat l (marked x) seats → k ≡ kind_of c → ((history : List Entry) → stands core history → stands core' (history ++ record { cause = c; outs = outs } ∷ []))
     → ((history : List Entry) (s : ℕ) → stands core history → spawns s (history ++ record { cause = c; outs = outs } ∷ []) ≤ 1)
     → Pairwise (λ i. Dealt (name n m i) (given_by mid l (is_side x) k outs).orders [] gave) old new → (IsTrue gave → seats' ≡ (given_by mid l (is_side x) k outs).seats)
-    → Acted stands n m l x c (not spent) core core' old new seats seats'
-did_give stands n m l x c gave spent core core' old new seats mid seats' k outs s e f go few dealt lanes =
+    → Acted stands too_many n m l x c (not spent) why core core' old new seats seats'
+did_give stands too_many n m l x c gave spent why core core' old new seats mid seats' k outs s calm e f go few dealt lanes =
     let d : Pairwise (λ i. Dealt (name n m i) (given_by (on_seat l (marked x) seats) l (is_side x) (kind_of c) outs).orders [] gave) old new =
     subst (λ (z : Seats). Pairwise (λ i. Dealt (name n m i) (given_by z l (is_side x) (kind_of c) outs).orders [] gave) old new) e (subst (λ (y : Kind). Pairwise (λ i. Dealt (name n m i) (given_by mid l (is_side x) y outs).orders [] gave) old new) f dealt) in
-    subst (λ (b : Bool). Acted stands n m l x c b core core' old new seats seats') (sym s)
-    (Did outs go few d (λ t. lanes t ∙ ap (λ (g : lists.Given). g.seats) (ap (λ z. given_by z l (is_side x) k outs) e ∙ ap (λ y. given_by (on_seat l (marked x) seats) l (is_side x) y outs) f)))
+    subst (λ (b : Bool). Acted stands too_many n m l x c b why core core' old new seats seats') (sym s)
+    (Did calm outs go few d (λ t. lanes t ∙ ap (λ (g : lists.Given). g.seats) (ap (λ z. given_by z l (is_side x) k outs) e ∙ ap (λ y. given_by (on_seat l (marked x) seats) l (is_side x) y outs) f)))
 
-pub acted_ids : {K : Type 0} (stands : K → List Entry → Type 0) (n m : ℕ) (l : LaneName) (x : Mark) (c : Cause) (all : Bool) (core core' : K) (old new : List HubSide) (seats seats' : Seats) → Acted stands n m l x c all core core' old new seats seats' → map ids new ≡ map ids old
-acted_ids stands n m l x c all core core' old new seats seats' (Did outs go few dealt lanes) = same_ids (λ i. Dealt (name n m i) (given_by (on_seat l (marked x) seats) l (is_side x) (kind_of c) outs).orders [] all) old new dealt (λ i p q d. d.ids)
-acted_ids stands n m l x c all core core' old new seats seats' (Failed a go same) = ap (map ids) same
+pub acted_ids : {K : Type 0} (stands : K → List Entry → Type 0) (too_many : List Entry → Type 0) (n m : ℕ) (l : LaneName) (x : Mark) (c : Cause) (all : Bool) (why : Option StepFault) (core core' : K) (old new : List HubSide) (seats seats' : Seats) → Acted stands too_many n m l x c all why core core' old new seats seats' → map ids new ≡ map ids old
+acted_ids stands too_many n m l x c all why core core' old new seats seats' (Did calm outs go few dealt lanes) = same_ids (λ i. Dealt (name n m i) (given_by (on_seat l (marked x) seats) l (is_side x) (kind_of c) outs).orders [] all) old new dealt (λ i p q d. d.ids)
+acted_ids stands too_many n m l x c all why core core' old new seats seats' (Failed a numbers go same) = ap (map ids) same

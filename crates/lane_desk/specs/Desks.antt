@@ -56,14 +56,23 @@ pub record OwnLast (n m : ℕ) (deeds : List Deed) : Type 0 where
   pub is_last : number + 1 ≡ n
   pub joined : JoinedLast n m number deeds
 
--- no start was spawned twice. Of a deck that isn't spent: no item more, all orders, and the lanes as the deeds left them; `last`: that the last editor that joined is of the last lane
-pub record Kept {K : Type 0} (stands : K → List Entry → Type 0) (n m : ℕ) (all last : Bool) (core : K) (ends : List HubSide) (seats : Seats) : Type 0 where
+-- a cause that can come behind this history, but some core that stands for the history can't number it and its outs
+pub record TooMany {K : Type 0} (stands : K → List Entry → Type 0) (allows : List Entry → Cause → Bool) (passes : K → List Entry → Cause → Bool) (history : List Entry) : Type 0 where
+  pub core : K
+  pub stands_for : stands core history
+  pub cause : Cause
+  pub can_come : allows history cause ≡ true
+  pub too_many : passes core history cause ≡ true
+
+-- no start was spawned twice. Of a deck that isn't spent: no item more, all orders, and the lanes as the deeds left them; `last`: that the last editor that joined is of the last lane; `too_many`: what the fault Numbers of the last step says of the history
+pub record Kept {K : Type 0} (stands : K → List Entry → Type 0) (too_many : List Entry → Type 0) (n m : ℕ) (all last : Bool) (why : Option StepFault) (core : K) (ends : List HubSide) (seats : Seats) : Type 0 where
   pub deeds : List Deed
   pub fair : Fair n m deeds
   pub lanes : AllIn n m deeds
   pub own_last : last ≡ true → OwnLast n m deeds
   pub stands_for : stands core (entries n m deeds)
   pub once : (s : ℕ) → spawns s (entries n m deeds) ≤ 1
+  pub numbers : why ≡ Some fault.Numbers → too_many (entries n m deeds)
   pub more : Option (LaneName × Item)
   pub none_more : all ≡ true → more ≡ None
   pub ends_are : Each (λ i x. EndsAre n m deeds more all (name n m i) x) ends
@@ -134,15 +143,15 @@ pub record DeskView (K : Type 0) : Type 0 where
   pub last : Bool
 
 -- what the core did with a cause that was taken of this lane with this mark, and what came of it
-pub data Acted {K : Type 0} (stands : K → List Entry → Type 0) (n m : ℕ) (l : LaneName) (x : Mark) (c : Cause) (all : Bool) (core core' : K) (old new : List HubSide) (seats seats' : Seats) : Type 0 where
+pub data Acted {K : Type 0} (stands : K → List Entry → Type 0) (too_many : List Entry → Type 0) (n m : ℕ) (l : LaneName) (x : Mark) (c : Cause) (all : Bool) (why : Option StepFault) (core core' : K) (old new : List HubSide) (seats seats' : Seats) : Type 0 where
   -- an entry, behind which no start is spawned twice, and whose orders were given, all of them or the first ones
-  Did : (outs : List Out) → ((history : List Entry) → stands core history → stands core' (history ++ record { cause = c; outs = outs } ∷ []))
+  Did : why ≡ None → (outs : List Out) → ((history : List Entry) → stands core history → stands core' (history ++ record { cause = c; outs = outs } ∷ []))
       → ((history : List Entry) (s : ℕ) → stands core history → spawns s (history ++ record { cause = c; outs = outs } ∷ []) ≤ 1)
       → Pairwise (λ i. Dealt (name n m i) (given_by (on_seat l (marked x) seats) l (is_side x) (kind_of c) outs).orders [] all) old new
       → (all ≡ true → seats' ≡ (given_by (on_seat l (marked x) seats) l (is_side x) (kind_of c) outs).seats)
-      → Acted stands n m l x c all core core' old new seats seats'
+      → Acted stands too_many n m l x c all why core core' old new seats seats'
   -- nothing
-  Failed : all ≡ false → ((history : List Entry) → stands core history → stands core' history) → new ≡ old → Acted stands n m l x c all core core' old new seats seats'
+  Failed : all ≡ false → (why ≡ Some fault.Numbers → (history : List Entry) → stands core history → too_many history) → ((history : List Entry) → stands core history → stands core' history) → new ≡ old → Acted stands too_many n m l x c all why core core' old new seats seats'
 
 -- nothing went through these ends yet
 pub record IsUnused (ends : HubSide) : Type 0 where

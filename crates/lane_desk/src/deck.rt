@@ -3,7 +3,7 @@ ghost use Rattle.std.specs.Prelude.{◌≡◌, ◌↔◌, ◌<◌, ◌≤◌, �
 ghost use Rattle.mux_history.specs.declared.entry.Entry.{Entry};
 ghost use Rattle.mux_history.specs.Cores.{spawns};
 ghost use Rattle.lane_lists.specs.Seats as lists;
-ghost use Rattle.lane_desk.specs.Desks.{AllUnused, Faulted, Kept, ids};
+ghost use Rattle.lane_desk.specs.Desks.{AllUnused, Faulted, Kept, TooMany, ids};
 ghost use Rattle.lane_desk.specs.Stops.{Tells, WasDone, is_done};
 
 use crate::desk::{Counts, take_turn};
@@ -78,13 +78,14 @@ pub struct Desk<K: Steps + Drop, N: Naming> {
 
 impl<K: Steps + Drop, N: Naming> Model for Desk<K, N> {
     ghost use Rattle.std.specs.Prelude.{◌≡◌, ◌<◌, ◌+◌, ◌^◌, false, length, map, not};
-    ghost use Rattle.lane_desk.specs.Desks.{DeskView, Faulted, Kept, ids};
+    ghost use Rattle.lane_desk.specs.Desks.{DeskView, Faulted, Kept, TooMany, ids};
 
     ghost Value = { DeskView K };
 
     ghost view = { λ d. record { core = d.core; spent = d.spent; why = d.why; ends = d.ends.items; seats = d.seats; last = d.last } };
 
-    ghost invariant = { λ d. Kept K.stands N.editors N.servers (not d.spent) d.last d.core d.ends.items d.seats × (map ids d.ends.items ≡ N.queues)
+    ghost invariant = { λ d. Kept K.stands (TooMany K.stands K.allows K.passes) N.editors N.servers (not d.spent) d.last d.why d.core d.ends.items d.seats
+        × (map ids d.ends.items ≡ N.queues)
         × Faulted N.before (K.faults d.core) (K.spent d.core) d.why
         × (d.counts.editors ≡ N.editors) × (d.counts.servers ≡ N.servers) × (N.editors + N.servers < 2 ^ 63) × (length d.ends.items ≡ N.editors + N.servers + 1)
         × (d.spent ≡ false → K.spent d.core ≡ false) };
@@ -263,7 +264,8 @@ impl<K: Steps + Drop, N: Naming> Deck<K, N> {
 
     /// The core and the ends. It waits for nobody.
     pub fn close(self) -> Closed<K>
-        ensures kept { (seats : lists.Seats) × Kept K.stands N.editors N.servers (not result.spent) result.own_last result.core result.ends.items seats
+        ensures kept { (seats : lists.Seats) × Kept K.stands (TooMany K.stands K.allows K.passes) N.editors N.servers (not result.spent) result.own_last result.why
+            result.core result.ends.items seats
             × Tells K.stands K.stops result.core seats result.done result.no_editor }
         ensures goes { result.done ≡ true → result.spent ≡ false }
         ensures ready { result.spent ≡ false → K.spent result.core ≡ false }

@@ -3,7 +3,7 @@ ghost use Rattle.std.specs.Prelude.{◌≡◌, ◌<◌, ◌≤◌, ◌+◌, ◌^
 ghost use Rattle.outside_io.specs.Faults.{Rose};
 ghost use Rattle.mux_history.specs.Cores.{body_length};
 ghost use Rattle.lane_queue.specs.Ends.{HubSide};
-ghost use Rattle.lane_desk.specs.Desks.{Acted, Became, Dealt, FoundNothing, IsEmptied, Kept, Pairwise, Pushed, Same, Took, ids};
+ghost use Rattle.lane_desk.specs.Desks.{Acted, Became, Dealt, FoundNothing, IsEmptied, Kept, Pairwise, Pushed, Same, TooMany, Took, ids};
 ghost use Rattle.lane_desk.specs.Givens.{given_by};
 ghost use Rattle.lane_desk.specs.Kinds.{is_side};
 ghost use Rattle.lane_desk.specs.Places.{IsLane, name, place};
@@ -204,8 +204,8 @@ fn act<K: Steps, R: Wait>(
     requires counts { counts.editors + counts.servers < 2 ^ 63 }
     requires ends { length ends.old.items ≡ counts.editors + counts.servers + 1 }
     requires lane { IsLane taken.lane seats.old }
-    ensures acted { Acted K.stands counts.editors counts.servers taken.lane taken.mark cause
-        (not result.spent) core.old core.new ends.old.items ends.new.items seats.old seats.new }
+    ensures acted { Acted K.stands (TooMany K.stands K.allows K.passes) counts.editors counts.servers taken.lane taken.mark cause
+        (not result.spent) result.why core.old core.new ends.old.items ends.new.items seats.old seats.new }
     ensures goes { result.took ≡ not result.spent }
     ensures later { K.faults core.old ≤ K.faults core.new }
     ensures journal { result.why ≡ Some StepFault.Journal → Rose (K.faults core.old) (K.faults core.new) }
@@ -262,8 +262,8 @@ pub fn take_turn<K: Steps, R: Wait>(
 ) -> Turned
     requires counts { counts.editors + counts.servers < 2 ^ 63 }
     requires ends { length ends.old.items ≡ counts.editors + counts.servers + 1 }
-    requires kept { Kept K.stands counts.editors counts.servers true last.old core.old ends.old.items seats.old }
-    ensures kept { Kept K.stands counts.editors counts.servers (not result.spent) last.new core.new ends.new.items seats.new }
+    requires kept { Kept K.stands (TooMany K.stands K.allows K.passes) counts.editors counts.servers true last.old None core.old ends.old.items seats.old }
+    ensures kept { Kept K.stands (TooMany K.stands K.allows K.passes) counts.editors counts.servers (not result.spent) last.new result.why core.new ends.new.items seats.new }
     ensures goes { result.took ≡ true → result.spent ≡ false }
     ensures nothing { result.took ≡ false → result.spent ≡ false → (x : HubSide)
         → slice_get ends.old.items (place counts.editors counts.servers lane) ≡ Some x → IsEmptied x }

@@ -18,6 +18,7 @@ use Rattle.make_program.specs.Program as make
 use Rattle.make_program.specs.Program.{Made}
 use Rattle.make_program.specs.Shown.{Shown, causes_text}
 use Rattle.serve_program.specs.declared.fault.ServeFault.{ServeFault}
+use Rattle.serve_program.specs.Daemons as daemon
 use Rattle.serve_program.specs.Daemons.{CameOfSettings}
 use Rattle.serve_program.specs.Faults.{ended_line, ended_status}
 use Rattle.mux_client.specs.Dials.{Called, Dialled, door_state, port_state}
@@ -93,6 +94,8 @@ module _ {D P B C J F I O N : Type 0}
         (Says old.output new (ended_status ended) (ended_line ended))
     pub port : new.port ≡ None
     pub input : new.input ≡ old.input
+    pub complete : daemon.Undisturbed calls ports_left refusals told journal_faults links_back links faults runs left misses given moments
+        config old.door new.door old.journal new.journal old.berths.items old.clock new.lanes ended came → (new.status ≡ 0) ⊎ (new.status ≡ 5)
 
   -- what a command left that dialled the settings' place: its output is `shown` before the fault line
   pub record DialledBy (config : Config) (old : Outside D B C J F I O N) (new : Left D P B C J F I O N) (shown : O) (result : Result (Unit {0}) ClientFault) : Type 0 where

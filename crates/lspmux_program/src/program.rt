@@ -138,6 +138,7 @@ fn report_end<O: Sink, N: Sink>(
 }
 
 // `serve`.
+#[tactic(auto, using(crate::proofs::Serving::served_end))]
 fn serve<
     R: Threads + Wait + Sync,
     D: Door + Drop,

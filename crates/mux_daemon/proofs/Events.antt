@@ -62,9 +62,9 @@ none_sat limit s i back left old new none p =
     let runs : p.runs ≡ [] = no_runs p.runs (ap (λ l. map (λ (r : Run). r.ended) p.runs ++ l) (sym refused) ∙ more) in
     no_sessions (sessions s.editors s.servers (lane.Editor i) s.deeds) p.runs runs (λ k e at. let r = p.served k e at in (r.0, r.1))
 
-module _ {K P B C : Type 0} (stands : K → List Entry → Type 0) (stops : List Entry → Bool) (links_back links : P → Option (List Session)) (faults : P → ℕ) (runs left : B → Option (List Session)) (misses : B → ℕ) (given moments : C → Option (List ℕ)) (limit : ℕ) (core : K) (old new : Lanes P B C)
+module _ {K P B C : Type 0} (stands : K → List Entry → Type 0) (too_many : List Entry → Type 0) (stops : List Entry → Bool) (links_back links : P → Option (List Session)) (faults : P → ℕ) (runs left : B → Option (List Session)) (misses : B → ℕ) (given moments : C → Option (List ℕ)) (limit : ℕ) (core : K) (old new : Lanes P B C)
     (port_law : PortLaw links_back links faults) (own_law : PortLaw port.ghosts.sessions port.ghosts.links port.ghosts.faults) (berth_law : BerthLaw runs left misses) (ticks : TicksPosted) (editors : EditorsSit) (starts : StartsTriedIn) where
-  pub came_of : (x : Answer) (f : ServedAs stands stops links_back links faults runs left misses given moments limit core old new x) → CameOf links_back links runs left misses given moments limit f.story x old new
+  pub came_of : (x : Answer) (f : ServedAs stands too_many stops links_back links faults runs left misses given moments limit core old new x) → CameOf links_back links runs left misses given moments limit f.story x old new
   came_of x f =
       let s = f.story in
       let n = f.editors in

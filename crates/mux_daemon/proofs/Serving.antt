@@ -7,6 +7,8 @@ use Rattle.outside_io.specs.Faults.{Rose}
 use Rattle.outside_io.specs.Sessions.{Session}
 use Rattle.outside_io.specs.contracts.memory.port.MemPortPort.TheImpl as port
 use Rattle.mux_history.specs.declared.entry.Entry.{Entry}
+use Rattle.mux_steps.specs.declared.fault.StepFault.{StepFault}
+use Rattle.mux_steps.specs.declared.fault.StepFault.TheVariants as fault
 use Rattle.lane_lists.specs.declared.item.LaneName.{LaneName}
 use Rattle.lane_lists.specs.declared.item.LaneName.TheVariants as lane
 use Rattle.lane_lists.specs.declared.item.Posted.TheVariants as posted
@@ -183,8 +185,8 @@ module _ {P B C : Type 0} (sessions links : P → Option (List Session)) (faults
         };
       }
 
-  module _ {K : Type 0} (stands : K → List Entry → Type 0) (stops : List Entry → Bool) (core : K) (spent done no_editor closed own_last : Bool) (last : Lanes P B C) (x : Answer)
-      (k : LeftAs stands stops hubs.editors hubs.servers core back spent done no_editor own_last) (goes : done ≡ true → spent ≡ false) (through : closed ≡ true → AllThrough new.ports.items) (f : FinishedAs new back done no_editor closed own_last last x) (l : SameLanes new last) where
+  module _ {K : Type 0} (stands : K → List Entry → Type 0) (too_many : List Entry → Type 0) (stops : List Entry → Bool) (core : K) (spent done no_editor closed own_last : Bool) (why : Option StepFault) (last : Lanes P B C) (x : Answer)
+      (k : LeftAs stands too_many stops hubs.editors hubs.servers core back spent done no_editor own_last why) (goes : done ≡ true → spent ≡ false) (through : closed ≡ true → AllThrough new.ports.items) (f : FinishedAs new back done no_editor closed own_last last x) (l : SameLanes new last) (numbers : x ≡ answer.Numbers → why ≡ Some fault.Numbers) where
     abbrev story : Story
     story = record { editors = hubs.editors; servers = hubs.servers; deeds = k.1.deeds; more = k.1.more }
 
@@ -200,7 +202,7 @@ module _ {P B C : Type 0} (sessions links : P → Option (List Session)) (faults
     ends_at : (i : ℕ) (h : HubSide) (n : LaneName) → slice_get back i ≡ Some h → name hubs.editors hubs.servers i ≡ n → EndsAre story.editors story.servers story.deeds story.more all n h
     ends_at i h n at e = subst (λ y. EndsAre hubs.editors hubs.servers k.1.deeds k.1.more all y h) e (k.1.ends_are i h at)
 
-    pub served : ServedAs stands stops sessions links faults runs left misses given moments limit core old last x
+    pub served : ServedAs stands too_many stops sessions links faults runs left misses given moments limit core old last x
     served =
         let e = o.editors in
         let s = o.servers in
@@ -280,12 +282,13 @@ module _ {P B C : Type 0} (sessions links : P → Option (List Session)) (faults
                     subst (λ (i : ℕ). JoinedLast hubs.editors hubs.servers i k.1.deeds) number own.joined),
               );
           stopped = f.stopped;
+          numbers = λ e. k.1.numbers (numbers e);
         }
 
 -- nothing was run
-pub served_none : {K P B C : Type 0} (stands : K → List Entry → Type 0) (stops : List Entry → Bool) (sessions links : P → Option (List Session)) (faults : P → ℕ) (runs left : B → Option (List Session)) (misses : B → ℕ) (given moments : C → Option (List ℕ)) (limit : ℕ) (core : K) (lanes : Lanes P B C)
-    → stands core [] → ServedAs stands stops sessions links faults runs left misses given moments limit core lanes lanes answer.Memory
-served_none stands stops sessions links faults runs left misses given moments limit core lanes s =
+pub served_none : {K P B C : Type 0} (stands : K → List Entry → Type 0) (too_many : List Entry → Type 0) (stops : List Entry → Bool) (sessions links : P → Option (List Session)) (faults : P → ℕ) (runs left : B → Option (List Session)) (misses : B → ℕ) (given moments : C → Option (List ℕ)) (limit : ℕ) (core : K) (lanes : Lanes P B C)
+    → stands core [] → ServedAs stands too_many stops sessions links faults runs left misses given moments limit core lanes lanes answer.Memory
+served_none stands too_many stops sessions links faults runs left misses given moments limit core lanes s =
     let story : Story = record { editors = length lanes.ports.items + 1; servers = length lanes.berths.items; deeds = []; more = None } in
     let queues : (l : LaneName) → QueuesAre story false l [] [] [] = λ l. record { unread = []; posts_are = refl; unsaid = []; sides_are = refl; unheard = []; orders_are = refl; all = λ e. absurd cc } in
     record {
@@ -309,12 +312,13 @@ served_none stands stops sessions links faults runs left misses given moments li
       over = λ g. absurd cc;
       closed = λ g. absurd cc;
       stopped = λ g. absurd cc;
+      numbers = λ g. absurd cc;
     }
 
 -- from what the lanes served before they were opened
-pub served_from : {K P B C : Type 0} (stands : K → List Entry → Type 0) (stops : List Entry → Bool) (sessions links : P → Option (List Session)) (faults : P → ℕ) (runs left : B → Option (List Session)) (misses : B → ℕ) (given moments : C → Option (List ℕ)) (limit : ℕ) (core : K) (before old new : Lanes P B C) (x : Answer)
-    → SameLanes before old → ServedAs stands stops sessions links faults runs left misses given moments limit core old new x → ServedAs stands stops sessions links faults runs left misses given moments limit core before new x
-served_from {K} {P} {B} {C} stands stops sessions links faults runs left misses given moments limit core before old new x l f = record {
+pub served_from : {K P B C : Type 0} (stands : K → List Entry → Type 0) (too_many : List Entry → Type 0) (stops : List Entry → Bool) (sessions links : P → Option (List Session)) (faults : P → ℕ) (runs left : B → Option (List Session)) (misses : B → ℕ) (given moments : C → Option (List ℕ)) (limit : ℕ) (core : K) (before old new : Lanes P B C) (x : Answer)
+    → SameLanes before old → ServedAs stands too_many stops sessions links faults runs left misses given moments limit core old new x → ServedAs stands too_many stops sessions links faults runs left misses given moments limit core before new x
+served_from {K} {P} {B} {C} stands too_many stops sessions links faults runs left misses given moments limit core before old new x l f = record {
   story = f.story;
   editors = f.editors ∙ ap (λ k. k + 1) l.ports.len;
   servers = f.servers ∙ l.berths.len;
@@ -342,6 +346,7 @@ served_from {K} {P} {B} {C} stands stops sessions links faults runs left misses 
     subst (λ (k : ℕ). JoinedLast f.story.editors f.story.servers k f.story.deeds) l.ports.len c.2,
   );
   stopped = f.stopped;
+  numbers = f.numbers;
 }
 
 -- from what was looked up at the end

@@ -118,7 +118,7 @@ module _ {P B C : Type 0} (links_back links : P → Option (List Session)) (runs
     -- and a start went since a write failed only where its sink's count rose
     pub sinks : (k n : ℕ) → slice_get (how s n) k ≡ Some (item.Side side.Broke) → SinkRose s x old new n
 
-module _ {K P B C : Type 0} (stands : K → List Entry → Type 0) (stops : List Entry → Bool) (links_back links : P → Option (List Session)) (faults : P → ℕ) (runs left : B → Option (List Session)) (misses : B → ℕ) (given moments : C → Option (List ℕ)) where
+module _ {K P B C : Type 0} (stands : K → List Entry → Type 0) (too_many : List Entry → Type 0) (stops : List Entry → Bool) (links_back links : P → Option (List Session)) (faults : P → ℕ) (runs left : B → Option (List Session)) (misses : B → ℕ) (given moments : C → Option (List ℕ)) where
   abbrev pub EventsLaw : Type 0
-  EventsLaw = (limit : ℕ) (core : K) (old new : Lanes P B C) (x : Answer) (f : ServedAs stands stops links_back links faults runs left misses given moments limit core old new x)
+  EventsLaw = (limit : ℕ) (core : K) (old new : Lanes P B C) (x : Answer) (f : ServedAs stands too_many stops links_back links faults runs left misses given moments limit core old new x)
       → EventsOf links_back links runs left misses limit f.story x old new

@@ -37,7 +37,7 @@ module _ {P B C : Type 0} (links_back links : P → Option (List Session)) (runs
     -- with Stopped it didn't, so each editor is of a port
     pub stopped : x ≡ answer.Stopped → sessions s.editors s.servers (lane.Editor (length old.ports.items)) s.deeds ≡ []
 
-module _ {K P B C : Type 0} (stands : K → List Entry → Type 0) (stops : List Entry → Bool) (links_back links : P → Option (List Session)) (faults : P → ℕ) (runs left : B → Option (List Session)) (misses : B → ℕ) (given moments : C → Option (List ℕ)) where
+module _ {K P B C : Type 0} (stands : K → List Entry → Type 0) (too_many : List Entry → Type 0) (stops : List Entry → Bool) (links_back links : P → Option (List Session)) (faults : P → ℕ) (runs left : B → Option (List Session)) (misses : B → ℕ) (given moments : C → Option (List ℕ)) where
   abbrev pub ServedLaw : Type 0
-  ServedLaw = (limit : ℕ) (core : K) (old new : Lanes P B C) (x : Answer) (f : ServedAs stands stops links_back links faults runs left misses given moments limit core old new x)
+  ServedLaw = (limit : ℕ) (core : K) (old new : Lanes P B C) (x : Answer) (f : ServedAs stands too_many stops links_back links faults runs left misses given moments limit core old new x)
       → CameOf links_back links runs left misses given moments limit f.story x old new

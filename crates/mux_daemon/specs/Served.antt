@@ -5,6 +5,7 @@ use Rattle.outside_io.specs.Sessions.{Session}
 use Rattle.outside_io.specs.contracts.memory.port.MemPortPort.TheImpl as port
 use Rattle.mux_history.specs.declared.entry.Entry.{Entry}
 use Rattle.mux_history.specs.Cores.{spawns}
+use Rattle.mux_steps.specs.declared.fault.StepFault.{StepFault}
 use Rattle.lane_lists.specs.declared.item.Item.{Item}
 use Rattle.lane_lists.specs.declared.item.LaneName.{LaneName}
 use Rattle.lane_lists.specs.declared.item.LaneName.TheVariants as lane
@@ -80,8 +81,8 @@ is_end answer.Journal = false
 is_end answer.Numbers = false
 
 -- what a deck left
-abbrev pub LeftAs : {K : Type 0} → (K → List Entry → Type 0) → (List Entry → Bool) → ℕ → ℕ → K → List HubSide → Bool → Bool → Bool → Bool → Type 0
-LeftAs {K} stands stops n m core ends spent done no_editor own_last = (seats : Seats) × Kept stands n m (not spent) own_last core ends seats × Tells stands stops core seats done no_editor
+abbrev pub LeftAs : {K : Type 0} → (K → List Entry → Type 0) → (List Entry → Type 0) → (List Entry → Bool) → ℕ → ℕ → K → List HubSide → Bool → Bool → Bool → Bool → Option StepFault → Type 0
+LeftAs {K} stands too_many stops n m core ends spent done no_editor own_last why = (seats : Seats) × Kept stands too_many n m (not spent) own_last why core ends seats × Tells stands stops core seats done no_editor
 
 -- behind the joined queues: the work was done only where a stop was done, no editor's lane has a session, no order is left and no lane was cut off; the ports were closed only where the own link was the last to join and was handed back, and not where it wasn't handed back
 module _ {P B C : Type 0} where
@@ -92,7 +93,8 @@ module _ {P B C : Type 0} where
     pub closed : x ≡ answer.PortsClosed → (ports_closed ≡ true) × (own_last ≡ true) × HasSession new.own.outside
     pub stopped : x ≡ answer.Stopped → port.ghosts.sessions new.own.outside ≡ Some []
 
-module _ {K P B C : Type 0} (stands : K → List Entry → Type 0) (stops : List Entry → Bool) (sessions links : P → Option (List Session)) (faults : P → ℕ) (runs left : B → Option (List Session)) (misses : B → ℕ) (given moments : C → Option (List ℕ)) (limit : ℕ) where
+-- `too_many`: what the answer Numbers says of the history
+module _ {K P B C : Type 0} (stands : K → List Entry → Type 0) (too_many : List Entry → Type 0) (stops : List Entry → Bool) (sessions links : P → Option (List Session)) (faults : P → ℕ) (runs left : B → Option (List Session)) (misses : B → ℕ) (given moments : C → Option (List ℕ)) (limit : ℕ) where
   pub record ServedAs (core : K) (old new : Lanes P B C) (x : Answer) : Type 0 where
     pub story : Story
     pub editors : story.editors ≡ length old.ports.items + 1
@@ -113,3 +115,4 @@ module _ {K P B C : Type 0} (stands : K → List Entry → Type 0) (stops : List
     pub closed : x ≡ answer.PortsClosed → ((i : ℕ) (p q : LaneJob P) → slice_get old.ports.items i ≡ Some p → slice_get new.ports.items i ≡ Some q → IfSome (links q.outside) (λ none. none ≡ []) ⊎ Rose (faults p.outside) (faults q.outside)) × HasSession new.own.outside
         × JoinedLast story.editors story.servers (length old.ports.items) story.deeds
     pub stopped : x ≡ answer.Stopped → port.ghosts.sessions new.own.outside ≡ Some []
+    pub numbers : x ≡ answer.Numbers → too_many (history story)

@@ -1,4 +1,5 @@
 // What follows of a served port and of a served berth, session by session.
+ghost use Rattle.lane_desk.specs.Desks.{TooMany};
 ghost use Rattle.mux_daemon.specs.Sessions.{PortLaw};
 ghost use Rattle.mux_daemon.specs.Starts.{BerthLaw};
 ghost use Rattle.mux_daemon.specs.Events.{ServedLaw};
@@ -32,7 +33,7 @@ pub fn berth_law<B: Berth>()
 /// moments that the clock gave. Where the answer is `PortsClosed` the own link joined behind all other editors, each of which
 /// had gone; where it is `Stopped` it didn't join.
 pub fn served_law<K: Steps, P: Port, B: Berth, C: Clock>()
-    ensures { ServedLaw K.stands K.stops P.sessions P.links P.faults B.runs B.left B.faults C.given C.left }
+    ensures { ServedLaw K.stands (TooMany K.stands K.allows K.passes) K.stops P.sessions P.links P.faults B.runs B.left B.faults C.given C.left }
 {
     port_law::<P>();
     port_law::<MemPort>();
@@ -51,7 +52,7 @@ pub fn served_law<K: Steps, P: Port, B: Berth, C: Clock>()
 /// session. Where a start went by the end that was posted of its source, in a whole session, the history has all frames that were
 /// read, unless it has before that the start was ended.
 pub fn events_law<K: Steps, P: Port, B: Berth, C: Clock>()
-    ensures { EventsLaw K.stands K.stops P.sessions P.links P.faults B.runs B.left B.faults C.given C.left }
+    ensures { EventsLaw K.stands (TooMany K.stands K.allows K.passes) K.stops P.sessions P.links P.faults B.runs B.left B.faults C.given C.left }
 {
     served_law::<K, P, B, C>();
     sides_law();

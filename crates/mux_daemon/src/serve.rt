@@ -1,7 +1,7 @@
 // The daemon's threads over a core, from the queues of its lanes to how its work ended.
 ghost use Rattle.std.specs.Prelude.{◌≡◌, ◌≢◌, ◌+◌, ◌≤◌, [], Some, length, map, not, slice_get, ℕ, false, true};
 ghost use Rattle.outside_io.specs.Faults.{Rose};
-ghost use Rattle.lane_desk.specs.Desks.{Faulted, ids};
+ghost use Rattle.lane_desk.specs.Desks.{Faulted, TooMany, ids};
 ghost use Rattle.mux_lanes.specs.declared.session.Ends.{Ends};
 ghost use Rattle.mux_serve.specs.Jobs.{AllThrough};
 ghost use Rattle.mux_daemon.specs.Opens.{OpenedLanes, SameLanes};
@@ -148,8 +148,8 @@ fn run_deck<
     requires over { AreOver lanes }
     ensures ran { LanesRan P.sessions P.links P.faults B.runs B.left B.faults C.given C.left limit lanes result.lanes }
     ensures through { result.closed ≡ true → AllThrough result.lanes.ports.items }
-    ensures kept { LeftAs K.stands K.stops N.editors N.servers result.left.core
-        result.left.ends.items result.left.spent result.left.done result.left.no_editor result.left.own_last }
+    ensures kept { LeftAs K.stands (TooMany K.stands K.allows K.passes) K.stops N.editors N.servers result.left.core
+        result.left.ends.items result.left.spent result.left.done result.left.no_editor result.left.own_last result.left.why }
     ensures ready { result.left.spent ≡ false → K.spent result.left.core ≡ false }
     ensures goes { result.left.done ≡ true → result.left.spent ≡ false }
     ensures queues { map ids result.left.ends.items ≡ N.queues }
@@ -282,7 +282,7 @@ fn named<
     requires clock { (e : Ends) × (lanes.clock.ends ≡ Some e) }
     requires queues { map ids hubs.ends.items ≡ N.queues }
     requires counts { (hubs.editors ≡ N.editors) × (hubs.servers ≡ N.servers) × (K.faults core ≡ N.before) }
-    ensures served { ServedAs K.stands K.stops P.sessions P.links P.faults B.runs B.left B.faults C.given C.left limit
+    ensures served { ServedAs K.stands (TooMany K.stands K.allows K.passes) K.stops P.sessions P.links P.faults B.runs B.left B.faults C.given C.left limit
         result.core lanes result.lanes result.answer }
     ensures ready { is_end result.answer ≡ true → K.spent result.core ≡ false }
     ensures journal { result.answer ≡ Answer.Journal → Rose (K.faults core) (K.faults result.core) }
@@ -333,7 +333,7 @@ pub fn serve_core<
 ) -> Served<K, P, B, C>
     requires core { K.stands core [] }
     requires ready { K.spent core ≡ false }
-    ensures served { ServedAs K.stands K.stops P.sessions P.links P.faults B.runs B.left B.faults C.given C.left limit
+    ensures served { ServedAs K.stands (TooMany K.stands K.allows K.passes) K.stops P.sessions P.links P.faults B.runs B.left B.faults C.given C.left limit
         result.core lanes result.lanes result.answer }
     ensures ready { is_end result.answer ≡ true → K.spent result.core ≡ false }
     ensures journal { result.answer ≡ Answer.Journal → Rose (K.faults core) (K.faults result.core) }

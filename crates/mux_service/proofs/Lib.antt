@@ -1,2 +1,4 @@
 pub mod Own
+pub mod Speaking
+pub mod Stopping
 pub mod Serving

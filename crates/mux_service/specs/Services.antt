@@ -13,9 +13,11 @@ use Rattle.mux_hub.specs.Hubs.{Tells}
 use Rattle.mux_hub.specs.Sessions.{Sessions}
 use Rattle.mux_daemon.specs.declared.open.Lanes.{Lanes}
 use Rattle.mux_daemon.specs.declared.serve.Answer.{Answer}
-use Rattle.mux_daemon.specs.Causes.{EventsOf}
+use Rattle.mux_daemon.specs.declared.serve.Answer.TheVariants as answer
+use Rattle.mux_daemon.specs.Causes.{EventsOf, JoinedBy}
 use Rattle.mux_daemon.specs.Events.{CameOf}
 use Rattle.mux_daemon.specs.Served.{Story, history, is_end}
+use Rattle.mux_service.specs.Ends.{AskedToStop, PassesMost}
 
 -- the request of the daemon's own link
 abbrev pub stop_request : List ℕ
@@ -34,7 +36,13 @@ pub record HubHistory {J : Type 0} (told : J → Option (List Entry)) (settings 
   pub told_by : Tells (told journal) entries
 
 module _ {J P B C : Type 0} (told : J → Option (List Entry)) (links_back links : P → Option (List Session)) (runs left : B → Option (List Session)) (misses : B → ℕ) (given moments : C → Option (List ℕ)) (limit : ℕ) (settings : Settings) where
-  -- what the lanes of a daemon did: its history, and of it what each link and each program carried, and what each event came of. It ended by a stop only where one was asked for and answered
+  -- an editor asked for a stop and was answered; it is of a link of a port, or, where the answer isn't Stopped, of the own link
+  pub record StopCame (story : Story) (old new : Lanes P B C) (x : Answer) : Type 0 where
+    pub editor : ℕ
+    pub asked : AskedToStop (history story) editor
+    pub came : JoinedBy links_back links runs left misses limit story x old new editor
+
+  -- what the lanes of a daemon did: its history, and of it what each link and each program carried, and what each event came of. It ended by a stop only where one was asked for and answered, and by Numbers only where a cause could come that was one too many
   pub record LanesServed (journal : J) (old new : Lanes P B C) (x : Answer) : Type 0 where
     pub story : Story
     pub editors : story.editors ≡ length old.ports.items + 1
@@ -45,3 +53,5 @@ module _ {J P B C : Type 0} (told : J → Option (List Entry)) (links_back links
     pub ports_len : length new.ports.items ≡ length old.ports.items
     pub berths_len : length new.berths.items ≡ length old.berths.items
     pub stopped : is_end x ≡ true → was_stopped (history story) ≡ true
+    pub asked : was_stopped (history story) ≡ true → StopCame story old new x
+    pub numbers : x ≡ answer.Numbers → PassesMost settings (history story)

@@ -9,10 +9,10 @@ use Rattle.lspmux_program.proofs.program.lspmux.Goals as goal
 pub returns-in-Err : goal.returns-in-Err
 returns-in-Err g c = rw c.idle-in-Err.ensures
     (no_settings (asked c.in-Ok.command) c.in-Ok.ensures.taken c.in-Err.fault
-    (subst (λ file. IsReading (g.F.Folder.files c.args.outside.folder) file (Rose (g.F.Folder.faults c.args.outside.folder) (g.F.Folder.faults c.settings.new.folder)) (Err c.in-Err.fault)) c.file_of.ensures c.in-Err.ensures.read)
+    (subst (λ file. IsReading (g.F.Folder.files c.args.outside.folder) file (Rose (g.F.Folder.faults c.args.outside.folder) (g.F.Folder.faults c.settings.new.folder)) (Err c.in-Err.fault)) c.file_of-file.ensures c.in-Err.ensures.read)
     (record { alone = record { door = refl; lanes = refl; port = refl }; journal = refl; input = refl }) c.refuse-status.ensures.reported)
 
 pub returns : goal.returns
 returns g c = did (asked c.in-Ok.command) c.in-Ok.ensures.taken c.in-Ok-settings.config c.settings.new.folder
-    (subst (λ file. IsReading (g.F.Folder.files c.args.outside.folder) file (Rose (g.F.Folder.faults c.args.outside.folder) (g.F.Folder.faults c.settings.new.folder)) (Ok c.in-Ok-settings.config)) c.file_of.ensures c.in-Ok-settings.ensures.read)
+    (subst (λ file. IsReading (g.F.Folder.files c.args.outside.folder) file (Rose (g.F.Folder.faults c.args.outside.folder) (g.F.Folder.faults c.settings.new.folder)) (Ok c.in-Ok-settings.config)) c.file_of-file.ensures c.in-Ok-settings.ensures.read)
     c.obey.ensures
