@@ -9,6 +9,7 @@ pub mod MemberBelow
 pub mod MeetLaws
 pub mod MeetSays
 pub mod Meets
+pub mod NamedPairs
 pub mod Names
 pub mod Pairs
 pub mod Passes
@@ -17,5 +18,6 @@ pub mod Reading
 pub mod Shows
 pub mod Spots
 pub mod TextLaws
+pub mod ValueTexts
 pub mod Walks
 pub mod Worked

@@ -30,7 +30,7 @@ items_end (item j js) (suc n) h = items_end js n h
 abbrev pub Behind : Doc → ℕ → Option ℕ → Type 0
 Behind d x next = MatchOption next (Unit {0}) (λ m. (x < m) × (m < length d.nodes))
 
-further : (d : Doc) (x m : ℕ) (next : Option ℕ) → x < m → Behind d m next → Behind d x next
+pub further : (d : Doc) (x m : ℕ) (next : Option ℕ) → x < m → Behind d m next → Behind d x next
 further d x m None lt h = tt
 further d x m (Some i) lt h = (omega arith, h.1)
 
@@ -99,7 +99,7 @@ pub record MemberAt (d : Doc) (x m : ℕ) (s : Span) (ms : Members) (p : Span) (
   pub here : drop_members count ms ≡ member p cs u rest
   pub after : rest ≡ drop_members (count + 1) ms
 
-member_here : (d : Doc) (x m n : ℕ) (s : Span) (ms : Members) → FoundChild d x (object s ms) n (Some m) → (p : Span) × (cs : List ℕ) × (u : Json) × (w : MemberAt d x m s ms p cs u (drop_members (suc n) ms)) × (w.count ≡ n)
+pub member_here : (d : Doc) (x m n : ℕ) (s : Span) (ms : Members) → FoundChild d x (object s ms) n (Some m) → (p : Span) × (cs : List ℕ) × (u : Json) × (w : MemberAt d x m s ms p cs u (drop_members (suc n) ms)) × (w.count ≡ n)
 member_here d x m n s ms next =
     let c : (u : Json) × ChildAt d x (object s ms) n m u = found_child_is d x n m (object s ms) next in
     let e : IsMember ms n c.0 = is_member ms n c.0 c.1.child in

@@ -6,8 +6,10 @@ pub mod IndexedArray
 pub mod Kinds
 pub mod Meet
 pub mod MeetTree
+pub mod NamedValues
 pub mod OnePass
 pub mod Order
 pub mod Parts
 pub mod Shown
+pub mod ValueText
 pub use Rattle.json_nodes.specs.json_token

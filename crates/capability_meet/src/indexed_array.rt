@@ -1,23 +1,22 @@
 // The items of an array, to look values up among them.
-ghost use Rattle.std.specs.Prelude.{◌≡◌, ◌<◌, ◌∷◌, ◌||◌, ℕ, List, length, IfOk, IfSome, IsSomeAnd, OnOk, Some};
-ghost use Rattle.std.specs.Option.{option_map};
+ghost use Rattle.std.specs.Prelude.{◌≡◌, ◌<◌, ◌||◌, ℕ, List, length, bytes_eq, IfOk, IfSome, IsSomeAnd, OnOk};
 ghost use Rattle.json_text.specs.declared.span.Span.{Span};
 ghost use Rattle.json_text.specs.Json.{Items, Json, array};
 ghost use Rattle.json_nodes.specs.At.{At};
 ghost use Rattle.json_nodes.specs.Values.{doc_of};
-ghost use Rattle.capability_meet.specs.IndexedArray.{IsIndexedArray, KeepsTexts, has_text, is_text, leaf_text};
+ghost use Rattle.capability_meet.specs.IndexedArray.{IsIndexedArray, KeepsTexts, has_text};
 ghost use Rattle.capability_meet.specs.Order.{is_among};
+ghost use Rattle.capability_meet.specs.ValueText.{value_text};
 
 use crate::order::is_among;
+use crate::value_text::value_text;
 use json_nodes::Values;
-use json_span::decode;
-use json_text::Kind;
 use message_body::Memory;
 use std::alloc::Global;
 use std::collections::BTreeSet;
 
-/// An array of a text with the texts of its items that are no array and no object. They are not kept where there was no memory for
-/// them: its items are then compared one by one.
+/// An array of a text with the texts of its items. They are not kept where there was no memory for them: its items are then
+/// compared one by one.
 #[derive(Drop)]
 pub struct IndexedArray<'a> {
     pub values: Values<'a>,
@@ -27,7 +26,7 @@ pub struct IndexedArray<'a> {
 }
 
 impl<'a> IndexedArray<'a> {
-    /// An array with the texts of its items. It takes n log n comparisons of n items, and memory for a copy of each.
+    /// An array with the texts of its items. It takes n log n comparisons of n items and names, and memory for a text of each item.
     pub fn new(alloc: Global, values: Values<'a>, node: u32) -> IndexedArray<'a>
         requires { node < length values.nodes.now }
         ensures indexed { IsIndexedArray result }
@@ -43,8 +42,7 @@ impl<'a> IndexedArray<'a> {
         }
     }
 
-    /// Whether a value says the same as some item. Where the texts are kept it takes log n comparisons of n items for a value that is
-    /// no array and no object; else it takes n.
+    /// Whether a value says the same as some item. Where the texts are kept it takes log n comparisons of n items, else n.
     pub fn has(&self, left: Values, item: u32) -> bool
         requires item { item < length left.nodes.now }
         requires node { self.now.node < length self.now.values.nodes.now }
@@ -52,38 +50,34 @@ impl<'a> IndexedArray<'a> {
         ensures { (t : Json) (r : Span) (ks : Items) → At (doc_of left.entry) item t → At (doc_of self.now.values) self.now.node (array r ks)
             → result ≡ is_among t ks }
     {
-        match self.has_leaf(left, item) {
+        match self.has_kept(left, item) {
             Some(answer) => answer,
             None => is_among(self.alloc, left, item, self.values, self.node),
         }
     }
 
-    // The same for a value that is no array and no object, where the texts are kept.
-    fn has_leaf(&self, left: Values, item: u32) -> Option<bool>
+    // The same by the texts, where they are kept.
+    fn has_kept(&self, left: Values, item: u32) -> Option<bool>
         requires item { item < length left.nodes.now }
         ensures { (t : Json) → At (doc_of left.entry) item t
-            → IfSome result (λ answer. IsSomeAnd self.now.texts (λ texts. (text : List ℕ) × (leaf_text t ≡ Some text) × (answer ≡ has_text texts text))) }
+            → IfSome result (λ answer. IsSomeAnd self.now.texts (λ texts. answer ≡ has_text texts (value_text t))) }
     {
         match &self.texts {
-            Some(texts) => has_leaf(self.alloc, texts, left, item),
+            Some(texts) => has_text(self.alloc, texts, left, item),
             None => None,
         }
     }
 }
 
-// Whether the text of a value is kept; none for an array or an object, and where there is no memory for its text.
-fn has_leaf(alloc: Global, texts: &BTreeSet<Vec<u8>>, left: Values, item: u32) -> Option<bool>
+// Whether the text of a value is kept; none where there is no memory for its text.
+fn has_text(alloc: Global, texts: &BTreeSet<Vec<u8>>, left: Values, item: u32) -> Option<bool>
     requires { item < length left.nodes.now }
-    ensures { (t : Json) → At (doc_of left.entry) item t
-        → IfSome result (λ answer. (text : List ℕ) × (leaf_text t ≡ Some text) × (answer ≡ has_text texts.now text)) }
+    ensures { (t : Json) → At (doc_of left.entry) item t → IfSome result (λ answer. answer ≡ has_text texts.now (value_text t)) }
 {
-    let Ok(text) = leaf_text(alloc, left, item) else {
+    let Ok(text) = value_text(alloc, left, item) else {
         return None
     };
-    match text {
-        Some(text) => Some(texts.contains(text.as_slice())),
-        None => None,
-    }
+    Some(texts.contains(text.as_slice()))
 }
 
 // The texts of the items of an array.
@@ -100,7 +94,7 @@ fn item_texts(alloc: Global, values: Values, node: u32) -> Result<BTreeSet<Vec<u
     Ok(texts)
 }
 
-// Keeps the text of an item, if it has one.
+// Keeps the text of an item.
 fn add_text(
     alloc: Global,
     texts: &mut BTreeSet<Vec<u8>>,
@@ -109,41 +103,9 @@ fn add_text(
 ) -> Result<(), Memory>
     requires { item < length values.nodes.now }
     ensures { (u : Json) → At (doc_of values.entry) item u → OnOk result ((text : List ℕ)
-        → has_text texts.new text ≡ (is_text text (leaf_text u) || has_text texts.old text)) }
+        → has_text texts.new text ≡ (bytes_eq text (value_text u) || has_text texts.old text)) }
 {
-    match leaf_text(alloc, values, item)? {
-        Some(text) => {
-            texts.insert(text)?;
-            Ok(())
-        },
-        None => Ok(()),
-    }
-}
-
-// A byte for the kind of a value that is no array and no object, and then what it says.
-fn leaf_text(alloc: Global, values: Values, node: u32) -> Result<Option<Vec<u8>>, Memory>
-    requires { node < length values.nodes.now }
-    ensures { (t : Json) → At (doc_of values.entry) node t → IfOk result (λ text. option_map (λ v. v.items) text ≡ leaf_text t) }
-{
-    match values.kind(node) {
-        Kind::Null => Ok(Some(behind(alloc, b'n', b"")?)),
-        Kind::False => Ok(Some(behind(alloc, b'f', b"")?)),
-        Kind::True => Ok(Some(behind(alloc, b't', b"")?)),
-        Kind::Number => Ok(Some(behind(alloc, b'0', values.bytes(node))?)),
-        Kind::Text => {
-            let characters = decode(alloc, values.string(node))?;
-            Ok(Some(behind(alloc, b'"', characters.as_slice())?))
-        },
-        Kind::Array | Kind::Object => Ok(None),
-    }
-}
-
-// Bytes behind one of their own.
-fn behind(alloc: Global, first: u8, rest: &[u8]) -> Result<Vec<u8>, Memory>
-    ensures { IfOk result (λ v. v.items ≡ first ∷ rest.now) }
-{
-    let mut bytes = Vec::new(alloc);
-    bytes.push(first)?;
-    bytes.extend_from_slice(rest)?;
-    Ok(bytes)
+    let text = value_text(alloc, values, item)?;
+    texts.insert(text)?;
+    Ok(())
 }

@@ -13,6 +13,7 @@ mod parts;
 mod showing;
 mod spot;
 mod twins;
+mod value_text;
 mod written;
 
 pub use fault::CapFault;

@@ -22,8 +22,8 @@ use std::alloc::Global;
 /// own place. Arrays keep the first's items that say the same as some item of the second. Values that say the same stay.
 /// All else is least, and a least whole is `{}`.
 ///
-/// It takes n log n comparisons of n names and items in all; an item that is an array or an object is compared with each of the
-/// other's. It answers `NotJson` just where one of the two is no JSON text that nests at most 1,024 deep.
+/// It takes n log n comparisons of n names and items in all. It answers `NotJson` just where one of the two is no JSON text that
+/// nests at most 1,024 deep.
 pub fn meet(alloc: Global, a: &[u8], b: &[u8]) -> Result<Body, CapFault>
     requires first { length a.now ≤ 268435456 }
     requires second { length b.now ≤ 268435456 }

@@ -26,7 +26,7 @@ use std::alloc::Global;
 /// items says the same as some item of the other. Any other value is below a value that says the same.
 ///
 /// It takes n log n comparisons of n names and items in all, and memory for the names and the items of what is open; where there is
-/// none, members and items are looked up one by one. An item that is an array or an object is compared with each of the other's.
+/// none, members and items are looked up one by one.
 pub fn below(a: &Tape, x: u32, b: &Tape, y: u32) -> bool
     requires node { x < length a.now.nodes }
     requires other { y < length b.now.nodes }
