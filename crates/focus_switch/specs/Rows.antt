@@ -1,6 +1,7 @@
 -- What the server is told when an editor opens, changes or closes a document, and when a start of the server is ready.
-use Rattle.std.specs.Prelude.{ℕ, ◌+◌, Bool, false, ◌&&◌, List, [], ◌∷◌, ◌++◌, map, length, fold, find, nat_eq, nat_lt, if◌then◌else◌}
+use Rattle.std.specs.Prelude.{ℕ, ◌+◌, Bool, true, false, ◌&&◌, List, [], ◌∷◌, ◌++◌, map, length, fold, find, nat_eq, nat_lt, if◌then◌else◌}
 use Rattle.std.specs.Prelude.{Option, Some, None}
+use Rattle.std.specs.List.{list_all}
 use Rattle.std.specs.Option.{option_and_then, option_map, option_map_or}
 use Rattle.json_text.specs.Json.{Json}
 use Rattle.mux_history.specs.declared.out.Out.{Out}
@@ -164,6 +165,14 @@ agreement_of o (Some h) s = if holds_own o s.opens then Agrees h.version h.sent 
 
 abbrev pub agreement : ℕ → List ℕ → Documents → Agreement
 agreement e u s = option_map_or (λ o. agreement_of o (held_of o.uri s.helds) s) (find (is_open_at e u) s.opens) NotOpen
+
+-- and of each document that the editor has open
+abbrev pub is_agreed : Agreement → Bool
+is_agreed (Agrees held changed) = true
+is_agreed other = false
+
+abbrev pub agrees_on_all : ℕ → Documents → Bool
+agrees_on_all e s = list_all (λ u. is_agreed (agreement e u s)) (uris_of e s.opens)
 
 -- e leaves: it closes each of its documents
 abbrev pub close_next : ℕ → Step → List ℕ → Step

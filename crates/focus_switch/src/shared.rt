@@ -1,5 +1,6 @@
 //! The documents that a group of editors shares.
 ghost use Rattle.std.specs.Prelude.{◌≡◌, ◌≤◌, ◌<◌, ◌^◌, ◌+◌, ◌&&◌, bytes_eq, ℕ, List, [], Option, Some, None, IsUtf8, find, IfOk, OnOk, fold, length, map, option_map};
+ghost use Rattle.std.specs.List.{list_all};
 ghost use Rattle.json_text.specs.Json.{Json};
 ghost use Rattle.json_nodes.specs.At.{At};
 ghost use Rattle.document_table.specs.document_model.specs.Notices.{DidChange};
@@ -9,7 +10,7 @@ ghost use Rattle.document_table.specs.Shown.{all_bytes, shown};
 ghost use Rattle.focus_switch.specs.Documents.{held_of, version_held};
 ghost use Rattle.focus_switch.specs.Holders.{change_from, is_alike, is_own, speaks_alike};
 ghost use Rattle.focus_switch.specs.Noted.{FoundChange};
-ghost use Rattle.focus_switch.specs.Rows.{Step, agreement, agreement_of, change_row, change_sends, changed, close_next, close_row, close_sends, differing, differing_own, each, open_row, open_sends, leave_row, nothing, ready_row, replay_all, send, switch, sync_row, sync_sends, synced, text_after, unready_row};
+ghost use Rattle.focus_switch.specs.Rows.{Step, agreement, agreement_of, agrees_on_all, is_agreed, change_row, change_sends, changed, close_next, close_row, close_sends, differing, differing_own, each, open_row, open_sends, leave_row, nothing, ready_row, replay_all, send, switch, sync_row, sync_sends, synced, text_after, unready_row};
 ghost use Rattle.focus_switch.specs.Versions.{version_of, versions_of};
 ghost use Rattle.focus_switch.specs.Walks.{and_version, replay_at, replay_at_sends, replay_next, sync_at, sync_next};
 
@@ -31,7 +32,7 @@ use std::marker::Model;
 /// The documents that are open at the editors of a group, and those that the ready start of its server has. It keeps nothing of a document that is closed everywhere.
 ///
 /// A look-up of a document costs the logarithm of how many are open, for each editor that has this one open. `open`, `change`, `close`
-/// and `agrees` make a few; `sync`, `leave` and `versions_of` make a few for each document of the editor, and `ready` for each that is open.
+/// and `agrees` make a few; `sync`, `agrees_on_all`, `leave` and `versions_of` make a few for each document of the editor, and `ready` for each that is open.
 #[derive(Drop)]
 pub struct Shared<T: Text> {
     alloc: Global,
@@ -50,6 +51,13 @@ impl<T: Text> Model for Shared<T> {
     ghost Value = { Documents };
 
     ghost view = { λ s. record { start = s.start; encoding = s.encoding; versions = s.versions; turn = s.turn; opens = s.opens; sent = s.sent; helds = s.helds } };
+}
+
+// Whether the start agrees.
+fn is_agreed(agreement: Agreement) -> bool
+    ensures { result ≡ is_agreed agreement }
+{
+    matches!(agreement, Agreement::Agrees { .. })
 }
 
 impl<T: Text + Drop> Shared<T> {
@@ -271,6 +279,26 @@ impl<T: Text + Drop> Shared<T> {
                 },
             _ => Agreement::Differs,
         }
+    }
+
+    /// Whether the start has, of each document that an editor has open, the editor's language and text.
+    pub fn agrees_on_all(&self, e: u64) -> Result<bool, Memory>
+        ensures { IfOk result (λ answer. answer ≡ agrees_on_all e self.now) }
+    {
+        let uris = self.opens.uris_of(self.alloc, e)?;
+        Ok(self.agrees_on_each(e, uris.as_slice()))
+    }
+
+    // The same of these documents.
+    fn agrees_on_each(&self, e: u64, uris: &[String]) -> bool
+        ensures { result ≡ list_all (λ u. is_agreed (agreement e u self.now)) (all_bytes uris.now) }
+    {
+        for uri in uris {
+            if !is_agreed(self.agrees(e, uri.as_bytes())) {
+                return false;
+            }
+        }
+        true
     }
 
     /// How many notifications on documents the ready start was sent. It takes no memory.

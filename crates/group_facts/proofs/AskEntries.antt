@@ -28,8 +28,8 @@ use Rattle.group_rows.specs.Rows.{outs_of}
 use Rattle.group_facts.specs.SlowRows.{is_slow}
 use Rattle.group_facts.specs.Facts.{ends_link, is_unready, is_up, leaves, shuts}
 use Rattle.group_facts.specs.Settled.{HasSeat}
-use Rattle.group_facts.specs.Why.{IsAsk, IsResumed, Why, WhyToEditor, answers, asks, passes, recalls, refuses, calls, rejects, resumes, spreads, turns_away, welcomes, progresses, shows, loses, winds_up, quitting}
-use Rattle.group_facts.proofs.Asks.{registering_made, is_question, listed, response_asks_none, resumed_here, resumed_off, taken}
+use Rattle.group_facts.specs.Why.{IsAsk, IsResumed, Why, WhyToEditor, answers, asks, passes, recalls, refuses, calls, rejects, resumes, spreads, turns_away, welcomes, progresses, shows, loses, winds_up, quitting, pays}
+use Rattle.group_facts.proofs.Asks.{registering_made, is_question, listed, response_asks_none, resumed_here, resumed_off, taken, paid_made}
 use Rattle.group_facts.proofs.AskSeats.{MidSeat, asks_more, did_all, took_all}
 use Rattle.group_facts.proofs.AskingRows.{still_runs}
 use Rattle.group_facts.proofs.Facts.{Facts}
@@ -211,6 +211,7 @@ module _ (settings : Settings) (range : InRange settings) (before : List Event) 
   told_seated : (events : List Event) (e : ℕ) (body : List ℕ) → WhyToEditor settings before cause events e body → (s : ℕ) → AllByRecursion (Seat s) (asks_of settings s events) → AllByRecursion (Seat s) (asks_of settings s (events ++ said (ToEditor e body) ∷ []))
   told_seated events e body (asks k) s h = asked_more events e body k s h
   told_seated events e body (resumes k) s h = resumed_more events e body k s h
+  told_seated events e body (pays k) s h = asks_more settings (Seat s) s events (said (ToEditor e body)) _ (ap (λ (x : Asking). x.asks) (paid_made settings events e body before cause k s)) h
   told_seated events e body (calls k) s h = asks_more settings (Seat s) s events (said (ToEditor e body)) _ (ap (λ (x : Asking). x.asks) (registering_made settings events e body before cause k s)) h
   told_seated events e body (rejects k) s h = did_all settings (Seat s) s events (ToEditor e body) (ap is_question k.says) h
   told_seated events e body (refuses k) s h = did_all settings (Seat s) s events (ToEditor e body) (ap is_question k.says) h

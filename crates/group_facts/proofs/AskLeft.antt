@@ -36,7 +36,7 @@ use Rattle.group_rows.specs.Rows.{closing_row, from_editor, gone_row, outs_of, s
 use Rattle.group_facts.specs.Facts.{ends_with, is_exit, is_in, is_other, is_parted, is_parting, is_refused, is_refusing, is_too_many, is_unready, ends_link, leaves, shuts, turned_away, is_crowded, is_put_out, AllHeld}
 use Rattle.group_facts.specs.Lively.{Lively}
 use Rattle.group_facts.specs.Settled.{HasSeat, is_answered}
-use Rattle.group_facts.specs.Why.{Why, WhyToEditor, answers, asks, calls, loses, winds_up, passes, progresses, recalls, refuses, rejects, resumes, shows, spreads, turns_away, welcomes}
+use Rattle.group_facts.specs.Why.{Why, WhyToEditor, answers, asks, calls, loses, winds_up, passes, progresses, recalls, refuses, rejects, resumes, shows, spreads, turns_away, welcomes, pays}
 use Rattle.group_facts.proofs.Asks.{is_question, registering_made, response_asks_none}
 use Rattle.group_facts.proofs.AskEntries.{AllSeats, Inner, inner_rests, off_both, on_either, seat_now, up_ready}
 use Rattle.group_facts.proofs.AskRest.{all_pending, leave_clean, none_with, seat_home}
@@ -59,6 +59,8 @@ use Rattle.group_rows.specs.Waiting.{refuse_held}
 use Rattle.mux_facts.proofs.Keeps.{behind_both}
 use Rattle.group_facts.proofs.Held.{refusals_are}
 use Rattle.group_facts.proofs.HeldOn.{held_heard}
+use Rattle.group_rows.proofs.DebtsKept.{forth_doubled, forth_exit, forth_shutdown, off_forth, whole_off}
+use Rattle.group_rows.specs.Debts.{goes_forth}
 
 the : {v w : ℕ} → ◌≡◌ {A = Option ℕ} (Some v) (Some w) → v ≡ w
 the e = cc
@@ -158,19 +160,19 @@ module _ (settings : Settings) (range : InRange settings) (before : List Event) 
         ∙ ap (λ z. (lost ++ done ∷ []) ++ outs (leave_row settings before n) z) (sym (behind_both heard_now lost (done ∷ [])))
 
     module _ (at : (desk_of n before).phase ≡ Running) where
-      row_is : outs_of settings before (FromEditor n body) ≡ outs (from_editor settings before n body (message_of body) Running) (with_cause before (FromEditor n body))
-      row_is = ap (λ p. outs (from_editor settings before n body (message_of body) p) (with_cause before (FromEditor n body))) at
+      row_is : ((s : ℕ) → goes_forth settings s before n body (message_of body) ≡ false) → outs_of settings before (FromEditor n body) ≡ outs (from_editor settings before n body (message_of body) Running) (with_cause before (FromEditor n body))
+      row_is off = whole_off settings before n body (off_forth settings before n body (message_of body) off) ∙ ap (λ p. outs (from_editor settings before n body (message_of body) p) (with_cause before (FromEditor n body))) at
 
-      closed_away : outs (from_editor settings before n body (message_of body) Running) (with_cause before (FromEditor n body)) ≡ outs (closing_row settings before n) (with_cause before (FromEditor n body)) → (s : ℕ) → AllByRecursion (Away n) (asks_of settings s (later (FromEditor n body)))
-      closed_away is = parted (CloseEditor n ∷ []) (tt, tt) (row_is ∙ is)
+      closed_away : ((s : ℕ) → goes_forth settings s before n body (message_of body) ≡ false) → outs (from_editor settings before n body (message_of body) Running) (with_cause before (FromEditor n body)) ≡ outs (closing_row settings before n) (with_cause before (FromEditor n body)) → (s : ℕ) → AllByRecursion (Away n) (asks_of settings s (later (FromEditor n body)))
+      closed_away off is = parted (CloseEditor n ∷ []) (tt, tt) (row_is off ∙ is)
 
       shut_away : (m : Message) → message_of body ≡ m → requests (codes "shutdown") m ≡ true → (s : ℕ) → AllByRecursion (Away n) (asks_of settings s (later (FromEditor n body)))
       shut_away (request id method params) says h = go (is_open id (open_of n before)) refl
         where
           go : (b : Bool) → is_open id (open_of n before) ≡ b → (s : ℕ) → AllByRecursion (Away n) (asks_of settings s (later (FromEditor n body)))
-          go true twice = closed_away (doubled_outs settings before n body (message_of body) (ap (is_doubled before n) says ∙ twice))
+          go true twice = let again = ap (is_doubled before n) says ∙ twice in closed_away (forth_doubled settings before n body (message_of body) again) (doubled_outs settings before n body (message_of body) again)
           go false fresh = parted (lost ++ done ∷ []) (all_join Unsaid lost (done ∷ []) lost_unsaid (ap is_question (null_said body id method params says), tt))
-              (row_is ∙ (ap (λ m. outs (from_editor settings before n body m Running) (with_cause before (FromEditor n body))) says ∙ (shut_outs settings before n body id method params h fresh ∙ shutdown_is)))
+              (row_is (forth_shutdown settings before n body (message_of body) (ap (requests (codes "shutdown")) says ∙ h)) ∙ (ap (λ m. outs (from_editor settings before n body m Running) (with_cause before (FromEditor n body))) says ∙ (shut_outs settings before n body id method params h fresh ∙ shutdown_is)))
       shut_away (notification method params) says h = never (sym h)
       shut_away (result id r) says h = never (sym h)
       shut_away (error id x) says h = never (sym h)
@@ -181,8 +183,8 @@ module _ (settings : Settings) (range : InRange settings) (before : List Event) 
       parting_away parts = go (on_either (notifies (codes "exit") (message_of body)) (is_doubled before n (message_of body)) parts)
         where
           go : (notifies (codes "exit") (message_of body) ≡ true) ⊎ (is_doubled before n (message_of body) ≡ true) → (s : ℕ) → AllByRecursion (Away n) (asks_of settings s (later (FromEditor n body)))
-          go (inl is) = closed_away (exit_outs settings before n body (message_of body) is)
-          go (inr twice) = closed_away (doubled_outs settings before n body (message_of body) twice)
+          go (inl is) = closed_away (forth_exit settings before n body (message_of body) is) (exit_outs settings before n body (message_of body) is)
+          go (inr twice) = closed_away (forth_doubled settings before n body (message_of body) twice) (doubled_outs settings before n body (message_of body) twice)
 
       own_away : (e : ℕ) → leaves settings before (FromEditor n body) e ≡ true → (s : ℕ) → AllByRecursion (Away n) (asks_of settings s (later (FromEditor n body)))
       own_away e h = go (on_either (ends_link settings before (FromEditor n body) e) (shuts (FromEditor n body) e) h)
@@ -261,6 +263,7 @@ module _ (settings : Settings) (range : InRange settings) (before : List Event) 
     none_told : (events : List Event) (e : ℕ) (body : List ℕ) → WhyToEditor settings before cause events e body → AllByRecursion None_at (asks_of settings t events) → AllByRecursion None_at (asks_of settings t (events ++ said (ToEditor e body) ∷ []))
     none_told events e body (asks k) h = never (sym (ap (λ c. is_exit c t) (sym (k.source).from) ∙ exit.is))
     none_told events e body (resumes k) h = never (sym (ap (λ c. is_exit c t) (sym k.from) ∙ exit.is))
+    none_told events e body (pays k) h = never (sym (ap (λ c. is_exit c t) (sym k.from) ∙ exit.is))
     none_told events e body (calls k) h = asks_more settings None_at t events (said (ToEditor e body)) _ (ap (λ (x : Asking). x.asks) (registering_made settings events e body before cause k t)) h
     none_told events e body (rejects k) h = did_all settings None_at t events (ToEditor e body) (ap is_question k.says) h
     none_told events e body (refuses k) h = did_all settings None_at t events (ToEditor e body) (ap is_question k.says) h

@@ -33,7 +33,7 @@ use Rattle.group_rows.proofs.Frames.{forwarding_more}
 use Rattle.group_facts.proofs.Forwards.{more_requests, notified_all, zip_all}
 use Rattle.group_facts.proofs.Levels.{each_start}
 use Rattle.group_facts.proofs.Numbers.{forwarding_other, forwarding_sent, response_forwards}
-use Rattle.group_facts.specs.Why.{IsForward, WhyToEditor, WhyToServer, begins, greets, conveys, forwarded, notes, tells, shuts, cancels, calls, rejects, resumes, refuses, answers, turns_away, welcomes, passes, responds, exits, asks, loses, winds_up, recalls, resolves, spreads, cancels_work, progresses, shows, asker_at}
+use Rattle.group_facts.specs.Why.{IsForward, WhyToEditor, WhyToServer, begins, greets, conveys, forwarded, notes, tells, shuts, cancels, calls, rejects, resumes, refuses, answers, turns_away, welcomes, passes, responds, exits, asks, loses, winds_up, recalls, resolves, spreads, cancels_work, progresses, shows, asker_at, pays}
 
 -- An editor that got its result stays one that did
 
@@ -213,6 +213,7 @@ module _ (settings : Settings) (before : List Event) (cause : Cause) (events : L
   asked_told (passes k) on h = all_alone k.id k.answers k.alone h
   asked_told (asks k) on h = unanswered (request (integer (decimal (next_ask n events))) k.method k.params) k.says refl h
   asked_told (resumes k) on h = unanswered (request (integer (decimal (next_ask n events))) k.method k.params) k.says refl h
+  asked_told (pays k) on h = unanswered (request (integer (decimal (next_ask n events))) (k.debt).method k.params) k.says refl h
   asked_told (calls k) on h = unanswered (request (integer (decimal (next_ask n events))) k.method k.params) k.says refl h
   asked_told (spreads k) on h = unanswered (notification k.method k.params) k.says refl h
   asked_told (recalls k) on h = unanswered (notification (codes "$/cancelRequest") (Some k.params)) k.says refl h

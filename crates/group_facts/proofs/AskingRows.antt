@@ -46,6 +46,7 @@ use Rattle.group_words.specs.Houses.{groups_of, home_of, is_home}
 use Rattle.group_words.specs.Rows.{folders_text}
 use Rattle.group_rows.specs.AskRows.{ask, ask_edit, asking_row, broadcast, cancelled_row, current_version, edited, else_first, hand_back, in_focus, is_among, is_edit, notified_row, question_row, response_at, response_row}
 use Rattle.group_rows.specs.Asks.{Ask, Asker, Asking, Parked, asked_next, asker_of, asking_next, asking_of, asks_of, first_in, goes_to_one, has_number, has_running, idle_asking, is_own_work, is_patient, is_seated, is_single, is_taken, is_under, may_wait, next_ask, parks, running_in, serves, unparked, waits_under}
+use Rattle.group_rows.specs.Debts.{agrees_on_all}
 use Rattle.group_rows.specs.Forwarded.{Forwarded, forwarding_of, names}
 use Rattle.group_rows.specs.registrations.specs.declared.registration.Registration.{Registration}
 use Rattle.group_rows.specs.registrations.specs.Items.{again}
@@ -189,7 +190,7 @@ work_told settings t events x e body (error id r) = (refl, refl)
 work_told settings t events x e body not_json = (refl, refl)
 work_told settings t events x e body not_message = (refl, refl)
 
-work_sent : (settings : Settings) (t : ℕ) (events : List Event) (x : Asking) (n : ℕ) (body : List ℕ) (m : Message) → SameWork (asking_next settings t events x (did (ToServer n body) m)) x
+pub work_sent : (settings : Settings) (t : ℕ) (events : List Event) (x : Asking) (n : ℕ) (body : List ℕ) (m : Message) → SameWork (asking_next settings t events x (did (ToServer n body) m)) x
 work_sent settings t events x n body m = go (nat_eq n t)
   where
     go : (b : Bool) → SameWork (if b then record { asker = x.asker; runs = x.runs; asks = filter (λ a. not (is_under (answered_id m) a)) x.asks; parked = filter (λ p. not (waits_under (answered_id m) p)) x.parked } else x) x
@@ -560,9 +561,15 @@ module _ (settings : Settings) (before : List Event) (s : ℕ) (body : List ℕ)
     refresh_why : class_of method Server false ≡ Refresh → Because R now (asking_row settings before g s body method Refresh)
     refresh_why class = by_then
         (by_send (resolves (record { id = id; resolution = granted body method params refl says class refl; ready = still_ready; stays = rests; response = ap is_response said_null; answers = ap answered_id said_null; waits = waits_now })))
-        (all_asked (uncreating Refresh class refl) (other_method Refresh class refl) (unhurried Refresh class refl) (running_in settings g before) (now ++ said (ToServer s answer) ∷ []) (all_in settings before g) (ap goes_to_one class) (work_answered now s answer work_now)
-        (all_of (λ e. (desk_of e now).phase ≡ Running) (λ e. (desk_of e (now ++ said (ToServer s answer) ∷ [])).phase ≡ Running) (λ e at. ap (λ (d : Desk). d.phase) (desk_more e now (said (ToServer s answer))) ∙ at) (running_in settings g before) (run_now g)))
+        (all_asked (uncreating Refresh class refl) (other_method Refresh class refl) (unhurried Refresh class refl) those (now ++ said (ToServer s answer) ∷ []) (chosen (IsIn settings before g) (all_in settings before g)) (ap goes_to_one class) (work_answered now s answer work_now)
+        (all_of (λ e. (desk_of e now).phase ≡ Running) (λ e. (desk_of e (now ++ said (ToServer s answer) ∷ [])).phase ≡ Running) (λ e at. ap (λ (d : Desk). d.phase) (desk_more e now (said (ToServer s answer))) ∙ at) those (chosen (λ e. (desk_of e now).phase ≡ Running) (run_now g))))
       where
+        those : List ℕ
+        those = filter (agrees_on_all settings s before) (running_in settings g before)
+
+        chosen : (P : ℕ → Type 0) → AllByRecursion P (running_in settings g before) → AllByRecursion P those
+        chosen P h = all_filtered P P (agrees_on_all settings s before) (λ e t k. k) (running_in settings g before) h
+
         answer : List ℕ
         answer = ok_text (id_bytes body) (codes "null")
 

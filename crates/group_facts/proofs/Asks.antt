@@ -31,7 +31,8 @@ use Rattle.lsp_method.specs.declared.variants.Class.TheVariants.{Create, Registe
 use Rattle.lsp_method.specs.declared.variants.Origin.TheVariants.{Server}
 use Rattle.group_facts.specs.Facts.{AllApart, AllDiffer, AreAsks, Asks, IsAsked, IsParked, asked_by, asked_of, editor_behind, server_behind}
 use Rattle.group_rows.specs.Created.{names_create}
-use Rattle.group_facts.specs.Why.{IsAsk, IsCall, is_call, IsResumed, WhyToEditor, answers, asks, passes, recalls, refuses, calls, rejects, resumes, spreads, turns_away, welcomes, progresses, shows, loses, winds_up}
+use Rattle.group_facts.specs.Why.{IsAsk, IsCall, is_call, IsResumed, WhyToEditor, answers, asks, passes, recalls, refuses, calls, rejects, resumes, spreads, turns_away, welcomes, progresses, shows, loses, winds_up, pays, IsPaid}
+use Rattle.group_rows.proofs.DebtsKept.{refresh_unhurried}
 
 -- One event more
 
@@ -544,6 +545,20 @@ module _ (settings : Settings) (events : List Event) (e : ℕ) (body : List ℕ)
     registering : Asks settings events → Asks settings told
     registering h s = stay settings s events event (h s) (told_one s) (told_waits s) (ap (λ (x : Asking). x.asks) (registering_made s)) (ap (λ (x : Asking). x.parked) (registering_made s))
 
+  -- what the editor is owed
+  module _ (before : List Event) (cause : Cause) (k : IsPaid settings before cause events e body) where
+    none_of_both : (a : Bool) → (a && false) ≡ false
+    none_of_both true = refl
+    none_of_both false = refl
+
+    pub paid_made : (s : ℕ) → made s ≡ asking_of settings s events
+    paid_made s = made_by s (integer (decimal number)) (k.debt).method k.params None k.says (k.idle s)
+        ∙ ap (λ b. asked_next (is_own_work e (asking_of settings s events).runs && (b && serves settings events s e)) e number (asking_of settings s events) None) (refresh_unhurried (k.debt).method k.wants)
+        ∙ ap (λ c. asked_next c e number (asking_of settings s events) None) (none_of_both (is_own_work e (asking_of settings s events).runs))
+
+    paid : Asks settings events → Asks settings told
+    paid h s = stay settings s events event (h s) (told_one s) (told_waits s) (ap (λ (x : Asking). x.asks) (paid_made s)) (ap (λ (x : Asking). x.parked) (paid_made s))
+
   pub asks_told : (before : List Event) (cause : Cause) → WhyToEditor settings before cause events e body → Asks settings events → Asks settings told
   asks_told before cause (rejects k) h = no_question (error None k.x) k.says refl h
   asks_told before cause (refuses k) h = no_question (error (Some k.id) k.x) k.says refl h
@@ -554,6 +569,7 @@ module _ (settings : Settings) (events : List Event) (e : ℕ) (body : List ℕ)
   asks_told before cause (passes k) h = no_question (message_of body) refl (response_asks_none (message_of body) k.response) h
   asks_told before cause (asks k) h = question before cause k h
   asks_told before cause (resumes k) h = resumed before cause k h
+  asks_told before cause (pays k) h = paid before cause k h
   asks_told before cause (calls k) h = registering before cause k h
   asks_told before cause (spreads k) h = no_question (notification k.method k.params) k.says refl h
   asks_told before cause (recalls k) h = no_question (notification (codes "$/cancelRequest") (Some k.params)) k.says refl h

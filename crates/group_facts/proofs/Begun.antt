@@ -25,7 +25,7 @@ use Rattle.event_model.specs.declared.stage.Stage.{Stage}
 use Rattle.event_model.specs.declared.stage.Stage.TheVariants.{Spawning, Initializing, Ready, Stopping}
 use Rattle.event_model.specs.Event.{Event, behind, heard, requests, said, with_cause}
 use Rattle.event_model.specs.Members.{named_of}
-use Rattle.event_model.specs.Phases.{desk_of, is_new, makes_running}
+use Rattle.event_model.specs.Phases.{desk_of, is_new, makes_running, is_running}
 use Rattle.event_model.specs.Row.{Row, choose, each, look, nothing, on, outs, send, ◌⨾◌}
 use Rattle.event_model.specs.Settings.{Settings}
 use Rattle.event_model.specs.Spawns.{group_of, start_behind, start_of, starts_of}
@@ -58,7 +58,7 @@ use Rattle.group_rows.specs.ListRows.{list_row, show, show_full, show_opened}
 use Rattle.group_rows.specs.diagnostics_route.specs.Published.{published}
 use Rattle.group_rows.specs.Lists.{lists_of, sayings_of}
 use Rattle.group_rows.specs.Leaves.{cancel, cancel_text, cancels, closings, leave_bodies, leave_row, refusals, refuse, uncancelled_of}
-use Rattle.group_rows.specs.AskRows.{ask, ask_edit, asking_row, broadcast, current_version, edited, notified_row, response_at, response_row, run_at, run_row}
+use Rattle.group_rows.specs.AskRows.{ask, ask_edit, asking_row, broadcast, current_version, edited, notified_row, response_at, response_row, run_at, run_row, debts_at, debts_row}
 use Rattle.group_rows.specs.Asks.{Ask, Parked, asks_of, is_with, members_in, next_ask, parked_of, running_in}
 use Rattle.group_rows.specs.Answers.{answer_row, hand_on}
 use Rattle.group_rows.specs.Created.{Token, created_of, created_text}
@@ -68,7 +68,7 @@ use Rattle.group_rows.specs.Earlier.{shown_in}
 use Rattle.group_rows.specs.ExitRows.{begins_again, lose_sent, lose_start, lost_row}
 use Rattle.group_rows.specs.Waiting.{part}
 use Rattle.group_facts.proofs.HeldOuts.{lose_waiting_by, parts_by, send_held_by}
-use Rattle.group_rows.specs.Rows.{answer_error, begin_in, begun_row, cancel_row, closing_row, document_at, document_bodies, document_row, down_row, early_row, exit_row, first_result, from_server, gone_row, lspmux_row, message_row, named_row, notice_at, notice_row, open_row, outs_of, ready_row, request_at, request_row, result_in, row_of, served_request, served_row, started, sync_bodies, taken_row, waiting_in, welcome, hasty_row, refusal, refused_row}
+use Rattle.group_rows.specs.Rows.{answer_error, begin_in, begun_row, cancel_row, closing_row, document_at, document_bodies, document_row, down_row, early_row, exit_row, first_result, from_server, gone_row, lspmux_row, message_row, named_row, notice_at, notice_row, open_row, outs_of, ready_row, request_at, request_row, result_in, row_of, served_request, served_row, started, sync_bodies, taken_row, waiting_in, welcome, hasty_row, refusal, refused_row, from_editor}
 use Rattle.group_rows.specs.Texts.{encoding_of, texts_of}
 use Rattle.group_rows.specs.Ticks.{due_of, overdue_of, tick_row}
 use Rattle.group_facts.specs.Facts.{is_exit}
@@ -79,6 +79,9 @@ use Rattle.group_facts.proofs.Housed.{ended_length}
 use Rattle.group_facts.proofs.LiveGroups.{lives_past}
 use Rattle.group_facts.proofs.PlacingRow.{IsNext, placed_next}
 use Rattle.group_facts.proofs.Waiting.{first_unasked, new_is, whole_is}
+use Rattle.group_rows.proofs.DebtsKept.{off_unrun, whole_off}
+use Rattle.group_rows.specs.Debts.{agrees_on_all, debts_due}
+use Rattle.group_rows.specs.refresh_debts.specs.declared.debts.Debt.{Debt}
 
 -- Outs that spawn none
 
@@ -449,8 +452,18 @@ module _ (settings : Settings) (before : List Event) where
   quiet_gone : (e : ℕ) (phase : Phase) (events : List Event) → Quiet events (gone_row settings before e phase)
   quiet_gone e phase events = by_choose (λ served. quiet_leave e events) (λ off. by_nothing)
 
+  quiet_owed : (e : ℕ) (ds : List Debt) (events : List Event) → Quiet events (each (λ (d : Debt). ask d.body e) ds)
+  quiet_owed e [] events = by_nothing
+  quiet_owed e (d ∷ ds) events = by_then (by_look (by_choose (λ room. by_send tt) (λ none. by_nothing))) (quiet_owed e ds _)
+
+  quiet_debts_in : (e : ℕ) (body : List ℕ) (m : Message) (events : List Event) (g : ℕ) → Quiet events (on (start_of g before) nothing (debts_at settings before e body m))
+  quiet_debts_in e body m events g = by_on (λ none. by_nothing) (λ s last. quiet_owed e (debts_due settings s before e body m) events)
+
+  quiet_debts : (e : ℕ) (body : List ℕ) (m : Message) (events : List Event) → Quiet events (debts_row settings before e body m)
+  quiet_debts e body m events = by_on (λ none. by_nothing) (λ g home. quiet_debts_in e body m events g)
+
   quiet_editor : (e : ℕ) (body : List ℕ) (events : List Event) → places (desk_of e before).phase (message_of body) ≡ false → Quiet events (row_of settings before (FromEditor e body))
-  quiet_editor e body events h = by_choose (λ malformed. quiet_malformed e (message_of body) (desk_of e before).phase events) (λ fine. quiet_message e body (message_of body) (desk_of e before).phase events h)
+  quiet_editor e body events h = by_then (by_choose (λ malformed. quiet_malformed e (message_of body) (desk_of e before).phase events) (λ fine. quiet_message e body (message_of body) (desk_of e before).phase events h)) (quiet_debts e body (message_of body) _)
 
   quiet_waiting : (body : List ℕ) (g : ℕ) (events : List Event) → Quiet events (look (λ places. each (welcome body) (waiting_in settings g places)))
   quiet_waiting body g events = by_look (quiet_welcomes body (waiting_in settings g events) events)
@@ -498,7 +511,7 @@ module _ (settings : Settings) (before : List Event) where
   quiet_edit s e body events = by_look (by_choose (λ room. quiet_edited s e body (asked_text (current_version settings before s e) body (decimal (next_ask e events))) events) (λ none. by_nothing))
 
   quiet_asking : (g s : ℕ) (body method : List ℕ) (c : Class) (events : List Event) → Quiet events (asking_row settings before g s body method c)
-  quiet_asking g s body method Refresh events = by_then (by_send tt) (quiet_each body (running_in settings g before) (behind events (ToServer s (ok_text (id_bytes body) (codes "null")) ∷ [])))
+  quiet_asking g s body method Refresh events = by_then (by_send tt) (quiet_each body (filter (agrees_on_all settings s before) (running_in settings g before)) (behind events (ToServer s (ok_text (id_bytes body) (codes "null")) ∷ [])))
   quiet_asking g s body method Folders events = by_on (λ none. by_nothing) (λ x found. by_send tt)
   quiet_asking g s body method Focused events = by_on (λ none. by_send tt) (λ e found. by_choose (λ edit. quiet_edit s e body events) (λ plain. quiet_ask body e events))
   quiet_asking g s body method Lowest events = by_on (λ none. by_nothing) (λ e found. quiet_ask body e events)
@@ -622,7 +635,9 @@ module _ (settings : Settings) where
     now = with_cause before (FromEditor e body)
 
     pub placed_outs : outs_of settings before (FromEditor e body) ≡ outs (initialize_row settings before e body) now
-    placed_outs = let place = and_parts (is_new (desk_of e before).phase) (requests (codes "initialize") (message_of body)) here in rw (whole_is (message_of body) place.1, new_is (desk_of e before).phase place.0, first_unasked (message_of body) place.1, place.1) refl
+    placed_outs = let place = and_parts (is_new (desk_of e before).phase) (requests (codes "initialize") (message_of body)) here in
+        let rest : outs (from_editor settings before e body (message_of body) (desk_of e before).phase) now ≡ outs (initialize_row settings before e body) now = rw (whole_is (message_of body) place.1, new_is (desk_of e before).phase place.0, first_unasked (message_of body) place.1, place.1) refl in
+        whole_off settings before e body (off_unrun settings before e body (message_of body) (ap is_running (new_is (desk_of e before).phase place.0))) ∙ rest
 
     groups_now : groups_of settings now ≡ with_editor (placed_for settings before e body (groups_of settings before)) (key_for settings before e body) (declared_for settings before e body) (groups_of settings before)
     groups_now = groups_more settings before (heard (FromEditor e body)) ∙ rw here refl

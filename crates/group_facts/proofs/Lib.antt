@@ -39,6 +39,7 @@ pub mod OwnMoments
 pub mod OwnVersions
 pub mod OwnEntry
 pub mod PartingRows
+pub mod Paying
 pub mod PlacingRow
 pub mod PutOut
 pub mod Reached

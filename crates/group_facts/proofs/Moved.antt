@@ -33,7 +33,7 @@ use Rattle.group_facts.specs.Facts.{IsAlone, IsWaiting, is_early}
 use Rattle.group_facts.specs.Lively.{lives_at}
 use Rattle.group_rows.specs.Tokens.{forwarded_text}
 use Rattle.group_facts.proofs.Quits.{running_stops}
-use Rattle.group_facts.specs.Why.{IsBehindSync, IsBeside, IsQuestion, Showing, Telling, Turn, Why, WhyToEditor, WhyToServer, answers, asks, asks_something, begins, cancels, exits, forwarded, greeted, greets, conveys, is_uncancelled, notes, of_held, of_request, of_token, passes, recalls, refuses, calls, rejects, resolves, responds, resumes, shuts, spreads, stays, tells, turns_away, versions_at, welcomes, cancels_work, progresses, begins_by, comes, opened_by, shows, loses, winds_up, at_once, had_waited, Going, IsUnheld}
+use Rattle.group_facts.specs.Why.{IsBehindSync, IsBeside, IsQuestion, Showing, Telling, Turn, Why, WhyToEditor, WhyToServer, answers, asks, asks_something, begins, cancels, exits, forwarded, greeted, greets, conveys, is_uncancelled, notes, of_held, of_request, of_token, passes, recalls, refuses, calls, rejects, resolves, responds, resumes, shuts, spreads, stays, tells, turns_away, versions_at, welcomes, cancels_work, progresses, begins_by, comes, opened_by, shows, loses, winds_up, at_once, had_waited, Going, IsUnheld, pays}
 use Rattle.group_rows.specs.held_requests.specs.declared.request.Request.{Request}
 use Rattle.group_rows.proofs.Versions.{AllMeant, meant_heard, meant_more}
 use Rattle.group_facts.proofs.Same.{IsBody, Same, same_agreement, same_behind, same_held, same_questions, same_version, same_more, same_first}
@@ -282,6 +282,7 @@ module _ (settings : Settings) (before : List Event) (e : ℕ) (body : List ℕ)
         by_shown s (begins_by list earlier later restoring order full fitting) = begins_by list earlier later restoring order full fitting
     editor_moved n b goes (calls k) = no_question b (integer (decimal (next_ask n x))) k.method k.params goes k.says
     editor_moved n b goes (resumes k) = no_question b (integer (decimal (next_ask n x))) k.method k.params goes k.says
+    editor_moved n b goes (pays k) = no_question b (integer (decimal (next_ask n x))) (k.debt).method k.params goes k.says
 
     out_moved : (out : Out) → Goes out → Why settings before cause x out → Why settings before cause y out
     out_moved (ToEditor n b) goes why = editor_moved n b goes why

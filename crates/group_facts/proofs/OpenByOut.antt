@@ -23,7 +23,7 @@ use Rattle.mux_facts.proofs.Why.{is_early}
 use Rattle.group_rows.specs.Rows.{outs_of}
 use Rattle.group_facts.specs.Facts.{is_exit, turned_away}
 use Rattle.group_facts.proofs.Listens.{listens_late}
-use Rattle.group_facts.specs.Why.{Why, WhyToEditor, calls, rejects, resumes, refuses, answers, turns_away, welcomes, passes, asks, recalls, spreads, progresses, shows, loses, winds_up}
+use Rattle.group_facts.specs.Why.{Why, WhyToEditor, calls, rejects, resumes, refuses, answers, turns_away, welcomes, passes, asks, recalls, spreads, progresses, shows, loses, winds_up, pays}
 use Rattle.group_facts.proofs.Begun.{Begun, Founding, IsTold, NoSpawn, founding_of, founds, quiet, renews, start_more, starts_stay, start_took, told_quiet}
 use Rattle.group_facts.proofs.Facts.{Facts}
 use Rattle.group_rows.proofs.Frames.{forwarding_more}
@@ -140,6 +140,7 @@ module _ (settings : Settings) (e : ℕ) (E : Id → Type 0) where
     told_by T events body (passes k) h = if_passed T (desk_of e events).phase (desk_of e events).initialize (open_of e events) (message_of body) k.late h
     told_by T events body (asks k) h = if_passed T (desk_of e events).phase (desk_of e events).initialize (open_of e events) (message_of body) (ap is_early (k.source).running) h
     told_by T events body (resumes k) h = if_passed T (desk_of e events).phase (desk_of e events).initialize (open_of e events) (message_of body) (ap is_early k.running) h
+    told_by T events body (pays k) h = if_passed T (desk_of e events).phase (desk_of e events).initialize (open_of e events) (message_of body) (ap is_early k.running) h
     told_by T events body (calls k) h = if_passed T (desk_of e events).phase (desk_of e events).initialize (open_of e events) (message_of body) (ap is_early k.running) h
     told_by T events body (spreads k) h = if_passed T (desk_of e events).phase (desk_of e events).initialize (open_of e events) (message_of body) (ap is_early (k.source).running) h
     told_by T events body (shows k) h = if_passed T (desk_of e events).phase (desk_of e events).initialize (open_of e events) (message_of body) (ap is_early k.running) h

@@ -42,7 +42,7 @@ use Rattle.group_words.specs.Houses.{home_of, house_of, is_doubled, is_first_ope
 use Rattle.group_words.specs.Placing.{home_by}
 use Rattle.group_words.specs.Rows.{initialize_row}
 use Rattle.group_words.proofs.Frames.{home_more}
-use Rattle.group_rows.specs.AskRows.{hand_back, response_at, response_row, run_row}
+use Rattle.group_rows.specs.AskRows.{hand_back, response_at, response_row, run_row, debts_row}
 use Rattle.group_rows.specs.Cancelling.{cancelling_at, cancelling_row}
 use Rattle.group_rows.specs.Forwarded.{Forwarding, first_sender, forwarding_of, numbered, token_in, sender_or}
 use Rattle.group_rows.specs.diagnostics_route.specs.declared.last_list.LastList.{LastList}
@@ -99,6 +99,7 @@ use Rattle.group_rows.specs.held_requests.specs.declared.request.Request.{Reques
 use Rattle.group_rows.specs.held_requests.specs.Tables.{asked}
 use Rattle.group_facts.proofs.Askers.{late_said}
 use Rattle.std.specs.Option.{option_map_or, option_and_then}
+use Rattle.group_facts.proofs.Paying.{debts_questions}
 
 -- no request is excused
 abbrev pub Nobody : Id → Type 0
@@ -795,7 +796,15 @@ module _ (settings : Settings) (before : List Event) (n : ℕ) (body : List ℕ)
       own_rests m says Gone at off = other_rests m says Gone at (λ same. absurd (cc)) off
 
       pub message_rests : places (desk_of n before).phase (message_of body) ≡ false → OpenAt settings n Nobody (behind now (outs_of settings before (FromEditor n body)))
-      message_rests off = own_rests (message_of body) refl (desk_of n before).phase refl off
+      message_rests off = subst (OpenAt settings n Nobody) (sym (behind_both now said_first (outs (debts_row settings before n body (message_of body)) mid)))
+          (open_moved settings n Nobody mid (behind mid (outs (debts_row settings before n body (message_of body)) mid)) (same_questions settings n mid (outs (debts_row settings before n body (message_of body)) mid) (debts_questions settings before n body (facts.base).meant mid))
+          (own_rests (message_of body) refl (desk_of n before).phase refl off))
+        where
+          said_first : List Out
+          said_first = outs (from_editor settings before n body (message_of body) (desk_of n before).phase) now
+
+          mid : List Event
+          mid = behind now said_first
 
     -- Its first `initialize`
 

@@ -11,8 +11,8 @@ use Rattle.rpc_message.specs.Message.{Message, request, notification, result, er
 use Rattle.rpc_message.specs.Texts.{ok_text}
 use Rattle.event_model.specs.declared.phase.Phase.{Phase}
 use Rattle.event_model.specs.declared.phase.Phase.TheVariants.{Absent, New, Waiting, Answered, Running, Down, Closed, Gone}
-use Rattle.event_model.specs.Event.{Event, behind, heard, said, with_cause}
-use Rattle.event_model.specs.Phases.{Desk, desk_hears, desk_of, editors_of, has_id, is_begun, is_there, phase_closed, phase_told}
+use Rattle.event_model.specs.Event.{Event, behind, heard, said, with_cause, requests}
+use Rattle.event_model.specs.Phases.{Desk, desk_hears, desk_of, editors_of, has_id, is_begun, is_there, phase_closed, phase_told, is_multiplexer_request}
 use Rattle.std.specs.Prelude.{None, Some}
 use Rattle.event_model.specs.Row.{choose, each, nothing, outs, send}
 use Rattle.event_model.specs.Settings.{Settings}
@@ -29,6 +29,7 @@ use Rattle.group_facts.specs.Facts.{Quit, is_put_out}
 use Rattle.group_facts.proofs.ExitEntry.{exit_ends, failed_exit, gone_exit}
 use Rattle.group_facts.proofs.PutOut.{named_in, outs_tested, server_ends}
 use Rattle.group_facts.proofs.Quits.{stopped_back, stopped_did, stopped_more, stopped_now}
+use Rattle.group_rows.proofs.DebtsKept.{forth_own, off_forth, whole_off}
 
 -- Phases
 
@@ -145,8 +146,16 @@ module _ (settings : Settings) (before : List Event) (n : ℕ) (body : List ℕ)
   stops_row not_json h = absurd (cc)
   stops_row not_message h = absurd (cc)
 
+  own_stop : (m : Message) → requests (codes "lspmux/stop") m ≡ true → is_multiplexer_request m ≡ true
+  own_stop m h = go (requests (codes "lspmux/open") m) (requests (codes "lspmux/status") m)
+    where
+      go : (a b : Bool) → (a || (b || requests (codes "lspmux/stop") m)) ≡ true
+      go true b = refl
+      go false true = refl
+      go false false = h
+
   pub stop_outs : stops before n (message_of body) ≡ true → outs_of settings before (FromEditor n body) ≡ outs (stop_row settings before n body) now
-  stop_outs stop = stops_row (message_of body) stop
+  stop_outs stop = whole_off settings before n body (off_forth settings before n body (message_of body) (forth_own settings before n body (message_of body) (own_stop (message_of body) (and_parts (requests (codes "lspmux/stop") (message_of body)) (is_there (desk_of n before).phase && not (is_begun (desk_of n before).phase && is_doubled before n (message_of body))) stop).0))) ∙ stops_row (message_of body) stop
 
   -- Behind it
 

@@ -43,6 +43,7 @@ use Rattle.group_rows.specs.held_requests.specs.declared.request.Request.{Reques
 use Rattle.group_rows.proofs.CreatedKept.{held_told}
 use Rattle.group_facts.proofs.Moved.{row_moved}
 use Rattle.group_facts.proofs.NoticeRow.{notice_why}
+use Rattle.group_facts.proofs.Paying.{debts_why}
 use Rattle.group_facts.proofs.PartingRows.{closing_why, gone_why, or_second, shutdown_why}
 use Rattle.group_facts.proofs.PlacingRow.{initialize_why}
 use Rattle.group_facts.proofs.Quits.{asked_while}
@@ -229,7 +230,7 @@ module _ (settings : Settings) (range : InRange settings) (before : List Event) 
 module _ (settings : Settings) (range : InRange settings) (before : List Event) (facts : Facts settings before) where
   -- every out of every entry has its reason
   pub reasons : (cause : Cause) → Because (Why settings before cause) (with_cause before cause) (row_of settings before cause)
-  reasons (FromEditor e body) = editor_why settings range before facts e body
+  reasons (FromEditor e body) = let said_so = editor_why settings range before facts e body in by_then said_so (debts_why settings before e body (facts.base).meant (outs (from_editor settings before e body (message_of body) (desk_of e before).phase) (with_cause before (FromEditor e body))) said_so.why)
   reasons (EditorGone e why) = gone_why settings range before (facts.base).opened (facts.steady).bounded (facts.steady).asks e why (desk_of e before).phase
   reasons (FromServer s body) = server_why settings range before s body (facts.base).opened (facts.steady).untold (facts.steady).held facts.waiting (asked_while settings before (facts.steady).asked facts.quit) (facts.steady).apart (facts.base).meant (facts.steady).asks (facts.base).written (life_of s before).stage refl
   reasons (Joined e) = joined_why settings before e

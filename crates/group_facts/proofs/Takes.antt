@@ -20,8 +20,9 @@ use Rattle.group_rows.specs.Created.{Created, Taking, Token, accepts, answered, 
 use Rattle.group_rows.specs.Forwarded.{names}
 use Rattle.group_rows.specs.Live.{is_heard, is_registering}
 use Rattle.group_facts.specs.Facts.{IsTake, Takes, asked_of, editor_behind}
-use Rattle.group_facts.specs.Why.{IsCall, WhyToEditor, answers, asks, calls, loses, winds_up, passes, progresses, recalls, refuses, rejects, resumes, shows, spreads, turns_away, welcomes}
+use Rattle.group_facts.specs.Why.{IsCall, WhyToEditor, answers, asks, calls, loses, winds_up, passes, progresses, recalls, refuses, rejects, resumes, shows, spreads, turns_away, welcomes, pays}
 use Rattle.group_facts.proofs.Asks.{asked_of_more, call_hurried, is_question, response_asks_none, unnamed_open}
+use Rattle.group_rows.proofs.DebtsKept.{refresh_uncreating}
 
 created_more : (settings : Settings) (s : ℕ) (events : List Event) (event : Event) → created_of settings s (events ++ event ∷ []) ≡ created_next settings s events (created_of settings s events) event
 created_more settings s events event = past_more (created_next settings s) [] no_created events event
@@ -218,6 +219,7 @@ module _ (settings : Settings) (events : List Event) (h : Takes settings events)
     takes_told before cause (calls k) = called before cause k
     takes_told before cause (asks k) = plain (ap makes k.says ∙ k.plain)
     takes_told before cause (resumes k) = plain (ap makes k.says ∙ patient_plain k.method k.patient)
+    takes_told before cause (pays k) = plain (ap makes k.says ∙ refresh_uncreating (k.debt).method k.wants)
     takes_told before cause (rejects k) = plain (ap makes k.says)
     takes_told before cause (refuses k) = plain (ap makes k.says)
     takes_told before cause (answers k) = plain (ap makes k.says)

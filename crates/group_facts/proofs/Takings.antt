@@ -39,7 +39,7 @@ use Rattle.group_facts.specs.Facts.{is_exit, is_unready, shuts}
 use Rattle.group_facts.specs.Lively.{Lively}
 use Rattle.group_facts.specs.Settled as settled_facts
 use Rattle.group_facts.specs.Settled.{HasTaken, RunsAt}
-use Rattle.group_facts.specs.Why.{Calling, IsCall, Why, WhyToEditor, answers, asks, calls, creates, displaces, enrols, forgets, passes, progresses, recalls, refuses, rejects, releases, restores, resumes, revives, shows, spreads, turns_away, welcomes, loses, winds_up}
+use Rattle.group_facts.specs.Why.{Calling, IsCall, Why, WhyToEditor, answers, asks, calls, creates, displaces, enrols, forgets, passes, progresses, recalls, refuses, rejects, releases, restores, resumes, revives, shows, spreads, turns_away, welcomes, loses, winds_up, pays}
 use Rattle.group_facts.proofs.AskEntries.{close_runs, onward_rests, took_runs, up_ready}
 use Rattle.group_facts.proofs.AskingRows.{still_runs}
 use Rattle.group_facts.proofs.Asks.{call_hurried, is_question, response_asks_none, unless_not}
@@ -51,6 +51,7 @@ use Rattle.group_facts.proofs.Marks.{mark_start, marked_same}
 use Rattle.group_facts.proofs.LastStarts.{AllLast, start_kept}
 use Rattle.group_facts.proofs.PutOut.{homes_stay}
 use Rattle.group_facts.proofs.Table.{reasons}
+use Rattle.group_rows.proofs.DebtsKept.{refresh_uncreating}
 
 pub created_more : (settings : Settings) (s : ℕ) (events : List Event) (event : Event) → created_of settings s (events ++ event ∷ []) ≡ created_next settings s events (created_of settings s events) event
 created_more settings s events event = past_more (created_next settings s) [] no_created events event
@@ -382,6 +383,7 @@ module _ (settings : Settings) (before : List Event) (cause : Cause) where
       told_takers spawned (calls k) = called_takers spawned k k.told
       told_takers spawned (asks k) = plain_takers (ap makes k.says ∙ k.plain)
       told_takers spawned (resumes k) = plain_takers (ap makes k.says ∙ patient_plain k.method k.patient)
+      told_takers spawned (pays k) = plain_takers (ap makes k.says ∙ refresh_uncreating (k.debt).method k.wants)
       told_takers spawned (rejects k) = plain_takers (ap makes k.says)
       told_takers spawned (refuses k) = plain_takers (ap makes k.says)
       told_takers spawned (answers k) = plain_takers (ap makes k.says)

@@ -12,7 +12,8 @@ use Rattle.rpc_message.specs.Texts.{error_text, request_failed}
 use Rattle.event_model.specs.declared.phase.Phase.{Phase}
 use Rattle.event_model.specs.declared.phase.Phase.TheVariants.{Absent, New, Waiting, Answered, Running, Down, Closed, Gone}
 use Rattle.event_model.specs.Event.{Event, said, behind, with_cause, requests}
-use Rattle.event_model.specs.Phases.{Desk, desk_of, desk_behind, has_id, is_begun, is_malformed, is_new, is_waiting, phase_closed, phase_told}
+use Rattle.event_model.specs.Phases.{Desk, desk_of, desk_behind, has_id, is_begun, is_malformed, is_new, is_waiting, phase_closed, phase_told, is_running}
+use Rattle.event_model.specs.Row.{outs}
 use Rattle.event_model.specs.Requests.{answered_id, open_behind, open_of, without}
 use Rattle.event_model.specs.Settings.{Settings}
 use Rattle.event_model.proofs.Frames.{never}
@@ -25,7 +26,7 @@ use Rattle.group_words.specs.declared.placed.Placed.{Placed}
 use Rattle.group_words.specs.declared.placed.Placed.TheVariants.{Joins, New as Founds, Evicts, TooMany}
 use Rattle.group_words.specs.Houses.{groups_of, placed_for, places, stops}
 use Rattle.mux_facts.proofs.Why.{is_early}
-use Rattle.group_rows.specs.Rows.{asks_lspmux, names_lspmux, outs_of}
+use Rattle.group_rows.specs.Rows.{asks_lspmux, names_lspmux, outs_of, from_editor}
 use Rattle.group_facts.specs.Facts.{is_crowded, is_too_many, turned_away}
 use Rattle.group_facts.proofs.Facts.{OthersWait}
 use Rattle.group_facts.proofs.ExitEntry.{Exit, exit_turns, failed_exit, gone_exit}
@@ -33,7 +34,8 @@ use Rattle.group_facts.proofs.PutOut.{turned_ends}
 use Rattle.group_facts.proofs.Quits.{one_of}
 use Rattle.group_facts.proofs.StopEntry.{none_there, unthere_unbegun}
 use Rattle.group_facts.proofs.Listens.{listens_late}
-use Rattle.group_facts.specs.Why.{IsRefusal, WhyToEditor, calls, rejects, resumes, refuses, answers, turns_away, welcomes, passes, asks, loses, winds_up, recalls, spreads, progresses, shows}
+use Rattle.group_facts.specs.Why.{IsRefusal, WhyToEditor, calls, rejects, resumes, refuses, answers, turns_away, welcomes, passes, asks, loses, winds_up, recalls, spreads, progresses, shows, pays}
+use Rattle.group_rows.proofs.DebtsKept.{off_unrun, whole_off}
 
 -- one event more
 wait_more : (e : ℕ) (events : List Event) (event : Event) → WaitsAt (desk_behind e (desk_of e events) event) (open_behind e (open_of e events) event) → WaitsAt (desk_of e (events ++ event ∷ [])) (open_of e (events ++ event ∷ []))
@@ -89,6 +91,7 @@ module _ (settings : Settings) (before : List Event) (cause : Cause) (events : L
   waiting_told (welcomes k) h e rest = result_told (λ at. ap is_a_result k.says) e (h e rest)
   waiting_told (asks k) h e rest = running_told (k.source).running e (h e rest)
   waiting_told (resumes k) h e rest = running_told k.running e (h e rest)
+  waiting_told (pays k) h e rest = running_told k.running e (h e rest)
   waiting_told (calls k) h e rest = running_told k.running e (h e rest)
   waiting_told (spreads k) h e rest = running_told (k.source).running e (h e rest)
   waiting_told (shows k) h e rest = running_told k.running e (h e rest)
@@ -168,7 +171,9 @@ module _ (settings : Settings) (before : List Event) (n : ℕ) (body : List ℕ)
       let parts = and_parts (nat_eq n e) (places (desk_of n before).phase (message_of body) && is_too_many (placed_for settings before n body (groups_of settings before))) turned in
       let more = and_parts (places (desk_of n before).phase (message_of body)) (is_too_many (placed_for settings before n body (groups_of settings before))) parts.1 in
       let place = and_parts (is_new (desk_of n before).phase) (requests (codes "initialize") (message_of body)) more.0 in
-      rw (whole_is (message_of body) place.1, new_is (desk_of n before).phase place.0, first_unasked (message_of body) place.1, place.1, many_is (placed_for settings before n body (groups_of settings before)) more.1) refl
+      let rest : outs (from_editor settings before n body (message_of body) (desk_of n before).phase) (with_cause before (FromEditor n body)) ≡ ToEditor n answer ∷ CloseEditor n ∷ [] =
+      rw (whole_is (message_of body) place.1, new_is (desk_of n before).phase place.0, first_unasked (message_of body) place.1, place.1, many_is (placed_for settings before n body (groups_of settings before)) more.1) refl in
+      whole_off settings before n body (off_unrun settings before n body (message_of body) (ap is_running (new_is (desk_of n before).phase place.0))) ∙ rest
 
   pub turned_closed : (e : ℕ) → is_crowded settings before n body e ≡ true → (now : List Event) → WaitsAt (desk_of e (behind now (ToEditor n answer ∷ CloseEditor n ∷ []))) (open_of e (behind now (ToEditor n answer ∷ CloseEditor n ∷ [])))
   turned_closed e turned now = subst (λ z. WaitsAt (desk_of e z) (open_of e z)) (append_assoc now (said (ToEditor n answer) ∷ []) (said (CloseEditor n) ∷ []))

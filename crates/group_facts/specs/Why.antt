@@ -39,6 +39,7 @@ use Rattle.group_rows.specs.diagnostics_route.specs.Published.{published}
 use Rattle.group_rows.specs.diagnostics_route.specs.Rows.{is_of}
 use Rattle.group_rows.specs.diagnostics_route.specs.Shown.{fits, shown_text}
 use Rattle.group_rows.specs.held_requests.specs.declared.request.Request.{Request}
+use Rattle.group_rows.specs.refresh_debts.specs.declared.debts.Debt.{Debt}
 use Rattle.group_rows.specs.registrations.specs.declared.registration.Registration.{Registration}
 use Rattle.group_rows.specs.registrations.specs.Items.{again, registered}
 use Rattle.group_words.specs.declared.kept.Kept.{Kept}
@@ -50,6 +51,7 @@ use Rattle.group_rows.specs.Asks.{Ask, Parked, asker_of, asking_of, asks_of, has
 use Rattle.group_rows.specs.Cancelling.{number_named, numbered_text}
 use Rattle.group_rows.specs.Created.{Taking, Token, accepts, created_of, created_text, created_token, has_accepted, is_answered, is_creating, named_token, token_called, token_marked}
 use Rattle.group_rows.specs.CreatedRows.{create_text}
+use Rattle.group_rows.specs.Debts.{debts_of, goes_to, wants_refresh}
 use Rattle.group_rows.specs.Ends.{answers_shutdown, exit_text}
 use Rattle.group_rows.specs.ExitRows.{empty_text, end_text, has_begun, is_full, unanswered_at}
 use Rattle.group_rows.specs.Forwarded.{Forwarded, Sender, answered_by, first_sender, forwarding_of, sender_of, sender_or}
@@ -489,6 +491,27 @@ pub record IsResumed (settings : Settings) (before : List Event) (cause : Cause)
   pub bytes : body ≡ with_id_text first.body (decimal (next_ask e events))
   pub says : message_of body ≡ request (integer (decimal (next_ask e events))) method params
 
+-- of what the last start of e's group owes it, this is asked behind a message of e that goes on to that start, which is ready (E10, E16, E17), under e's next number
+pub record IsPaid (settings : Settings) (before : List Event) (cause : Cause) (events : List Event) (e : ℕ) (body : List ℕ) : Type 0 where
+  pub start : ℕ
+  pub text : List ℕ
+  pub from : cause ≡ FromEditor e text
+  pub goes : goes_to settings start before e text (message_of text) ≡ true
+  pub ready : (life_of start before).stage ≡ Ready
+  pub running : (desk_of e events).phase ≡ Running
+  pub idle : (s : ℕ) → (asking_of settings s events).asker ≡ None
+  pub debt : Debt
+  pub earlier : List Debt
+  pub later : List Debt
+  pub owed : debts_of settings start e before ≡ earlier ++ debt ∷ later
+  pub id : Id
+  pub params : Option Json
+  pub wants : wants_refresh debt.method ≡ true
+  pub asks : message_of debt.body ≡ request id debt.method params
+  pub room : has_number e events ≡ true
+  pub bytes : body ≡ with_id_text debt.body (decimal (next_ask e events))
+  pub says : message_of body ≡ request (integer (decimal (next_ask e events))) debt.method params
+
 -- registrations are changed, or a token is created, by this request of s, to whose group e belongs, which runs
 pub record IsChange (settings : Settings) (before : List Event) (cause : Cause) (e s : ℕ) (asked : List ℕ) (class : Class) : Type 0 where
   pub from : cause ≡ FromServer s asked
@@ -667,6 +690,7 @@ pub data WhyToEditor (settings : Settings) (before : List Event) (cause : Cause)
   passes : IsPassing settings before cause events e body → WhyToEditor settings before cause events e body
   asks : IsAsk settings before cause events e body → WhyToEditor settings before cause events e body
   resumes : IsResumed settings before cause events e body → WhyToEditor settings before cause events e body
+  pays : IsPaid settings before cause events e body → WhyToEditor settings before cause events e body
   calls : IsCall settings before cause events e body → WhyToEditor settings before cause events e body
   spreads : IsSpread settings before cause events e body → WhyToEditor settings before cause events e body
   recalls : IsRecall settings before cause events e body → WhyToEditor settings before cause events e body

@@ -43,7 +43,7 @@ agreed_is o (Some v) None h m = absurd m
 agreed_is o None (Some k) h m = absurd m
 agreed_is o None None (Some h) m = absurd m
 
-shared_is : (settings : Settings) (g s : ℕ) (events : List Event) (x : Texts) → group_of s events ≡ Some g → texts_of settings g events ≡ x → shared_texts settings s events ≡ x
+pub shared_is : (settings : Settings) (g s : ℕ) (events : List Event) (x : Texts) → group_of s events ≡ Some g → texts_of settings g events ≡ x → shared_texts settings s events ≡ x
 shared_is settings g s events x home texts = ap (λ o. option_map_or (λ k. texts_of settings k events) o no_texts) home ∙ texts
 
 -- as a request is sent on, behind a sync: what is open, and the versions that the start has, whoever holds the documents by then

@@ -13,6 +13,9 @@ pub mod Stops
 pub mod Versions
 pub mod WorkedAsks
 pub mod WorkedLive
+pub mod WorkedDebts
+pub mod DebtsKept
+pub mod Onward
 pub mod LiveTexts
 pub mod TokenTexts
 pub mod WorkedTokens

@@ -22,11 +22,13 @@ use Rattle.event_model.specs.Stages.{life_of, is_ready}
 use Rattle.response_route.specs.Asked.{asked_text, not_applied}
 use Rattle.response_route.specs.Edits.{Renaming}
 use Rattle.response_route.specs.Versions.{version_now}
+use Rattle.refresh_debts.specs.declared.debts.Debt.{Debt}
 use Rattle.group_words.specs.Houses.{groups_of, home_of}
 use Rattle.group_words.specs.Rows.{folders_text}
 use Rattle.group_rows.specs.Answers.{agreed_version, stamp_at}
 use Rattle.group_rows.specs.Asks.{Ask, Parked, asking_of, asks_of, first_in, has_number, is_seated, is_taken, is_under, next_ask, parked_of, running_in}
 use Rattle.group_rows.specs.CreatedRows.{create_row, offer_all, progress_row, taking_row}
+use Rattle.group_rows.specs.Debts.{agrees_on_all, debts_due}
 use Rattle.group_rows.specs.Forwarded.{Forwarded, forwarding_of}
 use Rattle.group_rows.specs.Leaves.{cancel_text}
 use Rattle.group_rows.specs.ListRows.{list_row, show_all}
@@ -36,9 +38,16 @@ use Rattle.group_rows.specs.LiveRows.{register_row, restore, unregister_row}
 abbrev pub ask : List ℕ → ℕ → Row
 ask body e = look (λ events. choose (has_number e events) (send (ToEditor e (with_id_text body (decimal (next_ask e events))))) nothing)
 
--- S9: the start is answered at once, and each editor that runs is asked (LSP 3.17, the refresh requests of Language Features)
+-- S9: the start is answered at once, and each editor that runs and agrees on all that it has open is asked; the others are owed it (LSP 3.17, the refresh requests of Language Features)
 abbrev pub refresh_row : Settings → List Event → ℕ → ℕ → List ℕ → Row
-refresh_row settings before g s body = send (ToServer s (ok_text (id_bytes body) (codes "null"))) ⨾ each (ask body) (running_in settings g before)
+refresh_row settings before g s body = send (ToServer s (ok_text (id_bytes body) (codes "null"))) ⨾ each (ask body) (filter (agrees_on_all settings s before) (running_in settings g before))
+
+-- L3, behind E10, E16 and E17: behind a message of its own that goes on the editor is asked what the start owes it, in the order in which that came to be
+abbrev pub debts_at : Settings → List Event → ℕ → List ℕ → Message → ℕ → Row
+debts_at settings before e body m s = each (λ (d : Debt). ask d.body e) (debts_due settings s before e body m)
+
+abbrev pub debts_row : Settings → List Event → ℕ → List ℕ → Message → Row
+debts_row settings before e body m = on (home_of settings e before) nothing (λ g. on (start_of g before) nothing (debts_at settings before e body m))
 
 -- S10: the folders of the group (LSP 3.17, WorkspaceFolders Request)
 abbrev pub folders_row : Settings → List Event → ℕ → ℕ → List ℕ → Row

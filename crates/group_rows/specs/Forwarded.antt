@@ -1,5 +1,5 @@
 -- The requests of editors that were sent on to a start of a server, by their numbers (JSON-RPC 2.0, section 4: an id is the client's own, and its response has it).
-use Rattle.std.specs.Prelude.{ℕ, ◌+◌, Bool, true, false, not, List, [], ◌∷◌, ◌++◌, map, filter, find, codes, nat_eq, bytes_eq, decimal, if◌then◌else◌}
+use Rattle.std.specs.Prelude.{ℕ, ◌+◌, Bool, true, false, not, List, [], ◌∷◌, ◌++◌, map, filter, find, codes, nat_eq, nat_lt, bytes_eq, decimal, if◌then◌else◌}
 use Rattle.std.specs.Prelude.{Option, Some, None}
 use Rattle.std.specs.Option.{option_and_then}
 use Rattle.json_text.specs.Json.{Json, number}
@@ -102,6 +102,10 @@ forwarding_next settings s before x (did out m) = x
 
 abbrev pub forwarding_of : Settings → ℕ → List Event → Forwarding
 forwarding_of settings s events = past (forwarding_next settings s) [] no_forwarding events
+
+-- a number is left for one more
+abbrev pub has_room : Settings → ℕ → List Event → Bool
+has_room settings s events = nat_lt (forwarding_of settings s events).next settings.limits.requests
 
 -- the open request of a number
 abbrev pub is_under : ℕ → Forwarded → Bool

@@ -31,6 +31,8 @@ pub mod TokensExample
 pub mod Created
 pub mod CreatedExample
 pub mod CreatedRows
+pub mod Debts
+pub mod DebtsExample
 pub mod Lists
 pub mod ListRows
 pub mod ListsExample
@@ -40,4 +42,5 @@ pub use Rattle.held_requests
 pub use Rattle.registrations.specs.mux_members
 pub use Rattle.registrations.specs.mux_model
 pub use Rattle.registrations
+pub use Rattle.refresh_debts
 pub use Rattle.response_route

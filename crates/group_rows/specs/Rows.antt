@@ -1,5 +1,5 @@
 -- The routing table over several editors and groups, in part: J1, J2, E2 to E10, E11, E12 to E17, E19, S1, S2 with X4, S3, S4, S5 with V1 and V2, S6 to S12 with V3, S13 to S15, L2, X1 to X3, and X5 to X7.
-use Rattle.std.specs.Prelude.{ℕ, Bool, true, false, ◌&&◌, ◌||◌, List, [], ◌∷◌, ◌++◌, filter, flat_map, codes, length, nat_eq, nat_lt, bytes_eq, if◌then◌else◌}
+use Rattle.std.specs.Prelude.{ℕ, Bool, true, false, ◌&&◌, ◌||◌, List, [], ◌∷◌, ◌++◌, filter, flat_map, codes, length, nat_eq, bytes_eq, if◌then◌else◌}
 use Rattle.std.specs.Prelude.{Option, Some, None, slice_get}
 use Rattle.std.specs.List.{list_any}
 use Rattle.std.specs.Option.{option_and_then, option_map_or}
@@ -40,13 +40,14 @@ use Rattle.group_words.specs.Houses.{editors_in, groups_of, home_of, is_doubled,
 use Rattle.group_words.specs.Rows.{initialize_of, initialize_row, shown_of}
 use Rattle.group_rows.specs.Answers.{answer_row}
 use Rattle.group_rows.specs.Asks.{members_in}
-use Rattle.group_rows.specs.AskRows.{notified_row, question_row, response_row, run_row}
+use Rattle.group_rows.specs.AskRows.{debts_row, notified_row, question_row, response_row, run_row}
 use Rattle.group_rows.specs.Cancelling.{cancelling_row}
 use Rattle.group_rows.specs.CreatedRows.{work_row}
 use Rattle.group_rows.specs.Earlier.{configure, part_row}
 use Rattle.group_rows.specs.Ends.{answers_shutdown, exit_server}
 use Rattle.group_rows.specs.ExitRows.{lost_row}
 use Rattle.group_rows.specs.Forwarded.{forwarding_of}
+pub use Rattle.group_rows.specs.Forwarded.{has_room}
 use Rattle.group_rows.specs.Leaves.{leave_row}
 use Rattle.group_rows.specs.ListRows.{show_opened}
 use Rattle.group_rows.specs.Status.{items_of, status_text}
@@ -95,9 +96,6 @@ replay_bodies told all (o ∷ os) =
 -- E10: the request goes to the start of the editor's group under the next number, with the daemon's tokens, behind a sync; a token that begins as the daemon's do is refused
 abbrev pub forward : Settings → ℕ → List ℕ → Row
 forward settings s body = look (λ events. send (ToServer s (forwarded_text (forwarding_of settings s events).next body)))
-
-abbrev pub has_room : Settings → ℕ → List Event → Bool
-has_room settings s events = nat_lt (forwarding_of settings s events).next settings.limits.requests
 
 abbrev pub can_ask : Settings → ℕ → List Event → Bool
 can_ask settings s events = is_ready (life_of s events).stage && has_room settings s events
@@ -227,6 +225,10 @@ message_row settings before e body m phase = choose (is_begun phase && is_double
 abbrev pub from_editor : Settings → List Event → ℕ → List ℕ → Message → Phase → Row
 from_editor settings before e body m phase = choose (is_malformed m) (malformed_row e m phase) (message_row settings before e body m phase)
 
+-- what an editor's message gives, before the editor is asked what it is owed
+abbrev pub editor_row : Settings → List Event → ℕ → List ℕ → Row
+editor_row settings before e body = from_editor settings before e body (message_of body) (desk_of e before).phase
+
 -- S2: an editor that waits is answered
 abbrev pub welcome : List ℕ → ℕ → Row
 welcome body e = look (λ events. send (ToEditor e (ok_text (id_bytes (desk_of e events).initialize) (shown_of (result_bytes body)))))
@@ -303,10 +305,10 @@ started settings s before other = nothing
 abbrev pub gone_row : Settings → List Event → ℕ → Phase → Row
 gone_row settings before e phase = choose (is_served phase) (leave_row settings before e) nothing
 
--- X6 gives nothing, as each cause without a row of its own does
+-- behind what an editor's message gives the editor is asked what it is owed, where the message goes on; X6 gives nothing, as each cause without a row of its own does
 abbrev pub row_of : Settings → List Event → Cause → Row
 row_of settings before (Joined e) = joined_row before e
-row_of settings before (FromEditor e body) = from_editor settings before e body (message_of body) (desk_of e before).phase
+row_of settings before (FromEditor e body) = editor_row settings before e body ⨾ debts_row settings before e body (message_of body)
 row_of settings before (EditorGone e why) = gone_row settings before e (desk_of e before).phase
 row_of settings before (FromServer s body) = from_server settings s before body (message_of body) (life_of s before).stage
 row_of settings before (Started s) = started settings s before (life_of s before).stage

@@ -2,5 +2,6 @@
 #![tactic(auto)]
 
 pub use held_requests;
+pub use refresh_debts;
 pub use registrations;
 pub use registrations::mux_members;

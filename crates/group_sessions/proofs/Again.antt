@@ -39,6 +39,7 @@ use Rattle.group_facts.proofs.OpenByPhase.{without_last}
 use Rattle.group_facts.proofs.RequestRow.{desk_taken}
 use Rattle.group_facts.proofs.Resuming.{run_questions, stays_there}
 use Rattle.group_facts.proofs.Same.{same_questions}
+use Rattle.group_rows.proofs.DebtsKept.{forth_again, off_forth, whole_off}
 
 -- Outs that are bodies to starts
 
@@ -266,6 +267,8 @@ pub again_rests : (settings : Settings) (before : List Event) (cause : Cause) (e
 again_rests settings before (FromEditor n body) e asks meant fits waiting again h =
     let p = and_parts (nat_eq n e) (not (is_new (desk_of n before).phase) && requests (codes "initialize") (message_of body)) again in
     let same : n ≡ e = number_same n e p.0 in
+    let second = and_parts (not (is_new (desk_of n before).phase)) (requests (codes "initialize") (message_of body)) p.1 in
     subst (λ k. Here k (behind (with_cause before (FromEditor n body)) (outs_of settings before (FromEditor n body)))) same
-    (by_message settings before asks meant n body fits (subst (λ k. Here k before) (sym same) h) (λ at. waits_at before n at waiting) (message_of body) refl p.1)
+    (subst (λ xs. Here n (behind (with_cause before (FromEditor n body)) xs)) (sym (whole_off settings before n body (off_forth settings before n body (message_of body) (forth_again settings before n body (message_of body) second.1))))
+    (by_message settings before asks meant n body fits (subst (λ k. Here k before) (sym same) h) (λ at. waits_at before n at waiting) (message_of body) refl p.1))
 again_rests settings before cause e asks meant fits waiting again h = absurd (cc)

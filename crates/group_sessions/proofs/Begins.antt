@@ -57,6 +57,7 @@ use Rattle.group_sessions.proofs.Tied.{All, IsTied, Place, all_back, has_run, li
 use Rattle.group_rows.specs.Created.{created_of, Token, is_creating}
 use Rattle.group_rows.specs.CreatedRows.{offer_all, offer, create_text}
 use Rattle.group_rows.proofs.CreatedTexts.{create_says}
+use Rattle.group_rows.proofs.DebtsKept.{off_unrun, whole_off}
 
 asks_about : (m : Message) → asks_something m ≡ false → is_about m ≡ false
 asks_about (request id method ps) h = never h
@@ -149,7 +150,7 @@ module _ (settings : Settings) (range : InRange settings) (before : List Event) 
     pub tied : (g t : ℕ) → (desk_of e later).phase ≡ Running → home_of settings e later ≡ Some g → start_of g later ≡ Some t → IsTied settings e t (ids e later) later
 
   first_row : outs_of settings before (FromEditor e body) ≡ outs (message_row settings before e body (message_of body) Answered) now
-  first_row = ap (λ p. outs (from_editor settings before e body (message_of body) p) now) was ∙ ap (λ b. outs (choose b (malformed_row e (message_of body) Answered) (message_row settings before e body (message_of body) Answered)) now) (well_formed (message_of body) runs).0
+  first_row = whole_off settings before e body (off_unrun settings before e body (message_of body) (ap is_running was)) ∙ (ap (λ p. outs (from_editor settings before e body (message_of body) p) now) was ∙ ap (λ b. outs (choose b (malformed_row e (message_of body) Answered) (message_row settings before e body (message_of body) Answered)) now) (well_formed (message_of body) runs).0)
 
   -- its link is to be ended
   doubled : is_doubled before e (message_of body) ≡ true → Outcome

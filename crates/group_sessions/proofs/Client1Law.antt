@@ -12,7 +12,7 @@ use Rattle.session_laws.specs.ClientRules.{KeepsClient1}
 use Rattle.session_laws.proofs.Client1Law.{Everywhere, closes, ends, spawns, to_editor, to_server, took_it}
 use Rattle.group_facts.proofs.Listens.{listens_there}
 use Rattle.group_facts.specs.Legal.{Legal}
-use Rattle.group_facts.specs.Why.{WhyToEditor, calls, rejects, resumes, refuses, answers, turns_away, welcomes, passes, asks, recalls, shows, spreads, progresses, loses, winds_up}
+use Rattle.group_facts.specs.Why.{WhyToEditor, calls, rejects, resumes, refuses, answers, turns_away, welcomes, passes, asks, recalls, shows, spreads, progresses, loses, winds_up, pays}
 use Rattle.group_facts.proofs.RestLaws.{Law, law_holds}
 
 -- each reason of a body to an editor has that it is there
@@ -27,6 +27,7 @@ module _ (settings : Settings) (before : List Event) (cause : Cause) (events : L
   there (passes k) = k.there
   there (asks k) = ap is_there (k.source).running
   there (resumes k) = ap is_there k.running
+  there (pays k) = ap is_there k.running
   there (calls k) = ap is_there k.running
   there (spreads k) = ap is_there (k.source).running
   there (recalls k) = ap is_there (k.source).running

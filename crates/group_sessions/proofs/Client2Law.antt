@@ -15,7 +15,7 @@ use Rattle.session_laws.specs.ClientRules.{KeepsClient2}
 use Rattle.session_laws.proofs.Client2Law.{Everywhere, asks_editor, more, none_yet, refused, to_editor, took_it}
 use Rattle.group_facts.specs.Legal.{Legal}
 use Rattle.group_rows.specs.Asks.{next_ask}
-use Rattle.group_facts.specs.Why.{WhyToEditor, calls, rejects, resumes, refuses, answers, turns_away, welcomes, passes, asks, recalls, shows, spreads, progresses, loses, winds_up}
+use Rattle.group_facts.specs.Why.{WhyToEditor, calls, rejects, resumes, refuses, answers, turns_away, welcomes, passes, asks, recalls, shows, spreads, progresses, loses, winds_up, pays}
 use Rattle.group_facts.proofs.RestLaws.{Law, law_holds}
 
 -- a response with this id
@@ -37,6 +37,7 @@ module _ (settings : Settings) (before : List Event) (cause : Cause) (events : L
   told_it (welcomes k) h i = to_editor events e body k.id (is_result k.r k.says) (k.waiting).waits i
   told_it (asks k) h i = asks_editor events e body (request (integer (decimal (next_ask e events))) k.method k.params) k.says refl i
   told_it (resumes k) h i = asks_editor events e body (request (integer (decimal (next_ask e events))) k.method k.params) k.says refl i
+  told_it (pays k) h i = asks_editor events e body (request (integer (decimal (next_ask e events))) (k.debt).method k.params) k.says refl i
   told_it (calls k) h i = asks_editor events e body (request (integer (decimal (next_ask e events))) k.method k.params) k.says refl i
   told_it (spreads k) h i = asks_editor events e body (notification k.method k.params) k.says refl i
   told_it (recalls k) h i = asks_editor events e body (notification (codes "$/cancelRequest") (Some k.params)) k.says refl i

@@ -29,7 +29,7 @@ use Rattle.group_rows.specs.Rows.{outs_of}
 use Rattle.group_rows.specs.Tokens.{listens}
 use Rattle.group_facts.specs.Facts.{Asks}
 use Rattle.group_facts.specs.Legal.{Legal}
-use Rattle.group_facts.specs.Why.{IsBeside, WhyToEditor, calls, rejects, resumes, refuses, answers, turns_away, welcomes, passes, asks, recalls, shows, spreads, progresses, loses, winds_up}
+use Rattle.group_facts.specs.Why.{IsBeside, WhyToEditor, calls, rejects, resumes, refuses, answers, turns_away, welcomes, passes, asks, recalls, shows, spreads, progresses, loses, winds_up, pays}
 use Rattle.group_facts.proofs.RestLaws.{RestLaw, rest_holds}
 use Rattle.group_rows.proofs.Versions.{AllMeant}
 use Rattle.group_sessions.proofs.Again.{again_rests}
@@ -316,6 +316,7 @@ module _ (events : List Event) (n : ℕ) (body : List ℕ) where
   heard_it settings before cause (welcomes k) h = welcome_told k.id (k.waiting).params k.r (k.waiting).phase (k.waiting).asks (k.waiting).waits k.says h
   heard_it settings before cause (asks k) h = asked_told (request (integer (decimal (next_ask n events))) k.method k.params) (k.source).running k.says refl h
   heard_it settings before cause (resumes k) h = asked_told (request (integer (decimal (next_ask n events))) k.method k.params) k.running k.says refl h
+  heard_it settings before cause (pays k) h = asked_told (request (integer (decimal (next_ask n events))) (k.debt).method k.params) k.running k.says refl h
   heard_it settings before cause (calls k) h = asked_told (request (integer (decimal (next_ask n events))) k.method k.params) k.running k.says refl h
   heard_it settings before cause (spreads k) h = asked_told (notification k.method k.params) (k.source).running k.says refl h
   heard_it settings before cause (recalls k) h = asked_told (notification (codes "$/cancelRequest") (Some k.params)) (k.source).running k.says refl h

@@ -15,7 +15,7 @@ use Rattle.session_laws.proofs.Client4Law.{free_4, next_counted}
 use Rattle.session_laws.proofs.PartLaws.{either_same, part_tied, same_if}
 use Rattle.group_rows.specs.Asks.{asked_behind, next_ask}
 use Rattle.group_facts.specs.Legal.{Legal}
-use Rattle.group_facts.specs.Why.{WhyToEditor, answers, asks, passes, recalls, refuses, calls, rejects, resumes, shows, spreads, turns_away, welcomes, progresses, loses, winds_up}
+use Rattle.group_facts.specs.Why.{WhyToEditor, answers, asks, passes, recalls, refuses, calls, rejects, resumes, shows, spreads, turns_away, welcomes, progresses, loses, winds_up, pays}
 use Rattle.group_sessions.proofs.PartLaws.{EditorRule, editor_history}
 use Rattle.group_sessions.proofs.Server3Law.{response_numbered}
 
@@ -49,6 +49,7 @@ module _ (settings : Settings) (before : List Event) (cause : Cause) (events : L
   numbered (passes k) = response_numbered (asks_of (editor_part e events) + 1) (message_of body) k.response
   numbered (asks k) = subst Numbered (sym k.says) (ap (λ n. integer (decimal n)) (next_by_part e events))
   numbered (resumes k) = subst Numbered (sym k.says) (ap (λ n. integer (decimal n)) (next_by_part e events))
+  numbered (pays k) = subst Numbered (sym k.says) (ap (λ n. integer (decimal n)) (next_by_part e events))
   numbered (calls k) = subst Numbered (sym k.says) (ap (λ n. integer (decimal n)) (next_by_part e events))
   numbered (spreads k) = subst Numbered (sym k.says) tt
   numbered (recalls k) = subst Numbered (sym k.says) tt

@@ -16,7 +16,7 @@ use Rattle.session_laws.proofs.Client4Law.{free_5}
 use Rattle.session_laws.proofs.PartLaws.{either_same, part_tied, same_if}
 use Rattle.group_facts.specs.Facts.{asked_of, editor_behind}
 use Rattle.group_facts.specs.Legal.{Legal}
-use Rattle.group_facts.specs.Why.{WhyToEditor, answers, asks, passes, recalls, refuses, calls, rejects, resumes, shows, spreads, turns_away, welcomes, progresses, loses, winds_up, Losing, ends, frees, empties}
+use Rattle.group_facts.specs.Why.{WhyToEditor, answers, asks, passes, recalls, refuses, calls, rejects, resumes, shows, spreads, turns_away, welcomes, progresses, loses, winds_up, Losing, ends, frees, empties, pays}
 use Rattle.group_facts.proofs.Spreads.{list_no_cancel, not_cancel, progress_no_cancel}
 use Rattle.group_sessions.proofs.PartLaws.{EditorRule, editor_history}
 use Rattle.session_laws.proofs.Server6Law.{response_free}
@@ -52,6 +52,7 @@ module _ (settings : Settings) (before : List Event) (cause : Cause) (events : L
   may_go (passes k) = response_free ids (message_of body) k.response
   may_go (asks k) = subst May (sym k.says) refl
   may_go (resumes k) = subst May (sym k.says) refl
+  may_go (pays k) = subst May (sym k.says) refl
   may_go (calls k) = subst May (sym k.says) refl
   may_go (spreads k) = subst May (sym k.says) (ap (λ b. not b || is_among (cancelled_id k.params) ids) (not_cancel k.method k.class))
   may_go (recalls k) = subst May (sym k.says) (ap (λ j. is_among (id_at j) ids) k.named ∙ ap (λ i. is_among i ids) k.id ∙ ap (is_open (integer (decimal (k.ask).number))) (sym (open_by_part e events)) ∙ k.open_there)

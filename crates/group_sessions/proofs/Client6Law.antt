@@ -37,7 +37,7 @@ use Rattle.group_rows.specs.Rows.{outs_of}
 use Rattle.group_rows.specs.Tokens.{is_mark, is_told, marked_text, own_token, partial_mark, work_mark, listens}
 use Rattle.group_rows.proofs.CreatedTexts.{created_is}
 use Rattle.group_facts.specs.Legal.{Legal}
-use Rattle.group_facts.specs.Why.{IsNotified, Telling, Why, WhyToEditor, answers, asks, calls, of_held, of_request, of_token, passes, progresses, recalls, refuses, rejects, resumes, shows, spreads, turns_away, welcomes, loses, quitting, winds_up}
+use Rattle.group_facts.specs.Why.{IsNotified, Telling, Why, WhyToEditor, answers, asks, calls, of_held, of_request, of_token, passes, progresses, recalls, refuses, rejects, resumes, shows, spreads, turns_away, welcomes, loses, quitting, winds_up, pays}
 use Rattle.group_facts.proofs.Facts.{Facts}
 use Rattle.group_rows.proofs.Frames.{forwarding_more}
 use Rattle.group_facts.proofs.Known.{Here, here_did, here_took}
@@ -167,6 +167,7 @@ module _ (settings : Settings) (range : InRange settings) (before : List Event) 
     may_go (passes k) h = names_freely (codes "$/progress") tokens (message_of body) k.response
     may_go (asks k) h = subst May (sym k.says) refl
     may_go (resumes k) h = subst May (sym k.says) refl
+    may_go (pays k) h = subst May (sym k.says) refl
     may_go (calls k) h = subst May (sym k.says) refl
     may_go (spreads k) h = subst May (sym k.says) (ap (λ b. not b || is_one (token_at (codes "token") k.params) tokens) (not_progress k.method k.class))
     may_go (winds_up k) h = subst May (sym k.says) (go (bytes_eq k.method (codes "$/progress")) refl)

@@ -30,9 +30,9 @@ use Rattle.group_rows.specs.Created.{Created, Taking, Token, accepts, answered, 
 use Rattle.group_rows.specs.Forwarded.{names}
 use Rattle.group_rows.specs.Live.{is_registering}
 use Rattle.group_rows.specs.Rows.{outs_of}
-use Rattle.group_facts.specs.Why.{Why, WhyToEditor, answers, asks, asks_something, calls, passes, progresses, recalls, refuses, rejects, resumes, shows, spreads, turns_away, welcomes, loses, winds_up}
+use Rattle.group_facts.specs.Why.{Why, WhyToEditor, answers, asks, asks_something, calls, passes, progresses, recalls, refuses, rejects, resumes, shows, spreads, turns_away, welcomes, loses, winds_up, pays}
 use Rattle.group_facts.proofs.AskSeats.{asks_more, did_all, took_all}
-use Rattle.group_facts.proofs.Asks.{call_hurried, is_question, listed, registering_made, response_asks_none, resumed_here, resumed_off, taken}
+use Rattle.group_facts.proofs.Asks.{call_hurried, is_question, listed, registering_made, response_asks_none, resumed_here, resumed_off, taken, paid_made}
 use Rattle.group_facts.proofs.Reached.{Reached, facts_at}
 use Rattle.group_facts.proofs.Facts.{Facts}
 use Rattle.group_facts.proofs.Marks.{mark_number}
@@ -251,6 +251,7 @@ module _ (settings : Settings) (before : List Event) (cause : Cause) where
             (all_join (IsPlain later) (asks_of settings k.start events) (taken settings events n body before cause k ∷ []) (still_plain k.start (subst (λ z. AllByRecursion (IsPlain events) (asks_of settings z events)) (sym (number_same k.start s same)) h))
             (new_plain (integer (decimal (next_ask n events))) k.method k.params k.says (off_creating k.method k.patient), tt)))
         go false other = asks_more settings (IsPlain later) s events (said (ToEditor n body)) _ (ap (λ (x : Asking). x.asks) (resumed_off settings events n body before cause k s other)) (still_plain s h)
+    told_plain (pays k) s h = asks_more settings (IsPlain later) s events (said (ToEditor n body)) _ (ap (λ (x : Asking). x.asks) (paid_made settings events n body before cause k s)) (still_plain s h)
     told_plain (calls k) s h = asks_more settings (IsPlain later) s events (said (ToEditor n body)) _ (ap (λ (x : Asking). x.asks) (registering_made settings events n body before cause k s)) (still_plain s h)
     told_plain (rejects k) s h = did_all settings (IsPlain later) s events (ToEditor n body) (ap is_question k.says) (still_plain s h)
     told_plain (refuses k) s h = did_all settings (IsPlain later) s events (ToEditor n body) (ap is_question k.says) (still_plain s h)
@@ -277,6 +278,7 @@ module _ (settings : Settings) (before : List Event) (cause : Cause) where
     room : WhyToEditor settings before cause events n body → asks_something (message_of body) ≡ true → has_number n events ≡ true
     room (asks k) is = k.room
     room (resumes k) is = k.room
+    room (pays k) is = k.room
     room (calls k) is = k.room
     room (rejects k) is = never (sym is ∙ ap asks_something k.says)
     room (refuses k) is = never (sym is ∙ ap asks_something k.says)

@@ -36,7 +36,7 @@ use Rattle.group_rows.specs.Forwarded.{Forwarded, forwarding_of, names as names_
 use Rattle.group_rows.specs.Rows.{from_editor, from_server, outs_of}
 use Rattle.group_rows.specs.Tokens.{is_mark, is_told, listens, mark, marked_text, own_token, partial_mark, tell_progress, work_mark}
 use Rattle.group_facts.specs.Settled.{HasTaken, RunsAt, Settled}
-use Rattle.group_facts.specs.Why.{IsNotified, IsTaken, Showing, Why, WhyToEditor, answers, asks, begins_by, calls, comes, opened_by, passes, progresses, recalls, refuses, rejects, resumes, shows, spreads, turns_away, welcomes, loses, winds_up}
+use Rattle.group_facts.specs.Why.{IsNotified, IsTaken, Showing, Why, WhyToEditor, answers, asks, begins_by, calls, comes, opened_by, passes, progresses, recalls, refuses, rejects, resumes, shows, spreads, turns_away, welcomes, loses, winds_up, pays}
 use Rattle.group_facts.proofs.Facts.{Facts}
 use Rattle.group_sessions.proofs.Accepted.{NamesToken}
 use Rattle.group_sessions.proofs.Client6Law.{created_id}
@@ -46,6 +46,7 @@ use Rattle.group_sessions.proofs.Marked.{Marked, marked}
 use Rattle.group_sessions.proofs.TakingTies.{find_true}
 use Rattle.group_sessions.specs.Due.{names_mark, sent_by}
 use Rattle.group_sessions.proofs.DueSent.{flat_kept, flat_map_map, none_found, one_of, only_one, progress_named, sent_outs, tells_as}
+use Rattle.group_rows.proofs.DebtsKept.{forth_accepting, off_forth, whole_off}
 
 -- a body for each
 outs_each : {A : Type 0} (f : A → Out) (xs : List A) (events : List Event) → outs (each (λ a. send (f a)) xs) events ≡ map f xs
@@ -187,7 +188,7 @@ module _ (settings : Settings) (before : List Event) (facts : Facts settings bef
     by_message not_message h = never (sym h)
 
     handed_is : outs_of settings before (FromEditor e body) ≡ map handed c.held
-    handed_is = ap (λ p. outs (from_editor settings before e body (message_of body) p) moment) seat.running
+    handed_is = whole_off settings before e body (off_forth settings before e body (message_of body) (forth_accepting settings before e body (message_of body) agrees)) ∙ (ap (λ p. outs (from_editor settings before e body (message_of body) p) moment) seat.running
         ∙ (by_message (message_of body) agrees
         ∙ (ap (λ o. outs (on o nothing (λ g. on (start_of g before) nothing (response_at settings before e body (message_of body)))) moment) (seat.home ∙ seat.kept)
         ∙ (ap (λ o. outs (on o nothing (response_at settings before e body (message_of body))) moment) seat.last
@@ -196,7 +197,7 @@ module _ (settings : Settings) (before : List Event) (facts : Facts settings bef
         ∙ (ap (λ b. outs (choose b (on (find (is_answered e (answered_id (message_of body))) x.takings) nothing (hand_out s e (message_of body))) nothing) moment) (ap is_running seat.running)
         ∙ (ap (λ o. outs (on o nothing (hand_out s e (message_of body))) moment) found
         ∙ (ap (λ b. outs (choose b (each (tell s c.token e) c.held) nothing) moment) agrees
-        ∙ outs_each handed c.held moment))))))))
+        ∙ outs_each handed c.held moment)))))))))
 
     -- each of them is progress
     progress_of : (events : List Event) (out : List ℕ) → WhyToEditor settings before (FromEditor e body) events e out → (method : List ℕ) (params : Option Json) → message_of out ≡ notification method params → is_progress method ≡ true
@@ -230,6 +231,7 @@ module _ (settings : Settings) (before : List Event) (facts : Facts settings bef
     progress_of events out (passes w) method params says = never (sym w.response ∙ ap is_response says)
     progress_of events out (asks w) method params says = absurd (let clash = sym says ∙ w.says in cc)
     progress_of events out (resumes w) method params says = absurd (let clash = sym says ∙ w.says in cc)
+    progress_of events out (pays w) method params says = absurd (let clash = sym says ∙ w.says in cc)
     progress_of events out (calls w) method params says = absurd (let clash = sym says ∙ w.says in cc)
 
     all_sent : (bodies : List (List ℕ)) → NameTokens bodies → (events : List Event) → Reasons (Why settings before (FromEditor e body)) events (map handed bodies) → sent_outs s c.token e (map handed bodies) ≡ map (marked_text (created_text s c.token)) bodies

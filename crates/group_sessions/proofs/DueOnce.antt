@@ -47,7 +47,7 @@ use Rattle.group_rows.proofs.CreatedTexts.{create_says, create_tree}
 use Rattle.group_rows.proofs.LiveTexts.{again_written, live_written, register_says, registered_written, unregister_says}
 use Rattle.group_facts.specs.Facts.{IsParked}
 use Rattle.group_facts.specs.Settled.{Settled}
-use Rattle.group_facts.specs.Why.{Calling, IsCall, IsChange, IsRestoring, Why, WhyToEditor, answers, asks, asks_something, calls, creates, displaces, enrols, passes, progresses, recalls, refuses, rejects, releases, restores, resumes, revives, shows, spreads, turns_away, welcomes, loses, winds_up, forgets}
+use Rattle.group_facts.specs.Why.{Calling, IsCall, IsChange, IsRestoring, Why, WhyToEditor, answers, asks, asks_something, calls, creates, displaces, enrols, passes, progresses, recalls, refuses, rejects, releases, restores, resumes, revives, shows, spreads, turns_away, welcomes, loses, winds_up, forgets, pays}
 use Rattle.group_facts.proofs.Asks.{is_question, response_asks_none}
 use Rattle.group_facts.proofs.Begun.{all_outs, leave_by}
 use Rattle.group_facts.proofs.Facts.{Facts}
@@ -70,6 +70,7 @@ use Rattle.group_sessions.proofs.DueClear.{off_creating}
 use Rattle.group_sessions.proofs.DueEvents.{Rest, Tie, dead, going, num_off, words_more}
 use Rattle.group_sessions.proofs.DueLaw.{AskedOnce}
 use Rattle.group_sessions.proofs.DueWords.{any_join, none_join}
+use Rattle.group_rows.proofs.DebtsKept.{refresh_uncreating, off_unrun, whole_off}
 
 abbrev makes : Message → Bool
 makes (request id method params) = is_creating method
@@ -271,6 +272,7 @@ module _ (settings : Settings) (range : InRange settings) (before : List Event) 
   origin events n body (calls w) a = called_origin events n body w a w.told
   origin events n body (asks w) a = never (sym (asking_makes events n body a) ∙ (ap makes w.says ∙ w.plain))
   origin events n body (resumes w) a = never (sym (asking_makes events n body a) ∙ (ap makes w.says ∙ off_creating w.method w.patient))
+  origin events n body (pays w) a = never (sym (asking_makes events n body a) ∙ (ap makes w.says ∙ refresh_uncreating (w.debt).method w.wants))
   origin events n body (rejects w) a = never (sym (asking_makes events n body a) ∙ ap makes w.says)
   origin events n body (refuses w) a = never (sym (asking_makes events n body a) ∙ ap makes w.says)
   origin events n body (loses w) a = never (sym (asking_makes events n body a) ∙ ap makes w.says)
@@ -289,6 +291,7 @@ module _ (settings : Settings) (range : InRange settings) (before : List Event) 
   asked_runs events n body (calls w) a = w.running
   asked_runs events n body (asks w) a = never (sym (asking_makes events n body a) ∙ (ap makes w.says ∙ w.plain))
   asked_runs events n body (resumes w) a = never (sym (asking_makes events n body a) ∙ (ap makes w.says ∙ off_creating w.method w.patient))
+  asked_runs events n body (pays w) a = w.running
   asked_runs events n body (rejects w) a = never (sym (asking_makes events n body a) ∙ ap makes w.says)
   asked_runs events n body (refuses w) a = never (sym (asking_makes events n body a) ∙ ap makes w.says)
   asked_runs events n body (loses w) a = never (sym (asking_makes events n body a) ∙ ap makes w.says)
@@ -571,7 +574,7 @@ module _ (settings : Settings) (range : InRange settings) (before : List Event) 
     unasked_there = unasked_now (FromEditor e body) (unasked_by (λ h. let clash : true ≡ false = sym (ran h) ∙ ap has_run was in cc))
 
     first_row : outs_of settings before (FromEditor e body) ≡ outs (message_row settings before e body (message_of body) Answered) there
-    first_row = ap (λ p. outs (from_editor settings before e body (message_of body) p) there) was ∙ ap (λ b. outs (choose b (malformed_row e (message_of body) Answered) (message_row settings before e body (message_of body) Answered)) there) (well_formed (message_of body) runs).0
+    first_row = whole_off settings before e body (off_unrun settings before e body (message_of body) (ap is_running was)) ∙ (ap (λ p. outs (from_editor settings before e body (message_of body) p) there) was ∙ ap (λ b. outs (choose b (malformed_row e (message_of body) Answered) (message_row settings before e body (message_of body) Answered)) there) (well_formed (message_of body) runs).0)
 
     doubled : is_doubled before e (message_of body) ≡ true → Reasons Once there (outs_of settings before (FromEditor e body))
     doubled twice = subst (Reasons Once there) (sym (first_row ∙ ap (λ b. outs (choose b (closing_row settings before e) (told_row settings before e body (message_of body) Answered)) there) twice))

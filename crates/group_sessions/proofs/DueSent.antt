@@ -26,7 +26,7 @@ use Rattle.group_rows.specs.Created.{Created, Taking, Token, created_mark, creat
 use Rattle.group_rows.specs.Forwarded.{forwarding_of}
 use Rattle.group_rows.specs.Tokens.{is_told, marked_text}
 use Rattle.group_facts.specs.Settled.{Settled}
-use Rattle.group_facts.specs.Why.{IsNotified, IsTaken, Telling, Why, WhyToEditor, answers, asks, calls, of_held, of_request, of_token, passes, progresses, recalls, refuses, rejects, resumes, shows, spreads, turns_away, welcomes, loses, IsLost, Losing, ends, frees, empties, winds_up}
+use Rattle.group_facts.specs.Why.{IsNotified, IsTaken, Telling, Why, WhyToEditor, answers, asks, calls, of_held, of_request, of_token, passes, progresses, recalls, refuses, rejects, resumes, shows, spreads, turns_away, welcomes, loses, IsLost, Losing, ends, frees, empties, winds_up, pays}
 use Rattle.group_facts.proofs.Facts.{Facts}
 use Rattle.group_facts.proofs.Marks.{mark_number, mark_start}
 use Rattle.group_sessions.proofs.Accepted.{NamesToken}
@@ -264,6 +264,7 @@ module _ (settings : Settings) (before : List Event) (facts : Facts settings bef
   source events body (passes w) h = never (sym h ∙ silent s k (message_of body) w.response)
   source events body (asks w) h = never (sym h ∙ ap (names_mark s k) w.says)
   source events body (resumes w) h = never (sym h ∙ ap (names_mark s k) w.says)
+  source events body (pays w) h = never (sym h ∙ ap (names_mark s k) w.says)
   source events body (calls w) h = never (sym h ∙ ap (names_mark s k) w.says)
   source events body (spreads w) h = never (sym h ∙ (ap (names_mark s k) w.says ∙ ap (λ b. b && option_map_or (bytes_eq (created_mark s k)) (string_of (named_of (codes "token") w.params)) false) (not_progress w.method w.class)))
   source events body (shows w) h = never (sym h ∙ (ap (names_mark s k) w.says ∙ ap (λ b. b && option_map_or (bytes_eq (created_mark s k)) (string_of (named_of (codes "token") w.params)) false) (list_no_progress w.method w.class)))

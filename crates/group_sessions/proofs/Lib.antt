@@ -77,3 +77,6 @@ pub mod ExitsOver
 pub mod Replayed
 pub mod ReplayLaw
 pub mod WorkedExits
+pub mod Owed
+pub mod Onwards
+pub mod RefreshLaw

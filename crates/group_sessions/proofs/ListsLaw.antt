@@ -3,7 +3,7 @@ use Rattle.std.proofs.Common.{◌≡◌, ℕ, Bool, true, false, ◌&&◌, List,
 use Rattle.std.specs.List.{AllByRecursion}
 use Rattle.std.specs.Option.{option_map_or}
 use Rattle.json_text.specs.Json.{Json}
-use Rattle.document_model.specs.Sayings.{opens, saying_by, saying_of}
+use Rattle.document_model.specs.Sayings.{opens, saying_by, saying_of, speaks}
 use Rattle.mux_history.specs.declared.cause.Cause.{Cause}
 use Rattle.mux_history.specs.declared.cause.Cause.TheVariants.{Joined, FromEditor, EditorGone, Started, StartFailed, FromServer, ServerGone, Drained, Tick}
 use Rattle.mux_history.specs.declared.entry.Entry.{Entry}
@@ -59,6 +59,7 @@ use Rattle.group_facts.specs.SlowRows.{slow_row}
 use Rattle.group_facts.specs.Facts.{is_exit}
 use Rattle.group_facts.proofs.ExitEntry.{failed_exit, gone_exit}
 use Rattle.group_sessions.proofs.ListsLost.{ending_lists}
+use Rattle.group_rows.proofs.DebtsKept.{forth_speaking, off_forth, off_unrun, whole_off}
 
 -- Editors that run
 
@@ -139,7 +140,7 @@ module _ (settings : Settings) (range : InRange settings) (before : List Event) 
           (λ s. ap₂ (λ b w. (if b then [] else full settings before (facts.base).meant (facts.steady).asks e s) ++ due_opening settings e after w s) (sym (ap is_running runs)) (sym (ap saying_of is ∙ says))))))
         where
           row_is : xs ≡ outs (served_row settings before e body (notification method params)) now
-          row_is = ap (λ p. outs (from_editor settings before e body m p) now) runs ∙ ap (λ w. outs (from_editor settings before e body w Running) now) is
+          row_is = whole_off settings before e body (off_forth settings before e body m (forth_speaking settings before e body m (ap speaks (ap saying_of is ∙ says)))) ∙ (ap (λ p. outs (from_editor settings before e body m p) now) runs ∙ ap (λ w. outs (from_editor settings before e body w Running) now) is)
 
           bodies : AllByRecursion IsBody xs
           bodies = subst (AllByRecursion IsBody) (sym (row_is ∙ opened_row settings before e body u l v t method params says now))
@@ -204,7 +205,7 @@ module _ (settings : Settings) (range : InRange settings) (before : List Event) 
 
     module _ (waited : (desk_of e before).phase ≡ Answered) (runs : makes_running m ≡ true) (running : (desk_of e now).phase ≡ Running) where
       first_row : xs ≡ outs (message_row settings before e body m Answered) now
-      first_row = ap (λ p. outs (from_editor settings before e body m p) now) waited ∙ ap (λ b. outs (choose b (malformed_row e m Answered) (message_row settings before e body m Answered)) now) (well_formed m runs).0
+      first_row = whole_off settings before e body (off_unrun settings before e body m (ap is_running waited)) ∙ (ap (λ p. outs (from_editor settings before e body m p) now) waited ∙ ap (λ b. outs (choose b (malformed_row e m Answered) (message_row settings before e body m Answered)) now) (well_formed m runs).0)
 
       doubled : is_doubled before e m ≡ true → Sends
       doubled twice = rests_after (ap (λ z. is_running (desk_of e z).phase) (ap (behind now) row_is ∙ behind_both now (CloseEditor e ∷ []) parted) ∙ unrun_more settings before (FromEditor e body) e shut parted closed)

@@ -15,7 +15,7 @@ use Rattle.mux_facts.specs.Allowed.{is_response}
 use Rattle.mux_facts.proofs.Reasons.{Because, Reasons}
 use Rattle.mux_facts.proofs.Words.{number_same}
 use Rattle.group_rows.specs.Lists.{is_publishing, names_list}
-use Rattle.group_facts.specs.Why.{IsShown, Why, WhyToEditor, answers, asks, calls, passes, progresses, recalls, refuses, rejects, resumes, shows, spreads, turns_away, welcomes, loses, IsLosing, winds_up}
+use Rattle.group_facts.specs.Why.{IsShown, Why, WhyToEditor, answers, asks, calls, passes, progresses, recalls, refuses, rejects, resumes, shows, spreads, turns_away, welcomes, loses, IsLosing, winds_up, pays}
 use Rattle.group_facts.proofs.Begun.{all_outs}
 use Rattle.group_sessions.proofs.DueWords.{flat_join}
 use Rattle.group_sessions.proofs.Tied.{all_back, runs_on}
@@ -71,6 +71,7 @@ module _ (settings : Settings) (before : List Event) (cause : Cause) where
   plain_or events n body (passes k) = inl (response_gives (message_of body) k.response)
   plain_or events n body (asks k) = inl (ap gives_list k.says)
   plain_or events n body (resumes k) = inl (ap gives_list k.says)
+  plain_or events n body (pays k) = inl (ap gives_list k.says)
   plain_or events n body (calls k) = inl (ap gives_list k.says)
   plain_or events n body (spreads k) = inl (ap gives_list k.says ∙ ap names_list k.class)
   plain_or events n body (recalls k) = inl (ap gives_list k.says ∙ cancel_gives)

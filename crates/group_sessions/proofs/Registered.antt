@@ -29,7 +29,7 @@ use Rattle.session_laws.proofs.Client4Law.{is_told}
 use Rattle.session_laws.proofs.Client7Law.{free_7}
 use Rattle.group_rows.specs.Live.{changes_live, is_registering, live_of, unregister_text}
 use Rattle.group_rows.specs.Rows.{outs_of}
-use Rattle.group_facts.specs.Why.{progresses, IsAsk, IsChange, IsResumed, Calling, Why, WhyToEditor, answers, asks, displaces, enrols, passes, recalls, refuses, calls, rejects, releases, restores, creates, revives, resumes, shows, spreads, turns_away, welcomes, loses, winds_up, IsCall, IsLost, forgets}
+use Rattle.group_facts.specs.Why.{progresses, IsAsk, IsChange, IsResumed, Calling, Why, WhyToEditor, answers, asks, displaces, enrols, passes, recalls, refuses, calls, rejects, releases, restores, creates, revives, resumes, shows, spreads, turns_away, welcomes, loses, winds_up, IsCall, IsLost, forgets, pays}
 use Rattle.group_facts.proofs.Asks.{call_hurried}
 use Rattle.group_facts.proofs.Facts.{Facts}
 use Rattle.group_facts.proofs.Table.{reasons}
@@ -42,6 +42,7 @@ use Rattle.group_rows.specs.LiveTexts.{AreWritten}
 use Rattle.group_rows.proofs.LiveTexts.{live_written, unregister_says}
 use Rattle.registrations.specs.declared.registration.Registration.{Registration}
 use Rattle.std.proofs.lemmas.List.Sums.{fold-append}
+use Rattle.group_rows.proofs.DebtsKept.{refresh_unregistering}
 
 abbrev pub ids : ℕ → List Event → List (List ℕ)
 ids e events = registered_of (editor_part e events)
@@ -188,6 +189,7 @@ module _ (settings : Settings) (before : List Event) (cause : Cause) (same : is_
     plain_or (passes k) = inl (response_plain (message_of body) k.response)
     plain_or (asks k) = inl (asked_plain k)
     plain_or (resumes k) = inl (resumed_plain k)
+    plain_or (pays k) = inl (ap is_about k.says ∙ refresh_unregistering (k.debt).method k.wants)
     plain_or (calls k) = registers_or k (small_number n events k.room) k.told
     plain_or (spreads k) = inl (ap is_about k.says)
     plain_or (recalls k) = inl (ap is_about k.says)

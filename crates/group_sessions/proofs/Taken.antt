@@ -37,7 +37,7 @@ use Rattle.group_rows.specs.Rows.{outs_of}
 use Rattle.group_rows.specs.Tokens.{is_told, marked_text}
 use Rattle.group_facts.specs.Facts.{shuts, is_exit}
 use Rattle.group_facts.specs.Settled.{IsSeated, Settled, is_answered as is_answered_phase}
-use Rattle.group_facts.specs.Why.{IsNotified, IsTaken, Telling, Why, WhyToEditor, answers, asks, calls, of_held, of_request, of_token, passes, progresses, recalls, refuses, rejects, resumes, shows, spreads, turns_away, welcomes, loses, winds_up, Losing, ends, frees, empties}
+use Rattle.group_facts.specs.Why.{IsNotified, IsTaken, Telling, Why, WhyToEditor, answers, asks, calls, of_held, of_request, of_token, passes, progresses, recalls, refuses, rejects, resumes, shows, spreads, turns_away, welcomes, loses, winds_up, Losing, ends, frees, empties, pays}
 use Rattle.group_facts.proofs.Facts.{Facts}
 use Rattle.group_facts.proofs.Known.{Here, here_did, here_took}
 use Rattle.group_facts.proofs.Reached.{Reached, facts_at, settled_at}
@@ -179,6 +179,7 @@ asked_ran settings before cause events n body (passes k) is = no_request (messag
     no_request _ h e = never (sym e)
 asked_ran settings before cause events n body (asks k) is = ap has_run (k.source).running
 asked_ran settings before cause events n body (resumes k) is = ap has_run k.running
+asked_ran settings before cause events n body (pays k) is = ap has_run k.running
 asked_ran settings before cause events n body (calls k) is = ap has_run k.running
 asked_ran settings before cause events n body (spreads k) is = never (sym is ∙ ap is_request k.says)
 asked_ran settings before cause events n body (recalls k) is = never (sym is ∙ ap is_request k.says)
@@ -385,6 +386,7 @@ module _ (settings : Settings) (range : InRange settings) (before : List Event) 
     tied_now (passes k) known = tied_response Stands settings events n body k.response i.tied
     tied_now (asks k) known = tied_request Stands settings events n body k.method k.params k.says i.tied
     tied_now (resumes k) known = tied_request Stands settings events n body k.method k.params k.says i.tied
+    tied_now (pays k) known = tied_request Stands settings events n body (k.debt).method k.params k.says i.tied
     tied_now (calls k) known = tied_request Stands settings events n body k.method k.params k.says i.tied
     tied_now (spreads k) known = tied_notified Stands settings events n body k.method k.params k.says (λ s. untold k.method k.params (not_progress k.method k.class) s (created_of settings s events).takings) i.tied
     tied_now (recalls k) known = tied_notified Stands settings events n body (codes "$/cancelRequest") (Some k.params) k.says (λ s. untold (codes "$/cancelRequest") (Some k.params) refl s (created_of settings s events).takings) i.tied

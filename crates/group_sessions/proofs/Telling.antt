@@ -21,7 +21,7 @@ use Rattle.session_laws.proofs.Client6Law.{tokened, tokened_grows, tokened_left}
 use Rattle.session_laws.proofs.Tokens.{holds}
 use Rattle.group_rows.specs.Forwarded.{Forwarded, Forwarding, answered_by, cancelled_by, forwarding_next, forwarding_of, forwards, is_written, no_forwarding, numbered, Sender, sender_or, first_sender}
 use Rattle.group_facts.specs.Facts.{AllForwarded, IsAlone, is_early}
-use Rattle.group_facts.specs.Why.{WhyToEditor, answers, asks, calls, passes, progresses, recalls, refuses, rejects, resumes, shows, spreads, turns_away, welcomes, loses, winds_up}
+use Rattle.group_facts.specs.Why.{WhyToEditor, answers, asks, calls, passes, progresses, recalls, refuses, rejects, resumes, shows, spreads, turns_away, welcomes, loses, winds_up, pays}
 use Rattle.group_facts.proofs.Apart.{alone_early}
 use Rattle.group_rows.proofs.Frames.{forwarding_more}
 use Rattle.group_facts.proofs.Forwards.{zip_all}
@@ -212,6 +212,7 @@ module _ (settings : Settings) (before : List Event) (cause : Cause) (events : L
   alone_answered on asked (passes k) = one k.id k.answers k.alone
   alone_answered on asked (asks k) = none (ap answered_id k.says)
   alone_answered on asked (resumes k) = none (ap answered_id k.says)
+  alone_answered on asked (pays k) = none (ap answered_id k.says)
   alone_answered on asked (calls k) = none (ap answered_id k.says)
   alone_answered on asked (spreads k) = none (ap answered_id k.says)
   alone_answered on asked (recalls k) = none (ap answered_id k.says)

@@ -46,6 +46,8 @@ use Rattle.group_facts.proofs.LastStarts.{AllLast}
 use Rattle.group_facts.proofs.Reached.{Reached, rests_at}
 use Rattle.group_sessions.proofs.Accepted.{accepted}
 use Rattle.group_sessions.proofs.TakingTies.{accepted_more}
+use Rattle.group_rows.proofs.DebtsKept.{off_forth, whole_off}
+use Rattle.group_rows.specs.Debts.{goes_forth}
 
 -- An editor that runs, at home in the group whose last start is s
 pub record RunsIn (settings : Settings) (events : List Event) (s e : ℕ) : Type 0 where
@@ -282,9 +284,9 @@ module _ (settings : Settings) (before : List Event) (e : ℕ) (body : List ℕ)
       here n s taking k = none s taking (subst (λ z. IsTaken settings before (FromEditor e body) z s taking) (sym (same n k.answer k.from)) k)
 
   by_phase : (m : Message) → message_of body ≡ m → (id : Option Id) (r : Json) → m ≡ result id r → (phase : Phase) → (desk_of e before).phase ≡ phase → Each
-  by_phase m says id r is Running at = subst (λ p. Reasons Said_known asked_now (outs (from_editor settings before e body (message_of body) p) asked_now)) (sym at)
+  by_phase m says id r is Running at = subst (Reasons Said_known asked_now) (sym (whole_off settings before e body (off_forth settings before e body (message_of body) (λ s. ap (goes_forth settings s before e body) (says ∙ is))))) (subst (λ p. Reasons Said_known asked_now (outs (from_editor settings before e body (message_of body) p) asked_now)) (sym at)
       (subst (λ w. Reasons Said_known asked_now (outs (from_editor settings before e body w Running) asked_now)) (sym (says ∙ is))
-      (subst (λ w. Reasons Said_known asked_now (outs (response_row settings before e body w) asked_now)) (says ∙ is) response_known.why))
+      (subst (λ w. Reasons Said_known asked_now (outs (response_row settings before e body w) asked_now)) (says ∙ is) response_known.why)))
   by_phase m says id r is _ at = nothing_told (λ s taking k. never (sym (ap is_running k.ran) ∙ ap is_running at))
 
   by_answer : (m : Message) → message_of body ≡ m → Each

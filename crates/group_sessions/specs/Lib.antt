@@ -6,4 +6,5 @@ pub use Rattle.group_rows
 pub use Rattle.session_laws
 pub mod Due
 pub mod LastLists
+pub mod Refreshes
 pub mod ExitReplay

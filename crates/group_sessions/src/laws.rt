@@ -10,6 +10,7 @@ ghost use Rattle.group_facts.specs.Legal.{Legal};
 ghost use Rattle.group_sessions.specs.Due.{KeepsDue};
 ghost use Rattle.group_sessions.specs.ExitReplay.{ExitsEnd, Replays};
 ghost use Rattle.group_sessions.specs.LastLists.{KeepsLists};
+ghost use Rattle.group_sessions.specs.Refreshes.{KeepsRefreshes};
 ghost use Rattle.session_laws.specs.ClientRules.{KeepsClient1, KeepsClient2, KeepsClient3, KeepsClient4, KeepsClient5, KeepsClient6, KeepsClient7};
 ghost use Rattle.session_laws.specs.ServerRules.{KeepsServer1, KeepsServer2, KeepsServer3, KeepsServer4, KeepsServer5, KeepsServer6, KeepsServer7, KeepsServer8};
 
@@ -123,6 +124,13 @@ pub fn last_lists()
 /// entry as well, or is answered by the error RequestFailed in it, or its editor isn't there any more.
 pub fn exits_end()
     ensures { (settings : Settings) → InRange settings → (history : List Entry) → Legal settings history → ExitsEnd settings history }
+{}
+
+/// A law: what a ready start wants asked anew each editor that runs in its group is asked in that entry, or in the first later one in which a
+/// message of the editor's own goes on to that start, where the start has the editor's texts; unless by then the start's program ended, the
+/// editor left, or the start wants the same again (LSP 3.17, the refresh requests of Language Features).
+pub fn refreshes()
+    ensures { (settings : Settings) → InRange settings → (history : List Entry) → Legal settings history → KeepsRefreshes settings history }
 {}
 
 /// A law: in the row of a start's first result, behind the last document that it is brought, the start has just the documents that are open at an

@@ -5,6 +5,6 @@ mod laws;
 
 pub use laws::{
     client_1, client_2, client_3, client_4, client_5, client_6, client_7, exits_end, last_lists,
-    progress_due, replays, server_1, server_2, server_3, server_4, server_5, server_6, server_7,
-    server_8, spawned_in_order, spawned_once,
+    progress_due, refreshes, replays, server_1, server_2, server_3, server_4, server_5, server_6,
+    server_7, server_8, spawned_in_order, spawned_once,
 };

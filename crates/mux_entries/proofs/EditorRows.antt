@@ -3,7 +3,7 @@ use Rattle.std.proofs.Common.{◌≡◌, ℕ, Bool, true, false, ◌&&◌, List,
 use Rattle.std.specs.Prelude.{Option, Some}
 use Rattle.json_text.specs.Json.{Json}
 use Rattle.json_nodes.specs.Doc.{Doc}
-use Rattle.mux_history.specs.declared.cause.Cause.TheVariants.{Drained, FromEditor}
+use Rattle.mux_history.specs.declared.cause.Cause.TheVariants.{Drained}
 use Rattle.mux_history.specs.declared.out.Out.{Out}
 use Rattle.rpc_message.specs.declared.envelope.Envelope.{Envelope}
 use Rattle.rpc_message.specs.declared.envelope.Envelope.TheVariants as envelope
@@ -29,7 +29,7 @@ use Rattle.group_words.specs.Houses.{is_doubled, stops}
 use Rattle.group_rows.specs.StopRows.{stop_row}
 use Rattle.group_rows.specs.AskRows.{response_row}
 use Rattle.mux_starts.specs.mux_facts.specs.Allowed.{is_response}
-use Rattle.group_rows.specs.Rows.{asks_lspmux, closing_row, down_row, early_row, exit_row, from_editor, lspmux_row, open_row, row_of, served_row, status_row, taken_row}
+use Rattle.group_rows.specs.Rows.{asks_lspmux, closing_row, down_row, early_row, exit_row, editor_row, from_editor, lspmux_row, open_row, row_of, served_row, status_row, taken_row}
 use Rattle.mux_editors.specs.Running.{running_at, running_row}
 use Rattle.mux_starts.specs.mux_tables.specs.declared.tables.Tables.{Tables}
 use Rattle.mux_starts.specs.mux_tables.specs.Documents.{AllStand, DocumentsStand, nothing_owed}
@@ -163,7 +163,7 @@ unnoting m x at (inr h) k = cc
 
 module _ (settings : Settings) (before : List Event) (e : ℕ) (body : List ℕ) where
   abbrev row : Row
-  row = row_of settings before (FromEditor e body)
+  row = editor_row settings before e body
 
   -- E2
   pub malformed : is_malformed (message_of body) ≡ true → Alike row (malformed_row e (message_of body) (desk_of e before).phase)

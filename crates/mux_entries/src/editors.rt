@@ -9,12 +9,13 @@ ghost use Rattle.event_model.specs.Settings.{Settings};
 ghost use Rattle.mux_starts.specs.group_facts.specs.Built.{is_standard};
 ghost use Rattle.mux_starts.specs.group_facts.specs.Facts.{Known, Meant, is_early};
 ghost use Rattle.mux_starts.specs.group_facts.specs.Settled.{Settled};
-ghost use Rattle.group_rows.specs.Rows.{asks_lspmux, down_row, early_row, exit_row, lspmux_row, row_of, served_request, served_row};
+ghost use Rattle.group_rows.specs.Rows.{asks_lspmux, down_row, early_row, editor_row, exit_row, lspmux_row, row_of, served_request, served_row};
 ghost use Rattle.group_words.specs.Houses.{is_doubled, places, stops};
 ghost use Rattle.json_text.specs.Json.{Json};
 ghost use Rattle.lsp_method.specs.Class.{class_of};
 ghost use Rattle.lsp_method.specs.declared.variants.Origin.TheVariants.{Editor};
 ghost use Rattle.mux_starts.specs.group_facts.specs.Ceilings.{HaveCeilings};
+ghost use Rattle.mux_debts.specs.Stands.{DebtsStand};
 ghost use Rattle.mux_editors.specs.Running.{running_row};
 ghost use Rattle.mux_history.specs.declared.cause.Cause.TheVariants.{EditorGone, FromEditor, Joined};
 ghost use Rattle.mux_history.specs.declared.cause.Why.{Why};
@@ -30,6 +31,7 @@ ghost use Rattle.rpc_message.specs.Sorts.{Refuses, sort_of};
 use event_model::{Phase, Server};
 use lsp_method::Class;
 use message_body::{Body, Memory};
+use mux_debts::{Debts, pay, take_debts};
 use mux_editors::{
     asks_lspmux, doubles, keep_configuration, take_cancel, take_closed, take_doubled,
     take_doubled_own, take_down, take_early, take_exit, take_gone, take_initialize, take_malformed,
@@ -191,7 +193,7 @@ fn from_new(
         → settings.servers ≡ servers.now → settings.default ≡ default → outs.old ≡ [] → Known settings before → Settled settings before
         → (is_there (desk_of e before).phase && asks_lspmux (message_of body)) ≡ false
         → Stands settings tables.old before → DocumentsStand settings nothing_owed tables.old before
-        → OnOk result (Done (λ k events. AllStand settings k events) (row_of settings before (FromEditor e body))
+        → OnOk result (Done (λ k events. AllStand settings k events) (editor_row settings before e body)
         (with_cause before (FromEditor e body)) [] (tables.new, nothing_owed) outs.new) }
 {
     if is_initialize(message) {
@@ -290,7 +292,7 @@ fn from_served(
         → (is_begun (desk_of e before).phase && is_doubled before e (message_of body)) ≡ false
         → (is_there (desk_of e before).phase && asks_lspmux (message_of body)) ≡ false
         → Stands settings tables.old before → DocumentsStand settings nothing_owed tables.old before
-        → OnOk result (Done (λ k events. AllStand settings k events) (row_of settings before (FromEditor e body))
+        → OnOk result (Done (λ k events. AllStand settings k events) (editor_row settings before e body)
         (with_cause before (FromEditor e body)) [] (tables.new, nothing_owed) outs.new) }
 {
     match message.sort() {
@@ -332,7 +334,7 @@ fn from_phase(
         → (is_begun (desk_of e before).phase && is_doubled before e (message_of body)) ≡ false
         → (is_there (desk_of e before).phase && asks_lspmux (message_of body)) ≡ false
         → Stands settings tables.old before → DocumentsStand settings nothing_owed tables.old before
-        → OnOk result (Done (λ k events. AllStand settings k events) (row_of settings before (FromEditor e body))
+        → OnOk result (Done (λ k events. AllStand settings k events) (editor_row settings before e body)
         (with_cause before (FromEditor e body)) [] (tables.new, nothing_owed) outs.new) }
 {
     match tables.phase(e) {
@@ -394,7 +396,7 @@ fn from_doubled(
         → outs.old ≡ []
         → (is_begun (desk_of e before).phase && is_doubled before e (message_of body)) ≡ true
         → Settled settings before → Stands settings tables.old before → DocumentsStand settings nothing_owed tables.old before
-        → OnOk result (Done (λ k events. AllStand settings k events) (row_of settings before (FromEditor e body))
+        → OnOk result (Done (λ k events. AllStand settings k events) (editor_row settings before e body)
         (with_cause before (FromEditor e body)) [] (tables.new, nothing_owed) outs.new) }
 {
     if asks_lspmux(message) {
@@ -458,7 +460,7 @@ fn from_single(
         → fits_behind before (FromEditor e body) ≡ true
         → (is_begun (desk_of e before).phase && is_doubled before e (message_of body)) ≡ false
         → Stands settings tables.old before → DocumentsStand settings nothing_owed tables.old before
-        → OnOk result (Done (λ k events. AllStand settings k events) (row_of settings before (FromEditor e body))
+        → OnOk result (Done (λ k events. AllStand settings k events) (editor_row settings before e body)
         (with_cause before (FromEditor e body)) [] (tables.new, nothing_owed) outs.new) }
 {
     if asks_own(tables, e, message) {
@@ -490,7 +492,7 @@ fn from_message(
         → settings.servers ≡ servers.now → settings.default ≡ default → outs.old ≡ [] → Known settings before → Settled settings before
         → fits_behind before (FromEditor e body) ≡ true
         → Stands settings tables.old before → DocumentsStand settings nothing_owed tables.old before
-        → OnOk result (Done (λ k events. AllStand settings k events) (row_of settings before (FromEditor e body))
+        → OnOk result (Done (λ k events. AllStand settings k events) (editor_row settings before e body)
         (with_cause before (FromEditor e body)) [] (tables.new, nothing_owed) outs.new) }
 {
     if is_doubled(tables, e, message) {
@@ -516,7 +518,7 @@ fn from_malformed(
     ensures malformed { (body : List ℕ) → Refuses fault (message_of body) → OnOk result (is_malformed (message_of body) ≡ true) }
     ensures does { (settings : Settings) (before : List Event) (body : List ℕ) → Refuses fault (message_of body) → outs.old ≡ []
         → Stands settings tables.old before → DocumentsStand settings nothing_owed tables.old before
-        → OnOk result (Done (λ k events. AllStand settings k events) (row_of settings before (FromEditor e body))
+        → OnOk result (Done (λ k events. AllStand settings k events) (editor_row settings before e body)
         (with_cause before (FromEditor e body)) [] (tables.new, nothing_owed) outs.new) }
 {
     match fault {
@@ -529,10 +531,12 @@ fn from_malformed(
 }
 
 /// A body comes from an editor: E2 where it is no message; E3 where it is a request under an id that is open; E4 to E6 where it is
-/// one of the multiplexer's own; else E7 to E10, or E12 to E17, by where the editor stands, or nothing.
+/// one of the multiplexer's own; else E7 to E10, or E12 to E17, by where the editor stands, or nothing. Behind one that goes on the editor is
+/// asked what it is owed.
 pub fn from_editor(
     tables: &mut Tables,
     carries: &mut Carries,
+    debts: &mut Debts,
     alloc: Global,
     servers: &[Server],
     default: u32,
@@ -547,13 +551,16 @@ pub fn from_editor(
     ensures same_limit { tables.new.requests ≡ tables.old.requests }
     ensures same_versions { tables.new.versions ≡ tables.old.versions }
     ensures does { (settings : Settings) (before : List Event) → settings.servers ≡ servers.now → settings.default ≡ default → outs.old ≡ []
-        → Known settings before → Settled settings before → fits_behind before (FromEditor e body.now) ≡ true
+        → Known settings before → Settled settings before → fits_behind before (FromEditor e body.now) ≡ true → DebtsStand settings debts.old before
         → Stands settings tables.old before → DocumentsStand settings nothing_owed tables.old before
         → OnOk result (Done (λ k events. AllStand settings k events) (row_of settings before (FromEditor e body.now))
         (with_cause before (FromEditor e body.now)) [] (tables.new, nothing_owed) outs.new) }
     ensures carried { (settings : Settings) (before : List Event) → Known settings before → Settled settings before
         → fits_behind before (FromEditor e body.now) ≡ true → CarriedStand settings carries.old before → Stands settings tables.old before
         → OnOk result (CarriedStand settings carries.new (behind (with_cause before (FromEditor e body.now)) outs.new)) }
+    ensures owed { (settings : Settings) (before : List Event) → Known settings before → Settled settings before
+        → fits_behind before (FromEditor e body.now) ≡ true → DebtsStand settings debts.old before → Stands settings tables.old before
+        → OnOk result (DebtsStand settings debts.new (with_cause before (FromEditor e body.now))) }
 {
     if e >= tables.editors.count() {
         return Ok(());
@@ -561,7 +568,9 @@ pub fn from_editor(
     match Message::read(alloc, body.bytes()) {
         Ok(message) => {
             keep_configuration(tables, carries, alloc, e, &message)?;
+            let due = take_debts(tables, debts, alloc, e, &message)?;
             from_message(tables, alloc, servers, default, outs, e, &message)?;
+            pay(tables, alloc, outs, e, &due)?;
             Ok(())
         }
         Err(fault) => {

@@ -8,6 +8,7 @@ ghost use Rattle.mux_starts.specs.group_facts.specs.Settled.{Settled};
 ghost use Rattle.group_rows.specs.Rows.{outs_of, row_of};
 ghost use Rattle.mux_starts.specs.group_facts.specs.Ceilings.{HaveCeilings};
 ghost use Rattle.mux_history.specs.Cores.{body_length};
+ghost use Rattle.mux_debts.specs.Stands.{DebtsStand};
 ghost use Rattle.mux_model.specs.Fits.{fits_behind};
 ghost use Rattle.mux_starts.specs.mux_tables.specs.Documents.{AllStand, DocumentsStand, nothing_owed};
 ghost use Rattle.mux_starts.specs.mux_tables.specs.Stands.{Stands};
@@ -17,6 +18,7 @@ use crate::editors::{from_editor, gone, joined};
 use crate::servers::from_server;
 use event_model::{Limits, Server};
 use message_body::Memory;
+use mux_debts::{Debts, forget_editor, forget_start};
 use mux_exits::take_exit;
 use mux_history::{Cause, Outs};
 use mux_starts::mux_tables::Tables;
@@ -28,6 +30,7 @@ use std::alloc::Global;
 fn follow(
     tables: &mut Tables,
     carries: &mut Carries,
+    debts: &mut Debts,
     alloc: Global,
     limits: &Limits,
     servers: &[Server],
@@ -42,7 +45,7 @@ fn follow(
     ensures same_limit { tables.new.requests ≡ tables.old.requests }
     ensures same_versions { tables.new.versions ≡ tables.old.versions }
     ensures does { (settings : Settings) (before : List Event) → settings.limits ≡ limits.now → settings.servers ≡ servers.now → settings.default ≡ default
-        → outs.old ≡ [] → Known settings before → Settled settings before → fits_behind before cause.now ≡ true → CarriedStand settings carries.old before
+        → outs.old ≡ [] → Known settings before → Settled settings before → fits_behind before cause.now ≡ true → CarriedStand settings carries.old before → DebtsStand settings debts.old before
         → Stands settings tables.old before → DocumentsStand settings nothing_owed tables.old before
         → OnOk result (Done (λ k events. AllStand settings k events)
         (row_of settings before cause.now) (with_cause before cause.now) [] (tables.new, nothing_owed) outs.new) }
@@ -50,6 +53,9 @@ fn follow(
         → outs.old ≡ [] → Known settings before → Settled settings before → fits_behind before cause.now ≡ true → CarriedStand settings carries.old before
         → Stands settings tables.old before → DocumentsStand settings nothing_owed tables.old before
         → OnOk result (CarriedStand settings carries.new (behind (with_cause before cause.now) outs.new)) }
+    ensures owed { (settings : Settings) (before : List Event) → Known settings before → Settled settings before → fits_behind before cause.now ≡ true
+        → DebtsStand settings debts.old before → Stands settings tables.old before → DocumentsStand settings nothing_owed tables.old before
+        → OnOk result (DebtsStand settings debts.new (with_cause before cause.now)) }
 {
     match cause {
         Cause::Joined(e) => {
@@ -57,11 +63,14 @@ fn follow(
             Ok(())
         }
         Cause::EditorGone(e, _) => {
+            forget_editor(debts, *e);
             gone(tables, alloc, outs, *e)?;
             Ok(())
         }
         Cause::FromEditor(e, body) => {
-            from_editor(tables, carries, alloc, servers, default, outs, *e, body)?;
+            from_editor(
+                tables, carries, debts, alloc, servers, default, outs, *e, body,
+            )?;
             Ok(())
         }
         Cause::Started(s) => {
@@ -69,10 +78,11 @@ fn follow(
             Ok(())
         }
         Cause::FromServer(s, body) => {
-            from_server(tables, carries, alloc, outs, *s, body)?;
+            from_server(tables, carries, debts, alloc, outs, *s, body)?;
             Ok(())
         }
         Cause::StartFailed(s) | Cause::ServerGone(s) => {
+            forget_start(debts, *s);
             take_exit(tables, alloc, limits.restarts as u64, outs, *s)?;
             Ok(())
         }
@@ -85,11 +95,13 @@ fn follow(
     }
 }
 
-/// Takes a cause that can come: its outs are those of its row. What groups carry stands behind them.
+/// Takes a cause that can come: its outs are those of its row. What groups carry stands behind them, and what starts owe
+/// behind the cause.
 /// Where the answer is an error the tables stand for nothing any more.
 pub fn take(
     tables: &mut Tables,
     carries: &mut Carries,
+    debts: &mut Debts,
     alloc: Global,
     limits: &Limits,
     servers: &[Server],
@@ -103,7 +115,7 @@ pub fn take(
     ensures same_limit { tables.new.requests ≡ tables.old.requests }
     ensures same_versions { tables.new.versions ≡ tables.old.versions }
     ensures takes { (settings : Settings) (before : List Event) → settings.limits ≡ limits.now → settings.servers ≡ servers.now → settings.default ≡ default
-        → Known settings before → Settled settings before → fits_behind before cause.now ≡ true → CarriedStand settings carries.old before
+        → Known settings before → Settled settings before → fits_behind before cause.now ≡ true → CarriedStand settings carries.old before → DebtsStand settings debts.old before
         → Stands settings tables.old before → DocumentsStand settings nothing_owed tables.old before
         → IfOk result (λ outs. (outs ≡ outs_of settings before cause.now)
         × AllStand settings (tables.new, nothing_owed) (behind (with_cause before cause.now) outs)) }
@@ -111,10 +123,13 @@ pub fn take(
         → Known settings before → Settled settings before → fits_behind before cause.now ≡ true → CarriedStand settings carries.old before
         → Stands settings tables.old before → DocumentsStand settings nothing_owed tables.old before
         → IfOk result (λ outs. CarriedStand settings carries.new (behind (with_cause before cause.now) outs)) }
+    ensures owed { (settings : Settings) (before : List Event) → Known settings before → Settled settings before → fits_behind before cause.now ≡ true
+        → DebtsStand settings debts.old before → Stands settings tables.old before → DocumentsStand settings nothing_owed tables.old before
+        → OnOk result (DebtsStand settings debts.new (with_cause before cause.now)) }
 {
     let mut outs = Outs::new(alloc);
     follow(
-        tables, carries, alloc, limits, servers, default, &mut outs, cause,
+        tables, carries, debts, alloc, limits, servers, default, &mut outs, cause,
     )?;
     Ok(outs)
 }

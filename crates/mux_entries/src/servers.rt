@@ -17,6 +17,7 @@ ghost use Rattle.group_words.specs.Houses.{is_first_error};
 ghost use Rattle.json_text.specs.Json.{Json};
 ghost use Rattle.lsp_method.specs.Class.{class_of};
 ghost use Rattle.lsp_method.specs.declared.variants.Origin.TheVariants.{Server};
+ghost use Rattle.mux_debts.specs.Stands.{DebtsStand};
 ghost use Rattle.mux_history.specs.declared.cause.Cause.TheVariants.{FromServer};
 ghost use Rattle.mux_model.specs.Fits.{fits_behind};
 ghost use Rattle.mux_starts.specs.mux_tables.specs.declared.tables.Start.{Start};
@@ -31,6 +32,7 @@ ghost use Rattle.mux_starts.specs.mux_tables.specs.mux_tokens.specs.Stands.{Crea
 use event_model::Stage;
 use lsp_method::Class;
 use message_body::{Body, Memory};
+use mux_debts::{Debts, note_refresh};
 use mux_history::Outs;
 use mux_starts::mux_members::{asked_class, is_first_result, told_class};
 use mux_starts::mux_tables::Tables;
@@ -349,13 +351,15 @@ fn take_message(
     }
 }
 
-// A body comes from the group's last start.
+// A body comes from the group's last start, s.
 fn take_body(
     tables: &mut Tables,
     carries: &mut Carries,
+    debts: &mut Debts,
     alloc: Global,
     outs: &mut Outs,
     g: usize,
+    s: u64,
     body: &Body,
 ) -> Result<(), Memory>
     requires group { g < length tables.old.lasts.items }
@@ -372,9 +376,13 @@ fn take_body(
         → slice_get (map number_in tables.old.lasts.items) g ≡ Some s → Known settings before → Settled settings before
         → CarriedStand settings carries.old before → Stands settings tables.old before → DocumentsStand settings nothing_owed tables.old before
         → OnOk result (CarriedStand settings carries.new (behind (with_cause before (FromServer s body.now)) outs.new)) }
+    ensures owed { (settings : Settings) (before : List Event) → Known settings before → DebtsStand settings debts.old before
+        → slice_get (map number_in tables.old.lasts.items) g ≡ Some s → Stands settings tables.old before → DocumentsStand settings nothing_owed tables.old before
+        → OnOk result (DebtsStand settings debts.new (with_cause before (FromServer s body.now))) }
 {
     match Message::read(alloc, body.bytes()) {
         Ok(message) => {
+            note_refresh(tables, debts, alloc, s, &message)?;
             take_message(tables, carries, alloc, outs, g, &message)?;
             Ok(())
         }
@@ -392,6 +400,7 @@ fn take_body(
 pub fn from_server(
     tables: &mut Tables,
     carries: &mut Carries,
+    debts: &mut Debts,
     alloc: Global,
     outs: &mut Outs,
     s: u64,
@@ -409,11 +418,14 @@ pub fn from_server(
         → fits_behind before (FromServer s body.now) ≡ true → CarriedStand settings carries.old before
         → Stands settings tables.old before → DocumentsStand settings nothing_owed tables.old before
         → OnOk result (CarriedStand settings carries.new (behind (with_cause before (FromServer s body.now)) outs.new)) }
+    ensures owed { (settings : Settings) (before : List Event) → Known settings before → DebtsStand settings debts.old before
+        → Stands settings tables.old before → DocumentsStand settings nothing_owed tables.old before
+        → OnOk result (DebtsStand settings debts.new (with_cause before (FromServer s body.now))) }
 {
     match tables.last(s) {
         None => Ok(()),
         Some(g) => {
-            take_body(tables, carries, alloc, outs, g, body)?;
+            take_body(tables, carries, debts, alloc, outs, g, s, body)?;
             Ok(())
         }
     }

@@ -22,6 +22,8 @@ use Rattle.mux_causes.specs.mux_tables.specs.Stands.{Stands}
 use Rattle.mux_causes.specs.mux_turns.specs.Carried.{CarriedStand, CarriesView}
 use Rattle.group_sessions.specs.group_facts.specs.Ceilings.{HaveCeilings}
 use Rattle.mux_causes.specs.Backlogs.{BacklogsStand}
+use Rattle.mux_debts.specs.Stands.{DebtsStand}
+use Rattle.mux_debts.specs.refresh_debts.specs.declared.debts.Debt.{Debt}
 use Rattle.mux_hub.specs.Entries.{emits, entry_of, most_events, passes}
 use Rattle.mux_steps.specs.Faults.{Counted, step_fault_of}
 use Rattle.mux_steps.specs.declared.fault.StepFault.{StepFault}
@@ -58,22 +60,22 @@ abbrev entry_record : Cause → List Out → Entry
 entry_record cause xs = record { cause = cause; outs = xs }
 
 -- the outs of a turn, and what the tables stand for behind it
-abbrev pub Turns : Settings → List Event → Cause → List Out → Tables → CarriesView → List ℕ → List ℕ → Type 0
-Turns settings before cause xs now carries counts servers = (xs ≡ entry_outs settings before cause) × TablesStand settings now carries counts servers (behind (with_cause before cause) xs)
+abbrev pub Turns : Settings → List Event → Cause → List Out → Tables → CarriesView → List Debt → List ℕ → List ℕ → Type 0
+Turns settings before cause xs now carries debts counts servers = (xs ≡ entry_outs settings before cause) × TablesStand settings now carries debts counts servers (behind (with_cause before cause) xs)
 
-pub record Stepped {J : Type 0} (told : J → Option (List Entry)) (hub : HubView J) (cause : Cause) (xs : List Out) (now : Tables) (carries : CarriesView) (counts servers : List ℕ) (count : ℕ) (journal : J) (history : List Entry) : Type 0 where
+pub record Stepped {J : Type 0} (told : J → Option (List Entry)) (hub : HubView J) (cause : Cause) (xs : List Out) (now : Tables) (carries : CarriesView) (debts : List Debt) (counts servers : List ℕ) (count : ℕ) (journal : J) (history : List Entry) : Type 0 where
   pub outs : xs ≡ emits hub.settings history cause
-  pub stands : HubStands told (record { settings = hub.settings; tables = now; carries = carries; backlogs = counts; starts = servers; events = count; spent = false; journal = journal }) (history ++ entry_of hub.settings history cause ∷ [])
+  pub stands : HubStands told (record { settings = hub.settings; tables = now; carries = carries; debts = debts; backlogs = counts; starts = servers; events = count; spent = false; journal = journal }) (history ++ entry_of hub.settings history cause ∷ [])
 
-pub stepped : {J : Type 0} (told : J → Option (List Entry)) (hub : HubView J) (cause : Cause) (xs : List Out) (now : Tables) (carries : CarriesView) (counts servers : List ℕ) (count : ℕ) (journal : J) (history : List Entry) → HubStands told hub history → hub.spent ≡ false
+pub stepped : {J : Type 0} (told : J → Option (List Entry)) (hub : HubView J) (cause : Cause) (xs : List Out) (now : Tables) (carries : CarriesView) (debts : List Debt) (counts servers : List ℕ) (count : ℕ) (journal : J) (history : List Entry) → HubStands told hub history → hub.spent ≡ false
     → InRange hub.settings → IsTrue (fits history cause)
     → ((settings : Settings) (before : List Event) → settings.limits ≡ hub.settings.limits → settings.servers ≡ hub.settings.servers → settings.default ≡ hub.settings.default → Known settings before → Settled settings before
-    → fits_behind before cause ≡ true → TablesStand settings hub.tables hub.carries hub.backlogs hub.starts before → Turns settings before cause xs now carries counts servers)
+    → fits_behind before cause ≡ true → TablesStand settings hub.tables hub.carries hub.debts hub.backlogs hub.starts before → Turns settings before cause xs now carries debts counts servers)
     → told journal ≡ append_told (told hub.journal) (record { cause = cause; outs = xs } ∷ []) → Some count ≡ (if nat_lt most_events (hub.events + (1 + length xs)) then None else Some (hub.events + (1 + length xs)))
-    → Stepped told hub cause xs now carries counts servers count journal history
-stepped told hub cause xs now carries counts servers count journal history h s range f takes t n =
+    → Stepped told hub cause xs now carries debts counts servers count journal history
+stepped told hub cause xs now carries debts counts servers count journal history h s range f takes t n =
     let events : List Event = events_of history in
-    let turned : Turns hub.settings events cause xs now carries counts servers =
+    let turned : Turns hub.settings events cause xs now carries debts counts servers =
     takes hub.settings events refl refl refl (known_holds hub.settings range history h.legal) (settled_holds hub.settings range history h.legal) f (h.tables s) in
     let outs : xs ≡ emits hub.settings history cause = turned.0 in
     let kept : (count ≡ hub.events + (1 + length xs)) × (nat_lt most_events (hub.events + (1 + length xs)) ≡ false) = at_most (hub.events + (1 + length xs)) count n in
@@ -82,7 +84,7 @@ stepped told hub cause xs now carries counts servers count journal history h s r
     let old : hub.events ≡ length (events_of history) = h.count s in
     let longer : events_of (history ++ entry_of hub.settings history cause ∷ []) ≡ with_entry events (entry_of hub.settings history cause) = fold-append with_entry [] history (entry_of hub.settings history cause ∷ []) in
     let same : with_entry events (entry_record cause xs) ≡ with_entry events (entry_of hub.settings history cause) = ap (λ ys. with_entry events (entry_record cause ys)) outs in
-    let standing : TablesStand hub.settings now carries counts servers (events_of (history ++ entry_of hub.settings history cause ∷ [])) = subst (λ evs. TablesStand hub.settings now carries counts servers evs) (same ∙ sym longer) turned.1 in
+    let standing : TablesStand hub.settings now carries debts counts servers (events_of (history ++ entry_of hub.settings history cause ∷ [])) = subst (λ evs. TablesStand hub.settings now carries debts counts servers evs) (same ∙ sym longer) turned.1 in
     record {
       outs = outs;
       stands = record {
@@ -96,10 +98,10 @@ stepped told hub cause xs now carries counts servers count journal history h s r
     }
 
 -- whether the causes and outs would be too many
-module _ {J : Type 0} (told : J → Option (List Entry)) (hub : HubView J) (cause : Cause) (xs : List Out) (now : Tables) (carries : CarriesView) (counts servers : List ℕ) (history : List Entry) (h : HubStands told hub history) (s : hub.spent ≡ false)
+module _ {J : Type 0} (told : J → Option (List Entry)) (hub : HubView J) (cause : Cause) (xs : List Out) (now : Tables) (carries : CarriesView) (debts : List Debt) (counts servers : List ℕ) (history : List Entry) (h : HubStands told hub history) (s : hub.spent ≡ false)
     (range : InRange hub.settings) (f : IsTrue (fits history cause))
     (takes : (settings : Settings) (before : List Event) → settings.limits ≡ hub.settings.limits → settings.servers ≡ hub.settings.servers → settings.default ≡ hub.settings.default → Known settings before → Settled settings before
-    → fits_behind before cause ≡ true → TablesStand settings hub.tables hub.carries hub.backlogs hub.starts before → Turns settings before cause xs now carries counts servers) where
+    → fits_behind before cause ≡ true → TablesStand settings hub.tables hub.carries hub.debts hub.backlogs hub.starts before → Turns settings before cause xs now carries debts counts servers) where
   turned_outs : xs ≡ emits hub.settings history cause
   turned_outs = (takes hub.settings (events_of history) refl refl refl (known_holds hub.settings range history h.legal) (settled_holds hub.settings range history h.legal) f (h.tables s)).0
 
@@ -115,9 +117,9 @@ append_says p Failed e is few = subst (λ x. Counted p (Err x)) (sym is) few
 append_says p Memory e is few = subst (λ x. Counted p (Err x)) (sym is) tt
 
 -- tables and counts of nothing stand for the empty history, and are sound
-pub begins : {J : Type 0} (told : J → Option (List Entry)) (settings : Settings) (kept : Tables) (carries : CarriesView) (counts places : List ℕ) (journal : J) → Tells (told journal) [] → Stands settings kept [] → DocumentsStand settings nothing_owed kept [] → CarriedStand settings carries []
-    → BacklogsStand counts [] → places ≡ [] → HubStands told (record { settings = settings; tables = kept; carries = carries; backlogs = counts; starts = places; events = 0; spent = false; journal = journal }) []
-begins told settings kept carries counts places journal t s d k b p = record { legal = tt; told_by = t; own = tt; few = lit≤ tt; count = λ _. refl; tables = λ _. record { tables = s; documents = d; carried = k; backlogs = b; quick = none_slow settings; servers = p } }
+pub begins : {J : Type 0} (told : J → Option (List Entry)) (settings : Settings) (kept : Tables) (carries : CarriesView) (debts : List Debt) (counts places : List ℕ) (journal : J) → Tells (told journal) [] → Stands settings kept [] → DocumentsStand settings nothing_owed kept [] → CarriedStand settings carries []
+    → DebtsStand settings debts [] → BacklogsStand counts [] → places ≡ [] → HubStands told (record { settings = settings; tables = kept; carries = carries; debts = debts; backlogs = counts; starts = places; events = 0; spent = false; journal = journal }) []
+begins told settings kept carries debts counts places journal t s d k o b p = record { legal = tt; told_by = t; own = tt; few = lit≤ tt; count = λ _. refl; tables = λ _. record { tables = s; documents = d; carried = k; owed = o; backlogs = b; quick = none_slow settings; servers = p } }
 
 pub begins_sound : (settings : Settings) (kept : Tables) → 2 ≤ settings.limits.requests → 1 ≤ settings.limits.versions → HaveCeilings settings.servers → Stands settings kept [] → DocumentsStand settings nothing_owed kept []
     → IsSound settings kept

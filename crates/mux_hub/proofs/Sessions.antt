@@ -6,6 +6,7 @@ use Rattle.mux_facts.specs.Ranges.{InRange}
 use Rattle.group_sessions.proofs.DueDone.{due_law}
 use Rattle.group_sessions.proofs.ExitsOver.{exits_law}
 use Rattle.group_sessions.proofs.ListsLaw.{lists_law}
+use Rattle.group_sessions.proofs.RefreshLaw.{refreshes_law}
 use Rattle.group_sessions.proofs.ReplayLaw.{replayed_law}
 use Rattle.group_sessions.proofs.Sessions.{sessions_kept}
 use Rattle.group_sessions.specs.group_facts.specs.Legal.{Legal}
@@ -24,4 +25,5 @@ sessions_hold settings range history legal own = record {
   own = own;
   exits = exits_law settings range history legal;
   replays = replayed_law settings range history legal;
+  refreshes = refreshes_law settings range history legal;
 }

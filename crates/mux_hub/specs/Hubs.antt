@@ -12,6 +12,8 @@ use Rattle.mux_causes.specs.mux_tables.specs.Stands.{Stands}
 use Rattle.mux_causes.specs.mux_turns.specs.Carried.{CarriedStand, CarriesView}
 use Rattle.group_sessions.specs.group_facts.specs.Ceilings.{HaveCeilings}
 use Rattle.mux_causes.specs.Backlogs.{BacklogsStand}
+use Rattle.mux_debts.specs.Stands.{DebtsStand}
+use Rattle.mux_debts.specs.refresh_debts.specs.declared.debts.Debt.{Debt}
 use Rattle.mux_slow.specs.Told.{Quick}
 use Rattle.mux_hub.specs.Entries.{most_events}
 use Rattle.mux_hub.specs.Starts.{servers_of}
@@ -20,6 +22,7 @@ pub record HubView (J : Type 0) : Type 0 where
   pub settings : Settings
   pub tables : Tables
   pub carries : CarriesView
+  pub debts : List Debt
   pub backlogs : List ℕ
   pub starts : List ℕ
   pub events : ℕ
@@ -31,11 +34,12 @@ abbrev pub Tells : Option (List Entry) → List Entry → Type 0
 Tells None history = Unit {0}
 Tells (Some entries) history = entries ≡ history
 
--- the tables owe nothing of documents, what groups carry is theirs, the counts are those of what is on its way, no editor is slow, and the servers those of the starts
-pub record TablesStand (settings : Settings) (kept : Tables) (carries : CarriesView) (counts places : List ℕ) (events : List Event) : Type 0 where
+-- the tables owe nothing of documents, what groups carry is theirs, what starts owe is owed, the counts are those of what is on its way, no editor is slow, and the servers those of the starts
+pub record TablesStand (settings : Settings) (kept : Tables) (carries : CarriesView) (debts : List Debt) (counts places : List ℕ) (events : List Event) : Type 0 where
   pub tables : Stands settings kept events
   pub documents : DocumentsStand settings nothing_owed kept events
   pub carried : CarriedStand settings carries events
+  pub owed : DebtsStand settings debts events
   pub backlogs : BacklogsStand counts events
   pub quick : Quick settings events
   pub servers : places ≡ servers_of settings events
@@ -48,7 +52,7 @@ pub record HubStands {J : Type 0} (told : J → Option (List Entry)) (hub : HubV
   pub own : OwnTexts hub.settings history
   pub few : length (events_of history) ≤ most_events
   pub count : hub.spent ≡ false → hub.events ≡ length (events_of history)
-  pub tables : hub.spent ≡ false → TablesStand hub.settings hub.tables hub.carries hub.backlogs hub.starts (events_of history)
+  pub tables : hub.spent ≡ false → TablesStand hub.settings hub.tables hub.carries hub.debts hub.backlogs hub.starts (events_of history)
 
 -- the settings are numbers of the machine, and leave room for the requests and versions of the multiplexer's own; each ceiling is
 -- the text of an object

@@ -5,6 +5,7 @@ use Rattle.event_model.specs.Settings.{Settings}
 use Rattle.group_sessions.specs.Due.{KeepsDue}
 use Rattle.group_sessions.specs.ExitReplay.{ExitsEnd, Replays}
 use Rattle.group_sessions.specs.LastLists.{KeepsLists}
+use Rattle.group_sessions.specs.Refreshes.{KeepsRefreshes}
 use Rattle.group_sessions.specs.group_facts.specs.OwnTexts.{OwnTexts}
 use Rattle.group_sessions.specs.group_facts.specs.OwnVersions.{OwnVersions}
 use Rattle.group_sessions.specs.group_facts.specs.Switches.{Switches}
@@ -27,3 +28,5 @@ pub record Sessions (settings : Settings) (history : List Entry) : Type 0 where
   pub exits : ExitsEnd settings history
   -- at a place in the row of its first result, a start has just the documents that are open, each opened once
   pub replays : Replays settings history
+  -- what a ready start wanted asked anew, each editor that ran in its group was asked, at once or behind its next message that went on to that start
+  pub refreshes : KeepsRefreshes settings history

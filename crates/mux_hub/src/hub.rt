@@ -21,12 +21,13 @@ use event_model::{Limits, Server};
 use message_body::Memory;
 use mux_causes::mux_tables::Tables;
 use mux_causes::{Backlogs, Carries};
+use mux_debts::{Debts, forget_closed};
 use mux_history::{Cause, Entry, Outs};
 use mux_steps::{Journal, StepFault, Steps};
 use std::alloc::Global;
 use std::marker::Model;
 
-// The outs of a cause, behind them those of editors that are slow there, and the tables, what groups carry, and the counts behind all of these. Where the
+// The outs of a cause, behind them those of editors that are slow there, and the tables, what groups carry, what starts owe, and the counts behind all of these. Where the
 // answer is an error they stand for nothing any more.
 fn turn(
     alloc: Global,
@@ -35,6 +36,7 @@ fn turn(
     default: u32,
     tables: &mut Tables,
     carries: &mut Carries,
+    debts: &mut Debts,
     backlogs: &mut Backlogs,
     starts: &mut Vec<u32>,
     cause: &Cause,
@@ -48,13 +50,16 @@ fn turn(
     ensures takes { (settings : Settings) (before : List Event) → settings.limits ≡ limits.now → settings.servers ≡ servers.now → settings.default ≡ default
         → Known settings before → Settled settings before
         → fits_behind before cause.now ≡ true
-        → TablesStand settings tables.old carries.old backlogs.old starts.old.items before
+        → TablesStand settings tables.old carries.old debts.old backlogs.old starts.old.items before
         → IfOk result (λ outs. (outs ≡ entry_outs settings before cause.now)
-        × TablesStand settings tables.new carries.new backlogs.new starts.new.items (behind (with_cause before cause.now) outs)) }
+        × TablesStand settings tables.new carries.new debts.new backlogs.new starts.new.items (behind (with_cause before cause.now) outs)) }
 {
-    let mut outs = mux_entries::take(tables, carries, alloc, limits, servers, default, cause)?;
+    let mut outs = mux_entries::take(
+        tables, carries, debts, alloc, limits, servers, default, cause,
+    )?;
     backlogs.take(cause, &outs)?;
     mux_slow::leave_slow(tables, alloc, backlogs, limits.backlog, &mut outs)?;
+    forget_closed(debts, &outs);
     note_spawns(starts, tables, default, &outs)?;
     Ok(outs)
 }
@@ -81,6 +86,7 @@ pub struct Hub<J: Journal> {
     default: u32,
     tables: Tables,
     carries: Carries,
+    debts: Debts,
     backlogs: Backlogs,
     starts: Vec<u32>,
     events: u64,
@@ -93,7 +99,7 @@ impl<J: Journal> Model for Hub<J> {
 
     ghost Value = { HubView J };
 
-    ghost view = { λ h. record { settings = record { limits = h.limits; servers = h.servers.items; default = h.default }; tables = h.tables; carries = h.carries; backlogs = h.backlogs; starts = h.starts.items; events = h.events; spent = h.spent; journal = h.journal } };
+    ghost view = { λ h. record { settings = record { limits = h.limits; servers = h.servers.items; default = h.default }; tables = h.tables; carries = h.carries; debts = h.debts; backlogs = h.backlogs; starts = h.starts.items; events = h.events; spent = h.spent; journal = h.journal } };
 
     ghost invariant = { λ h. IsSound (record { limits = h.limits; servers = h.servers.items; default = h.default }) h.tables };
 }
@@ -133,6 +139,7 @@ impl<J: Journal> Hub<J> {
             default,
             tables,
             carries: Carries::new(alloc),
+            debts: Debts::new(alloc),
             backlogs: Backlogs::new(alloc),
             starts: Vec::new(alloc),
             events: 0,
@@ -233,6 +240,7 @@ impl<J: Journal> Hub<J> {
             self.default,
             &mut self.tables,
             &mut self.carries,
+            &mut self.debts,
             &mut self.backlogs,
             &mut self.starts,
             &cause,

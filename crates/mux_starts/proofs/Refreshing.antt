@@ -1,5 +1,5 @@
 -- S9: what asks and answers leave as it is.
-use Rattle.std.proofs.Common.{◌≡◌, ℕ, zero, suc, ◌<◌, ◌^◌, Bool, true, false, List, [], ◌∷◌, ◌++◌, decimal, length, get_or, nat_eq, if◌then◌else◌, refl, ap, sym, subst, ◌∙◌, append-nil, arith}
+use Rattle.std.proofs.Common.{◌≡◌, ℕ, zero, suc, ◌<◌, ◌^◌, Bool, true, false, cond, filter, List, [], ◌∷◌, ◌++◌, decimal, length, get_or, nat_eq, if◌then◌else◌, refl, ap, sym, subst, ◌∙◌, append-nil, arith}
 use Rattle.std.specs.Prelude.{Option}
 use Rattle.std.specs.List.{AllByRecursion}
 use Rattle.std.proofs.lemmas.Bool.Decides.{nat_tests}
@@ -94,3 +94,12 @@ pub runs_at : (events : List Event) (es : List ℕ) (i : ℕ) → AllByRecursion
 runs_at events [] i all l = absurd (omega (arith, l))
 runs_at events (e ∷ es) zero all l = all.0
 runs_at events (e ∷ es) (suc i) all l = runs_at events es i all.1 (omega (arith, l))
+
+-- of those of a list that pass a test
+pub all_chosen : (P : ℕ → Type 0) (test : ℕ → Bool) (es : List ℕ) → AllByRecursion P es → AllByRecursion P (filter test es)
+all_chosen P test [] all = tt
+all_chosen P test (e ∷ es) all = go (test e) (all_chosen P test es all.1)
+  where
+    go : (b : Bool) → AllByRecursion P (filter test es) → AllByRecursion P (cond b (e ∷ filter test es) (filter test es))
+    go true rest = (all.0, rest)
+    go false rest = rest

@@ -46,10 +46,9 @@ use Rattle.mux_tables.proofs.Frames.{asks_stay, live_stay}
 use Rattle.mux_tables.proofs.Moves.{house_moves}
 use Rattle.mux_tables.proofs.Parking.{impatient_stay}
 use Rattle.mux_tables.proofs.Putting.{asked_so, below, none_left, one_left}
-use Rattle.mux_tables.proofs.Registered.{called_stay}
+use Rattle.mux_tables.proofs.Said.{called_stay, does_send, told_house}
 use Rattle.mux_tables.proofs.Publishing.{other_lists, progress_apart, quiet_lists}
 use Rattle.mux_tables.proofs.Registering.{other_live}
-use Rattle.mux_tables.proofs.Said.{does_send, told_house}
 use Rattle.mux_tables.proofs.Sent.{same_set}
 use Rattle.mux_tables.proofs.Served.{answer_moves}
 use Rattle.mux_tables.proofs.Starts.{read_here, read_same, start_at_place}

@@ -37,7 +37,7 @@ use Rattle.mux_tables.specs.declared.tables.Start.{Start}
 use Rattle.mux_tables.specs.declared.tables.Tables.{Tables}
 use Rattle.mux_tables.specs.Documents.{DocumentsStand, Owed}
 use Rattle.mux_tables.specs.Puts.{IsAtWork, IsNextAsk}
-use Rattle.mux_tables.specs.Stands.{AreApart, AsksAt, AsksStand, CountStands, EditorsStand, HasText, IsAtRest, IsOther, Part, of_life, of_ids, of_shown, of_stop, of_asks, of_parked, of_live, of_lists, ParkedAt, ParkedStand, PartStands, Stands, WasAsked, is_beside, is_request, kept_ask, phase_in}
+use Rattle.mux_tables.specs.Stands.{AreApart, AsksAt, AsksStand, CountStands, EditorsStand, HasText, IsOther, Part, of_life, of_ids, of_shown, of_stop, of_asks, of_parked, of_live, of_lists, ParkedAt, ParkedStand, PartStands, Stands, WasAsked, is_beside, is_request, kept_ask, phase_in}
 use Rattle.mux_tables.proofs.Apart.{id_flip}
 use Rattle.mux_tables.proofs.Asking.{asking_more, asks_later}
 use Rattle.mux_tables.proofs.Counted.{asked_more, next_more}
@@ -52,7 +52,7 @@ use Rattle.mux_tables.proofs.TokenMoves.{origins_stay}
 use Rattle.mux_tables.proofs.Moves.{house_and_lasts, house_moves}
 use Rattle.mux_tables.proofs.Noting.{left_stays}
 use Rattle.mux_tables.proofs.Refusing.{ready_asks, rest_same, same_does, same_stands}
-use Rattle.mux_tables.proofs.Said.{asked_editors, does_send, idle_stay, told_house}
+use Rattle.mux_tables.proofs.Said.{asked_editors, called_stay, does_send, idle_stay, told_house}
 use Rattle.mux_tables.proofs.Waiting.{all_then, none_any, none_either, parked_beside, ready_parked}
 use Rattle.mux_waits.proofs.Moves.{silent_waits}
 use Rattle.event_model.specs.Requests.{answered_id}
@@ -155,10 +155,10 @@ module _ (settings : Settings) (t u : Tables) (base : List Event) (xs : List Out
       (does_true {Stands = λ t events. Stands settings t events} (subst (λ w. Does (λ t events. Stands settings t events) (send (ToEditor e w)) base t xs u ys) same (does_send settings (ToEditor e text) base t u xs ys said_so (go k.0 small)))))
 
   -- S9: nothing is kept of it
-  pub question_does : (ys : List Out) (n : ℕ) (text method : List ℕ) (id : Id) (ps : Option Json) → ((s : ℕ) → IsAtRest settings s now) → message_of body ≡ request id method ps → is_creating method ≡ false → Some n ≡ sessions.next_ask (session_of t.editors e) → text ≡ with_id_text body (decimal n)
+  pub question_does : (ys : List Out) (n : ℕ) (text method : List ℕ) (id : Id) (ps : Option Json) → ((s : ℕ) → (asking_of settings s now).asker ≡ None) → message_of body ≡ request id method ps → is_creating method ≡ false → is_patient method ≡ false → Some n ≡ sessions.next_ask (session_of t.editors e) → text ≡ with_id_text body (decimal n)
       → u.lasts ≡ t.lasts → ys ≡ xs ++ ToEditor e text ∷ [] → Does (λ t events. Stands settings t events) (ask body e) base t xs u ys
-  question_does ys n text method id ps idle says creates is writes ls said_so = asked_does ys n text is writes said_so (λ next small.
-      house_moves settings t u now (said (ToEditor e text)) (λ m. refl) (λ m. idle_stay settings m e now text (idle m)) refl (ap (λ v. v.items) ls)
+  question_does ys n text method id ps idle says creates impatient is writes ls said_so = asked_does ys n text is writes said_so (λ next small.
+      house_moves settings t u now (said (ToEditor e text)) (λ m. refl) (λ m. called_stay settings m e now text method (integer (decimal n)) ps (text_says body text method id ps n small says writes) impatient (idle m)) refl (ap (λ v. v.items) ls)
       (origins_stay settings t.origins u.origins now (said (ToEditor e text)) os (λ m. called_stays settings m e now (created_of settings m now) text method (message_of text) (integer (decimal n)) ps (text_says body text method id ps n small says writes) creates) (λ rows. silent_waits settings now e text (message_of text) rows (ap answered_id (text_says body text method id ps n small says writes)))) r
       (λ h. told_house settings now e text t u (asked_so settings t.editors now e l runs h.editors u.editors text n is (ap is_request (text_says body text method id ps n small says writes)) set) gs time h))
 

@@ -13,7 +13,7 @@ use Rattle.mux_history.specs.declared.out.Out.TheVariants.{ToEditor}
 use Rattle.rpc_message.specs.Message.{Id, message_of, request}
 use Rattle.event_model.specs.declared.stage.Stage.TheVariants.{Ready}
 use Rattle.event_model.specs.Does.{Does}
-use Rattle.event_model.specs.Event.{Event, behind, did, said, took}
+use Rattle.event_model.specs.Event.{Event, behind, said, took}
 use Rattle.event_model.specs.Phases.{desk_of, is_running}
 use Rattle.event_model.specs.Requests.{answered_id}
 use Rattle.event_model.specs.Row.{Row, send}
@@ -24,14 +24,14 @@ use Rattle.event_model.proofs.Turns.{does_knowing}
 use Rattle.editor_session.specs.Sessions as sessions
 use Rattle.editor_session.specs.Sessions.{session_of, unless_gone, with_session}
 use Rattle.group_words.specs.Houses.{is_first_error}
-use Rattle.group_laws.specs.group_rows.specs.Asks.{Asking, asked_next, asking_next, asking_of, is_own_work, is_patient, is_taken, may_wait, next_ask, serves, unparked}
+use Rattle.group_laws.specs.group_rows.specs.Asks.{asking_of, is_patient, is_taken, may_wait, next_ask}
 use Rattle.group_laws.specs.group_rows.specs.Live.{if_live, live_by, live_of, with_registered, without_these}
 use Rattle.group_laws.specs.registrations.specs.declared.registration.Registration.{Registration}
 use Rattle.group_laws.specs.registrations.specs.Items.{are_live, others, registered, unregistered}
 use Rattle.mux_tables.specs.declared.tables.Start.{Start}
 use Rattle.mux_tables.specs.declared.tables.Tables.{Tables}
 use Rattle.mux_tables.specs.Puts.{IsNextAsk}
-use Rattle.mux_tables.specs.Stands.{AsksStay, LiveAt, NamesAt, Stands, is_early, is_request, number_in, of_life, of_live}
+use Rattle.mux_tables.specs.Stands.{LiveAt, NamesAt, Stands, is_early, is_request, number_in, of_life, of_live}
 use Rattle.mux_tables.proofs.Asking.{parked_by}
 use Rattle.mux_tables.proofs.Frames.{open_stay}
 use Rattle.group_laws.specs.group_rows.specs.Created.{created_next, created_of, is_creating, names_create}
@@ -43,7 +43,7 @@ use Rattle.mux_tables.proofs.Parking.{impatient_stay}
 use Rattle.mux_tables.proofs.Putting.{asked_so, none_left}
 use Rattle.mux_tables.proofs.Publishing.{lists_by_stay, quiet_lists}
 use Rattle.mux_tables.proofs.Registering.{heard_live, ready_live}
-use Rattle.mux_tables.proofs.Said.{does_send, told_house}
+use Rattle.mux_tables.proofs.Said.{called_stay, does_send, told_house}
 use Rattle.mux_tables.proofs.Served.{hears_answer, later_shown, server_moves}
 use Rattle.mux_tables.proofs.Starts.{read_here, read_same, start_at_place}
 use Rattle.mux_waits.proofs.Moves.{quiet_waits, silent_waits}
@@ -114,24 +114,6 @@ unregister_by settings t u events g s x z body method id params kept items is at
     registered_moves settings t u events g s z body method id params kept at within read (ap (λ (w : Start). w.life.stage) (read_same t.lasts.items g z x within read is) ∙ ready) says (impatient (class_of method Server false) Unregister class refl) (ap names_create class) untaken
     (λ was. left ∙ ap (λ rs. if are_live items rs then others items rs else rs) was
     ∙ sym (ap (λ c. live_by c body live) class ∙ (ap (λ o. without_these (option_and_then (if_live live) o) live) names ∙ taken_so live items (are_live items live)))) set es gs now os r st
-
--- a request to an editor that nothing is kept of
-called_idle : (settings : Settings) (s e : ℕ) (events : List Event) (text method : List ℕ) (id : Id) (ps : Option Json) → message_of text ≡ request id method ps → is_patient method ≡ false → (asking_of settings s events).asker ≡ None
-    → asking_next settings s events (asking_of settings s events) (said (ToEditor e text)) ≡ asking_of settings s events
-called_idle settings s e events text method id ps says quiet none =
-    let x : Asking = asking_of settings s events in
-    ap (λ m. asking_next settings s events x (did (ToEditor e text) m)) says
-    ∙ (ap (λ o. asked_next (is_own_work e x.runs && (is_patient method && serves settings events s e)) e (next_ask e events) x o) none
-    ∙ (ap (λ b. if is_own_work e x.runs && (b && serves settings events s e) then unparked e (next_ask e events) x x.parked else x) quiet ∙ go x (is_own_work e x.runs)))
-  where
-    go : (x : Asking) (b : Bool) → (if b && false then unparked e (next_ask e events) x x.parked else x) ≡ x
-    go x true = refl
-    go x false = refl
-
-pub called_stay : (settings : Settings) (s e : ℕ) (events : List Event) (text method : List ℕ) (id : Id) (ps : Option Json) → message_of text ≡ request id method ps → is_patient method ≡ false → (asking_of settings s events).asker ≡ None → AsksStay settings s events (said (ToEditor e text))
-called_stay settings s e events text method id ps says quiet none =
-    let same = called_idle settings s e events text method id ps says quiet none in
-    record { asks = ap (λ (x : Asking). x.asks) same; parked = ap (λ (x : Asking). x.parked) same }
 
 module _ (settings : Settings) (t u : Tables) (base : List Event) (xs : List Out) (e : ℕ) (text method : List ℕ) (ps : Option Json) (l : e < length t.editors) (runs : is_running (desk_of e (behind base xs)).phase ≡ true) (asks_next : IsNextAsk e (behind base xs) method ps text) where
   -- a number is left

@@ -7,7 +7,8 @@ use Rattle.std.proofs.lemmas.Option.{slice_get-get_or}
 use Rattle.std.proofs.lemmas.List.{length-set}
 use Rattle.mux_history.specs.declared.out.Out.{Out}
 use Rattle.mux_history.specs.declared.out.Out.TheVariants.{ToEditor, CloseEditor}
-use Rattle.rpc_message.specs.Message.{Message, message_of, not_message, request}
+use Rattle.json_text.specs.Json.{Json}
+use Rattle.rpc_message.specs.Message.{Id, Message, message_of, not_message, request}
 use Rattle.event_model.specs.declared.phase.Phase.{Phase}
 use Rattle.event_model.specs.Does.{Does}
 use Rattle.event_model.specs.Event.{Event, behind, did, said}
@@ -159,6 +160,24 @@ asked_idle settings s e events body silent rest = refl
 pub idle_stay : (settings : Settings) (s e : ℕ) (events : List Event) (body : List ℕ) → IsAtRest settings s events → AsksStay settings s events (said (ToEditor e body))
 idle_stay settings s e events body rest =
     let same = asked_idle settings s e events body (message_of body) rest in
+    record { asks = ap (λ (x : Asking). x.asks) same; parked = ap (λ (x : Asking). x.parked) same }
+
+-- a request to an editor that nothing is kept of
+called_idle : (settings : Settings) (s e : ℕ) (events : List Event) (text method : List ℕ) (id : Id) (ps : Option Json) → message_of text ≡ request id method ps → is_patient method ≡ false → (asking_of settings s events).asker ≡ None
+    → asking_next settings s events (asking_of settings s events) (said (ToEditor e text)) ≡ asking_of settings s events
+called_idle settings s e events text method id ps says quiet none =
+    let x : Asking = asking_of settings s events in
+    ap (λ m. asking_next settings s events x (did (ToEditor e text) m)) says
+    ∙ (ap (λ o. asked_next (is_own_work e x.runs && (is_patient method && serves settings events s e)) e (next_ask e events) x o) none
+    ∙ (ap (λ b. if is_own_work e x.runs && (b && serves settings events s e) then unparked e (next_ask e events) x x.parked else x) quiet ∙ go x (is_own_work e x.runs)))
+  where
+    go : (x : Asking) (b : Bool) → (if b && false then unparked e (next_ask e events) x x.parked else x) ≡ x
+    go x true = refl
+    go x false = refl
+
+pub called_stay : (settings : Settings) (s e : ℕ) (events : List Event) (text method : List ℕ) (id : Id) (ps : Option Json) → message_of text ≡ request id method ps → is_patient method ≡ false → (asking_of settings s events).asker ≡ None → AsksStay settings s events (said (ToEditor e text))
+called_stay settings s e events text method id ps says quiet none =
+    let same = called_idle settings s e events text method id ps says quiet none in
     record { asks = ap (λ (x : Asking). x.asks) same; parked = ap (λ (x : Asking). x.parked) same }
 
 pub told_does : (settings : Settings) (t : Tables) (xs ys : List Out) (base : List Event) (e : ℕ) (body : List ℕ) → Keeps e body (behind base xs) → answered_id (message_of body) ≡ None → ys ≡ xs ++ ToEditor e body ∷ [] → Does (λ t events. Stands settings t events) (send (ToEditor e body)) base t xs t ys

@@ -7,6 +7,7 @@ ghost use Rattle.diagnostics_route.specs.Shown.{fits};
 ghost use Rattle.event_model.specs.declared.stage.Stage.TheVariants.{Ready};
 ghost use Rattle.event_model.specs.Event.{Event, heard};
 ghost use Rattle.event_model.specs.Settings.{Settings};
+ghost use Rattle.group_laws.specs.group_rows.specs.Debts.{agrees_on_all};
 ghost use Rattle.group_laws.specs.group_rows.specs.Lists.{agreement_at, is_publishing, lists_of, sayings_of, version_at};
 ghost use Rattle.json_text.specs.Json.{Json};
 ghost use Rattle.mux_history.specs.declared.cause.Cause.TheVariants.{FromServer};
@@ -42,6 +43,20 @@ impl Tables {
         match self.documents.get(g) {
             Some(shared) => fits(list, shared.agrees(e, list.uri.bytes())),
             None => false,
+        }
+    }
+
+    /// S9: whether the group's last start, which is ready, agrees with an editor on each document that the editor has open. It takes as long
+    /// as a sync that sends nothing.
+    pub fn agrees_on_all(&self, g: usize, e: u64) -> Result<bool, Memory>
+        requires { g < length self.now.lasts.items }
+        ensures { (settings : Settings) (events : List Event) (x : Start) → slice_get self.now.lasts.items g ≡ Some x → x.life.stage ≡ Ready
+            → Stands settings self.now events → DocumentsStand settings nothing_owed self.now events
+            → IfOk result (λ answer. answer ≡ agrees_on_all settings x.life.start events e) }
+    {
+        match self.documents.get(g) {
+            Some(shared) => shared.agrees_on_all(e),
+            None => Ok(true),
         }
     }
 

@@ -10,7 +10,7 @@ ghost use Rattle.event_model.specs.Settings.{Settings};
 ghost use Rattle.ask_route.specs.Tables.{is_under as is_kept_under};
 ghost use Rattle.group_laws.specs.group_rows.specs.Created.{is_creating};
 ghost use Rattle.group_laws.specs.group_rows.specs.AskRows.{ask, last_among};
-ghost use Rattle.group_laws.specs.group_rows.specs.Asks.{asking_of, asks_of, has_number, is_taken, is_under, next_ask};
+ghost use Rattle.group_laws.specs.group_rows.specs.Asks.{asking_of, asks_of, has_number, is_patient, is_taken, is_under, next_ask};
 ghost use Rattle.group_laws.specs.group_rows.specs.Forwarded.{forwarding_of};
 ghost use Rattle.json_text.specs.Json.{Json};
 ghost use Rattle.mux_history.specs.declared.out.Out.TheVariants.{ToEditor};
@@ -22,7 +22,7 @@ ghost use Rattle.mux_tables.specs.declared.tables.Start.{Start};
 ghost use Rattle.mux_tables.specs.Documents.{DocumentsStand, Owed};
 ghost use Rattle.mux_tables.specs.Puts.{IsAtWork, IsNextAsk};
 ghost use Rattle.mux_tables.specs.Refusals.{seat_from};
-ghost use Rattle.mux_tables.specs.Stands.{IsAtRest, Stands, number_in, stage_in};
+ghost use Rattle.mux_tables.specs.Stands.{Stands, number_in, stage_in};
 
 use crate::tables::{Start, Tables};
 use ask_route::Seat;
@@ -55,9 +55,9 @@ fn has_open(last: &Start, id: &[u8]) -> bool
 }
 
 impl Tables {
-    /// S9: an editor that runs is asked what a request asks, under the editor's next number, while one below 2^64 is left. Nothing is
-    /// kept of it, since no request is at work that one editor answers, nor the message of an editor. Where the answer is an error the tables
-    /// stand for nothing any more.
+    /// S9, and behind E10, E16 and E17: an editor that runs is asked what a request asks, under the editor's next number, while one below 2^64
+    /// is left. Nothing is kept of it, since no request is at work that one editor answers, and this is none that may wait for an editor. Where
+    /// the answer is an error the tables stand for nothing any more.
     pub fn question(
         &mut self,
         alloc: Global,
@@ -71,8 +71,8 @@ impl Tables {
         ensures lasts { self.new.lasts ≡ self.old.lasts }
         ensures count { OnOk result (length self.new.editors ≡ length self.old.editors) }
         ensures does { (settings : Settings) (base : List Event) (body method : List ℕ) (id : Id) (params : Option Json) → IsRead message.now body
-            → message_of body ≡ request id method params → is_creating method ≡ false → is_running (desk_of e (behind base outs.old)).phase ≡ true
-            → ((s : ℕ) → IsAtRest settings s (behind base outs.old))
+            → message_of body ≡ request id method params → is_creating method ≡ false → is_patient method ≡ false → is_running (desk_of e (behind base outs.old)).phase ≡ true
+            → ((s : ℕ) → (asking_of settings s (behind base outs.old)).asker ≡ None)
             → OnOk result (Does (λ t events. Stands settings t events) (ask body e) base self.old outs.old self.new outs.new) }
         ensures documents { (settings : Settings) (owed : Owed) (base : List Event) → DocumentsStand settings owed self.old (behind base outs.old)
             → OnOk result (DocumentsStand settings owed self.new (behind base outs.new)) }

@@ -14,7 +14,7 @@ pub returns-in_ok-take_refresh-in-Refresh-clause-does : goal.returns-in_ok-take_
 returns-in_ok-take_refresh-in-Refresh-clause-does c = λ settings before body method id params s x read says fresh first here ready at known settled st ds.
     let kind = sym (c.asked_class.ensures body method id params read says) ∙ c.in-Refresh.is in
     done_alike (λ k events. AllStand settings k events) (alike (ap (asking_row settings before x.life.group s body method) kind))
-    (c.in_ok-take_refresh-in-Refresh.ensures.does settings before body method id params s x read says (ap goes_to_one kind) (ap changes_live kind) (ap names_create kind) fresh first here ready at st ds)
+    (c.in_ok-take_refresh-in-Refresh.ensures.does settings before body method id params s x read says (ap goes_to_one kind) (ap may_wait kind) (ap changes_live kind) (ap names_create kind) fresh first here ready at st ds)
 
 pub returns-in_ok-take_folders-in-Folders-clause-does : goal.returns-in_ok-take_folders-in-Folders-clause-does
 returns-in_ok-take_folders-in-Folders-clause-does c = λ settings before body method id params s x read says fresh first here ready at known settled st ds.

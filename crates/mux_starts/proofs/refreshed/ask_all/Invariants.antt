@@ -9,6 +9,7 @@ use Rattle.event_model.specs.Phases.{desk_of, is_running}
 use Rattle.event_model.specs.Row.{each}
 use Rattle.event_model.specs.Settings.{Settings}
 use Rattle.group_rows.specs.AskRows.{ask}
+use Rattle.group_rows.specs.Asks.{is_patient}
 use Rattle.group_rows.specs.Created.{is_creating}
 use Rattle.rpc_message.specs.Message.{Id, message_of, request}
 use Rattle.rpc_message.specs.Parsed.{IsRead}
@@ -21,7 +22,7 @@ invariant-loop-e l = record {
   count : length l.tables.editors ≡ length l.initial.tables.editors;
   requests : l.tables.requests ≡ l.initial.tables.requests;
   versions : l.tables.versions ≡ l.initial.tables.versions;
-  does : (settings : Settings) (base : List Event) (body method : List ℕ) (id : Id) (params : Option Json) → IsRead l.message body → message_of body ≡ request id method params → is_creating method ≡ false
+  does : (settings : Settings) (base : List Event) (body method : List ℕ) (id : Id) (params : Option Json) → IsRead l.message body → message_of body ≡ request id method params → is_creating method ≡ false → is_patient method ≡ false
       → AllByRecursion (λ e. is_running (desk_of e (behind base l.initial.outs)).phase ≡ true) l.numbers → ((s : ℕ) → IsAtRest settings s (behind base l.initial.outs))
       → Does (λ k events. AllStand settings k events) (each (ask body) (take l.e-index l.numbers)) base (l.initial.tables, nothing_owed) l.initial.outs (l.tables, nothing_owed) l.outs;
 }

@@ -13,7 +13,7 @@ returns-clause-outs g c = λ history h.
     let s : c.args.self.now.spent ≡ false = ap (λ (v : HubView g.row.J.Denot). v.spent) (sym c.self.view_is) ∙ c.if-self.false in
     let f = c.requires.fits history h s in
     subst (λ (v : HubView g.row.J.Denot). HubStands g.J.Journal.told v history → c.in_ok-outs.outs ≡ emits v.settings history c.args.cause) c.self.view_is
-    (λ k. (stepped g.J.Journal.told _ c.args.cause _ c.turn.new.tables c.turn.new.carries c.turn.new.backlogs c.turn.new.starts.items _ _ history k c.if-self.false c.self.invariant.range f
+    (λ k. (stepped g.J.Journal.told _ c.args.cause _ c.turn.new.tables c.turn.new.carries c.turn.new.debts c.turn.new.backlogs c.turn.new.starts.items _ _ history k c.if-self.false c.self.invariant.range f
     (λ settings before l e d. c.in_ok-outs.ensures.takes settings before l (e ∙ sym c.as_slice.ensures.value) d) c.in_ok-append.ensures.ok (sym c.in-Some.is ∙ (c.counted.ensures ∙ ap (λ n. if nat_lt most_events (c.self.inside.events + (1 + n)) then None else Some (c.self.inside.events + (1 + n))) c.len.ensures))).outs) h
 
 pub returns-clause-stands : goal.returns-clause-stands
@@ -24,6 +24,7 @@ returns-clause-stands g c = λ history h.
       settings = record { limits = c.self.inside.limits; servers = c.self.inside.servers.items; default = c.self.inside.default };
       tables = c.turn.new.tables;
       carries = c.turn.new.carries;
+      debts = c.turn.new.debts;
       backlogs = c.turn.new.backlogs;
       starts = c.turn.new.starts.items;
       events = c.in-Some.events;
@@ -31,7 +32,7 @@ returns-clause-stands g c = λ history h.
       journal = c.append.new.self;
     } in
     subst (λ (v : HubView g.row.J.Denot). HubStands g.J.Journal.told v history → HubStands g.J.Journal.told after (history ++ entry_of v.settings history c.args.cause ∷ [])) c.self.view_is
-    (λ k. (stepped g.J.Journal.told _ c.args.cause _ c.turn.new.tables c.turn.new.carries c.turn.new.backlogs c.turn.new.starts.items _ _ history k c.if-self.false c.self.invariant.range f
+    (λ k. (stepped g.J.Journal.told _ c.args.cause _ c.turn.new.tables c.turn.new.carries c.turn.new.debts c.turn.new.backlogs c.turn.new.starts.items _ _ history k c.if-self.false c.self.invariant.range f
     (λ settings before l e d. c.in_ok-outs.ensures.takes settings before l (e ∙ sym c.as_slice.ensures.value) d) c.in_ok-append.ensures.ok (sym c.in-Some.is ∙ (c.counted.ensures ∙ ap (λ n. if nat_lt most_events (c.self.inside.events + (1 + n)) then None else Some (c.self.inside.events + (1 + n))) c.len.ensures))).stands) h
 
 pub returns-clause-numbers : goal.returns-clause-numbers
@@ -39,7 +40,7 @@ returns-clause-numbers g c = λ history h fresh.
     let s : c.args.self.now.spent ≡ false = ap (λ (v : HubView g.row.J.Denot). v.spent) (sym c.self.view_is) ∙ c.if-self.false in
     let f = c.requires.fits history h s in
     subst (λ (v : HubView g.row.J.Denot). HubStands g.J.Journal.told v history → passes v.settings history c.args.cause ≡ false) c.self.view_is
-    (λ k. few_says g.J.Journal.told _ c.args.cause c.in_ok-outs.outs c.turn.new.tables c.turn.new.carries c.turn.new.backlogs c.turn.new.starts.items history k c.if-self.false c.self.invariant.range f
+    (λ k. few_says g.J.Journal.told _ c.args.cause c.in_ok-outs.outs c.turn.new.tables c.turn.new.carries c.turn.new.debts c.turn.new.backlogs c.turn.new.starts.items history k c.if-self.false c.self.invariant.range f
     (λ settings before l e d. c.in_ok-outs.ensures.takes settings before l (e ∙ sym c.as_slice.ensures.value) d) c.in-Some.events (sym c.in-Some.is ∙ (c.counted.ensures ∙ ap (λ n. if nat_lt most_events (c.self.inside.events + (1 + n)) then None else Some (c.self.inside.events + (1 + n))) c.len.ensures))) h
 
 pub returns-in_default-clause-numbers : goal.returns-in_default-clause-numbers
@@ -47,7 +48,7 @@ returns-in_default-clause-numbers g c = λ history h fresh.
     let s : c.args.self.now.spent ≡ false = ap (λ (v : HubView g.row.J.Denot). v.spent) (sym c.self.view_is) ∙ c.if-self.false in
     let f = c.requires.fits history h s in
     subst (λ (v : HubView g.row.J.Denot). HubStands g.J.Journal.told v history → passes v.settings history c.args.cause ≡ true) c.self.view_is
-    (λ k. many_says g.J.Journal.told _ c.args.cause c.in_ok-outs.outs c.turn.new.tables c.turn.new.carries c.turn.new.backlogs c.turn.new.starts.items history k c.if-self.false c.self.invariant.range f
+    (λ k. many_says g.J.Journal.told _ c.args.cause c.in_ok-outs.outs c.turn.new.tables c.turn.new.carries c.turn.new.debts c.turn.new.backlogs c.turn.new.starts.items history k c.if-self.false c.self.invariant.range f
     (λ settings before l e d. c.in_ok-outs.ensures.takes settings before l (e ∙ sym c.as_slice.ensures.value) d) (sym c.in_default.is ∙ (c.counted.ensures ∙ ap (λ n. if nat_lt most_events (c.self.inside.events + (1 + n)) then None else Some (c.self.inside.events + (1 + n))) c.len.ensures))) h
 
 pub returns-in_err-append-clause-numbers : goal.returns-in_err-append-clause-numbers
@@ -56,7 +57,7 @@ returns-in_err-append-clause-numbers g c = λ history h fresh.
     let f = c.requires.fits history h s in
     let few : passes c.args.self.now.settings history c.args.cause ≡ false =
     subst (λ (v : HubView g.row.J.Denot). HubStands g.J.Journal.told v history → passes v.settings history c.args.cause ≡ false) c.self.view_is
-    (λ k. few_says g.J.Journal.told _ c.args.cause c.in_ok-outs.outs c.turn.new.tables c.turn.new.carries c.turn.new.backlogs c.turn.new.starts.items history k c.if-self.false c.self.invariant.range f
+    (λ k. few_says g.J.Journal.told _ c.args.cause c.in_ok-outs.outs c.turn.new.tables c.turn.new.carries c.turn.new.debts c.turn.new.backlogs c.turn.new.starts.items history k c.if-self.false c.self.invariant.range f
     (λ settings before l e d. c.in_ok-outs.ensures.takes settings before l (e ∙ sym c.as_slice.ensures.value) d) c.in-Some.events (sym c.in-Some.is ∙ (c.counted.ensures ∙ ap (λ n. if nat_lt most_events (c.self.inside.events + (1 + n)) then None else Some (c.self.inside.events + (1 + n))) c.len.ensures))) h in
     let p = err_from_is_err_and c.from_residual-in_err-append.result c.from_residual-in_err-append.ensures.1 in
     rw p.1 (append_says (passes c.args.self.now.settings history c.args.cause) _ _ p.2 few)

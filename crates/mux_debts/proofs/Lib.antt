@@ -1,0 +1,4 @@
+pub mod Going
+pub mod Noting
+pub mod Paying
+pub mod Standing
