@@ -41,6 +41,10 @@ def read(stream):
     return None
 
 
+# So that the C library gives large blocks back as they are freed.
+GIVES_BACK = {"MALLOC_MMAP_THRESHOLD_": "262144", "MALLOC_TRIM_THRESHOLD_": "262144"}
+
+
 class Daemon:
     """A daemon in a folder of its own, with its place and settings there."""
 
@@ -60,7 +64,7 @@ class Daemon:
         """Starts it, and waits until it answers."""
         notes = self.notes or open(self.settings.with_suffix(".notes"), "ab")
         words = [self.program, "serve", "--config", self.settings, "--log", self.log]
-        process = subprocess.Popen(words, stdout=subprocess.DEVNULL, stderr=notes)
+        process = subprocess.Popen(words, stdout=subprocess.DEVNULL, stderr=notes, env={**os.environ, **GIVES_BACK})
         until(lambda: self.ask("status").returncode == 0, "daemon")
         return process
 
@@ -182,6 +186,8 @@ class Link(Editor):
             check("result" in (self.ask("lspmux/open", {"server": server}) or {}), "the server's name is refused")
 
     def leave(self):
+        # What makefile gave keeps a closed socket open.
+        self.socket.shutdown(socket.SHUT_RDWR)
         self.socket.close()
 
 

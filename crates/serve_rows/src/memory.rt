@@ -1,6 +1,9 @@
 // The program over an outside in memory.
+ghost use Rattle.std.specs.Prelude.{[]};
+ghost use Rattle.mux_hub.specs.Hubs.{Tells};
+
 use lspmux_program::{Left, Outside, lspmux};
-use mux_steps::MemJournal;
+use mux_steps::{Journal, MemJournal};
 use outside_io::{MemBerth, MemDoor, MemFolder, MemPort, MemSink, MemSource, SetClock};
 use std::alloc::Global;
 use std::sync::Wait;
@@ -43,7 +46,9 @@ pub(crate) fn outside(
     ports: Vec<MemPort>,
     berths: Vec<MemBerth>,
     files: Vec<(String, Vec<u8>)>,
-) -> Memory {
+) -> Memory
+    ensures { Tells (⟦<MemJournal as Journal>⟧.told result.journal) [] }
+{
     Outside {
         door: MemDoor::new(alloc, ports, Vec::new(alloc)),
         berths,
@@ -56,16 +61,23 @@ pub(crate) fn outside(
     }
 }
 
+fn texts_of(alloc: Global, words: &[&str]) -> Result<Vec<String>, Fail> {
+    let mut texts = Vec::new(alloc);
+    for word in words {
+        texts.push(String::from_str(alloc, *word)?)?;
+    }
+    Ok(texts)
+}
+
 /// Runs these words there.
 pub(crate) fn run<R: Threads + Wait + Sync>(
     threads: &R,
     alloc: Global,
     words: &[&str],
     outside: Memory,
-) -> Result<After, Fail> {
-    let mut texts = Vec::new(alloc);
-    for word in words {
-        texts.push(String::from_str(alloc, *word)?)?;
-    }
+) -> Result<After, Fail>
+    requires { Tells (⟦<MemJournal as Journal>⟧.told outside.journal) [] }
+{
+    let texts = texts_of(alloc, words)?;
     Ok(lspmux(threads, alloc, texts.as_slice(), outside))
 }

@@ -87,6 +87,16 @@ fn named<K: Steps + Drop, N: Naming, R: Wait>(
     })
 }
 
+// The ends of a lane through which nothing went yet.
+fn lane(alloc: Global) -> Option<(LaneIn, LaneOut, HubEnds)>
+    ensures { IfSome result (λ lane. IsUnused lane.2) }
+{
+    match Lane::new(alloc) {
+        Ok(lane) => Some(lane),
+        Err(_) => None,
+    }
+}
+
 /// An editor comes and says this body, and then the clock gives its moments; none where memory runs out.
 pub(crate) fn run<K: Steps + Drop, R: Wait>(
     rt: &R,
@@ -98,9 +108,9 @@ pub(crate) fn run<K: Steps + Drop, R: Wait>(
     requires core { K.stands core [] }
     requires ready { K.spent core ≡ false }
 {
-    let editor = Lane::new(alloc).ok()?;
-    let (_, _, server) = Lane::new(alloc).ok()?;
-    let (ticks, _, ticker) = Lane::new(alloc).ok()?;
+    let editor = lane(alloc)?;
+    let (_, _, server) = lane(alloc)?;
+    let (ticks, _, ticker) = lane(alloc)?;
     named::<K, Brand, R>(
         rt,
         alloc,
