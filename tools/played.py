@@ -202,7 +202,8 @@ def answer(mode, message):
     if mode == "ends at " + {"textDocument/hover": "a request"}.get(method, str(method)):
         sys.exit(1)
     if method == "initialize":
-        return {"capabilities": {"hoverProvider": True}}
+        tokens = {"legend": {"tokenTypes": [], "tokenModifiers": []}, "full": True}
+        return {"capabilities": {"hoverProvider": True, "semanticTokensProvider": tokens}}
     if method == "big":
         return "x" * message["params"]["size"]
     return None if method == "shutdown" else {"process": os.getpid(), "folder": os.getcwd()}
@@ -229,11 +230,15 @@ def server(mode):
         sys.exit(1)
     if mode == "never reads":
         time.sleep(10_000)
+    asked = 0
     while (message := read(source)) and message.get("method") != "exit":
         if "id" in message and "method" in message:
             write(sink, {"id": message["id"], "result": answer(mode, message)})
         if message.get("method") == "initialize":
             misbehave(mode, sink)
+        if mode == "refreshes" and message.get("method") in ("textDocument/didOpen", "textDocument/didChange"):
+            asked += 1
+            write(sink, {"id": f"r{asked}", "method": "workspace/semanticTokens/refresh"})
 
 
 if __name__ == "__main__":
