@@ -41,6 +41,24 @@ def read(stream):
     return None
 
 
+# What a daemon and all programs behind it have in their environment: its folder.
+MARK = "LSPMUX_PLAYED_IN"
+
+
+def programs_of(folder):
+    """The numbers of the programs that run and have the mark of this folder: its daemon's and its servers'."""
+    mark = f"{MARK}={folder}".encode()
+    found = []
+    for number in filter(str.isdigit, os.listdir("/proc")):
+        try:
+            with open(f"/proc/{number}/environ", "rb") as environ:
+                if mark in environ.read().split(b"\0"):
+                    found.append(int(number))
+        except OSError:
+            pass
+    return found
+
+
 # So that the C library gives large blocks back as they are freed.
 GIVES_BACK = {"MALLOC_MMAP_THRESHOLD_": "262144", "MALLOC_TRIM_THRESHOLD_": "262144"}
 
@@ -50,6 +68,7 @@ class Daemon:
 
     def __init__(self, program, folder, servers, name="d", more=(), log="info", notes=None):
         self.program = program
+        self.folder = folder
         self.settings = folder / f"{name}.toml"
         self.socket = folder / f"{name}.sock"
         self.log = log
@@ -64,7 +83,8 @@ class Daemon:
         """Starts it, and waits until it answers."""
         notes = self.notes or open(self.settings.with_suffix(".notes"), "ab")
         words = [self.program, "serve", "--config", self.settings, "--log", self.log]
-        process = subprocess.Popen(words, stdout=subprocess.DEVNULL, stderr=notes, env={**os.environ, **GIVES_BACK})
+        env = {**os.environ, **GIVES_BACK, MARK: str(self.folder)}
+        process = subprocess.Popen(words, stdout=subprocess.DEVNULL, stderr=notes, env=env)
         until(lambda: self.ask("status").returncode == 0, "daemon")
         return process
 
@@ -193,14 +213,26 @@ class Link(Editor):
 
 # What the small server does in each of its modes, beside "plain".
 ENDS = {"ends at once", "ends at initialize", "ends behind its result", "ends at a request", "ends at shutdown"}
+KILLS = {mode.replace("ends", "is killed") for mode in ENDS} | {"is killed within an answer"}
 WRITES = {"garbage": b"\x00garbage\xff" * 100_000, "no end of a header": b"X" * 65_536, "too long": b"Content-Length: 1073741824\r\n\r\n"}
 
 
-def answer(mode, message):
+def end_where(mode, stage):
+    """Ends at this stage, or kills itself there, where its mode says so."""
+    if mode == "ends " + stage:
+        sys.exit(1)
+    if mode == "is killed " + stage:
+        os.kill(os.getpid(), signal.SIGKILL)
+
+
+def answer(mode, message, sink):
     """What it answers to a message: its result and what it does behind that, None for nothing."""
     method = message.get("method")
-    if mode == "ends at " + {"textDocument/hover": "a request"}.get(method, str(method)):
-        sys.exit(1)
+    end_where(mode, "at " + {"textDocument/hover": "a request"}.get(method, str(method)))
+    if method == "textDocument/hover" and mode == "is killed within an answer":
+        sink.write(b'Content-Length: 1000\r\n\r\n{"jsonrpc":"2.0"')
+        sink.flush()
+        end_where(mode, "within an answer")
     if method == "initialize":
         tokens = {"legend": {"tokenTypes": [], "tokenModifiers": []}, "full": True}
         return {"capabilities": {"hoverProvider": True, "semanticTokensProvider": tokens}}
@@ -211,8 +243,7 @@ def answer(mode, message):
 
 def misbehave(mode, sink):
     """What it does behind the result of its initialize."""
-    if mode == "ends behind its result":
-        sys.exit(1)
+    end_where(mode, "behind its result")
     if mode == "closes its output":
         os.close(1)
         time.sleep(10_000)
@@ -226,14 +257,13 @@ def misbehave(mode, sink):
 
 def server(mode):
     source, sink = sys.stdin.buffer, sys.stdout.buffer
-    if mode == "ends at once":
-        sys.exit(1)
+    end_where(mode, "at once")
     if mode == "never reads":
         time.sleep(10_000)
     asked = 0
     while (message := read(source)) and message.get("method") != "exit":
         if "id" in message and "method" in message:
-            write(sink, {"id": message["id"], "result": answer(mode, message)})
+            write(sink, {"id": message["id"], "result": answer(mode, message, sink)})
         if message.get("method") == "initialize":
             misbehave(mode, sink)
         if mode == "refreshes" and message.get("method") in ("textDocument/didOpen", "textDocument/didChange"):

@@ -1,23 +1,22 @@
 -- Each cause and each out is written in one way alone.
-use Rattle.std.proofs.Common.{◌≡◌, ℕ, ◌^◌, ◌<◌, ◌≤◌, Bool, true, false, cond, nat_eq, nat_lt, List, [], ◌∷◌, ◌++◌, codes, refl, sym, ap, subst, ◌∙◌, append_assoc, append-nil, arith, option_map}
-use Rattle.std.specs.Prelude.{Option, Some, None, bytes_eq, decimal}
+use Rattle.std.proofs.Common.{◌≡◌, ℕ, ◌≤◌, Bool, true, false, cond, nat_eq, nat_lt, List, [], ◌∷◌, ◌++◌, refl, sym, ap, subst, ◌∙◌, append_assoc}
+use Rattle.std.specs.Prelude.{Some, None}
 use Rattle.std.proofs.lemmas.Bool.{ltb-false, le-ltb}
 use Rattle.mux_history.specs.Cores.{body_length}
 use Rattle.mux_history.specs.declared.cause.Cause.{Cause}
 use Rattle.mux_history.specs.declared.out.Out.{Out}
-use Rattle.mux_history.specs.declared.out.Out.TheVariants.{ToEditor, ToServer, Spawn, CloseEditor, EndServer}
-use Rattle.drive_text.specs.Causes.{Cut, cut_of, with_number, cause_of}
+use Rattle.drive_text.specs.Causes.{cause_of}
 use Rattle.drive_text.specs.Forms.{within, cause_within}
-use Rattle.drive_text.specs.Laws.{Writes, FormsAreLines, OneCause, SameOuts}
-use Rattle.drive_text.specs.Marks.{body_of_text, text_of_body}
-use Rattle.drive_text.specs.Numbers.{number_of}
+use Rattle.drive_text.specs.Laws.{Writes, FormsAreLines, FormsAreOuts, OneCause, SameOuts}
 use Rattle.drive_text.specs.Options.{then_option}
-use Rattle.drive_text.specs.Outs.{head_of, tail_of, out_lines, HasSmallOutNumbers}
+use Rattle.drive_text.specs.OutForms.{out_of}
+use Rattle.drive_text.specs.Outs.{spelled_out, out_lines, HasSmallOutNumbers}
 use Rattle.drive_text.specs.Spellings.{spelled, HasSmallNumbers}
-use Rattle.drive_text.proofs.Decimals.{number_read, decimal_digits}
 use Rattle.drive_text.proofs.Options.{then_some, none_some}
-use Rattle.drive_text.proofs.Spellings.{cut_read, with_number_read, cause_read, cause_spelled}
-use Rattle.drive_text.proofs.Texts.{Lacks, lacks_both, digits_lack, text_lacks, body_read}
+use Rattle.drive_text.proofs.LineFeeds.{out_lacks}
+use Rattle.drive_text.proofs.OutSpellings.{out_read, out_spelled}
+use Rattle.drive_text.proofs.Spellings.{cause_read, cause_spelled}
+use Rattle.drive_text.proofs.Texts.{Lacks}
 
 -- causes
 
@@ -50,55 +49,16 @@ forms_are_lines content line cause = (to, from)
     from : Writes content line cause → cause_within content line ≡ Some cause
     from w = ap (λ l. then_option (cause_of l) (within content)) w.0 ∙ (ap (λ o. then_option o (within content)) (cause_read cause w.1) ∙ within_limit content cause w.2)
 
--- an out is read back from its line
+-- outs
 
-out_back : List ℕ → List ℕ → Option Out
-out_back word back =
-    cond (bytes_eq word (codes ">ed")) (with_number body_of_text ToEditor back)
-    (cond (bytes_eq word (codes ">sv")) (with_number body_of_text ToServer back)
-    (cond (bytes_eq word (codes ">spawn")) (with_number number_of Spawn back)
-    (cond (bytes_eq word (codes ">close")) (option_map CloseEditor (number_of back)) (option_map EndServer (number_of back)))))
+pub forms_are_outs : FormsAreOuts
+forms_are_outs line out = (to, from)
+  where
+    to : out_of line ≡ Some out → (line ≡ spelled_out out) × HasSmallOutNumbers out
+    to h = let s = out_spelled line out h in (s.bytes, s.small)
 
-out_of : List ℕ → Option Out
-out_of line = then_option (cut_of line) (λ (cut : Cut). out_back cut.front cut.back)
-
-abbrev spelled_out : Out → List ℕ
-spelled_out out = head_of out ++ tail_of out
-
-head_read : (word back : List ℕ) (o : Option Out) → Lacks 32 word → out_back word back ≡ o → out_of (word ++ 32 ∷ back) ≡ o
-unfolding out_of
-head_read word back o l h = ap (λ o. then_option o (λ (cut : Cut). out_back cut.front cut.back)) (cut_read word back l) ∙ h
-
-regroup : (word number text : List ℕ) → ((word ++ number) ++ 32 ∷ []) ++ text ≡ word ++ (number ++ 32 ∷ text)
-regroup word number text = simp append_assoc
-
-out_read : (o : Out) → HasSmallOutNumbers o → out_of (spelled_out o) ≡ Some o
-unfolding out_back
-out_read (ToEditor e body) s = ap out_of (regroup (codes ">ed ") (decimal e) (text_of_body body))
-    ∙ head_read (codes ">ed") (decimal e ++ 32 ∷ text_of_body body) _ (refl, (refl, (refl, tt))) (with_number_read body_of_text ToEditor e (text_of_body body) body s (body_read body))
-out_read (ToServer n body) s = ap out_of (regroup (codes ">sv ") (decimal n) (text_of_body body))
-    ∙ head_read (codes ">sv") (decimal n ++ 32 ∷ text_of_body body) _ (refl, (refl, (refl, tt))) (with_number_read body_of_text ToServer n (text_of_body body) body s (body_read body))
-out_read (Spawn n g) s = ap out_of (append-nil (head_of (Spawn n g)))
-    ∙ head_read (codes ">spawn") (decimal n ++ 32 ∷ decimal g) _ (refl, (refl, (refl, (refl, (refl, (refl, tt)))))) (with_number_read number_of Spawn n (decimal g) g s.0 (number_read g s.1))
-out_read (CloseEditor e) s = ap out_of (append-nil (head_of (CloseEditor e)))
-    ∙ head_read (codes ">close") (decimal e) _ (refl, (refl, (refl, (refl, (refl, (refl, tt)))))) (ap (option_map CloseEditor) (number_read e s))
-out_read (EndServer n) s = ap out_of (append-nil (head_of (EndServer n)))
-    ∙ head_read (codes ">end") (decimal n) _ (refl, (refl, (refl, (refl, tt)))) (ap (option_map EndServer) (number_read n s))
-
--- a line has no line feed in it
-
-decimal_lacks : (n : ℕ) → n < 2 ^ 64 → Lacks 10 (decimal n)
-decimal_lacks n s = digits_lack 10 (decimal n) (omega arith) (decimal_digits n s)
-
-out_lacks : (o : Out) → HasSmallOutNumbers o → Lacks 10 (spelled_out o)
-out_lacks (ToEditor e body) s = lacks_both 10 (head_of (ToEditor e body)) (text_of_body body)
-    (refl, (refl, (refl, (refl, lacks_both 10 (decimal e) (32 ∷ []) (decimal_lacks e s) (refl, tt))))) (text_lacks body)
-out_lacks (ToServer n body) s = lacks_both 10 (head_of (ToServer n body)) (text_of_body body)
-    (refl, (refl, (refl, (refl, lacks_both 10 (decimal n) (32 ∷ []) (decimal_lacks n s) (refl, tt))))) (text_lacks body)
-out_lacks (Spawn n g) s = lacks_both 10 (head_of (Spawn n g)) []
-    (refl, (refl, (refl, (refl, (refl, (refl, (refl, lacks_both 10 (decimal n) (32 ∷ decimal g) (decimal_lacks n s.0) (refl, decimal_lacks g s.1)))))))) tt
-out_lacks (CloseEditor e) s = lacks_both 10 (head_of (CloseEditor e)) [] (refl, (refl, (refl, (refl, (refl, (refl, (refl, decimal_lacks e s))))))) tt
-out_lacks (EndServer n) s = lacks_both 10 (head_of (EndServer n)) [] (refl, (refl, (refl, (refl, (refl, decimal_lacks n s))))) tt
+    from : (line ≡ spelled_out out) × HasSmallOutNumbers out → out_of line ≡ Some out
+    from w = ap out_of w.0 ∙ out_read out w.1
 
 -- the first line feed parts a line from what is behind it
 first_line : (a b r s : List ℕ) → Lacks 10 a → Lacks 10 b → a ++ 10 ∷ r ≡ b ++ 10 ∷ s → (a ≡ b) × (r ≡ s)

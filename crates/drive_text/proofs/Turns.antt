@@ -1,5 +1,5 @@
 -- One more turn of a made input.
-use Rattle.std.proofs.Common.{◌≡◌, ℕ, ◌+◌, List, [], ◌∷◌, ◌++◌, refl, sym, ap, ◌∙◌, append_assoc, append-nil, add-one}
+use Rattle.std.proofs.Common.{◌≡◌, ℕ, ◌+◌, List, [], ◌++◌, refl, sym, ap, ◌∙◌, append_assoc, append-nil, add-one}
 use Rattle.mux_history.specs.declared.cause.Cause.{Cause}
 use Rattle.drive_text.specs.declared.made.Maker.{Maker}
 use Rattle.drive_text.specs.Made.{opening, step_causes, step_state, state_after, turns, made}

@@ -5,5 +5,6 @@ pub mod Made
 pub mod Marks
 pub mod Numbers
 pub mod Options
+pub mod OutForms
 pub mod Outs
 pub mod Spellings

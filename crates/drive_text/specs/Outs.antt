@@ -5,7 +5,7 @@ use Rattle.mux_history.specs.declared.out.Out.{Out}
 use Rattle.mux_history.specs.declared.out.Out.TheVariants.{ToEditor, ToServer, Spawn, CloseEditor, EndServer}
 use Rattle.drive_text.specs.Marks.{text_of_body}
 
--- the line of an out: its head, a body where it has one, and a line feed
+-- the parts of an out's line: what stands before a body, and the body
 abbrev pub head_of : Out → List ℕ
 head_of (ToEditor e body) = (codes ">ed " ++ decimal e) ++ codes " "
 head_of (ToServer s body) = (codes ">sv " ++ decimal s) ++ codes " "
@@ -18,6 +18,11 @@ tail_of (ToEditor e body) = text_of_body body
 tail_of (ToServer s body) = text_of_body body
 tail_of other = []
 
+-- the line of an out, without its line feed
+abbrev pub spelled_out : Out → List ℕ
+spelled_out out = head_of out ++ tail_of out
+
+-- the line with its line feed
 abbrev pub out_line : Out → List ℕ
 out_line out = head_of out ++ tail_of out ++ 10 ∷ []
 

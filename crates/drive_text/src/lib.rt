@@ -7,6 +7,7 @@ mod line;
 mod made;
 mod marks;
 mod read;
+mod read_out;
 mod word;
 mod write;
 
@@ -14,4 +15,6 @@ pub use journal::LineJournal;
 pub use law::{causes_law, outs_law};
 pub use line::{LineFault, cause_of_line, read_line};
 pub use made::{make, make_causes};
-pub use write::{write_cause_line, write_entry, write_outs};
+pub use read::cause_of;
+pub use read_out::out_of;
+pub use write::{write_cause, write_cause_line, write_entry, write_out, write_outs};

@@ -34,7 +34,7 @@ fn is_padded(text: &[u8]) -> bool
     }
 }
 
-fn number_of(text: &[u8]) -> Option<u64>
+pub(crate) fn number_of(text: &[u8]) -> Option<u64>
     ensures { result ≡ number_of text.now }
 {
     if is_padded(text) {
@@ -57,7 +57,7 @@ fn first_space(text: &[u8]) -> Option<usize>
 }
 
 // What stands before and behind the first space.
-fn cut_of(text: &[u8]) -> Option<(&[u8], &[u8])>
+pub(crate) fn cut_of(text: &[u8]) -> Option<(&[u8], &[u8])>
     ensures { MatchOption result (cut_of text.now ≡ None) (λ cut. cut_of text.now ≡ Some (record { front = cut.0.now; back = cut.1.now })) }
 {
     match first_space(text) {
@@ -67,7 +67,7 @@ fn cut_of(text: &[u8]) -> Option<(&[u8], &[u8])>
 }
 
 // A number, and what stands behind it and a space.
-fn numbered(text: &[u8]) -> Option<(u64, &[u8])>
+pub(crate) fn numbered(text: &[u8]) -> Option<(u64, &[u8])>
     ensures { MatchOption result (numbered text.now ≡ None) (λ cut. numbered text.now ≡ Some (record { number = cut.0; back = cut.1.now })) }
 {
     let (front, back) = cut_of(text)?;
@@ -123,7 +123,7 @@ fn cause_by(alloc: Global, word: Word, text: &[u8]) -> Result<Option<Cause>, Mem
     }
 }
 
-/// The cause that a line writes, if it is of such a form.
+/// The cause that a line writes, without its line feed; none where it is in no form. The time is linear in the line.
 pub fn cause_of(alloc: Global, line: &[u8]) -> Result<Option<Cause>, Memory>
     ensures { IfOk result (λ cause. cause ≡ cause_of line.now) }
 {

@@ -1,6 +1,7 @@
 // The words of a line.
 ghost use Rattle.std.specs.Prelude.{◌≡◌};
 ghost use Rattle.drive_text.specs.Causes.{word_of, why_of};
+ghost use Rattle.drive_text.specs.OutForms.{out_word_of};
 
 use mux_history::Why;
 
@@ -55,5 +56,34 @@ pub fn why_of(text: &[u8]) -> Option<Why>
         b"write" => Some(Why::WriteFault),
         b"frame" => Some(Why::BadFrame),
         _ => None,
+    }
+}
+
+/// The first word of a line that writes an out.
+#[derive(Clone, Copy, Debug, PartialEq, Eq)]
+pub enum OutWord {
+    Ed,
+    Sv,
+    Spawn,
+    Close,
+    End,
+}
+
+/// The word that an out's line begins with, by its letters; none for any other.
+pub fn out_word_of(text: &[u8]) -> Option<OutWord>
+    ensures { result ≡ out_word_of text.now }
+{
+    if text == b">ed".as_slice() {
+        Some(OutWord::Ed)
+    } else if text == b">sv".as_slice() {
+        Some(OutWord::Sv)
+    } else if text == b">spawn".as_slice() {
+        Some(OutWord::Spawn)
+    } else if text == b">close".as_slice() {
+        Some(OutWord::Close)
+    } else if text == b">end".as_slice() {
+        Some(OutWord::End)
+    } else {
+        None
     }
 }

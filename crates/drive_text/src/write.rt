@@ -21,7 +21,8 @@ fn head_of(alloc: Global, out: &Out) -> Result<String, Memory>
     }
 }
 
-fn write_out(alloc: Global, text: &mut Vec<u8>, out: &Out) -> Result<(), Memory>
+/// Writes an out's line, with its line feed. The time is linear in its body.
+pub fn write_out(alloc: Global, text: &mut Vec<u8>, out: &Out) -> Result<(), Memory>
     ensures { OnOk result (text.new.items ≡ text.old.items ++ out_line out.now) }
 {
     let head = head_of(alloc, out)?;
@@ -83,9 +84,9 @@ fn cause_head(alloc: Global, cause: &Cause) -> Result<String, Memory>
     }
 }
 
-// Writes a cause's line, without its line feed.
+/// Writes a cause's line, without its line feed. The time is linear in its body.
 #[tactic(auto, using(crate::proofs::Heads::two_parts))]
-fn write_cause(alloc: Global, text: &mut Vec<u8>, cause: &Cause) -> Result<(), Memory>
+pub fn write_cause(alloc: Global, text: &mut Vec<u8>, cause: &Cause) -> Result<(), Memory>
     ensures { OnOk result (text.new.items ≡ text.old.items ++ spelled cause.now) }
 {
     let head = cause_head(alloc, cause)?;

@@ -23,7 +23,8 @@ use Rattle.drive_program.specs.Runs.{after}
 use Rattle.drive_program.specs.declared.refusal.Refusal.TheVariants.{Form, Absent}
 use Rattle.drive_program.specs.declared.stop.Stop.{Stop}
 use Rattle.drive_program.specs.declared.stop.Stop.TheVariants as stop
-use Rattle.make_program.specs.Program.{AllFit, Ran, Undisturbed}
+use Rattle.made_histories.specs.Coming.{AllAwaited, AllFit}
+use Rattle.make_program.specs.Program.{Ran, Undisturbed}
 use Rattle.make_program.specs.Runs.{Driven, IfFirst, history_of}
 use Rattle.make_program.specs.Shown.{Shown, Shows, ended_line, ended_status}
 use Rattle.make_program.specs.declared.counts.Counts.{Counts}
@@ -131,6 +132,7 @@ true_false : (b : Bool) → IsTrue b → b ≡ false → ⊥
 true_false b h e = cc
 
 fit_at : (settings : Settings) (history : List Entry) (taken : List Cause) (cause : Cause) (more : List Cause) → AllFit settings history (taken ++ cause ∷ more) → IsTrue (fits (fold (after settings) history taken) cause)
+unfolding after
 fit_at settings history [] cause more h = h.0
 fit_at settings history (first ∷ taken) cause more h = fit_at settings (after settings history first) taken cause more h.1
 
@@ -163,18 +165,19 @@ not_many settings taken (cause ∷ more) few p =
     many_of (length (events_of (history_of settings taken)) + (1 + length (emits settings (history_of settings taken) cause))) p.1 (omega (arith, same, one, rest, few))
 
 complete_by : {J : Type 0} (told : J → Option (List Entry)) (settings : Settings) (journal : J) (causes : List Cause) (journal_rose output_rose : Type 0) (s : Stop) → Ran told settings journal causes (Err s)
-    → (s ≡ stop.Journal → journal_rose) → Undisturbed settings causes journal_rose output_rose → status_of s ≡ 5
-complete_by told settings journal causes journal_rose output_rose stop.Memory r j u = refl
-complete_by told settings journal causes journal_rose output_rose stop.Journal r j u = absurd (u.journal (j refl))
-complete_by told settings journal causes journal_rose output_rose stop.Numbers r j u =
+    → (s ≡ stop.Journal → journal_rose) → (AllAwaited settings [] causes → AllFit settings [] causes) → Undisturbed settings causes journal_rose output_rose → status_of s ≡ 5
+complete_by told settings journal causes journal_rose output_rose stop.Memory r j f u = refl
+complete_by told settings journal causes journal_rose output_rose stop.Journal r j f u = absurd (u.journal (j refl))
+complete_by told settings journal causes journal_rose output_rose stop.Numbers r j f u =
     absurd (not_many settings r.taken r.rest (subst (λ (cs : List Cause). length (events_of (history_of settings cs)) ≤ most_events) r.all u.few) r.stopped)
-complete_by told settings journal causes journal_rose output_rose stop.Input r j u = absurd r.stopped
-complete_by told settings journal causes journal_rose output_rose stop.Output r j u = absurd r.stopped
-complete_by told settings journal causes journal_rose output_rose (stop.Refused k Form) r j u = absurd r.stopped
-complete_by told settings journal causes journal_rose output_rose (stop.Refused k Absent) r j u =
-    absurd (not_absent settings r.taken r.rest (subst (λ (cs : List Cause). AllFit settings [] cs) r.all u.fit) r.stopped.1)
+complete_by told settings journal causes journal_rose output_rose stop.Input r j f u = absurd r.stopped
+complete_by told settings journal causes journal_rose output_rose stop.Output r j f u = absurd r.stopped
+complete_by told settings journal causes journal_rose output_rose (stop.Refused k Form) r j f u = absurd r.stopped
+complete_by told settings journal causes journal_rose output_rose (stop.Refused k Absent) r j f u =
+    absurd (not_absent settings r.taken r.rest (subst (λ (cs : List Cause). AllFit settings [] cs) r.all (f u.awaited)) r.stopped.1)
 
 pub complete_stop : {J : Type 0} (told : J → Option (List Entry)) (settings : Settings) (journal : J) (causes : List Cause) (journal_rose output_rose : Type 0) (s : Stop) (status : ℕ) (v u : Option (List ℕ)) (line : List ℕ) (failed : Type 0)
-    → Ran told settings journal causes (Err s) → Reported status (status_of s) v u line failed → (s ≡ stop.Journal → journal_rose) → Undisturbed settings causes journal_rose output_rose → (status ≡ 0) ⊎ (status ≡ 5)
-complete_stop told settings journal causes journal_rose output_rose s status v u line failed r (said e f) j d = inr (e ∙ complete_by told settings journal causes journal_rose output_rose s r j d)
-complete_stop told settings journal causes journal_rose output_rose s status v u line failed r (unsaid e f) j d = inr e
+    → Ran told settings journal causes (Err s) → Reported status (status_of s) v u line failed → (s ≡ stop.Journal → journal_rose) → (AllAwaited settings [] causes → AllFit settings [] causes)
+    → Undisturbed settings causes journal_rose output_rose → (status ≡ 0) ⊎ (status ≡ 5)
+complete_stop told settings journal causes journal_rose output_rose s status v u line failed r (said e f) j fits d = inr (e ∙ complete_by told settings journal causes journal_rose output_rose s r j fits d)
+complete_stop told settings journal causes journal_rose output_rose s status v u line failed r (unsaid e f) j fits d = inr e

@@ -1,5 +1,5 @@
 -- What a run of `make` did.
-use Rattle.std.specs.Prelude.{◌≡◌, ℕ, ◌≤◌, List, [], ◌∷◌, ◌++◌, length, IfOk, IfErr, IsTrue}
+use Rattle.std.specs.Prelude.{◌≡◌, ℕ, ◌≤◌, List, [], ◌++◌, length, IfOk, IfErr}
 use Rattle.std.specs.Prelude.{Option, Result, Ok, Err}
 use Rattle.event_model.specs.Event.{events_of}
 use Rattle.event_model.specs.Settings.{Settings}
@@ -9,9 +9,8 @@ use Rattle.mux_hub.specs.Entries.{most_events}
 use Rattle.mux_hub.specs.Hubs.{Tells}
 use Rattle.mux_hub.specs.Sessions.{Sessions}
 use Rattle.mux_hub.specs.group_facts.specs.Legal.{Legal}
-use Rattle.mux_model.specs.Fits.{fits}
+use Rattle.made_histories.specs.Coming.{AllAwaited}
 use Rattle.drive_program.specs.Program.{fault_line, status_of}
-use Rattle.drive_program.specs.Runs.{after}
 use Rattle.drive_program.specs.declared.stop.Stop.{Stop}
 use Rattle.program_settings.specs.Lines.{Reported}
 use Rattle.make_program.specs.Counts.{counts_of, summary_line}
@@ -43,14 +42,9 @@ pub record Made {J : Type 0} (told : J → Option (List Entry)) (settings : Sett
   pub ran : Ran told settings journal causes result
   pub said : Said result before now failed status
 
--- each of these causes can come behind those before it
-abbrev pub AllFit : Settings → List Entry → List Cause → Type 0
-AllFit settings history [] = Unit {0}
-AllFit settings history (cause ∷ causes) = IsTrue (fits history cause) × AllFit settings (after settings history cause) causes
-
--- nothing outside failed, each cause can come, and the causes and outs are not too many
+-- nothing outside failed, each program that begins is one that the core asked for, and the causes and outs are not too many
 pub record Undisturbed (settings : Settings) (causes : List Cause) (journal_rose output_rose : Type 0) : Type 0 where
   pub journal : journal_rose → ⊥
   pub output : output_rose → ⊥
-  pub fit : AllFit settings [] causes
+  pub awaited : AllAwaited settings [] causes
   pub few : length (events_of (history_of settings causes)) ≤ most_events

@@ -4,6 +4,7 @@
 mod bell;
 mod editor;
 mod lane_end;
+mod meeting;
 mod post;
 mod server;
 mod session;
@@ -12,6 +13,7 @@ mod ticker;
 
 pub use editor::editor_lane;
 pub use lane_end::{Lane, LaneEnd};
+pub use meeting::Meeting;
 pub use server::server_lane;
 pub use session::Ends;
 pub use switchboard::Switchboard;

@@ -7,6 +7,7 @@ ghost use Rattle.session_io.specs.Writes.{WroteAs};
 ghost use Rattle.mux_lanes.specs.Runs.{IsWhole, order_of};
 ghost use Rattle.mux_lanes.specs.Lanes.{IsSameLane};
 
+use crate::meeting::Meeting;
 use crate::switchboard::Switchboard;
 use lane_desk::Naming;
 use lane_lists::{LaneName, Order};
@@ -24,10 +25,15 @@ use std::thread::Threads;
 struct SessionDesk<'a, K: Steps + Drop, N: Naming> {
     board: &'a Switchboard<K, N>,
     lane: LaneName,
+    parts: Meeting,
     end: OnceLock<End>,
 }
 
 impl<'a, K: Steps + Drop, N: Naming> Core for SessionDesk<'a, K, N> {
+    fn begins(&self) -> bool {
+        self.parts.meet()
+    }
+
     fn pump<R: Wait>(&self, rt: &R) -> bool {
         self.board.pump(rt, self.lane)
     }
@@ -146,6 +152,9 @@ fn write_part<K: Steps + Drop, N: Naming, S: Sink + Drop, R: Wait>(
 {
     let mut sink = sink;
     let mut out = out;
+    if !desk.begins() {
+        desk.board.fail(rt);
+    }
     heed(rt, desk, &mut sink, &out);
     let wrote = write_session(rt, alloc, desk, &mut sink, &mut out);
     tell(rt, desk, &wrote);
@@ -178,7 +187,7 @@ pub struct Ran<I, O> {
 
 /// Reads and writes a session side by side, until it is ordered to end or its source ends. Then it has closed the sink.
 ///
-/// Where no thread can be made it reads first, and writes then.
+/// Where no thread can be made for the writing part, nothing is read, and the core goes on no more.
 pub fn run_session<
     K: Steps + Drop + Send,
     N: Naming + Send + Sync,
@@ -203,6 +212,7 @@ pub fn run_session<
     let desk = SessionDesk {
         board,
         lane,
+        parts: Meeting::new(2),
         end: OnceLock::new(),
     };
     let desk = &desk;

@@ -4,7 +4,7 @@ ghost use Rattle.mux_lanes.specs.declared.session.Ends.{Ends};
 ghost use Rattle.mux_serve.specs.Jobs.{BerthRan, PortRan};
 
 use lane_desk::Naming;
-use mux_lanes::{Ends, LaneEnd, Switchboard, editor_lane, server_lane};
+use mux_lanes::{Ends, LaneEnd, Meeting, Switchboard, editor_lane, server_lane};
 use mux_steps::Steps;
 use outside_io::{Berth, Port};
 use std::alloc::Global;
@@ -37,6 +37,17 @@ impl<P> LaneJob<P> {
     }
 }
 
+/// Begins a lane beside all others; where one of these can't, the core goes on no more.
+pub fn begin<K: Steps + Drop, N: Naming, R: Wait>(
+    rt: &R,
+    board: &Switchboard<K, N>,
+    lanes: &Meeting,
+) {
+    if !lanes.meet() {
+        board.fail(rt);
+    }
+}
+
 /// Runs the lane of a port. One without ends makes the core go on no more.
 pub fn run_port<
     K: Steps + Drop + Send,
@@ -55,13 +66,20 @@ pub fn run_port<
     job.end = left.end;
 }
 
-/// Runs the lanes of ports, each in a thread of its own.
+/// Runs the lanes of ports, each in a thread of its own, once all lanes have begun.
 pub fn run_ports<
     K: Steps + Drop + Send,
     N: Naming + Send + Sync,
     P: Port + Send + Drop,
     R: Threads + Wait + Sync,
->(rt: &R, alloc: Global, board: &Switchboard<K, N>, limit: u32, jobs: &mut [LaneJob<P>])
+>(
+    rt: &R,
+    alloc: Global,
+    board: &Switchboard<K, N>,
+    lanes: &Meeting,
+    limit: u32,
+    jobs: &mut [LaneJob<P>],
+)
     ensures len { length jobs.new ≡ length jobs.old }
     ensures ran { (i : ℕ) (d : _) (e : Ends) → i < length jobs.old → (slice_index_or jobs.old i d).ends ≡ Some e
         → PortRan P.sessions P.links P.faults limit (slice_index_or jobs.old i d) (slice_index_or jobs.new i d) e }
@@ -73,7 +91,10 @@ pub fn run_ports<
         count,
         &|_: usize, job: &mut LaneJob<P>|
             ensures { (e : Ends) → job.entry.now.ends ≡ Some e → PortRan P.sessions P.links P.faults limit job.entry.now job.exit.now e }
-        { run_port(rt, alloc, board, limit, job) },
+        {
+            begin(rt, board, lanes);
+            run_port(rt, alloc, board, limit, job)
+        },
     );
 }
 
@@ -111,7 +132,7 @@ pub fn run_berth<
     job.end = left.end;
 }
 
-/// Runs the lanes of berths, each in a thread of its own.
+/// Runs the lanes of berths, each in a thread of its own, once all lanes have begun.
 pub fn run_berths<
     K: Steps + Drop + Send,
     N: Naming + Send + Sync,
@@ -121,6 +142,7 @@ pub fn run_berths<
     rt: &R,
     alloc: Global,
     board: &Switchboard<K, N>,
+    lanes: &Meeting,
     limit: u32,
     commands: &[Vec<String>],
     jobs: &mut [LaneJob<B>],
@@ -136,6 +158,9 @@ pub fn run_berths<
         count,
         &|_: usize, job: &mut LaneJob<B>|
             ensures { (e : Ends) → job.entry.now.ends ≡ Some e → BerthRan B.runs B.left B.faults limit job.entry.now job.exit.now e }
-        { run_berth(rt, alloc, board, limit, commands, job) },
+        {
+            begin(rt, board, lanes);
+            run_berth(rt, alloc, board, limit, commands, job)
+        },
     );
 }

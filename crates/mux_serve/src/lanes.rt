@@ -6,10 +6,10 @@ ghost use Rattle.mux_lanes.specs.Ticks.{TickedAs};
 ghost use Rattle.outside_io.specs.contracts.memory.port.MemPortPort.TheImpl as port;
 ghost use Rattle.mux_serve.specs.Jobs.{AllBerthsRan, AllPortsRan, AllThrough, PortRan};
 
-use crate::job::{LaneJob, run_berths, run_port, run_ports};
+use crate::job::{LaneJob, begin, run_berths, run_port, run_ports};
 use lane_desk::Naming;
 use lane_queue::LaneIn;
-use mux_lanes::{LaneEnd, Switchboard, ticker_lane};
+use mux_lanes::{LaneEnd, Meeting, Switchboard, ticker_lane};
 use mux_steps::Steps;
 use outside_io::{Berth, Clock, MemPort, Port};
 use std::alloc::Global;
@@ -39,13 +39,14 @@ fn run_links<
     rt: &R,
     alloc: Global,
     board: &Switchboard<K, N>,
+    lanes: &Meeting,
     limit: u32,
     ports: Vec<LaneJob<P>>,
 ) -> Vec<LaneJob<P>>
     ensures { AllPortsRan P.sessions P.links P.faults limit ports.items result.items }
 {
     let mut ports = ports;
-    run_ports(rt, alloc, board, limit, ports.as_mut_slice());
+    run_ports(rt, alloc, board, lanes, limit, ports.as_mut_slice());
     ports
 }
 
@@ -68,6 +69,7 @@ fn run_editors<
     rt: &R,
     alloc: Global,
     board: &Switchboard<K, N>,
+    lanes: &Meeting,
     limit: u32,
     ports: Vec<LaneJob<P>>,
     own: LaneJob<MemPort>,
@@ -79,7 +81,7 @@ fn run_editors<
     ensures kept { result.closed ≡ false → result.own ≡ own }
 {
     let mut own = own;
-    let ports = run_links(rt, alloc, board, limit, ports);
+    let ports = run_links(rt, alloc, board, lanes, limit, ports);
     if !all_through(ports.as_slice()) {
         return Editors {
             ports,
@@ -117,6 +119,7 @@ struct Ticked<C> {
 fn run_clock<K: Steps + Drop, N: Naming, C: Clock + Drop, R: Wait>(
     rt: &R,
     board: &Switchboard<K, N>,
+    lanes: &Meeting,
     clock: C,
     ticks: LaneIn,
 ) -> Ticked<C>
@@ -125,6 +128,7 @@ fn run_clock<K: Steps + Drop, N: Naming, C: Clock + Drop, R: Wait>(
 {
     let mut clock = clock;
     let mut ticks = ticks;
+    begin(rt, board, lanes);
     let end = ticker_lane(rt, board, &mut clock, &mut ticks);
     Ticked { clock, ticks, end }
 }
@@ -139,6 +143,7 @@ fn run_servers<
     rt: &R,
     alloc: Global,
     board: &Switchboard<K, N>,
+    lanes: &Meeting,
     limit: u32,
     commands: &[Vec<String>],
     berths: Vec<LaneJob<B>>,
@@ -146,7 +151,15 @@ fn run_servers<
     ensures { AllBerthsRan B.runs B.left B.faults limit berths.items result.items }
 {
     let mut berths = berths;
-    run_berths(rt, alloc, board, limit, commands, berths.as_mut_slice());
+    run_berths(
+        rt,
+        alloc,
+        board,
+        lanes,
+        limit,
+        commands,
+        berths.as_mut_slice(),
+    );
     berths
 }
 
@@ -161,6 +174,7 @@ fn run_others<
     rt: &R,
     alloc: Global,
     board: &Switchboard<K, N>,
+    lanes: &Meeting,
     limit: u32,
     commands: &[Vec<String>],
     berths: Vec<LaneJob<B>>,
@@ -176,11 +190,11 @@ fn run_others<
         move || -> Vec<LaneJob<B>>
             requires { IsSync R.row }
             ensures { AllBerthsRan B.runs B.left B.faults limit berths.items result.items }
-        { run_servers(rt, alloc, board, limit, commands, berths) },
+        { run_servers(rt, alloc, board, lanes, limit, commands, berths) },
         move || -> Ticked<C>
             ensures queue { result.ticks.queue ≡ ticks.queue }
             ensures ticked { TickedAs (C.given clock) (C.given result.clock) (C.left clock) (C.left result.clock) ticks.pushed result.ticks.pushed result.end }
-        { run_clock(rt, board, clock, ticks) },
+        { run_clock(rt, board, lanes, clock, ticks) },
     );
     let Ticked { clock, ticks, end } = ticked;
     Others {
@@ -201,7 +215,7 @@ pub struct Ran<P, B, C> {
 /// Runs all lanes side by side, each in a thread of its own: of these ports, of these berths, and of the clock. Where each
 /// port was closed, the own lane is run behind those of the ports.
 ///
-/// The own lane has the number behind those of the ports.
+/// The own lane has the number behind those of the ports. Where the system can't make all threads, the core goes on no more.
 pub fn run_lanes<
     K: Steps + Drop + Send,
     N: Naming + Send + Sync,
@@ -231,6 +245,12 @@ pub fn run_lanes<
     ensures ticked { TickedAs (C.given clock) (C.given result.others.clock) (C.left clock) (C.left result.others.clock)
         ticks.pushed result.others.ticks.pushed result.others.ticker }
 {
+    let lanes = Meeting::new(
+        (ports.len() as u64)
+            .saturating_add(berths.len() as u64)
+            .saturating_add(1),
+    );
+    let lanes = &lanes;
     let (editors, others) = thread::join(
         rt,
         move || -> Editors<P>
@@ -240,13 +260,17 @@ pub fn run_lanes<
             ensures own { (e : Ends) → result.closed ≡ true → own.ends ≡ Some e
                 → PortRan port.ghosts.sessions port.ghosts.links port.ghosts.faults limit own result.own e }
             ensures kept { result.closed ≡ false → result.own ≡ own }
-        { run_editors(rt, alloc, board, limit, ports, own) },
+        { run_editors(rt, alloc, board, lanes, limit, ports, own) },
         move || -> Others<B, C>
             ensures berths { AllBerthsRan B.runs B.left B.faults limit berths.items result.berths.items }
             ensures queue { result.ticks.queue ≡ ticks.queue }
             ensures ticked { TickedAs (C.given clock) (C.given result.clock) (C.left clock) (C.left result.clock)
                 ticks.pushed result.ticks.pushed result.ticker }
-        { run_others(rt, alloc, board, limit, commands, berths, clock, ticks) },
+        {
+            run_others(
+                rt, alloc, board, lanes, limit, commands, berths, clock, ticks,
+            )
+        },
     );
     Ran { editors, others }
 }

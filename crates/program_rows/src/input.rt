@@ -2,12 +2,13 @@
 use std::alloc::{AllocError, Global};
 use std::test::Fail;
 
-/// An input: its name, its lines, and the append, read and write that fails.
+/// An input: its name, its lines, the append, read and write that fails, and whether each is to fail in turn.
 #[derive(Drop)]
 pub struct Input {
     pub name: String,
     pub lines: String,
     pub is_cut: bool,
+    pub is_each: bool,
     pub append: Option<u64>,
     pub read: Option<u64>,
     pub write: Option<u64>,
@@ -26,9 +27,16 @@ impl Input {
 
     // Takes a word that says what fails, or that the last line feed is left out.
     fn take(&mut self, word: &str) -> Option<()> {
-        if word == "cut" {
-            self.is_cut = true;
-            return Some(());
+        match word {
+            "cut" => {
+                self.is_cut = true;
+                return Some(());
+            }
+            "each" => {
+                self.is_each = true;
+                return Some(());
+            }
+            _ => {}
         }
         let (call, number) = word.split_once('=')?;
         let number = number.parse::<u64>().ok()?;
@@ -58,6 +66,7 @@ fn begun(alloc: Global, words: &str) -> Result<Input, Fail> {
         name: String::from_str(alloc, name)?,
         lines: String::new(alloc),
         is_cut: false,
+        is_each: false,
         append: None,
         read: None,
         write: None,

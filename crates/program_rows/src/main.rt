@@ -2,10 +2,12 @@
 //! writes what it wrote, its status, and how many entries were kept.
 //!
 //! A line `run NAME WORD ..` begins an input, whose lines are those behind it. `append=N`, `read=N` and `write=N` say that the append, read
-//! or write of this number, from 0, fails, and `cut` that no line feed stands behind the last line. `LETTERS` stands for 300,000 letters, in
-//! a line and in what is written. Lines that begin with `#` are for the reader. Behind them it runs `make` on made inputs of one draw.
+//! or write of this number, from 0, fails, `cut` that no line feed stands behind the last line, and `each` that all of these fail in turn,
+//! also where reads and writes move a byte at a time. `LETTERS` stands for 300,000 letters, in a line and in what is written. Lines that
+//! begin with `#` are for the reader. Behind them it runs `make` on made inputs of one draw.
 #![tactic(auto)]
 
+mod faults;
 mod input;
 mod made;
 mod run;
@@ -17,6 +19,9 @@ use std::test::Fail;
 fn main(rt: HostRuntime) -> Result<(), Fail> {
     for input in inputs(rt)? {
         run(rt, &input)?;
+        if input.is_each {
+            faults::each(rt, &input)?;
+        }
     }
     made::count(rt, "make", None)?;
     made::count(rt, "make append=7", Some(7))?;

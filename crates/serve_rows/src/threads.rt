@@ -8,21 +8,21 @@ use std::sync::Wait;
 use std::test::Fail;
 use std::thread::Threads;
 
-const INITIALIZE: &str =
+pub(crate) const INITIALIZE: &str =
     "{\"jsonrpc\":\"2.0\",\"id\":0,\"method\":\"initialize\",\"params\":{\"processId\":null,\"rootUri\":\"file:///w\",\"capabilities\":{}}}";
 
-const RESULT: &str = "{\"jsonrpc\":\"2.0\",\"id\":1,\"result\":{\"capabilities\":{}}}";
+pub(crate) const RESULT: &str = "{\"jsonrpc\":\"2.0\",\"id\":1,\"result\":{\"capabilities\":{}}}";
 
 // How many bytes an editor is sent: its result in a frame.
-const TO_EDITOR: u64 = 75;
+pub(crate) const TO_EDITOR: u64 = 75;
 
 // How many bytes the server is sent: `initialize`, `initialized` and `shutdown`, each in a frame.
-const TO_SERVER: u64 = 322;
+pub(crate) const TO_SERVER: u64 = 322;
 
 // How long a read waits for a meter.
-const TURNS: u64 = 100_000_000;
+pub(crate) const TURNS: u64 = 100_000_000;
 
-type Link = (MemSource, MemSink);
+pub(crate) type Link = (MemSource, MemSink);
 
 // A peer that says this message. Its second read waits until a meter shows so many bytes; what it is sent raises the other meter.
 fn peer(

@@ -15,6 +15,11 @@ pub enum End {
 /// Nothing is known of what its calls do but that they return a value; what the session posts and takes goes through its
 /// lane's own ends.
 pub trait Core {
+    /// Waits, as a part begins, until the other one has begun as well. False says that it can't.
+    fn begins(&self) -> bool {
+        true
+    }
+
     /// Has the core take what was posted. False says that it goes on no more.
     fn pump<R: Wait>(&self, rt: &R) -> bool;
 

@@ -151,7 +151,7 @@ pub fn read_session<R: Wait, C: Core, S: Source>(
         (S.faults source.new) inn.old.pushed inn.new.pushed result }
 {
     let mut buf = Vec::new(alloc);
-    if buf.resize(READ_BYTES, 0).is_err() {
+    if buf.resize(READ_BYTES, 0).is_err() || !core.begins() {
         return Stop::Cut;
     }
     let stop = read_frames(rt, alloc, limit, core, source, buf.as_mut_slice(), inn);

@@ -1,7 +1,9 @@
-use Rattle.std.proofs.Common.{◌≡◌, ap, subst, sym, ◌∙◌}
+use Rattle.std.proofs.Common.{◌≡◌, arith, ap, subst, sym, ◌∙◌}
 use Rattle.std.specs.Prelude.{Result, Ok, Err}
 use Rattle.outside_io.specs.Faults.{Rose}
 use Rattle.drive_text.specs.Made.{made}
+use Rattle.mux_facts.specs.Ranges.{InRange}
+use Rattle.made_histories.proofs.Fitting.{made_fits}
 use Rattle.drive_program.specs.Program.{fault_line}
 use Rattle.drive_program.specs.declared.stop.Stop.{Stop}
 use Rattle.settled_hub.specs.Settings.{hub_settings}
@@ -41,8 +43,10 @@ returns-in-Err-clause-journal_only g c = λ six.
 
 pub returns-in-Err-clause-complete : goal.returns-in-Err-clause-complete
 returns-in-Err-clause-complete g c = λ u.
+    let limits = c.args.config.in_range.limits in
+    let range : InRange (hub_settings c.args.config) = record { requests = omega (arith, limits.requests.1); versions = omega (arith, limits.versions.1) } in
     complete_stop g.J.Journal.told (hub_settings c.args.config) c.run-journal.result.0 (made c.args.count c.args.seed)
     (Rose (g.J.Journal.faults c.args.journal) (g.J.Journal.faults c.run-journal.result.0)) (Rose (g.O.Sink.faults c.args.output.now) (g.O.Sink.faults c.report.new.output)) c.in-Err.stop c.report.result
     (g.O.Sink.written c.args.output.now) (g.O.Sink.written c.report.new.output) (fault_line c.in-Err.stop) (Rose (g.O.Sink.faults c.args.output.now) (g.O.Sink.faults c.report.new.output))
     (subst (λ (r : Result Counts Stop). Ran g.J.Journal.told (hub_settings c.args.config) c.run-journal.result.0 (made c.args.count c.args.seed) r) c.in-Err.is c.run-journal.ensures.ran)
-    c.report.ensures.reported (λ e. c.run-journal.ensures.journal (c.in-Err.is ∙ ap (λ (s : Stop). Err s) e)) u
+    c.report.ensures.reported (λ e. c.run-journal.ensures.journal (c.in-Err.is ∙ ap (λ (s : Stop). Err s) e)) (made_fits (hub_settings c.args.config) range c.args.count c.args.seed) u

@@ -1,0 +1,4 @@
+pub mod Parts
+pub mod Readings
+pub mod Scans
+mod Worked

@@ -1,0 +1,3 @@
+pub mod Comes
+pub mod Fitting
+pub mod Ties

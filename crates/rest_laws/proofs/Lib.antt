@@ -1,0 +1,11 @@
+mod Agreeing
+mod Answers
+mod OwnRows
+mod Plain
+mod Quiets
+mod Rested
+mod RestEntries
+mod SilentLaw
+mod Ticking
+mod ToldLaw
+mod Worked
