@@ -61,7 +61,7 @@ fn driven<I: Source, O: Sink>(
 }
 
 // Runs the command on the input with the call of this number failing, whole pieces or a byte at a time.
-fn ended(
+fn run_failing(
     alloc: Global,
     input: &Input,
     is_narrow: bool,
@@ -82,10 +82,10 @@ fn ended(
 }
 
 // Lets the calls of one kind fail in turn, until none is left.
-fn sums(alloc: Global, input: &Input, is_narrow: bool, calls: Calls) -> Result<Sums, Fail> {
+fn fail_each(alloc: Global, input: &Input, is_narrow: bool, calls: Calls) -> Result<Sums, Fail> {
     let mut entries = 0usize;
     for number in 0..MOST_CALLS {
-        let ended = ended(alloc, input, is_narrow, calls, number)?;
+        let ended = run_failing(alloc, input, is_narrow, calls, number)?;
         entries = entries.saturating_add(ended.entries);
         if ended.status == 0 {
             return Ok(Sums {
@@ -104,15 +104,15 @@ fn sums(alloc: Global, input: &Input, is_narrow: bool, calls: Calls) -> Result<S
 pub fn each(rt: HostRuntime, input: &Input) -> Result<(), Fail> {
     let alloc = rt.alloc();
     let name = input.name.as_str();
-    let appends = sums(alloc, input, false, Calls::Appends)?;
-    let reads = sums(alloc, input, false, Calls::Reads)?;
-    let writes = sums(alloc, input, false, Calls::Writes)?;
+    let appends = fail_each(alloc, input, false, Calls::Appends)?;
+    let reads = fail_each(alloc, input, false, Calls::Reads)?;
+    let writes = fail_each(alloc, input, false, Calls::Writes)?;
     println!(rt;
         "each {name}: {} appends {}, {} reads {}, {} writes {}",
         appends.runs, appends.entries, reads.runs, reads.entries, writes.runs, writes.entries
     )?;
-    let reads = sums(alloc, input, true, Calls::Reads)?;
-    let writes = sums(alloc, input, true, Calls::Writes)?;
+    let reads = fail_each(alloc, input, true, Calls::Reads)?;
+    let writes = fail_each(alloc, input, true, Calls::Writes)?;
     println!(rt;
         "each {name}, a byte at a time: {} reads {}, {} writes {}",
         reads.runs, reads.entries, writes.runs, writes.entries

@@ -215,15 +215,29 @@ fn server_word(cause: &Cause) -> Option<&'static str> {
     }
 }
 
+// Of whom words tell: an editor, an editor whose end of either kind comes first, or a server.
+#[derive(Clone, Copy)]
+enum Told {
+    Editor,
+    EitherEnd,
+    Server,
+}
+
+impl Told {
+    fn word(self, cause: &Cause) -> Option<&'static str> {
+        match self {
+            Told::Editor => editor_word(cause),
+            Told::EitherEnd => either_word(cause),
+            Told::Server => server_word(cause),
+        }
+    }
+}
+
 // These words of a history, a space before each.
-fn words(
-    alloc: Global,
-    entries: &[Entry],
-    word: fn(&Cause) -> Option<&'static str>,
-) -> Result<String, AllocError> {
+fn words(alloc: Global, entries: &[Entry], told: Told) -> Result<String, AllocError> {
     let mut words = String::new(alloc);
     for entry in entries {
-        if let Some(word) = word(&entry.cause) {
+        if let Some(word) = told.word(&entry.cause) {
             words.push(' ')?;
             words.push_str(word)?;
         }
@@ -262,8 +276,8 @@ fn show<R: Threads + Wait + Sync>(threads: &R, rt: HostRuntime, call: Call) -> R
     let alloc = rt.alloc();
     let left = played(threads, alloc, call)?;
     let entries = left.journal.entries();
-    let editor = words(alloc, entries, editor_word)?;
-    let server = words(alloc, entries, server_word)?;
+    let editor = words(alloc, entries, Told::Editor)?;
+    let server = words(alloc, entries, Told::Server)?;
     let (status, sent) = (left.status, sent_bytes(&left)?);
     let (editor, server) = (editor.as_str(), server.as_str());
     match call {
@@ -275,7 +289,7 @@ fn show<R: Threads + Wait + Sync>(threads: &R, rt: HostRuntime, call: Call) -> R
         )?,
         Call::EditorRead(n) => println!(rt; "editor read {n}: {status}, editor{editor}")?,
         Call::EditorWrite(n) => {
-            let editor = words(alloc, entries, either_word)?;
+            let editor = words(alloc, entries, Told::EitherEnd)?;
             println!(rt;
                 "editor write {n}: {status}, {sent} bytes, editor{}",
                 editor.as_str()
@@ -305,7 +319,7 @@ fn said<R: Threads + Wait + Sync>(
     let sink = MemSink::new(alloc, Vec::new(alloc), None);
     let berth = MemBerth::new(alloc, Vec::new(alloc), Vec::new(alloc));
     let left = serve(threads, alloc, (source, sink), berth, None)?;
-    Ok(words(alloc, left.journal.entries(), editor_word)?)
+    Ok(words(alloc, left.journal.entries(), Told::Editor)?)
 }
 
 // Prints of each front of these bytes, from this length on, what comes of it, where it differs from what came of the one before.
@@ -330,7 +344,7 @@ fn fronts<R: Threads + Wait + Sync>(
 // A block of lines without an end, one byte longer than one may be.
 fn long_block(alloc: Global) -> Result<Vec<u8>, Fail> {
     let mut bytes = Vec::from_slice(alloc, b"Content-Length: 2\r\nX: ")?;
-    while bytes.len() < 4097 {
+    for _ in bytes.len()..4097 {
         bytes.push(b'x')?;
     }
     Ok(bytes)
