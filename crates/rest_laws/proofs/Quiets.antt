@@ -223,7 +223,7 @@ module _ (t : ℕ) where
       sends : (places : List Event) (text : List ℕ) → IsSilent t (ToServer s text)
       sends places text same = absurd (other same)
 
-      quiet_documents : (bodies : List (List ℕ)) (events : List Event) → Quiet events (to_start s bodies)
+      pub quiet_documents : (bodies : List (List ℕ)) (events : List Event) → Quiet events (to_start s bodies)
       quiet_documents [] events = by_nothing
       quiet_documents (b ∷ bodies) events = by_then (by_send (sends events b)) (quiet_documents bodies (behind events (ToServer s b ∷ [])))
 

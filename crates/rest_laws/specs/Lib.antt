@@ -1,4 +1,3 @@
-pub mod Plain
 pub mod Silent
 pub mod Told
 pub use Rattle.group_sessions
