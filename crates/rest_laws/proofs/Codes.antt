@@ -4,13 +4,14 @@ use Rattle.std.proofs.lemmas.Bool.{and_parts}
 use Rattle.std.proofs.lemmas.List.Sums.{fold-append}
 use Rattle.mux_history.specs.declared.cause.Cause.{Cause}
 use Rattle.mux_history.specs.declared.cause.Cause.TheVariants.{Joined, FromEditor, EditorGone, Started, StartFailed, FromServer, ServerGone, Drained, Tick}
+use Rattle.mux_history.specs.declared.entry.Entry.{Entry}
 use Rattle.mux_history.specs.declared.out.Out.{Out}
 use Rattle.mux_history.specs.declared.out.Out.TheVariants.{ToEditor, ToServer, Spawn, CloseEditor, EndServer}
 use Rattle.rpc_message.specs.Message.{Message, result, integer, message_of}
 use Rattle.position_codec.specs.declared.Encoding.{Encoding}
 use Rattle.event_model.specs.declared.stage.Stage.{Stage}
 use Rattle.event_model.specs.declared.stage.Stage.TheVariants.{Unspawned, Spawning, Initializing, Ready, Stopping, Ending, Ended}
-use Rattle.event_model.specs.Event.{Event, heard, requests, said, took, with_cause}
+use Rattle.event_model.specs.Event.{Event, events_of, heard, requests, said, with_cause}
 use Rattle.event_model.specs.Settings.{Settings}
 use Rattle.event_model.specs.Spawns.{group_behind, group_of, starts_behind, starts_of}
 use Rattle.event_model.specs.Stages.{Life, is_ended, is_first_result, is_initializing, life_behind, life_of, may_begin, runs, stage_ending, stage_hears, stage_started, stage_told}
@@ -27,26 +28,22 @@ use Rattle.group_words.specs.Houses.{is_home}
 use Rattle.group_rows.specs.Rows.{outs_of}
 use Rattle.group_rows.specs.Texts.{encoding_of, given}
 use Rattle.group_rows.proofs.Frames.{encoding_more, encoding_stays}
+use Rattle.group_facts.specs.Legal.{Legal}
 use Rattle.group_facts.specs.Why.{Why, quitting}
 use Rattle.group_facts.proofs.Facts.{Facts}
 use Rattle.group_facts.proofs.Housed.{group_more}
 use Rattle.group_facts.proofs.LastStarts.{AllLast}
-use Rattle.group_facts.proofs.Reached.{Reached, facts_at, reached_keeps, rests_at}
+use Rattle.group_facts.proofs.Reached.{Reached, facts_at, reached, reached_keeps, rests_at}
 use Rattle.group_facts.proofs.SlowRow.{parting, parting_why}
 use Rattle.group_facts.proofs.Table.{reasons}
-
--- the start gave this encoding, and its group counts by it
-pub record Counts (g s : ℕ) (events : List Event) : Type 0 where
-  pub code : Encoding
-  pub given : starts.encoding_of s events ≡ Some code
-  pub known : encoding_of g events ≡ Some code
+use Rattle.rest_laws.specs.Encodings.{CountsBy, OneEncoding}
 
 -- a start that wasn't spawned, or whose program didn't run, or that answered nothing yet, gave none; one that is ready gave that of its group
 pub record Codes (events : List Event) : Type 0 where
   pub fresh : (s : ℕ) → starts_of events ≤ s → starts.encoding_of s events ≡ None
   pub idle : (s : ℕ) → (life_of s events).started ≡ false → starts.encoding_of s events ≡ None
   pub opening : (s : ℕ) → (life_of s events).stage ≡ Initializing → starts.encoding_of s events ≡ None
-  pub ready : (g s : ℕ) → (life_of s events).stage ≡ Ready → group_of s events ≡ Some g → Counts g s events
+  pub ready : (g s : ℕ) → (life_of s events).stage ≡ Ready → group_of s events ≡ Some g → CountsBy g s events
 
 codes_none : Codes []
 codes_none = record { fresh = λ s low. refl; idle = λ s off. refl; opening = λ s at. refl; ready = λ g s at home. absurd (cc) }
@@ -139,7 +136,7 @@ given_out s None (Spawn n i) = refl
 given_out s None (CloseEditor n) = refl
 given_out s None (EndServer n) = refl
 
-abbrev pub IsMute : Cause → Type 0
+abbrev IsMute : Cause → Type 0
 IsMute (FromServer n body) = ⊥
 IsMute other = Unit {0}
 
@@ -174,7 +171,7 @@ codes_still events later k h = record {
   fresh = λ s low. k.given s ∙ h.fresh s (let more : starts_of events ≤ starts_of later = k.count in omega (arith, more, low));
   idle = λ s off. k.given s ∙ none s ((k.eased s).unstarted off);
   opening = λ s at. k.given s ∙ early s ((k.eased s).unopened at);
-  ready = λ g s at home. let c : Counts g s events = h.ready g s ((k.eased s).unready at) (sym (k.group s at) ∙ home) in record { code = c.code; given = k.given s ∙ c.given; known = k.known g ∙ c.known };
+  ready = λ g s at home. let c : CountsBy g s events = h.ready g s ((k.eased s).unready at) (sym (k.group s at) ∙ home) in record { code = c.code; given = k.given s ∙ c.given; known = k.known g ∙ c.known };
 }
   where
     none : (s : ℕ) → ((life_of s events).started ≡ false) ⊎ (starts_of events ≤ s) → starts.encoding_of s events ≡ None
@@ -328,14 +325,14 @@ module _ (before : List Event) (began : Starts before) (lasts : AllLast before) 
         go true same = let k = hears_opening (life_of s before).stage m (ap (λ (l : Life). l.stage) (sym (life_by s true same)) ∙ at) in given_first s same (h.opening s k.0) ∙ no_code m k.1
         go false other = given_other s other ∙ h.opening s (ap (λ (l : Life). l.stage) (sym (life_by s false other)) ∙ at)
 
-    ready_now : (g s : ℕ) → (life_of s now).stage ≡ Ready → group_of s now ≡ Some g → Counts g s now
+    ready_now : (g s : ℕ) → (life_of s now).stage ≡ Ready → group_of s now ≡ Some g → CountsBy g s now
     ready_now g s at home = go (nat_eq n s) refl
       where
         house : group_of s before ≡ Some g
         house = sym (group_more s before (heard (FromServer n body))) ∙ home
 
-        by : (nat_eq n s ≡ true) → ((life_of s before).stage ≡ Ready) ⊎ (((life_of s before).stage ≡ Initializing) × (is_first_result m ≡ true)) → Counts g s now
-        by same (inl was) = let c : Counts g s before = h.ready g s was house in record {
+        by : (nat_eq n s ≡ true) → ((life_of s before).stage ≡ Ready) ⊎ (((life_of s before).stage ≡ Initializing) × (is_first_result m ≡ true)) → CountsBy g s now
+        by same (inl was) = let c : CountsBy g s before = h.ready g s was house in record {
           code = c.code;
           given = given_again s c.code c.given;
           known = known_by g (is_home g (group_of n before)) false refl (ap (λ k. is_initializing (life_of k before).stage) (number_same n s same) ∙ ap is_initializing was) ∙ (off_second (is_home g (group_of n before)) ∙ c.known);
@@ -373,11 +370,11 @@ module _ (before : List Event) (began : Starts before) (lasts : AllLast before) 
             tests true mine false off = known_by g true false mine off
             tests false away b at = known_by g false b away at
 
-        go : (b : Bool) → nat_eq n s ≡ b → Counts g s now
+        go : (b : Bool) → nat_eq n s ≡ b → CountsBy g s now
         go true same = by same (hears_ready (life_of s before).stage m (ap (λ (l : Life). l.stage) (sym (life_by s true same)) ∙ at))
         go false other =
             let was : (life_of s before).stage ≡ Ready = ap (λ (l : Life). l.stage) (sym (life_by s false other)) ∙ at in
-            let c : Counts g s before = h.ready g s was house in
+            let c : CountsBy g s before = h.ready g s was house in
             record { code = c.code; given = given_other s other ∙ c.given; known = other_known other was ∙ c.known }
 
     codes_heard : Codes now
@@ -407,7 +404,7 @@ module _ (before : List Event) (began : Starts before) (lasts : AllLast before) 
 -- Every legal history
 
 -- a start that is spawned has the next number
-pub spawned_next : (settings : Settings) (before : List Event) (cause : Cause) (events : List Event) (out : Out) → Why settings before cause events out → (n g : ℕ) → out ≡ Spawn n g → n ≡ starts_of events
+spawned_next : (settings : Settings) (before : List Event) (cause : Cause) (events : List Event) (out : Out) → Why settings before cause events out → (n g : ℕ) → out ≡ Spawn n g → n ≡ starts_of events
 spawned_next settings before cause events (Spawn k i) why n g is = let same : k ≡ n = cc in sym same ∙ why.0
 spawned_next settings before cause events (ToServer k body) why n g is = absurd (cc)
 spawned_next settings before cause events (ToEditor k body) why n g is = absurd (cc)
@@ -424,3 +421,6 @@ module _ (settings : Settings) (range : InRange settings) where
       reasons_keep (λ places out. Why settings before cause places out) Codes (codes_did before cause) (with_cause before cause) (outs_of settings before cause) (reasons settings range before facts cause).why
       (codes_took before (facts.steady).starts (rests_at settings range before at).lasts h cause fits))
       (λ place e slow at h. reasons_keep (λ places out. Why settings place (quitting e) places out) Codes (codes_did place (quitting e)) place (parting settings place e) (parting_why settings range place (facts_at settings range place at) e slow) h)
+
+  pub one_encoding_holds : (history : List Entry) → Legal settings history → OneEncoding history
+  one_encoding_holds history legal = (codes_at (events_of history) (reached settings history legal)).ready

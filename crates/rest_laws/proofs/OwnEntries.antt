@@ -56,11 +56,12 @@ use Rattle.group_facts.specs.Why.{IsQuestion}
 use Rattle.group_facts.proofs.Facts.{Facts}
 use Rattle.group_facts.proofs.Paying.{debts_questions}
 use Rattle.group_sessions.specs.Refreshes.{AllOnDocuments, OnDocument}
-use Rattle.rest_laws.proofs.Codes.{Counts, given_more}
+use Rattle.rest_laws.specs.Encodings.{CountsBy}
+use Rattle.rest_laws.proofs.Codes.{given_more}
 use Rattle.rest_laws.proofs.OwnTexts.{Near, Own, Told, drop_other, found_dropped, found_put, put_other, told_changed, told_closed, told_differing, told_none, told_opened, told_switched}
 use Rattle.rest_laws.proofs.Rested.{Rested, Seat, none_either, rested_more, seat_more, texts_at}
 
-pub all_both : (settings : Settings) (s e : ℕ) (events : List Event) (xs ys : List Out) → AllOnDocuments settings s e events xs → AllOnDocuments settings s e (behind events xs) ys → AllOnDocuments settings s e events (xs ++ ys)
+all_both : (settings : Settings) (s e : ℕ) (events : List Event) (xs ys : List Out) → AllOnDocuments settings s e events xs → AllOnDocuments settings s e (behind events xs) ys → AllOnDocuments settings s e events (xs ++ ys)
 all_both settings s e events [] ys f h = subst (λ z. AllOnDocuments settings s e z ys) (append-nil events) h
 all_both settings s e events (x ∷ xs) ys f h = (f.0, all_both settings s e (events ++ said x ∷ []) xs ys f.1 (subst (λ z. AllOnDocuments settings s e z ys) (sym (append_assoc events (said x ∷ []) (map said xs))) h))
 
@@ -127,7 +128,7 @@ home_is g (Some h) is = ap (λ k. Some k) (number_same h g is)
 home_is g None is = never (sym is)
 
 module _ (settings : Settings) (range : InRange settings) (before : List Event) (facts : Facts settings before) (s e g : ℕ) (h : Rested settings s e g before) (ready : is_ready (life_of s before).stage ≡ true)
-    (start : start_of g before ≡ Some s) (c : Counts g s before) (body method : List ℕ) (params : Option Json) (says : message_of body ≡ notification method params) (spoken : speaks (saying_by method params) ≡ true) where
+    (start : start_of g before ≡ Some s) (c : CountsBy g s before) (body method : List ℕ) (params : Option Json) (says : message_of body ≡ notification method params) (spoken : speaks (saying_by method params) ≡ true) where
   abbrev now : List Event
   now = with_cause before (FromEditor e body)
 

@@ -50,7 +50,7 @@ use Rattle.rest_laws.proofs.Lasting.{Past, past_behind, past_entry, past_off}
 use Rattle.rest_laws.proofs.OwnEntries.{own_rests}
 use Rattle.rest_laws.proofs.Rested.{Rested, Seat, rested_more, texts_at}
 use Rattle.rest_laws.proofs.RestEntries.{all_documents, entry_reached, entry_rests, rest_of, rested_behind, rested_first}
-use Rattle.rest_laws.proofs.SaidRows.{said_silent}
+use Rattle.rest_laws.proofs.SaidRows.{on_first, on_second, said_silent}
 use Rattle.rest_laws.proofs.SilentLaw.{both_false, no_slow}
 
 unless : (b : Bool) (P : Type 0) → (b ≡ false → P) → Unless b P
@@ -144,26 +144,18 @@ module _ (settings : Settings) (range : InRange settings) (s e : ℕ) where
 
       -- nothing goes on to the start
       other_rests : list_any (is_onward s) xs ≡ false → Goal before cause xs
-      other_rests calm = silent_rests (said_silent s settings range before facts rest.ready n body loud (λ out k. second (is_onward s out) (is_closing out) k) (inr (λ out k. first_of (is_onward s out) (is_closing out) k)) unsaid unshut
+      other_rests calm = silent_rests (said_silent s settings range before facts rest.ready n body loud (λ out k. on_second (is_onward s out) (is_closing out) k) (inr (λ out k. on_first (is_onward s out) (is_closing out) k)) unsaid unshut
           (none_loud (outs_of settings before cause) (ap (list_any (is_onward s)) (sym whole) ∙ calm) (ap (list_any is_closing) (sym whole) ∙ links)))
         where
           loud : Out → Bool
           loud out = is_onward s out || is_closing out
 
-          second : (a b : Bool) → b ≡ true → (a || b) ≡ true
-          second true b h = refl
-          second false b h = h
-
-          first_of : (a b : Bool) → a ≡ true → (a || b) ≡ true
-          first_of true b h = refl
-          first_of false b h = never (sym h)
-
-          none_loud : (outs : List Out) → list_any (is_onward s) outs ≡ false → list_any is_closing outs ≡ false → list_any (λ out. is_onward s out || is_closing out) outs ≡ false
+          none_loud : (outs : List Out) → list_any (is_onward s) outs ≡ false → list_any is_closing outs ≡ false → list_any loud outs ≡ false
           none_loud [] a b = refl
           none_loud (out ∷ outs) a b =
               let p = both_false (is_onward s out) (list_any (is_onward s) outs) a in
               let q = both_false (is_closing out) (list_any is_closing outs) b in
-              either_false (is_onward s out || is_closing out) (list_any (λ out. is_onward s out || is_closing out) outs) (either_false (is_onward s out) (is_closing out) p.0 q.0) (none_loud outs p.1 q.1)
+              either_false (is_onward s out || is_closing out) (list_any loud outs) (either_false (is_onward s out) (is_closing out) p.0 q.0) (none_loud outs p.1 q.1)
 
       -- or it is this editor's, whose texts the start has
       plain_rests : n ≡ e → Goal before cause xs

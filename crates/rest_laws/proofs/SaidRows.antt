@@ -89,11 +89,11 @@ module _ {t : ℕ} {test : Out → Bool} where
   mute_same : {x y : List Event} {row : Row} → outs row x ≡ outs row y → Mute t test x row → Mute t test y row
   mute_same {x} {y} {row} same k = record { hush = subst (λ xs. list_any test xs ≡ false → AllByRecursion (IsSilent t) xs) same k.hush }
 
-on_first : (a b : Bool) → a ≡ true → (a || b) ≡ true
+pub on_first : (a b : Bool) → a ≡ true → (a || b) ≡ true
 on_first true b h = refl
 on_first false b h = never (sym h)
 
-on_second : (a b : Bool) → b ≡ true → (a || b) ≡ true
+pub on_second : (a b : Bool) → b ≡ true → (a || b) ≡ true
 on_second true b h = refl
 on_second false b h = h
 

@@ -1,3 +1,4 @@
+pub mod Encodings
 pub mod Silent
 pub mod Told
 pub use Rattle.group_sessions

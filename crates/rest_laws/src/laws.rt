@@ -8,6 +8,7 @@ ghost use Rattle.group_rows.specs.Debts.{agrees_on_all};
 ghost use Rattle.group_facts.specs.Legal.{Legal};
 ghost use Rattle.group_facts.specs.OwnVersions.{HasOwnTexts};
 ghost use Rattle.group_sessions.specs.Refreshes.{KeepsRest};
+ghost use Rattle.rest_laws.specs.Encodings.{OneEncoding};
 ghost use Rattle.rest_laws.specs.Silent.{Silent};
 ghost use Rattle.rest_laws.specs.Told.{ToldReady};
 
@@ -29,6 +30,12 @@ pub fn silence()
 /// didChange and didClose switch nothing (LSP 3.17, Text Document Synchronization and the refresh requests of Language Features).
 pub fn rest()
     ensures { (settings : Settings) → InRange settings → (history : List Entry) → Legal settings history → KeepsRest settings history }
+{}
+
+/// A law: a start that is ready gave an encoding of positions, and those of what the editors of its group have open count by it. So a change
+/// leaves the same text at the start as at its editor (LSP 3.17, PositionEncodingKind).
+pub fn one_encoding()
+    ensures { (settings : Settings) → InRange settings → (history : List Entry) → Legal settings history → OneEncoding history }
 {}
 
 /// A law: a notification on a document goes to a start only while it is ready: behind its first result, and not once it is told to stop (LSP
