@@ -1,27 +1,20 @@
 -- What goes to a start by an editor's message without a sync: nothing of a document.
-use Rattle.std.proofs.Common.{◌≡◌, ℕ, ◌^◌, ◌<◌, Bool, true, false, cond, List, [], ◌∷◌, ◌++◌, codes, decimal, nat_eq, ltb-true, bytes_eq, if◌then◌else◌, Option, None, Some, refl, sym, ◌∙◌, ap, subst, arith}
+use Rattle.std.proofs.Common.{◌≡◌, ℕ, ◌^◌, ◌<◌, Bool, true, false, cond, List, [], ◌∷◌, codes, decimal, nat_eq, ltb-true, if◌then◌else◌, Option, None, Some, refl, sym, ◌∙◌, ap, subst, arith}
 use Rattle.std.specs.Prelude.{find}
 use Rattle.std.specs.List.{AllByRecursion}
 use Rattle.std.specs.Option.{option_and_then}
 use Rattle.std.proofs.lemmas.Bool.{and_parts}
-use Rattle.std.proofs.lemmas.Slice.Eq.{bytes_eq-Decides}
 use Rattle.json_text.specs.Json.{Json}
 use Rattle.document_model.specs.Sayings.{Saying, changes, closes, misshapen, opens, saying_by, saying_of, speaks}
 use Rattle.document_model.specs.Sayings as saying
-use Rattle.lsp_method.specs.Class.{class_of}
-use Rattle.lsp_method.specs.declared.variants.Origin.TheVariants.{Editor}
 use Rattle.mux_history.specs.declared.cause.Cause.TheVariants.{FromEditor}
-use Rattle.mux_history.specs.declared.out.Out.{Out}
-use Rattle.mux_history.specs.declared.out.Out.TheVariants.{ToEditor, ToServer, Spawn, CloseEditor, EndServer}
 use Rattle.rpc_message.specs.Message.{Id, Message, integer, request, notification, result, error, not_json, not_message, message_of}
-use Rattle.rpc_message.specs.Texts.{request_failed, with_id_text}
+use Rattle.rpc_message.specs.Texts.{with_id_text}
 use Rattle.rpc_message.specs.ValueTexts.{IsIdText}
 use Rattle.rpc_message.proofs.Fixed.{id_as_response}
 use Rattle.rpc_message.proofs.Ids.{error_with_id, result_with_id}
-use Rattle.event_model.specs.declared.phase.Phase.TheVariants.{Running}
-use Rattle.event_model.specs.Event.{Event, behind, heard, requests, notifies, said, with_cause}
+use Rattle.event_model.specs.Event.{Event, behind, heard, with_cause}
 use Rattle.event_model.specs.Members.{named_of}
-use Rattle.event_model.specs.Phases.{desk_of}
 use Rattle.event_model.specs.Requests.{answered_id}
 use Rattle.event_model.specs.Row.{Row, each, nothing, on, outs}
 use Rattle.event_model.specs.Settings.{Settings}
@@ -31,32 +24,24 @@ use Rattle.event_model.proofs.Frames.{never}
 use Rattle.mux_facts.specs.Allowed.{is_response}
 use Rattle.mux_facts.specs.Ranges.{InRange}
 use Rattle.mux_facts.proofs.DocumentRow.{ready_is}
-use Rattle.mux_facts.proofs.Reasons.{Because, Reasons, by_nothing, by_send, by_then, by_choose, by_look, by_on}
-use Rattle.mux_facts.proofs.Words.{number_same, same_number}
-use Rattle.mux_model.specs.Documents.{held_at}
-use Rattle.mux_model.specs.Methods.{goes_on}
-use Rattle.mux_model.specs.Rows.{to_start}
-use Rattle.group_words.specs.Houses.{home_of, is_doubled, server_asked}
-use Rattle.group_rows.specs.AskRows.{debts_row, response_at, response_row}
+use Rattle.mux_facts.proofs.Reasons.{Because, by_nothing, by_send, by_then, by_choose, by_on}
+use Rattle.group_words.specs.Houses.{server_asked}
+use Rattle.group_rows.specs.AskRows.{response_at, response_row}
 use Rattle.group_rows.specs.Asks.{Ask, asks_of, is_seated}
 use Rattle.group_rows.specs.Cancelling.{cancelling_at, cancelling_row, is_called, number_called, number_named, numbered_text, uncancelled_number}
 use Rattle.group_rows.specs.Created.{Taking, Token, created_of, is_marked, token_marked}
 use Rattle.group_rows.specs.CreatedRows.{created_work, taking_row, tell, work_at, work_row}
 use Rattle.group_rows.specs.Forwarded.{Forwarded, Forwarding, forwarding_of, has_room, names}
-use Rattle.group_rows.specs.Rows.{answer_error, can_ask, cancel_row, document_at, document_row, from_editor, lspmux_row, message_row, named_row, notice_at, notice_row, open_row, request_at, request_row, row_of, served_request, served_row, sync_bodies, sync_row}
-use Rattle.group_rows.specs.Texts.{texts_of}
+use Rattle.group_rows.specs.Rows.{can_ask, cancel_row, document_at, document_row, named_row, open_row, sync_row}
 use Rattle.group_rows.specs.Waiting.{named_id}
 use Rattle.group_rows.specs.Tokens.{forwarded_text, is_worked, mark_text, marked_text, work_mark}
 use Rattle.group_rows.proofs.Cancelling.{Renumbered, renumbered}
 use Rattle.group_rows.proofs.CreatedKept.{IsWritten, found_one, tokens_written}
 use Rattle.group_rows.proofs.Frames.{forwarding_more}
-use Rattle.group_rows.proofs.Going.{going_silent}
 use Rattle.group_rows.proofs.TokenTexts.{IsTokenText, forwarded_says, mark_token, marked_says}
 use Rattle.group_facts.specs.Facts.{Bounded, IsAsked}
-use Rattle.group_facts.specs.Why.{IsQuestion}
 use Rattle.group_facts.proofs.Facts.{Facts}
 use Rattle.group_facts.proofs.LeaveRows.{IsSmall, numbers_small}
-use Rattle.group_facts.proofs.Paying.{debts_questions}
 use Rattle.group_facts.proofs.SyncRow.{synced_calm}
 use Rattle.rest_laws.specs.Silent.{IsSilent}
 

@@ -18,11 +18,10 @@ use Rattle.document_model.specs.Rows.{Agrees, agrees, sent_change, sent_close, s
 use Rattle.document_model.specs.Sayings.{Saying, changes, closes, misshapen, opens, saying_by, saying_of, speaks}
 use Rattle.document_model.specs.Sayings as saying
 use Rattle.document_model.specs.Texts.{Texts, changed, found, opened, text_after, texts_behind, touched}
-use Rattle.document_model.proofs.Holders.{both_true, bytes_same, find_is}
+use Rattle.document_model.proofs.Holders.{both_true, bytes_same}
 use Rattle.document_model.proofs.Orders.{ChangedTo, changed_found}
 use Rattle.document_model.proofs.Spelt.{closes_spelt, find_spelt, latest_spelt, texts_spelt}
 use Rattle.document_model.proofs.Versioned.{versioned_says}
-use Rattle.event_model.specs.declared.phase.Phase.TheVariants.{Running}
 use Rattle.event_model.specs.Event.{Event, behind, heard, requests, said, with_cause}
 use Rattle.event_model.specs.Phases.{desk_of, is_served}
 use Rattle.event_model.specs.Row.{after, choose, nothing, on, outs}
@@ -40,10 +39,10 @@ use Rattle.mux_facts.proofs.DocumentRow.{beside_is}
 use Rattle.mux_facts.proofs.Keeps.{behind_both}
 use Rattle.mux_facts.proofs.Reasons.{Because, Reasons, by_choose, by_look, by_nothing, by_on, by_send}
 use Rattle.mux_facts.proofs.Tellings.{sent_more}
-use Rattle.mux_facts.proofs.Words.{number_same, same_number}
+use Rattle.mux_facts.proofs.Words.{number_same}
 use Rattle.group_words.specs.Houses.{home_of, is_home}
 use Rattle.group_rows.specs.AskRows.{debts_row}
-use Rattle.group_rows.specs.Debts.{debts_next, debts_of, ends_debts, pays_debts}
+use Rattle.group_rows.specs.Debts.{debts_next, ends_debts, pays_debts}
 use Rattle.group_rows.specs.ListRows.{show_opened}
 use Rattle.group_rows.specs.Rows.{cancel_row, closed_bodies, closing_row, changed_bodies, document_at, document_bodies, document_row, from_editor, notice_row, outs_of, served_row}
 use Rattle.group_rows.specs.CreatedRows.{work_row}
@@ -59,7 +58,7 @@ use Rattle.group_sessions.specs.Refreshes.{AllOnDocuments, OnDocument}
 use Rattle.rest_laws.specs.Encodings.{CountsBy}
 use Rattle.rest_laws.proofs.Codes.{given_more}
 use Rattle.rest_laws.proofs.OwnTexts.{Near, Own, Told, drop_other, found_dropped, found_put, put_other, told_changed, told_closed, told_differing, told_none, told_opened, told_switched}
-use Rattle.rest_laws.proofs.Rested.{Rested, Seat, none_either, rested_more, seat_more, texts_at}
+use Rattle.rest_laws.proofs.Rested.{Rested, none_either, rested_more, seat_more, texts_at}
 
 all_both : (settings : Settings) (s e : ℕ) (events : List Event) (xs ys : List Out) → AllOnDocuments settings s e events xs → AllOnDocuments settings s e (behind events xs) ys → AllOnDocuments settings s e events (xs ++ ys)
 all_both settings s e events [] ys f h = subst (λ z. AllOnDocuments settings s e z ys) (append-nil events) h

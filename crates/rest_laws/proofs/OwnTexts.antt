@@ -20,7 +20,6 @@ use Rattle.document_model.proofs.Spoken.{Speaks}
 use Rattle.document_model.proofs.Written.{FullSays, close_says, full_says, open_says}
 use Rattle.event_model.specs.Event.{Event, behind, said}
 use Rattle.event_model.specs.Settings.{Settings}
-use Rattle.event_model.proofs.Frames.{never}
 use Rattle.mux_model.specs.Documents as starts
 use Rattle.mux_model.specs.Documents.{Sent, held_at}
 use Rattle.mux_model.proofs.DocumentFolds.{sent_encoding}
@@ -28,7 +27,6 @@ use Rattle.mux_facts.specs.Ranges.{InRange}
 use Rattle.mux_facts.proofs.Tellings.{sent_more}
 use Rattle.mux_facts.proofs.Words.{same_number}
 use Rattle.group_rows.specs.Debts.{debts_next, debts_of, ends_debts, pays_debts}
-use Rattle.group_rows.specs.Lists.{is_about}
 use Rattle.group_rows.specs.Texts.{texts_of}
 use Rattle.group_rows.proofs.DebtsKept.{debts_more}
 use Rattle.group_rows.proofs.Frames.{texts_stay}

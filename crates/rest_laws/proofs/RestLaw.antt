@@ -1,19 +1,17 @@
 -- An editor is left at rest: by each entry that doesn't disturb it, as long as its start is ready, and then no start is told of another text.
-use Rattle.std.proofs.Common.{◌≡◌, ◌⊎◌, inl, inr, ℕ, ◌<◌, Bool, true, false, not, ◌&&◌, ◌||◌, List, [], ◌∷◌, ◌++◌, cond, codes, filter, flat_map, nat_eq, Option, Some, None, refl, sym, ◌∙◌, ap, ap₂, subst}
+use Rattle.std.proofs.Common.{◌≡◌, inl, inr, ℕ, ◌<◌, Bool, true, false, not, ◌&&◌, ◌||◌, List, [], ◌∷◌, ◌++◌, cond, codes, filter, flat_map, nat_eq, Option, Some, None, refl, sym, ◌∙◌, ap, ap₂, subst}
 use Rattle.std.specs.Prelude.{find}
 use Rattle.std.specs.List.{AllByRecursion, list_any}
-use Rattle.std.specs.Option.{option_map_or}
 use Rattle.mux_history.specs.declared.cause.Cause.{Cause}
 use Rattle.mux_history.specs.declared.cause.Cause.TheVariants.{Joined, FromEditor, EditorGone, Started, StartFailed, FromServer, ServerGone, Drained, Tick}
 use Rattle.mux_history.specs.declared.entry.Entry.{Entry}
 use Rattle.mux_history.specs.declared.out.Out.{Out}
 use Rattle.mux_history.specs.declared.out.Out.TheVariants.{ToEditor, ToServer, Spawn, CloseEditor, EndServer}
-use Rattle.rpc_message.specs.Message.{Message, notification, message_of}
+use Rattle.rpc_message.specs.Message.{message_of}
 use Rattle.document_model.specs.Helds.{HeldText}
 use Rattle.document_model.specs.Opens.{Open, is_open_at}
-use Rattle.document_model.specs.Rows.{agrees}
 use Rattle.document_model.specs.Sayings.{saying_of, speaks}
-use Rattle.document_model.specs.Texts.{Texts, found, no_texts}
+use Rattle.document_model.specs.Texts.{Texts, found}
 use Rattle.document_model.proofs.Orders.{IsFound, all_found}
 use Rattle.document_model.proofs.Written.{Spoken, spoken}
 use Rattle.event_model.specs.Event.{Event, behind, events_of, heard, requests, said, with_cause}
@@ -27,7 +25,7 @@ use Rattle.mux_facts.specs.Ranges.{InRange}
 use Rattle.mux_facts.proofs.DocumentRow.{ready_is}
 use Rattle.mux_facts.proofs.Keeps.{events_more}
 use Rattle.mux_facts.proofs.Reasons.{Reasons}
-use Rattle.mux_facts.proofs.Words.{number_same, same_number}
+use Rattle.mux_facts.proofs.Words.{number_same}
 use Rattle.group_words.specs.Houses.{home_of, is_home}
 use Rattle.group_rows.specs.Debts.{ends_debts}
 use Rattle.group_rows.specs.Rows.{outs_of, sync_bodies, synced}
@@ -41,14 +39,14 @@ use Rattle.group_facts.proofs.Everywhere.{entry_parts}
 use Rattle.group_facts.proofs.Facts.{Facts}
 use Rattle.group_facts.proofs.Reached.{Reached, facts_at, reached, settled_at}
 use Rattle.group_facts.proofs.Table.{reasons}
-use Rattle.group_sessions.specs.Refreshes.{AllOnDocuments, IsAtRest, KeepsRest, StaysAtRest, Unless, disturbs, is_onward, is_other, is_over, is_pushed, parts, speaks_up}
+use Rattle.group_sessions.specs.Refreshes.{AllOnDocuments, IsAtRest, KeepsRest, StaysAtRest, Unless, disturbs, is_onward, is_over, is_pushed, parts, speaks_up}
 use Rattle.group_sessions.proofs.ListsLaw.{legal_parts}
-use Rattle.rest_laws.specs.Silent.{IsSilent, is_closing, is_of_editor}
+use Rattle.rest_laws.specs.Silent.{IsSilent, is_closing}
 use Rattle.rest_laws.proofs.Agreeing.{agrees_is}
 use Rattle.rest_laws.proofs.Codes.{codes_at}
 use Rattle.rest_laws.proofs.Lasting.{Past, past_behind, past_entry, past_off}
 use Rattle.rest_laws.proofs.OwnEntries.{own_rests}
-use Rattle.rest_laws.proofs.Rested.{Rested, Seat, rested_more, texts_at}
+use Rattle.rest_laws.proofs.Rested.{Rested, rested_more, texts_at}
 use Rattle.rest_laws.proofs.RestEntries.{all_documents, entry_reached, entry_rests, rest_of, rested_behind, rested_first}
 use Rattle.rest_laws.proofs.SaidRows.{on_first, on_second, said_silent}
 use Rattle.rest_laws.proofs.SilentLaw.{both_false, no_slow}

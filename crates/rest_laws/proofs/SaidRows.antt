@@ -17,7 +17,7 @@ use Rattle.rpc_message.specs.Texts.{ok_text, request_failed}
 use Rattle.event_model.specs.declared.phase.Phase.{Phase}
 use Rattle.event_model.specs.declared.phase.Phase.TheVariants.{Absent, New, Waiting, Answered, Running, Down}
 use Rattle.event_model.specs.Event.{Event, behind, heard, requests, with_cause}
-use Rattle.event_model.specs.Phases.{desk_of, editors_of, is_begun, is_malformed, is_running, is_there, makes_running}
+use Rattle.event_model.specs.Phases.{desk_of, editors_of, is_begun, is_running, is_there, makes_running}
 use Rattle.event_model.specs.Requests.{is_own}
 use Rattle.event_model.specs.Row.{Row, after, choose, each, nothing, on, outs, send, ◌⨾◌}
 use Rattle.event_model.specs.Settings.{Settings}
@@ -38,7 +38,7 @@ use Rattle.group_words.specs.Houses.{groups_of, home_of, is_doubled, placed_for}
 use Rattle.group_words.specs.Placing.{all_from, is_live}
 use Rattle.group_words.specs.Rows.{end_group, initialize_row, placed_row}
 use Rattle.group_rows.specs.AskRows.{debts_row, run_row}
-use Rattle.group_rows.specs.Rows.{answer_error, can_ask, closing_row, down_row, early_row, editor_row, exit_row, forward, from_editor, lspmux_row, message_row, notice_at, notice_row, outs_of, request_at, request_row, served_notice, served_request, served_row, sync_bodies, sync_row, taken_row, told_row}
+use Rattle.group_rows.specs.Rows.{answer_error, can_ask, closing_row, down_row, early_row, editor_row, exit_row, forward, from_editor, lspmux_row, notice_at, notice_row, outs_of, request_at, request_row, served_notice, served_request, served_row, sync_bodies, sync_row, taken_row}
 use Rattle.group_rows.specs.StopRows.{close_each, refuse_open, stop_row, there_in}
 use Rattle.group_rows.specs.Texts.{is_synced, texts_of}
 use Rattle.group_rows.specs.Tokens.{forwarded_text}

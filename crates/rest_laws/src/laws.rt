@@ -24,16 +24,17 @@ pub fn silence()
     ensures { (settings : Settings) → InRange settings → (history : List Entry) → Legal settings history → Silent history }
 {}
 
-/// A law: where a start has an editor's own texts and owes it nothing, it is told of no other text of a document that is open there, and has its
-/// texts and owes it nothing behind each entry, as long as it is ready, the editor stays, and no other editor says anything of a document or
-/// anything that goes on to the start, or leaves. What the start wants asked anew, what the editor asks then, and its own didOpen,
-/// didChange and didClose switch nothing (LSP 3.17, Text Document Synchronization and the refresh requests of Language Features).
+/// A law: where a start that is ready has an editor's own texts and owes it nothing, that is so behind each later entry behind which it is
+/// ready, and it is told of no other text of a document that the editor has open, until the editor leaves, the start's program ends, or another
+/// editor says anything of a document or anything that goes on to the start, or leaves. So what the start wants asked anew, what the editor asks
+/// then, and its own didOpen, didChange and didClose leave it at rest (LSP 3.17, Text Document Synchronization and the refresh requests of
+/// Language Features).
 pub fn rest()
     ensures { (settings : Settings) → InRange settings → (history : List Entry) → Legal settings history → KeepsRest settings history }
 {}
 
-/// A law: a start that is ready gave an encoding of positions, and those of what the editors of its group have open count by it. So a change
-/// leaves the same text at the start as at its editor (LSP 3.17, PositionEncodingKind).
+/// A law: a start that is ready gave an encoding of positions, and those of what the editors of its group have open count by it (LSP 3.17,
+/// PositionEncodingKind).
 pub fn one_encoding()
     ensures { (settings : Settings) → InRange settings → (history : List Entry) → Legal settings history → OneEncoding history }
 {}
