@@ -1,4 +1,4 @@
--- An editor is left at rest: by each entry that doesn't disturb it, as long as its start is ready, and then no start is told of another text.
+-- An editor is left at rest by each entry that doesn't disturb it, as long as its start is ready; and a start that is ready no more is told of no document.
 use Rattle.std.proofs.Common.{◌≡◌, inl, inr, ℕ, ◌<◌, Bool, true, false, not, ◌&&◌, ◌||◌, List, [], ◌∷◌, ◌++◌, cond, codes, filter, flat_map, nat_eq, Option, Some, None, refl, sym, ◌∙◌, ap, ap₂, subst}
 use Rattle.std.specs.Prelude.{find}
 use Rattle.std.specs.List.{AllByRecursion, list_any}
