@@ -13,7 +13,6 @@ use Rattle.lsp_method.specs.Class.{class_of}
 use Rattle.lsp_method.specs.declared.variants.Class.{Class}
 use Rattle.lsp_method.specs.declared.variants.Class.TheVariants.{Broadcast, Cancel, Create, Diagnostics, Focused, Folders, Lowest, Refresh, Register, Unregister, Progress}
 use Rattle.lsp_method.specs.declared.variants.Origin.TheVariants.{Server}
-use Rattle.event_model.specs.declared.phase.Phase.{Phase}
 use Rattle.event_model.specs.declared.stage.Stage.{Stage}
 use Rattle.event_model.specs.declared.stage.Stage.TheVariants.{Spawning, Initializing, Ready, Stopping}
 use Rattle.event_model.specs.Event.{Event, behind}
@@ -23,7 +22,7 @@ use Rattle.event_model.specs.Settings.{Settings}
 use Rattle.event_model.specs.Spawns.{group_of}
 use Rattle.event_model.specs.Stages.{is_ready, life_of}
 use Rattle.event_model.proofs.Frames.{never}
-use Rattle.mux_model.specs.Rows.{malformed_row, to_start}
+use Rattle.mux_model.specs.Rows.{to_start}
 use Rattle.mux_facts.proofs.Reasons.{Because, by_nothing, by_send, by_then, by_choose, by_look, by_on}
 use Rattle.mux_facts.proofs.Words.{number_same, same_number}
 use Rattle.group_rows.specs.response_route.specs.Asked.{asked_text}
@@ -89,9 +88,6 @@ module _ (t : ℕ) where
 
   quiet_parts : (settings : Settings) (g : ℕ) (ns : List ℕ) (events : List Event) → Quiet events (each (part settings g) ns)
   quiet_parts settings g ns events = parts_by settings (λ places out. IsSilent t out) g (λ e places body. tt) (λ e places. tt) ns events
-
-  quiet_malformed : (e : ℕ) (m : Message) (phase : Phase) (events : List Event) → Quiet events (malformed_row e m phase)
-  quiet_malformed e m phase events = by_choose (λ there. by_send tt) (λ gone. by_nothing)
 
   module _ (settings : Settings) (before : List Event) where
     quiet_show : (seen : List Event) (s e : ℕ) (l : LastList) (events : List Event) → Quiet events (show settings seen s e l)
@@ -223,7 +219,7 @@ module _ (t : ℕ) where
       sends : (places : List Event) (text : List ℕ) → IsSilent t (ToServer s text)
       sends places text same = absurd (other same)
 
-      quiet_documents : (bodies : List (List ℕ)) (events : List Event) → Quiet events (to_start s bodies)
+      pub quiet_documents : (bodies : List (List ℕ)) (events : List Event) → Quiet events (to_start s bodies)
       quiet_documents [] events = by_nothing
       quiet_documents (b ∷ bodies) events = by_then (by_send (sends events b)) (quiet_documents bodies (behind events (ToServer s b ∷ [])))
 

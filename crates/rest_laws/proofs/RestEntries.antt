@@ -105,10 +105,12 @@ module _ (settings : Settings) (s e : ℕ) where
   rested_first events settled at serving =
       let running = and_parts (is_running (desk_of e events).phase) (option_map_or (λ g. is_home g (home_of settings e events)) (group_of s events) false) at.runs in
       record {
-        runs = runs_is (desk_of e events).phase running.0;
-        home = sym (ap (λ k. option_map_or (λ g. is_home g (home_of settings e events)) k false) serving.home) ∙ running.1;
-        group = serving.home;
-        low = ((settled.lively).last serving.group s serving.last).1;
+        seat = record {
+          runs = runs_is (desk_of e events).phase running.0;
+          home = sym (ap (λ k. option_map_or (λ g. is_home g (home_of settings e events)) k false) serving.home) ∙ running.1;
+          group = serving.home;
+          low = ((settled.lively).last serving.group s serving.last).1;
+        };
         own = (agreement settings s e events).0 at.agrees;
         owed = at.owed;
       }
@@ -116,7 +118,7 @@ module _ (settings : Settings) (s e : ℕ) where
   pub rest_of : (g : ℕ) (events : List Event) → Rested settings s e g events → is_ready (life_of s events).stage ≡ true → IsAtRest settings s e events
   rest_of g events h ready = record {
     ready = ready;
-    runs = ap₂ (λ p k. is_running p && option_map_or (λ g. is_home g (home_of settings e events)) k false) h.runs h.group ∙ h.home;
+    runs = ap₂ (λ p k. is_running p && option_map_or (λ g. is_home g (home_of settings e events)) k false) (h.seat).runs (h.seat).group ∙ (h.seat).home;
     agrees = (agreement settings s e events).1 h.own;
     owed = h.owed;
   }
@@ -156,7 +158,7 @@ module _ (settings : Settings) (range : InRange settings) where
 
       last : Rested settings s e serving.group (behind (with_cause before cause) xs)
       last = rested_behind settings s e serving.group before cause (with_cause before cause) xs why silent links
-          (rested_more settings s e serving.group before (heard cause) (calm_cause settings s e serving.group before cause known.editors first.runs fits cause refl calm) first)
+          (rested_more settings s e serving.group before (heard cause) (calm_cause settings s e serving.group before cause known.editors (first.seat).runs fits cause refl calm) first)
 
   pub entry_reached : (before : List Entry) (entry : Entry) → fits_behind (events_of before) entry.cause ≡ true → entry.outs ≡ entry_outs settings (events_of before) entry.cause → Reached settings (events_of before) → Reached settings (events_of (before ++ entry ∷ []))
   entry_reached before entry fits outs h = subst (Reached settings) (sym (events_more before entry)) (subst (λ z. Reached settings (behind (with_cause (events_of before) entry.cause) z)) (sym outs)

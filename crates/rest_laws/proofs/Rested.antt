@@ -33,6 +33,7 @@ use Rattle.group_facts.specs.OwnTexts.{HasOwn}
 use Rattle.group_facts.specs.OwnVersions.{HasOwnTexts}
 use Rattle.group_facts.proofs.Housed.{group_more}
 use Rattle.rest_laws.proofs.Agreeing.{agreement}
+use Rattle.rest_laws.proofs.Asides.{unspoken}
 
 -- A touch changes no text
 
@@ -66,14 +67,7 @@ own_like : (held : Option HeldText) (p o : Open) → Like (Some p) o → HasOwn 
 own_like None p o like own = own
 own_like (Some h) p o like own = (own.0 ∙ like.0, own.1 ∙ like.1)
 
-unspoken : (x : Saying) → speaks x ≡ false → x ≡ saying.nothing
-unspoken saying.nothing h = refl
-unspoken (saying.opens u l v t) h = never h
-unspoken (saying.changes u v cs) h = never h
-unspoken (saying.closes u) h = never h
-unspoken saying.misshapen h = never h
-
-none_either : {A : Type 0} (b : Bool) → ◌≡◌ {A = List A} (if b then [] else []) []
+pub none_either : {A : Type 0} (b : Bool) → ◌≡◌ {A = List A} (if b then [] else []) []
 none_either true = refl
 none_either false = refl
 
@@ -85,15 +79,30 @@ above m n low = go (nat_eq n m) refl
     go true is = absurd (let same : n ≡ m = number_same n m is in omega (arith, low, same))
 
 module _ (settings : Settings) (s e g : ℕ) where
-  -- the editor runs in the group of the start, which has its texts and owes it nothing
-  pub record Rested (events : List Event) : Type 0 where
+  -- the editor runs in the group of the start
+  pub record Seat (events : List Event) : Type 0 where
     pub runs : (desk_of e events).phase ≡ Running
     pub home : is_home g (home_of settings e events) ≡ true
     pub group : group_of s events ≡ Some g
     pub low : s < starts_of events
+
+  -- and the start has its texts and owes it nothing
+  pub record Rested (events : List Event) : Type 0 where
+    pub seat : Seat events
     pub own : HasOwnTexts settings s e events
     pub owed : debts_of settings s e events ≡ []
 
+  -- what leaves an editor where it is
+  abbrev pub Sits : List Event → Event → Type 0
+  Sits events (took (FromEditor n body) m) = requests (codes "shutdown") m ≡ false
+  Sits events (took (EditorGone n why) m) = ⊥
+  Sits events (took (Joined n) m) = nat_eq n e ≡ false
+  Sits events (took other m) = Unit {0}
+  Sits events (did (CloseEditor n) m) = ⊥
+  Sits events (did (Spawn n h) m) = n ≡ starts_of events
+  Sits events (did other m) = Unit {0}
+
+  -- and what it has open, and the start of that
   abbrev pub Calm : List Event → Event → Type 0
   Calm events (took (FromEditor n body) m) = (speaks (saying_of m) ≡ false) × (requests (codes "shutdown") m ≡ false)
   Calm events (took (EditorGone n why) m) = ⊥
@@ -104,42 +113,64 @@ module _ (settings : Settings) (s e g : ℕ) where
   Calm events (did (Spawn n h) m) = n ≡ starts_of events
   Calm events (did other m) = Unit {0}
 
-  phase_calm : (events : List Event) (desk : Desk) (ev : Event) → Calm events ev → desk.phase ≡ Running → (desk_behind e desk ev).phase ≡ Running
-  phase_calm events desk (took (FromEditor n body) m) calm runs = go (nat_eq n e)
+  sits : (events : List Event) (ev : Event) → Calm events ev → Sits events ev
+  sits events (took (FromEditor n body) m) calm = calm.1
+  sits events (took (EditorGone n why) m) calm = calm
+  sits events (took (Joined n) m) calm = calm
+  sits events (took other m) calm = tt
+  sits events (did (CloseEditor n) m) calm = calm
+  sits events (did (ToServer n body) m) calm = tt
+  sits events (did (Spawn n h) m) calm = calm
+  sits events (did other m) calm = tt
+
+  phase_sits : (events : List Event) (desk : Desk) (ev : Event) → Sits events ev → desk.phase ≡ Running → (desk_behind e desk ev).phase ≡ Running
+  phase_sits events desk (took (FromEditor n body) m) sits runs = go (nat_eq n e)
     where
       go : (b : Bool) → (if b then desk_hears desk.phase desk.initialize body m else desk).phase ≡ Running
-      go true = ap (λ p. (desk_hears p desk.initialize body m).phase) runs ∙ ap (λ b. if b then Down else Running) calm.1
+      go true = ap (λ p. (desk_hears p desk.initialize body m).phase) runs ∙ ap (λ b. if b then Down else Running) sits
       go false = runs
-  phase_calm events desk (took (EditorGone n why) m) calm runs = absurd calm
-  phase_calm events desk (took (Joined n) m) calm runs = go (nat_eq n e) calm
+  phase_sits events desk (took (EditorGone n why) m) sits runs = absurd sits
+  phase_sits events desk (took (Joined n) m) sits runs = go (nat_eq n e) sits
     where
       go : (b : Bool) → b ≡ false → (if b then record { phase = New; initialize = [] } else desk).phase ≡ Running
       go true h = never h
       go false h = runs
-  phase_calm events desk (did (CloseEditor n) m) calm runs = absurd calm
-  phase_calm events desk (did (ToEditor n body) m) calm runs = go (nat_eq n e)
+  phase_sits events desk (did (CloseEditor n) m) sits runs = absurd sits
+  phase_sits events desk (did (ToEditor n body) m) sits runs = go (nat_eq n e)
     where
       go : (b : Bool) → (if b then record { phase = phase_told desk.phase desk.initialize m; initialize = desk.initialize } else desk).phase ≡ Running
       go true = ap (λ p. phase_told p desk.initialize m) runs
       go false = runs
-  phase_calm events desk other calm runs = runs
+  phase_sits events desk other sits runs = runs
 
-  home_calm : (events : List Event) (x : House) (ev : Event) → Calm events ev → (desk_of e events).phase ≡ Running → home_next settings events x ev e ≡ x.home e
-  home_calm events x (took (FromEditor n body) m) calm runs = go (nat_eq n e) refl
+  home_sits : (events : List Event) (x : House) (ev : Event) → Sits events ev → (desk_of e events).phase ≡ Running → home_next settings events x ev e ≡ x.home e
+  home_sits events x (took (FromEditor n body) m) sits runs = go (nat_eq n e) refl
     where
       go : (b : Bool) → nat_eq n e ≡ b → (if b && places (desk_of n events).phase m then home_by (placed_for settings events n body x.groups) (x.home e) else x.home e) ≡ x.home e
       go true same = ap (λ p. if places p m then home_by (placed_for settings events n body x.groups) (x.home e) else x.home e) (ap (λ k. (desk_of k events).phase) (number_same n e same) ∙ runs)
       go false other = refl
-  home_calm events x (took (EditorGone n why) m) calm runs = absurd calm
-  home_calm events x other calm runs = refl
+  home_sits events x (took (EditorGone n why) m) sits runs = absurd sits
+  home_sits events x other sits runs = refl
 
-  group_calm : (events : List Event) (ev : Event) → Calm events ev → s < starts_of events → (group : Option ℕ) → group_behind s group ev ≡ group
-  group_calm events (did (Spawn n h) m) calm low group = ap (λ b. if b then Some h else group) (ap (λ k. nat_eq k s) calm ∙ above s (starts_of events) low)
-  group_calm events other calm low group = refl
+  group_sits : (events : List Event) (ev : Event) → Sits events ev → s < starts_of events → (group : Option ℕ) → group_behind s group ev ≡ group
+  group_sits events (did (Spawn n h) m) sits low group = ap (λ b. if b then Some h else group) (ap (λ k. nat_eq k s) sits ∙ above s (starts_of events) low)
+  group_sits events other sits low group = refl
 
-  starts_calm : (n : ℕ) (ev : Event) → s < n → s < starts_behind n ev
-  starts_calm n (did (Spawn k h) m) low = omega (arith, low)
-  starts_calm n other low = low
+  starts_sit : (n : ℕ) (ev : Event) → s < n → s < starts_behind n ev
+  starts_sit n (did (Spawn k h) m) low = omega (arith, low)
+  starts_sit n other low = low
+
+  pub seat_more : (events : List Event) (ev : Event) → Sits events ev → Seat events → Seat (events ++ ev ∷ [])
+  seat_more events ev still h = record {
+    runs = ap (λ (d : Desk). d.phase) (desk_more e events ev) ∙ phase_sits events (desk_of e events) ev still h.runs;
+    home = ap (is_home g) (home_more settings e events ev ∙ home_sits events (house_of settings events) ev still h.runs) ∙ h.home;
+    group = group_more s events ev ∙ (group_sits events ev still h.low (group_of s events) ∙ h.group);
+    low = subst (λ n. s < n) (sym (starts_more events ev)) (starts_sit (starts_of events) ev h.low);
+  }
+
+  -- what its group's editors have open is what the start's do
+  pub texts_at : (events : List Event) → Seat events → texts_of settings g events ≡ shared_texts settings s events
+  texts_at events h = ap (λ k. option_map_or (λ g. texts_of settings g events) k no_texts) (sym h.group)
 
   held_calm : (events : List Event) (ev : Event) → Calm events ev → (u : List ℕ) (code : Option Encoding) (held : Option HeldText) → held_behind s u code held ev ≡ held
   held_calm events (did (ToServer n body) m) calm u code held = go (nat_eq n s) refl
@@ -192,14 +223,11 @@ module _ (settings : Settings) (s e g : ℕ) where
     abbrev later : List Event
     later = events ++ ev ∷ []
 
-    group_later : group_of s later ≡ Some g
-    group_later = group_more s events ev ∙ (group_calm events ev calm h.low (group_of s events) ∙ h.group)
+    seat_later : Seat later
+    seat_later = seat_more events ev (sits events ev calm) h.seat
 
     held_later : (u : List ℕ) → held_at s u later ≡ held_at s u events
     held_later u = ap (λ (x : Sent). x.held) (sent_more s u events ev) ∙ held_calm events ev calm u (sent_of s u events).encoding (held_at s u events)
-
-    texts_here : texts_of settings g events ≡ shared_texts settings s events
-    texts_here = ap (λ k. option_map_or (λ g. texts_of settings g events) k no_texts) (sym h.group)
 
     own_from : (u : List ℕ) (o : Open) (x : Option Open) → found e u (shared_texts settings s events) ≡ x → Like x o → HasOwn o (held_at s u events)
     own_from u o (Some p) is like = own_like (held_at s u events) p o like (h.own u p is)
@@ -207,15 +235,12 @@ module _ (settings : Settings) (s e g : ℕ) where
 
     own_later : HasOwnTexts settings s e later
     own_later u o is = subst (HasOwn o) (sym (held_later u)) (own_from u o (found e u (shared_texts settings s events)) refl
-        (subst (λ x. Like (found e u x) o) texts_here (texts_calm events ev calm (texts_of settings g events) u o
-        (ap (found e u) (sym (texts_more settings g events ev)) ∙ (ap (λ k. found e u (option_map_or (λ g. texts_of settings g later) k no_texts)) (sym group_later) ∙ is)))))
+        (subst (λ x. Like (found e u x) o) (texts_at events h.seat) (texts_calm events ev calm (texts_of settings g events) u o
+        (ap (found e u) (sym (texts_more settings g events ev)) ∙ (ap (found e u) (texts_at later seat_later) ∙ is)))))
 
     pub rested_more : Rested later
     rested_more = record {
-      runs = ap (λ (d : Desk). d.phase) (desk_more e events ev) ∙ phase_calm events (desk_of e events) ev calm h.runs;
-      home = ap (is_home g) (home_more settings e events ev ∙ home_calm events (house_of settings events) ev calm h.runs) ∙ h.home;
-      group = group_later;
-      low = subst (λ n. s < n) (sym (starts_more events ev)) (starts_calm (starts_of events) ev h.low);
+      seat = seat_later;
       own = own_later;
       owed = debts_more settings s e events ev ∙ (ap (λ ds. debts_next settings s e events ds ev) h.owed ∙ owed_calm events ((agreement settings s e events).1 h.own) ev);
     }

@@ -71,8 +71,8 @@ module _ (settings : Settings) (requests_fit : settings.limits.requests < 2 ^ 32
       go true same = record { stage = λ ready. absurd (ending_not (life_of t events).stage (sym (stage_by true same) ∙ ready)); number = λ ready. number_more t events (said (EndServer s)) }
       go false other = record { stage = λ ready. sym (stage_by false other) ∙ ready; number = λ ready. number_more t events (said (EndServer s)) }
 
-  record Ends (row : Rattle.event_model.specs.Row.Row) (events : List Event) : Type 0 where
-    why : Because Quiet events row
+  pub record Ends (row : Rattle.event_model.specs.Row.Row) (events : List Event) : Type 0 where
+    pub why : Because Quiet events row
     small : Small (behind events (outs row events))
 
   low : (events : List Event) → Small events → (s : ℕ) → (life_of s events).stage ≡ Ready → s ≡ t → next_number s events < 2 ^ 128
@@ -90,7 +90,7 @@ module _ (settings : Settings) (requests_fit : settings.limits.requests < 2 ^ 32
   start_ends s Ending events at small = record { why = by_nothing; small = subst Small (sym (behind_nothing events)) small }
   start_ends s Ended events at small = record { why = by_nothing; small = subst Small (sym (behind_nothing events)) small }
 
-  group_ends : (g : ℕ) (events : List Event) → Small events → Ends (end_group g) events
+  pub group_ends : (g : ℕ) (events : List Event) → Small events → Ends (end_group g) events
   group_ends g events small = let last : Ends (on (start_of g events) nothing (λ s. end_start s (life_of s events).stage)) events = go (start_of g events) in record { why = by_look last.why; small = last.small }
     where
       go : (o : Option ℕ) → Ends (on o nothing (λ s. end_start s (life_of s events).stage)) events

@@ -42,7 +42,7 @@ module _ (settings : Settings) where
   told_ready before cause events s body (resolves k) spoken = k.ready
   told_ready before cause events s body (exits k) spoken = never (sym spoken ∙ ap (λ m. speaks (saying_of m)) k.says)
 
-  one_told : (before : List Event) (cause : Cause) (events : List Event) (out : Out) → Why settings before cause events out → IsToldReady events out
+  pub one_told : (before : List Event) (cause : Cause) (events : List Event) (out : Out) → Why settings before cause events out → IsToldReady events out
   one_told before cause events (ToServer s body) why = told_ready before cause events s body why
   one_told before cause events (ToEditor e body) why = tt
   one_told before cause events (Spawn s g) why = tt

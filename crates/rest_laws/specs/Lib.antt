@@ -1,4 +1,4 @@
-pub mod Plain
+pub mod Encodings
 pub mod Silent
 pub mod Told
 pub use Rattle.group_sessions

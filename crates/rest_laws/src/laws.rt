@@ -7,7 +7,8 @@ ghost use Rattle.mux_facts.specs.Ranges.{InRange};
 ghost use Rattle.group_rows.specs.Debts.{agrees_on_all};
 ghost use Rattle.group_facts.specs.Legal.{Legal};
 ghost use Rattle.group_facts.specs.OwnVersions.{HasOwnTexts};
-ghost use Rattle.rest_laws.specs.Plain.{KeepsRestBeside};
+ghost use Rattle.group_sessions.specs.Refreshes.{KeepsRest};
+ghost use Rattle.rest_laws.specs.Encodings.{OneEncoding};
 ghost use Rattle.rest_laws.specs.Silent.{Silent};
 ghost use Rattle.rest_laws.specs.Told.{ToldReady};
 
@@ -23,12 +24,19 @@ pub fn silence()
     ensures { (settings : Settings) → InRange settings → (history : List Entry) → Legal settings history → Silent history }
 {}
 
-/// A law: where a start has an editor's own texts and owes it nothing, and from there no editor says anything of a document, nothing but
-/// answers goes to the start by another editor's messages, and no link ends or is to be ended, the start is told of no other text than the
-/// editor's, and has its texts and owes it nothing behind each entry, until it is told to stop or its program ends. So what a start wants asked
-/// anew, and what the editor asks then, switches nothing (LSP 3.17, Text Document Synchronization and the refresh requests of Language Features).
-pub fn rest_beside()
-    ensures { (settings : Settings) → InRange settings → (history : List Entry) → Legal settings history → KeepsRestBeside settings history }
+/// A law: where a start that is ready has an editor's own texts and owes it nothing, that is so behind each later entry behind which it is
+/// ready, and it is told of no other text of a document that the editor has open, until the editor leaves, the start's program ends, or another
+/// editor says anything of a document or anything that goes on to the start, or leaves. So what the start wants asked anew, what the editor asks
+/// then, and its own didOpen, didChange and didClose leave it at rest (LSP 3.17, Text Document Synchronization and the refresh requests of
+/// Language Features).
+pub fn rest()
+    ensures { (settings : Settings) → InRange settings → (history : List Entry) → Legal settings history → KeepsRest settings history }
+{}
+
+/// A law: a start that is ready gave an encoding of positions, and those of what the editors of its group have open count by it (LSP 3.17,
+/// PositionEncodingKind).
+pub fn one_encoding()
+    ensures { (settings : Settings) → InRange settings → (history : List Entry) → Legal settings history → OneEncoding history }
 {}
 
 /// A law: a notification on a document goes to a start only while it is ready: behind its first result, and not once it is told to stop (LSP

@@ -3,4 +3,4 @@
 
 mod laws;
 
-pub use laws::{kept_agreement, rest_beside, silence, told_ready};
+pub use laws::{kept_agreement, one_encoding, rest, silence, told_ready};

@@ -1,27 +1,20 @@
--- What a start is told where an editor that runs says something that is of no document: nothing of a document, where it had the editor's own texts before.
-use Rattle.std.proofs.Common.{◌≡◌, ℕ, ◌^◌, ◌<◌, Bool, true, false, cond, List, [], ◌∷◌, ◌++◌, codes, nat_eq, ltb-true, bytes_eq, if◌then◌else◌, Option, None, Some, refl, sym, ◌∙◌, ap, subst, arith}
+-- What goes to a start by an editor's message without a sync: nothing of a document.
+use Rattle.std.proofs.Common.{◌≡◌, ℕ, ◌^◌, ◌<◌, Bool, true, false, cond, List, [], ◌∷◌, codes, decimal, nat_eq, ltb-true, if◌then◌else◌, Option, None, Some, refl, sym, ◌∙◌, ap, subst, arith}
 use Rattle.std.specs.Prelude.{find}
 use Rattle.std.specs.List.{AllByRecursion}
 use Rattle.std.specs.Option.{option_and_then}
 use Rattle.std.proofs.lemmas.Bool.{and_parts}
-use Rattle.std.proofs.lemmas.Slice.Eq.{bytes_eq-Decides}
 use Rattle.json_text.specs.Json.{Json}
 use Rattle.document_model.specs.Sayings.{Saying, changes, closes, misshapen, opens, saying_by, saying_of, speaks}
 use Rattle.document_model.specs.Sayings as saying
-use Rattle.lsp_method.specs.Class.{class_of}
-use Rattle.lsp_method.specs.declared.variants.Origin.TheVariants.{Editor}
 use Rattle.mux_history.specs.declared.cause.Cause.TheVariants.{FromEditor}
-use Rattle.mux_history.specs.declared.out.Out.{Out}
-use Rattle.mux_history.specs.declared.out.Out.TheVariants.{ToEditor, ToServer, Spawn, CloseEditor, EndServer}
-use Rattle.rpc_message.specs.Message.{Id, Message, request, notification, result, error, not_json, not_message, message_of}
-use Rattle.rpc_message.specs.Texts.{request_failed, with_id_text}
+use Rattle.rpc_message.specs.Message.{Id, Message, integer, request, notification, result, error, not_json, not_message, message_of}
+use Rattle.rpc_message.specs.Texts.{with_id_text}
 use Rattle.rpc_message.specs.ValueTexts.{IsIdText}
 use Rattle.rpc_message.proofs.Fixed.{id_as_response}
 use Rattle.rpc_message.proofs.Ids.{error_with_id, result_with_id}
-use Rattle.event_model.specs.declared.phase.Phase.TheVariants.{Running}
-use Rattle.event_model.specs.Event.{Event, behind, heard, requests, notifies, said, with_cause}
+use Rattle.event_model.specs.Event.{Event, behind, heard, with_cause}
 use Rattle.event_model.specs.Members.{named_of}
-use Rattle.event_model.specs.Phases.{desk_of}
 use Rattle.event_model.specs.Requests.{answered_id}
 use Rattle.event_model.specs.Row.{Row, each, nothing, on, outs}
 use Rattle.event_model.specs.Settings.{Settings}
@@ -31,36 +24,28 @@ use Rattle.event_model.proofs.Frames.{never}
 use Rattle.mux_facts.specs.Allowed.{is_response}
 use Rattle.mux_facts.specs.Ranges.{InRange}
 use Rattle.mux_facts.proofs.DocumentRow.{ready_is}
-use Rattle.mux_facts.proofs.Reasons.{Because, Reasons, by_nothing, by_send, by_then, by_choose, by_look, by_on}
-use Rattle.mux_facts.proofs.Words.{number_same, same_number}
-use Rattle.mux_model.specs.Documents.{held_at}
-use Rattle.mux_model.specs.Methods.{goes_on}
-use Rattle.mux_model.specs.Rows.{to_start}
-use Rattle.group_words.specs.Houses.{home_of, is_doubled, server_asked}
-use Rattle.group_rows.specs.AskRows.{debts_row, response_at, response_row}
+use Rattle.mux_facts.proofs.Reasons.{Because, by_nothing, by_send, by_then, by_choose, by_on}
+use Rattle.group_words.specs.Houses.{server_asked}
+use Rattle.group_rows.specs.AskRows.{response_at, response_row}
 use Rattle.group_rows.specs.Asks.{Ask, asks_of, is_seated}
 use Rattle.group_rows.specs.Cancelling.{cancelling_at, cancelling_row, is_called, number_called, number_named, numbered_text, uncancelled_number}
 use Rattle.group_rows.specs.Created.{Taking, Token, created_of, is_marked, token_marked}
 use Rattle.group_rows.specs.CreatedRows.{created_work, taking_row, tell, work_at, work_row}
 use Rattle.group_rows.specs.Forwarded.{Forwarded, Forwarding, forwarding_of, has_room, names}
-use Rattle.group_rows.specs.Rows.{answer_error, can_ask, cancel_row, document_at, document_row, from_editor, lspmux_row, message_row, named_row, notice_at, notice_row, request_at, request_row, row_of, served_request, served_row, sync_bodies, sync_row}
-use Rattle.group_rows.specs.Texts.{texts_of}
+use Rattle.group_rows.specs.Rows.{can_ask, cancel_row, document_at, document_row, named_row, open_row, sync_row}
 use Rattle.group_rows.specs.Waiting.{named_id}
 use Rattle.group_rows.specs.Tokens.{forwarded_text, is_worked, mark_text, marked_text, work_mark}
 use Rattle.group_rows.proofs.Cancelling.{Renumbered, renumbered}
 use Rattle.group_rows.proofs.CreatedKept.{IsWritten, found_one, tokens_written}
 use Rattle.group_rows.proofs.Frames.{forwarding_more}
-use Rattle.group_rows.proofs.Going.{going_silent}
 use Rattle.group_rows.proofs.TokenTexts.{IsTokenText, forwarded_says, mark_token, marked_says}
 use Rattle.group_facts.specs.Facts.{Bounded, IsAsked}
-use Rattle.group_facts.specs.Why.{IsQuestion}
 use Rattle.group_facts.proofs.Facts.{Facts}
 use Rattle.group_facts.proofs.LeaveRows.{IsSmall, numbers_small}
-use Rattle.group_facts.proofs.Paying.{debts_questions}
 use Rattle.group_facts.proofs.SyncRow.{synced_calm}
 use Rattle.rest_laws.specs.Silent.{IsSilent}
 
-unspoken : (x : Saying) → speaks x ≡ false → x ≡ saying.nothing
+pub unspoken : (x : Saying) → speaks x ≡ false → x ≡ saying.nothing
 unspoken saying.nothing h = refl
 unspoken (opens u l v t) h = never h
 unspoken (changes u v cs) h = never h
@@ -137,7 +122,7 @@ module _ (t : ℕ) (settings : Settings) (range : InRange settings) (before : Li
   document_none : (events : List Event) → Quiet events (document_row settings before e body saying.nothing)
   document_none events = by_on (λ none. by_nothing) (λ g home. document_group events g)
 
-  quiet_document : (x : Saying) → speaks x ≡ false → (events : List Event) → Quiet events (document_row settings before e body x)
+  pub quiet_document : (x : Saying) → speaks x ≡ false → (events : List Event) → Quiet events (document_row settings before e body x)
   quiet_document x off events = subst (λ y. Quiet events (document_row settings before e body y)) (sym (unspoken x off)) (document_none events)
 
   bounded : Bounded settings before
@@ -161,7 +146,7 @@ module _ (t : ℕ) (settings : Settings) (range : InRange settings) (before : Li
     cancel_home : (events : List Event) → Quiet events (cancelling_row settings before e body params)
     cancel_home events = by_on (λ none. by_nothing) (λ g home. cancel_group events g)
 
-    quiet_cancel : (events : List Event) → Quiet events (cancel_row settings before e body params)
+    pub quiet_cancel : (events : List Event) → Quiet events (cancel_row settings before e body params)
     quiet_cancel events = by_on (λ none. cancel_home events) (λ r found. by_send tt)
 
   module _ (params : Option Json) (says : message_of body ≡ notification (codes "window/workDoneProgress/cancel") params) where
@@ -185,7 +170,7 @@ module _ (t : ℕ) (settings : Settings) (range : InRange settings) (before : Li
     work_group : (events : List Event) (g : ℕ) → Quiet events (on (start_of g before) nothing (work_at settings before e body params))
     work_group events g = by_on (λ none. by_nothing) (λ s start. work_start events s)
 
-    quiet_work : (events : List Event) → Quiet events (work_row settings before e body params)
+    pub quiet_work : (events : List Event) → Quiet events (work_row settings before e body params)
     quiet_work events = by_on (λ none. by_nothing) (λ g home. work_group events g)
 
   -- E19
@@ -212,106 +197,26 @@ module _ (t : ℕ) (settings : Settings) (range : InRange settings) (before : Li
     pub quiet_response : (events : List Event) → Quiet events (response_row settings before e body m)
     quiet_response events = by_on (λ none. by_nothing) (λ g home. handed_in g events)
 
-  -- E10, E16 and E17: where the start has all of its texts nothing is switched
-  module _ (settled : (g : ℕ) → home_of settings e before ≡ Some g → start_of g before ≡ Some t → sync_bodies settings.limits.versions (λ u. held_at t u before) e (texts_of settings g before).opens ≡ []) where
-    others_sent : (s : ℕ) → (s ≡ t → ⊥) → (bodies : List (List ℕ)) (events : List Event) → Quiet events (to_start s bodies)
-    others_sent s other [] events = by_nothing
-    others_sent s other (b ∷ bodies) events = by_then (by_send (λ same. absurd (other same))) (others_sent s other bodies (behind events (ToServer s b ∷ [])))
+  -- E4
+  quiet_named : (o : Option ℕ) → Quiet now (named_row e body o)
+  quiet_named None = by_send tt
+  quiet_named (Some server) = by_send tt
 
-    quiet_sync : (g s : ℕ) → home_of settings e before ≡ Some g → start_of g before ≡ Some s → (events : List Event) → Quiet events (sync_row settings before g s e)
-    quiet_sync g s home start events = go (nat_eq s t) refl
-      where
-        go : (b : Bool) → nat_eq s t ≡ b → Quiet events (sync_row settings before g s e)
-        go true same = subst (λ n. Quiet events (sync_row settings before g n e)) (sym (number_same s t same))
-            (subst (λ xs. Quiet events (to_start t xs)) (sym (settled g home (start ∙ ap (λ n. Some n) (number_same s t same)))) by_nothing)
-        go false other = others_sent s (λ is. never (sym (subst (λ z. nat_eq s z ≡ true) is (same_number s)) ∙ other)) _ events
+  pub quiet_open : (m : Message) → Quiet now (open_row settings before e body m)
+  quiet_open m = by_choose (λ first. quiet_named (server_asked settings.servers body)) (λ late. by_send tt)
 
-    module _ (id : Id) (method : List ℕ) (params : Option Json) (says : message_of body ≡ request id method params) where
-      next_is : (g s : ℕ) → is_ready (life_of s before).stage ≡ true → (forwarding_of settings s (behind now (outs (sync_row settings before g s e) now))).next ≡ (forwarding_of settings s before).next
-      next_is g s ready = ((synced_calm settings range before (facts.base).opened e body g s ready).still).next ∙ ap (λ (x : Forwarding). x.next) (forwarding_more settings s before (heard (FromEditor e body)))
+  -- what goes on of a request, behind the sync
+  module _ (id : Id) (method : List ℕ) (params : Option Json) (says : message_of body ≡ request id method params) where
+    abbrev pub sent_number : ℕ → ℕ → ℕ
+    sent_number g s = (forwarding_of settings s (behind now (outs (sync_row settings before g s e) now))).next
 
-      forward_silent : (g s : ℕ) → can_ask settings s before ≡ true → saying_of (message_of (forwarded_text (forwarding_of settings s (behind now (outs (sync_row settings before g s e) now))).next body)) ≡ saying.nothing
-      forward_silent g s can =
-          let both = and_parts (is_ready (life_of s before).stage) (has_room settings s before) can in
-          let next : ℕ = (forwarding_of settings s (behind now (outs (sync_row settings before g s e) now))).next in
-          let same : next ≡ (forwarding_of settings s before).next = next_is g s both.0 in
-          let below : (forwarding_of settings s before).next < settings.limits.requests = ltb-true (forwarding_of settings s before).next settings.limits.requests both.1 in
-          let wide : settings.limits.requests < 2 ^ 32 = range.requests in
-          ap saying_of (forwarded_says next body id method params (omega (arith, same, below, wide)) says).1
+    next_is : (g s : ℕ) → is_ready (life_of s before).stage ≡ true → sent_number g s ≡ (forwarding_of settings s before).next
+    next_is g s ready = ((synced_calm settings range before (facts.base).opened e body g s ready).still).next ∙ ap (λ (x : Forwarding). x.next) (forwarding_more settings s before (heard (FromEditor e body)))
 
-      quiet_at : (g s : ℕ) → home_of settings e before ≡ Some g → start_of g before ≡ Some s → Quiet now (request_at settings before e body g s)
-      quiet_at g s home start = by_choose (λ can. by_then (quiet_sync g s home start now) (by_look (by_send (λ same. forward_silent g s can)))) (λ cannot. by_choose (λ waits. by_nothing) (λ full. by_send tt))
-
-      quiet_asked : (g : ℕ) → home_of settings e before ≡ Some g → Quiet now (on (start_of g before) (answer_error e body request_failed) (request_at settings before e body g))
-      quiet_asked g home = by_on (λ none. by_send tt) (λ s start. quiet_at g s home start)
-
-      quiet_request : Quiet now (request_row settings before e body)
-      quiet_request = by_choose (λ reserved. by_send tt) (λ free. by_on (λ none. by_send tt) (λ g home. quiet_asked g home))
-
-      quiet_served : bytes_eq (codes "shutdown") method ≡ false → Quiet now (served_request settings before e body method)
-      quiet_served unshut = by_choose (λ misplaced. by_send tt) (λ placed. by_choose (λ down. never (sym down ∙ unshut)) (λ goes. quiet_request))
-
-      quiet_named : (o : Option ℕ) → Quiet now (named_row e body o)
-      quiet_named None = by_send tt
-      quiet_named (Some server) = by_send tt
-
-      quiet_lspmux : bytes_eq (codes "lspmux/stop") method ≡ false → Quiet now (lspmux_row settings before e body (request id method params))
-      quiet_lspmux unstop = by_choose (λ opens. by_choose (λ first. quiet_named (server_asked settings.servers body)) (λ late. by_send tt)) (λ others. by_choose (λ stops. never (sym stops ∙ unstop)) (λ tells. by_send tt))
-
-      pub quiet_asks : is_doubled before e (request id method params) ≡ false → bytes_eq (codes "shutdown") method ≡ false → bytes_eq (codes "lspmux/stop") method ≡ false
-          → Quiet now (message_row settings before e body (request id method params) Running)
-      quiet_asks single unshut unstop = by_choose (λ twice. never (sym twice ∙ single)) (λ once. by_choose (λ own. quiet_lspmux unstop) (λ other. quiet_served unshut))
-
-    module _ (method : List ℕ) (params : Option Json) (says : message_of body ≡ notification method params) where
-      notice_silent : goes_on (class_of method Editor true) ≡ true → saying_of (message_of body) ≡ saying.nothing
-      notice_silent going = ap saying_of says ∙ going_silent method going params
-
-      quiet_noticed : goes_on (class_of method Editor true) ≡ true → (g s : ℕ) → home_of settings e before ≡ Some g → start_of g before ≡ Some s → Quiet now (notice_at settings before e body g s)
-      quiet_noticed going g s home start = by_choose (λ ready. by_then (quiet_sync g s home start now) (by_send (λ same. notice_silent going))) (λ off. by_nothing)
-
-      quiet_notices : goes_on (class_of method Editor true) ≡ true → (g : ℕ) → home_of settings e before ≡ Some g → Quiet now (on (start_of g before) nothing (notice_at settings before e body g))
-      quiet_notices going g home = by_on (λ none. by_nothing) (λ s start. quiet_noticed going g s home start)
-
-      quiet_notice : goes_on (class_of method Editor true) ≡ true → Quiet now (notice_row settings before e body)
-      quiet_notice going = by_on (λ none. by_nothing) (λ g home. quiet_notices going g home)
-
-      method_is : (name : List ℕ) → bytes_eq name method ≡ true → message_of body ≡ notification name params
-      method_is name same = says ∙ ap (λ m. notification m params) (sym ((bytes_eq-Decides name method).0 same))
-
-      quiet_told : speaks (saying_by method params) ≡ false → bytes_eq (codes "exit") method ≡ false → Quiet now (served_row settings before e body (notification method params))
-      quiet_told unsaid stays = by_choose (λ exits. never (sym exits ∙ stays)) (λ on. by_choose (λ going. quiet_notice going) (λ off. by_choose (λ cancels. quiet_cancel params (method_is (codes "$/cancelRequest") cancels) now)
-          (λ off. by_choose (λ works. quiet_work params (method_is (codes "window/workDoneProgress/cancel") works) now) (λ other. quiet_document (saying_by method params) unsaid now))))
-
-      pub quiet_notifies : speaks (saying_by method params) ≡ false → bytes_eq (codes "exit") method ≡ false → Quiet now (message_row settings before e body (notification method params) Running)
-      quiet_notifies unsaid stays = by_choose (λ twice. never (sym twice)) (λ once. by_choose (λ own. never (sym own)) (λ other. quiet_told unsaid stays))
-
-    -- what it is owed goes to the editor
-    questions_quiet : (places : List Event) (xs : List Out) → AllByRecursion (IsQuestion e) xs → Reasons (λ places out. IsSilent t out) places xs
-    questions_quiet places [] all = tt
-    questions_quiet places (ToEditor n text ∷ xs) all = (tt, questions_quiet (places ++ said (ToEditor n text) ∷ []) xs all.1)
-    questions_quiet places (ToServer n text ∷ xs) all = absurd all.0
-    questions_quiet places (Spawn n g ∷ xs) all = absurd all.0
-    questions_quiet places (CloseEditor n ∷ xs) all = absurd all.0
-    questions_quiet places (EndServer n ∷ xs) all = absurd all.0
-
-    quiet_debts : (events : List Event) → Quiet events (debts_row settings before e body (message_of body))
-    quiet_debts events = record { why = questions_quiet events (outs (debts_row settings before e body (message_of body)) events) (debts_questions settings before e body (facts.base).meant events) }
-
-    -- of a message by which it doesn't leave, and which says nothing of a document
-    pub record Mild (m : Message) : Type 0 where
-      pub unsaid : speaks (saying_of m) ≡ false
-      pub single : is_doubled before e m ≡ false
-      pub unshut : requests (codes "shutdown") m ≡ false
-      pub unstop : requests (codes "lspmux/stop") m ≡ false
-      pub unexit : notifies (codes "exit") m ≡ false
-
-    quiet_message : (m : Message) → message_of body ≡ m → Mild m → Quiet now (message_row settings before e body m Running)
-    quiet_message (request id method params) says k = quiet_asks id method params says k.single k.unshut k.unstop
-    quiet_message (notification method params) says k = quiet_notifies method params says k.unsaid k.unexit
-    quiet_message (result id r) says k = by_choose (λ twice. never (sym twice)) (λ once. by_choose (λ own. never (sym own)) (λ other. quiet_response (result id r) says now))
-    quiet_message (error id x) says k = by_choose (λ twice. never (sym twice)) (λ once. by_choose (λ own. never (sym own)) (λ other. quiet_response (error id x) says now))
-    quiet_message not_json says k = by_choose (λ twice. never (sym twice)) (λ once. by_choose (λ own. never (sym own)) (λ other. quiet_response not_json says now))
-    quiet_message not_message says k = by_choose (λ twice. never (sym twice)) (λ once. by_choose (λ own. never (sym own)) (λ other. quiet_response not_message says now))
-
-    pub quiet_own : (desk_of e before).phase ≡ Running → Mild (message_of body) → Quiet now (row_of settings before (FromEditor e body))
-    quiet_own running k = by_then (subst (λ p. Quiet now (from_editor settings before e body (message_of body) p)) (sym running) (by_choose (λ malformed. by_choose (λ there. by_send tt) (λ gone. by_nothing)) (λ fine. quiet_message (message_of body) refl k))) (quiet_debts _)
+    pub forward_said : (g s : ℕ) → can_ask settings s before ≡ true → (new : Option Json) × (message_of (forwarded_text (sent_number g s) body) ≡ request (integer (decimal (sent_number g s))) method new)
+    forward_said g s can =
+        let both = and_parts (is_ready (life_of s before).stage) (has_room settings s before) can in
+        let same : sent_number g s ≡ (forwarding_of settings s before).next = next_is g s both.0 in
+        let below : (forwarding_of settings s before).next < settings.limits.requests = ltb-true (forwarding_of settings s before).next settings.limits.requests both.1 in
+        let wide : settings.limits.requests < 2 ^ 32 = range.requests in
+        forwarded_says (sent_number g s) body id method params (omega (arith, same, below, wide)) says
