@@ -36,18 +36,20 @@ impl Calls {
 }
 
 // How a run ended, and how many entries were kept.
+#[derive(Clone, Copy)]
 struct Ended {
     status: u8,
     entries: usize,
 }
 
 // How many runs ended by the call that failed, and how many entries were kept in these and in the one behind them, in which none failed.
+#[derive(Clone, Copy)]
 struct Sums {
     runs: u64,
     entries: usize,
 }
 
-fn driven<I: Source, O: Sink>(
+fn driven<I: Source + Drop, O: Sink + Drop>(
     alloc: Global,
     append: Option<u64>,
     mut input: I,

@@ -46,10 +46,9 @@ enum Sent {
     ToTheOther(u64),
 }
 
-// A peer: what it says, the calls that fail, and the read that waits.
-#[derive(Drop)]
+// A peer: the calls that fail, and the read that waits.
+#[derive(Clone, Copy)]
 struct Peer {
-    says: &'static str,
     failing_read: Option<u64>,
     failing_write: Option<u64>,
     waiting_read: u64,
@@ -65,8 +64,14 @@ fn list(alloc: Global, number: Option<u64>) -> Result<Vec<u64>, AllocError> {
 }
 
 impl Peer {
-    // Its link, where these meters show what it is sent and what the other one is.
-    fn link(&self, alloc: Global, to_itself: &Meter, to_the_other: &Meter) -> Result<Link, Fail> {
+    // Its link, by which it says this, where these meters show what it is sent and what the other one is.
+    fn link(
+        self,
+        alloc: Global,
+        says: &str,
+        to_itself: &Meter,
+        to_the_other: &Meter,
+    ) -> Result<Link, Fail> {
         let (meter, bytes) = match self.waits_for {
             Sent::ToItself(bytes) => (to_itself.share()?, bytes),
             Sent::ToTheOther(bytes) => (to_the_other.share()?, bytes),
@@ -77,7 +82,7 @@ impl Peer {
             bytes,
             turns: TURNS,
         };
-        let said = frame(alloc, self.says.as_bytes())?;
+        let said = frame(alloc, says.as_bytes())?;
         let reads = list(alloc, self.failing_read)?;
         let writes = list(alloc, self.failing_write)?;
         let source = MemSource::new(said.bytes().to_vec(alloc)?, reads, Some(gate));
@@ -88,34 +93,32 @@ impl Peer {
     }
 }
 
-// Both peers and the settings of a run.
-#[derive(Drop)]
+// Both peers of a run, the start that fails, and whether a server is started again.
+#[derive(Clone, Copy)]
 struct Plan {
     editor: Peer,
     server: Peer,
     failing_start: Option<u64>,
-    settings: Option<&'static str>,
+    has_restarts: bool,
 }
 
 // An editor that goes once it was answered, and a server that ends once it was asked to shut down.
 fn undisturbed() -> Plan {
     Plan {
         editor: Peer {
-            says: INITIALIZE,
             failing_read: None,
             failing_write: None,
             waiting_read: 1,
             waits_for: Sent::ToItself(TO_EDITOR),
         },
         server: Peer {
-            says: RESULT,
             failing_read: None,
             failing_write: None,
             waiting_read: 1,
             waits_for: Sent::ToItself(TO_SERVER),
         },
         failing_start: None,
-        settings: None,
+        has_restarts: true,
     }
 }
 
@@ -137,12 +140,12 @@ fn failing(call: Call) -> Plan {
             plan.server.failing_write = Some(number);
             plan.server.waiting_read = number;
             plan.server.waits_for = Sent::ToTheOther(TO_EDITOR);
-            plan.settings = Some(NO_RESTARTS);
+            plan.has_restarts = false;
         }
         Call::Start(number) => {
             plan.failing_start = Some(number);
             plan.editor.waits_for = Sent::ToItself(REFUSED);
-            plan.settings = Some(NO_RESTARTS);
+            plan.has_restarts = false;
         }
     }
     plan
@@ -177,10 +180,18 @@ fn played<R: Threads + Wait + Sync>(threads: &R, alloc: Global, call: Call) -> R
     let plan = failing(call);
     let to_editor = Meter::new(alloc)?;
     let to_server = Meter::new(alloc)?;
-    let editor = plan.editor.link(alloc, &to_editor, &to_server)?;
-    let runs = one(alloc, plan.server.link(alloc, &to_server, &to_editor)?)?;
+    let editor = plan.editor.link(alloc, INITIALIZE, &to_editor, &to_server)?;
+    let runs = one(
+        alloc,
+        plan.server.link(alloc, RESULT, &to_server, &to_editor)?,
+    )?;
     let berth = MemBerth::new(alloc, runs, list(alloc, plan.failing_start)?);
-    serve(threads, alloc, editor, berth, plan.settings)
+    let settings = if plan.has_restarts {
+        None
+    } else {
+        Some(NO_RESTARTS)
+    };
+    serve(threads, alloc, editor, berth, settings)
 }
 
 // What came of the editor, in a word; none of another cause.
